@@ -279,7 +279,7 @@ def deliveries():
             "add": ("add", "1.62", "0.10"), "rm": ("rm", "1.66", "0.12")
         }[command])
     with open("/dev/full", "wb") as full:
-        upgrade(45, "Error: Failed to write message", words=["--index-file", "ix", "-n", "--message-format", "json"], stdout=full)
+        upgrade(45, "Error: Failed to write message", "\n  at standard output\n", words=["--index-file", "ix", "-n", "--message-format", "json"], stdout=full)
     put(WORKSPACE + "/ix", INDEX * 400000)
     upgrade(46, "Error: out of memory", limit=30000)
 

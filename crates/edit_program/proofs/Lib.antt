@@ -1,3 +1,4 @@
+pub mod AbsentLemmas
 pub mod AskedLemmas
 pub mod CheckLemmas
 pub mod CommandCases

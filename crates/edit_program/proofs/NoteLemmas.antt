@@ -1,5 +1,5 @@
 -- Notes, from their parts.
-use Rattle.std.proofs.Common.{◌≡◌, ◌∙◌, ◌<◌, ◌+◌, ℕ, ℤ, false, Bor, Option, List, [], ◌∷◌, ◌++◌, ap, get_or, length, map, refl, subst, sym, take}
+use Rattle.std.proofs.Common.{◌≡◌, ◌∙◌, ◌<◌, ◌+◌, ℕ, ℤ, Bool, false, Bor, Option, List, [], ◌∷◌, ◌++◌, ap, get_or, length, map, refl, subst, sym, take}
 use Rattle.std.specs.Prelude.{◌==◌, codes}
 use Rattle.std.specs.Io.KnownBytes.{Appends}
 use Rattle.std.specs.List.{flat_map}
@@ -9,6 +9,7 @@ use Rattle.std.proofs.lemmas.List.{flat_map_more, get_or-map, length-map, take_m
 use Rattle.edit_upgrade.specs.declared.decision.options.Options.{Options}
 use Rattle.edit_report.specs.declared.row.Row.{Row}
 use Rattle.edit_upgrade.specs.declared.upgrade.UpgradePlan.{UpgradePlan}
+use Rattle.edit_program.specs.Absent.{absent_note}
 use Rattle.edit_program.specs.Said.{hidden, hidden_note, hidden_text, note, notes, reason_line, warning, when}
 
 -- the line of one reason more
@@ -46,13 +47,15 @@ hidden_said v w all items slice text message known are some is said shown =
     ∙ ap (λ n. hidden_note n (hidden n all)) known
 
 -- all notes on a plan
-pub notes_said : (p : UpgradePlan) (o : Options) (a b c d e : Option (List ℕ))
+pub notes_said : (p : UpgradePlan) (o : Options) (offline : Bool) (a b c d e f : Option (List ℕ))
     → Appends a b (when p.pinned_present
     (note (codes "Re-run with `--pinned` to upgrade pinned version requirements")))
     → Appends b c (when p.incompatible_present
     (note (codes "Re-run with `--incompatible` to upgrade incompatible version requirements")))
     → Appends c d (hidden_note o.verbosity (hidden o.verbosity p.rows.items))
     → Appends d e (when o.dry_run (warning (codes "aborting upgrade due to dry run")))
-    → Appends a e (notes p o)
-notes_said p o a b c d e first second third fourth =
-    Appends-trans a b e _ _ first (Appends-trans b c e _ _ second (Appends-trans c d e _ _ third fourth))
+    → Appends e f (absent_note p o offline)
+    → Appends a f (notes p o offline)
+notes_said p o offline a b c d e f first second third fourth fifth =
+    Appends-trans a b f _ _ first (Appends-trans b c f _ _ second
+    (Appends-trans c d f _ _ third (Appends-trans d e f _ _ fourth fifth)))

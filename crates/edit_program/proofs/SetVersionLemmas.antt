@@ -36,7 +36,7 @@ pub planned_to : (Leaves : List Output → StoreView → StoreView → Type 0) (
     (words : SetVersionWords) (current : List ℕ) (old new : StoreView) (w : WorkspaceSaid) (is : List Input)
     (plan : SetVersionPlan) → (old.tells ≡ true → IsRead words current old.file_at w is)
     → IsVersionPlan (target_of words.target) (asked_of words.selection) w is plan
-    → Shows (shown words current is plan) → Tells (printed words (told_lines plan))
+    → Shows (shown words w.root is plan) → Tells (printed words (told_lines plan))
     → Leaves plan.outputs.items old new → old.tells ≡ true
     → IsPlannedTo Leaves Shows Tells words current old new
 planned_to Leaves Shows Tells words current old new w is plan read planned shows tells leaves t = record {

@@ -18,6 +18,7 @@ use Rattle.edit_steps.specs.Workspaces.{HaveOwnPaths}
 use Rattle.edit_base.specs.declared.errors.DeviceCall.TheVariants as call
 use Rattle.edit_store.specs.Store.{OnlyReads, SameFiles, StoreView}
 use Rattle.edit_upgrade.specs.Inputs.{outputs_at}
+use Rattle.edit_upgrade.specs.declared.decision.options.Options.{Options}
 use Rattle.edit_upgrade.specs.declared.upgrade.UpgradePlan.{UpgradePlan}
 use Rattle.edit_steps.proofs.ReadLemmas.{refused_on}
 use Rattle.edit_steps.specs.Causes.{IsReadCause}
@@ -27,12 +28,12 @@ use Rattle.edit_program.proofs.DryRuns.{dry_keeps}
 use Rattle.edit_program.proofs.StagingLemmas.{all_stopped_after, behind_after}
 use Rattle.edit_program.specs.TellingCauses.{IsDeliveryCause}
 use Rattle.edit_program.specs.Delivered.{AreBothWritten, HaveStopped, IsBehind, IsCutShort, IsToldTo, written}
-use Rattle.edit_program.specs.Delivery.{Delivery, delivery_of}
+use Rattle.edit_program.specs.Delivery.{Delivery, calls_against, calls_of, delivery_of}
 use Rattle.edit_program.specs.LockRead.{HasNoLock, IsLockRead}
 use Rattle.edit_program.specs.declared.upgrade_told.telling.Telling.{Telling}
 use Rattle.edit_program.specs.UpgradeCauses.{IsUpgradeCause}
 use Rattle.edit_program.specs.Planned.{IsPlanCause, asking, index_view}
-use Rattle.edit_program.specs.Upgrading.{IsAnsweredWith, IsBroken, IsPathOf, IsPlannedFor, IsRead, IsUpgraded, delivery_by}
+use Rattle.edit_program.specs.Upgrading.{IsAnsweredWith, IsBroken, IsPathOf, IsPlannedFor, IsRead, IsUpgraded, delivery_by, diff_root}
 use Rattle.edit_program.specs.declared.upgrade_run.words.UpgradeWords.{UpgradeWords}
 
 -- the outputs of a plan go to paths of their own
@@ -55,31 +56,48 @@ pub same_lock : (r : Option (Bor Lock)) (lock : Option Lock) → option_copied r
 same_lock None lock is = ap (option_map packages_seen) is
 same_lock (Some l) lock is = ap (option_map packages_seen) is
 
+-- a plan that is told so, where diffs name files from this folder
+abbrev delivery_at : UpgradePlan → List Input → Option WorkspaceSaid → Options → Telling → List ℕ → Delivery
+delivery_at plan inputs workspace options telling root = record {
+  plan = plan;
+  inputs = inputs;
+  options = options;
+  current = root;
+  presentation = telling.presentation;
+  calls = calls_against (option_map (λ lock. packages_seen lock.now) telling.lock) telling.offline
+      (calls_of plan options workspace);
+  calls_path = option_map (λ path. path.now) telling.update_calls;
+  offline = telling.offline;
+}
+
 -- what is delivered is what the words ask for
-pub same_delivery : (words : UpgradeWords) (current : Bor (List ℕ)) (plan : UpgradePlan) (target : Target)
-    (path : Option (Bor (List ℕ))) (lock : Option (Bor Lock)) (inputs : List Input) (r : Option (Bor Workspace))
+pub same_delivery : (words : UpgradeWords) (current : List ℕ) (root : Bor (List ℕ)) (plan : UpgradePlan)
+    (target : Target) (path : Option (Bor (List ℕ))) (lock : Option (Bor Lock)) (inputs : List Input)
+    (r : Option (Bor Workspace)) → root.now ≡ diff_root current (option_map (λ x. workspace_said x.now) r)
     → inputs ≡ target.inputs.items → option_copied r ≡ target.workspace
     → delivery_of plan inputs (option_map (λ x. workspace_said x.now) r) words.options
     (record {
-      current = current;
+      current = root;
       presentation = words.presentation;
       update_calls = path;
       lock = lock;
       offline = words.offline;
     })
-    ≡ delivery_by words current.now plan target (given path) (option_map (λ l. packages_seen l.now) lock)
-same_delivery words current plan target path lock inputs r same is =
+    ≡ delivery_by words current plan target (given path) (option_map (λ l. packages_seen l.now) lock)
+same_delivery words current root plan target path lock inputs r from same is =
     let telling : Telling = record {
-      current = current;
+      current = root;
       presentation = words.presentation;
       update_calls = path;
       lock = lock;
       offline = words.offline;
     } in
-    ap (λ (xs : List Input). delivery_of plan xs (option_map (λ (x : Bor Workspace). workspace_said x.now) r)
-    words.options telling) same
-    ∙ ap (λ (w : Option WorkspaceSaid). delivery_of plan target.inputs.items w words.options telling)
-    (same_workspace r target.workspace is)
+    let workspace = option_map (λ (x : Bor Workspace). workspace_said x.now) r in
+    ap (λ (folder : List ℕ). delivery_at plan inputs workspace words.options telling folder) from
+    ∙ ap (λ (xs : List Input). delivery_at plan xs workspace words.options telling
+    (diff_root current workspace)) same
+    ∙ ap (λ (w : Option WorkspaceSaid). delivery_at plan target.inputs.items w words.options telling
+    (diff_root current w)) (same_workspace r target.workspace is)
 
 -- ---- behind reads
 

@@ -17,8 +17,8 @@ use Rattle.edit_program.specs.declared.upgrade_told.telling.Telling.{Telling}
 abbrev pub calls_of : UpgradePlan → Options → Option WorkspaceSaid → List Call
 calls_of plan options workspace = option_map_or (update_calls (asked_by plan options)) workspace []
 
--- calls as they are right against the lock file with these packages, where there is one; `offline` says that they
--- fetch nothing
+-- calls as they are right against the lock file with these packages, where there is one; `offline` says
+-- that they fetch nothing
 abbrev pub calls_against : Option (List Package) → Bool → List Call → List Call
 calls_against None offline calls = calls
 calls_against (Some packages) offline calls = standing_calls (changes packages packages) offline calls
@@ -33,6 +33,7 @@ pub record Delivery : Type 0 where
   pub presentation : Presentation
   pub calls : List Call
   pub calls_path : Option (List ℕ)
+  pub offline : Bool
 
 -- the same, of a plan that is told so
 abbrev pub delivery_of : UpgradePlan → List Input → Option WorkspaceSaid → Options → Telling → Delivery
@@ -45,4 +46,5 @@ delivery_of plan inputs workspace options telling = record {
   calls = calls_against (option_map (λ lock. packages_seen lock.now) telling.lock) telling.offline
       (calls_of plan options workspace);
   calls_path = option_map (λ path. path.now) telling.update_calls;
+  offline = telling.offline;
 }

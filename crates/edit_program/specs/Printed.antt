@@ -40,10 +40,10 @@ messages_in Json lines = changes lines
 
 -- the changes of the manifests, where they are asked for
 abbrev pub diffs_if : Bool → List ℕ → List Input → List Output → List ℕ
-diffs_if asked current inputs outputs = if asked then diffs current inputs outputs else []
+diffs_if asked root inputs outputs = if asked then diffs root inputs outputs else []
 
 -- on standard output: the lines as messages and the changes of the manifests, each where it is asked for
 abbrev pub shown : SetVersionWords → List ℕ → List Input → SetVersionPlan → List ℕ
-shown words current inputs plan =
+shown words root inputs plan =
     messages_in words.presentation.format (told_lines plan)
-    ++ diffs_if words.presentation.diff current inputs plan.outputs.items
+    ++ diffs_if words.presentation.diff root inputs plan.outputs.items

@@ -18,6 +18,7 @@ use Rattle.edit_upgrade.specs.Inputs.{below}
 use Rattle.edit_upgrade.specs.declared.decision.options.Options.{Options}
 use Rattle.edit_upgrade.specs.declared.upgrade.UpgradePlan.{UpgradePlan}
 use Rattle.edit_upgrade.specs.declared.upgrade.Warning.{Warning}
+use Rattle.edit_program.specs.Absent.{absent_note}
 use Rattle.edit_program.specs.Delivery.{Delivery}
 
 -- a warning
@@ -132,17 +133,18 @@ abbrev pub hidden_note : ℤ → List Row → List ℕ
 hidden_note verbosity [] = []
 hidden_note verbosity (row ∷ rows) = note (hidden_text verbosity (row ∷ rows))
 
--- the notes on a plan, and at a dry run that nothing was written
-abbrev pub notes : UpgradePlan → Options → List ℕ
-notes plan options =
+-- the notes on a plan, at a dry run that nothing was written, and the crates without an index entry
+abbrev pub notes : UpgradePlan → Options → Bool → List ℕ
+notes plan options offline =
     when plan.pinned_present (note (codes "Re-run with `--pinned` to upgrade pinned version requirements"))
     ++ (when plan.incompatible_present
     (note (codes "Re-run with `--incompatible` to upgrade incompatible version requirements"))
     ++ (hidden_note options.verbosity (hidden options.verbosity plan.rows.items)
-    ++ when options.dry_run (warning (codes "aborting upgrade due to dry run"))))
+    ++ (when options.dry_run (warning (codes "aborting upgrade due to dry run"))
+    ++ absent_note plan options offline)))
 
 -- all that is said of a plan: of each input, the calls, the notes
 abbrev pub said : Delivery → List ℕ
 said d =
     checks d.options.verbosity d.plan.warnings.items d.inputs (length d.inputs)
-    ++ (runs d.calls ++ notes d.plan d.options)
+    ++ (runs d.calls ++ notes d.plan d.options d.offline)

@@ -40,7 +40,7 @@ pub record IsPlannedTo (Leaves : List Output → StoreView → StoreView → Typ
   pub plan : SetVersionPlan
   pub read : IsRead words current old.file_at workspace inputs
   pub planned : IsVersionPlan (target_of words.target) (asked_of words.selection) workspace inputs plan
-  pub shows : Shows (shown words current inputs plan)
+  pub shows : Shows (shown words workspace.root inputs plan)
   pub tells : Tells (printed words (told_lines plan))
   pub leaves : Leaves plan.outputs.items old new
 

@@ -1,6 +1,8 @@
 -- What an upgrade reads, plans and writes.
 use Rattle.std.specs.Prelude.{◌≡◌, ℕ, List, Bool, not, ◌==◌, Option, Some, None, length, option_map, ⊤}
 use Rattle.edit_lock.specs.LockFile.{Package}
+use Rattle.std.specs.Option.{option_map_or}
+use Rattle.edit_metadata.specs.Metadata.{WorkspaceSaid}
 use Rattle.edit_metadata.specs.Workspaces.{workspace_said}
 use Rattle.edit_sources.specs.Configured.{given}
 use Rattle.edit_steps.specs.Absolute.{IsAbsoluteOf}
@@ -31,19 +33,24 @@ IsPathOf current None None = ⊤
 IsPathOf current (Some named) (Some path) = IsAbsoluteOf current named path
 IsPathOf current _ _ = ⊥
 
--- a plan for these manifests, as the words ask to tell it, with this path for the file of the calls, which are
--- right against the lock file with these packages, where there is one
+-- the folder that diffs name files from: the workspace's root, where one is known, else the current folder
+abbrev pub diff_root : List ℕ → Option WorkspaceSaid → List ℕ
+diff_root current workspace = option_map_or (λ w. w.root) workspace current
+
+-- a plan for these manifests, as the words ask to tell it, with this path for the file of the calls, which
+-- are right against the lock file with these packages, where there is one
 abbrev pub delivery_by : UpgradeWords → List ℕ → UpgradePlan → Target → Option (List ℕ) → Option (List Package)
     → Delivery
 delivery_by words current plan target path lock = record {
   plan = plan;
   inputs = target.inputs.items;
   options = words.options;
-  current = current;
+  current = diff_root current (option_map workspace_said target.workspace);
   presentation = words.presentation;
   calls = calls_against lock words.offline
       (calls_of plan words.options (option_map workspace_said target.workspace));
   calls_path = path;
+  offline = words.offline;
 }
 
 -- what the words name was read and planned, and this holds of the plan as it is to be told

@@ -9,13 +9,27 @@ use crate::words_fault::WordsFault;
 use clap::error::ErrorKind;
 use edit_base::Error;
 use edit_steps::{Refusal, RunResult, print_error};
+use std::alloc::Global;
 use std::io;
 
-/// Prints an error with what is known of its place, cause and cure, and answers its status, also where the printing fails.
-pub(crate) fn refuse<E: io::Write>(refusal: Refusal, err: &mut E) -> u8
+/// An error of a message that was not written, with its stream: standard output, since nobody reads what
+/// standard error does not take. Another error stays as it is.
+fn at_stream(alloc: Global, refusal: Refusal) -> Refusal
+    ensures { result.error ≡ refusal.error }
+{
+    if !matches!(&refusal.error, Error::Output) {
+        return refusal;
+    }
+    let place = String::from_str(alloc, "standard output").ok();
+    Refusal { place, ..refusal }
+}
+
+/// Prints an error with what is known of its place, cause and cure, and answers its status, also where the
+/// printing fails.
+pub(crate) fn refuse<E: io::Write>(alloc: Global, refusal: Refusal, err: &mut E) -> u8
     ensures { result ≡ 1 }
 {
-    let _ = print_error(&refusal, err);
+    let _ = print_error(&at_stream(alloc, refusal), err);
     1
 }
 

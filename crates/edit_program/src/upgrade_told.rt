@@ -1,5 +1,6 @@
 //! What an upgrade prints and writes once it is planned, over any files and any writers.
 
+mod absent;
 mod calls;
 mod calls_file;
 mod carried;

@@ -87,6 +87,7 @@ Error: Failed to write updated Cargo.toml
 const UNWRITTEN: &str = "\
 1 manifest     Checking virtual workspace's dependencies
 Error: Failed to write message
+  at standard output
 ";
 
 /// The files of a row.

@@ -1,7 +1,6 @@
 """Diffs of manifests that an upgrade changes, their names in diffs, and messages that stand as JSON."""
 
 import json
-import os
 import re
 
 NINE = "l1\nl2\nl3\nl4\nl5\nl6\nl7\nl8\nl9\n"
@@ -69,32 +68,37 @@ def diffs(check):
         check.same("changes as diffs", row, shown_rows(diffs_of(ran.out), changed), want)
 
 
-# The current folder, and the names in their diffs of two of three manifests.
+# The current folder, the root of the workspace, and the names in their diffs of two of three manifests.
 FOLDERS = """\
-/w|m/Cargo.toml|v/Cargo.toml
-/|w/m/Cargo.toml|v/Cargo.toml
-/w/m/Car|w/m/Cargo.toml|v/Cargo.toml"""
+/w|/w|m/Cargo.toml|v/Cargo.toml
+/w/m|/w|m/Cargo.toml|v/Cargo.toml
+/w|/w/|m/Cargo.toml|v/Cargo.toml
+/w|/|w/m/Cargo.toml|v/Cargo.toml
+/w|/w/m/Car|w/m/Cargo.toml|v/Cargo.toml"""
 
-THREE = {
-    "workspace_root": "@ROOT@/w", "workspace_members": ["/w/m", "/v"],
-    "packages": [{"name": "m", "id": at, "version": "0.1.0", "manifest_path": f"@ROOT@{at}/Cargo.toml"}
-                 for at in ("/w/m", "/v")],
-}
+
+def three(root):
+    """The metadata of a workspace with this root and two members."""
+    return json.dumps({
+        "workspace_root": f"@ROOT@{root}", "workspace_members": ["/w/m", "/v"],
+        "packages": [{"name": "m", "id": at, "version": "0.1.0", "manifest_path": f"@ROOT@{at}/Cargo.toml"}
+                     for at in ("/w/m", "/v")],
+    })
+
 
 HUNK = '--- a/{0}\n+++ b/{0}\n@@ -1 +1 @@\n-dependencies.x = "1.0"\n+dependencies.x = "1.2"\n'
 
 
 def names(check):
-    """The manifests of a workspace, of which the members' are raised. For the folder `/` the run is in that
-    of the machine: what is shown then begins with the folder that stands for it, and is cut as ever."""
+    """The manifests of a workspace, of which the members' are raised: diffs name them from its root, whatever
+    the current folder is."""
     words = ["upgrade", "--metadata-json", "@ROOT@/x/m.json", "--index-file", "@ROOT@/x/index", "--diff"]
     entry = entry_line("x", "1.0") + "\n"
-    files = {"/x/m.json": json.dumps(THREE), "/x/index": '{"name":"x","vers":"1.2.0"}\n',
-             "/w/Cargo.toml": "[workspace]\n", "/w/m/Cargo.toml": entry, "/v/Cargo.toml": entry}
     for row in FOLDERS.splitlines():
-        current, one, other = row.split("|")
-        folder = "/" + os.path.relpath("/", check.room) if current == "/" else current
-        ran = check.run(words, files, folder)
+        current, root, one, other = row.split("|")
+        files = {"/x/m.json": three(root), "/x/index": '{"name":"x","vers":"1.2.0"}\n',
+                 f"{root}/Cargo.toml": "[workspace]\n", "/w/m/Cargo.toml": entry, "/v/Cargo.toml": entry}
+        ran = check.run(words, files, current)
         check.same("names in diffs", row, diffs_of(ran.out), HUNK.format(one) + HUNK.format(other))
 
 

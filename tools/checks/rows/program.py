@@ -111,6 +111,7 @@ note: Re-run with `--verbose` to show more dependencies
 §more names than three|qi|-|0 held     Checking virtual workspace's dependencies
 note: Re-run with `--verbose` to show more dependencies
   latest: 4 packages
+note: no index entry was found for 4 crates: a, b, c, d
 §a dry run|mi|- -n --recursive|0 manifest name  old req compatible latest new req
 ====  ======= ========== ====== =======
 serde 1.0     1.2.3      1.2.3  1.2    

@@ -57,7 +57,7 @@ pub fn set_version<S: Store, O: io::Write, E: io::Write>(
     print_plan(
         alloc,
         words,
-        current,
+        read.workspace.root.as_str(),
         read.inputs.as_slice(),
         &plan,
         out,

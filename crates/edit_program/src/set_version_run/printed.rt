@@ -65,17 +65,17 @@ fn print_lines_in<O: io::Write, E: io::Write>(
 fn print_diffs_if<O: io::Write>(
     alloc: Global,
     asked: bool,
-    current: &str,
+    root: &str,
     inputs: &[Input],
     plan: &SetVersionPlan,
     out: &mut O,
 ) -> CargoResult<()>
     ensures text { OnOk result (Appends (O.contents out.old) (O.contents out.new)
-        (diffs_if asked current.now inputs.now plan.now.outputs.items)) }
+        (diffs_if asked root.now inputs.now plan.now.outputs.items)) }
     ensures refused { IfErr result (λ e. IsMemory e ⊎ (e ≡ Output)) }
 {
     if asked {
-        print_diffs(alloc, current, inputs, plan.outputs.as_slice(), out)
+        print_diffs(alloc, root, inputs, plan.outputs.as_slice(), out)
     } else {
         Ok(())
     }
@@ -85,19 +85,19 @@ fn print_diffs_if<O: io::Write>(
 pub(crate) fn print_plan<O: io::Write, E: io::Write>(
     alloc: Global,
     words: &SetVersionWords<'_>,
-    current: &str,
+    root: &str,
     inputs: &[Input],
     plan: &SetVersionPlan,
     out: &mut O,
     err: &mut E,
 ) -> CargoResult<()>
     ensures shown { OnOk result (Appends (O.contents out.old) (O.contents out.new)
-        (shown words.now current.now inputs.now plan.now)) }
+        (shown words.now root.now inputs.now plan.now)) }
     ensures told { OnOk result (Appends (E.contents err.old) (E.contents err.new)
         (statuses_in words.now.presentation.format (told_lines plan.now))) }
     ensures refused { IfErr result (λ e. IsMemory e ⊎ (e ≡ Output)) }
 {
     let format = words.presentation.format;
     print_lines_in(alloc, format, plan.lines.as_slice(), out, err)?;
-    print_diffs_if(alloc, words.presentation.diff, current, inputs, plan, out)
+    print_diffs_if(alloc, words.presentation.diff, root, inputs, plan, out)
 }

@@ -3,10 +3,11 @@ ghost use Rattle.std.specs.Prelude.{◌≡◌, ◌≤◌, ◌⊎◌, IfErr, IfOk
 ghost use Rattle.std.specs.Io.KnownBytes.{Appends};
 ghost use Rattle.edit_base.specs.Errors.{IsMemory};
 ghost use Rattle.edit_lock.specs.Views.{packages_seen};
+ghost use Rattle.edit_metadata.specs.Workspaces.{workspace_said};
 ghost use Rattle.edit_report.specs.Applied.{HaveDistinctPaths};
 ghost use Rattle.edit_sources.specs.Configured.{given};
 ghost use Rattle.edit_store.specs.Store.{SameFiles};
-ghost use Rattle.edit_program.specs.Upgrading.{IsAnsweredWith, IsPathOf, delivery_by};
+ghost use Rattle.edit_program.specs.Upgrading.{IsAnsweredWith, IsPathOf, delivery_by, diff_root};
 ghost use Rattle.edit_program.specs.TellingCauses.{IsDeliveryCause};
 ghost use Rattle.edit_program.specs.Delivered.{IsCutShort};
 ghost use Rattle.edit_program.specs.Said.{AreWarningsInOrder};
@@ -17,6 +18,7 @@ use crate::upgrade_told::{Telling, deliver};
 use edit_base::CargoResult;
 use edit_diagnostics::explain_delivery;
 use edit_lock::Lock;
+use edit_metadata::Workspace;
 use edit_steps::upgrade_read::Target;
 use edit_steps::{RunResult, absolute};
 use edit_store::Store;
@@ -39,6 +41,16 @@ pub(crate) fn path_of(
     };
     let path = absolute(alloc, current, named)?;
     Ok(Some(path))
+}
+
+/// The folder that diffs name files from: the workspace's root, where one is known, else the current folder.
+fn diff_root<'a>(workspace: Option<&'a Workspace>, current: &'a str) -> &'a str
+    ensures { result.now ≡ diff_root current.now (option_map (λ w. workspace_said w.now) workspace.entry) }
+{
+    match workspace {
+        Some(workspace) => workspace.root.as_str(),
+        None => current,
+    }
 }
 
 /// Delivers a plan for manifests as the words ask, with this path for the file of the calls, which are right
@@ -72,15 +84,15 @@ fn deliver_plan<S: Store, O: io::Write, E: io::Write>(
     ensures cause { IfErr result (λ r. IsDeliveryCause plan.now words.now.options
         (S.view files.old) (S.view files.new) r.error) }
 {
+    let workspace = target.workspace.as_ref();
     let telling = Telling {
-        current,
+        current: diff_root(workspace, current),
         presentation: words.presentation,
         update_calls: path,
         lock,
         offline: words.offline,
     };
     let inputs = target.inputs.as_slice();
-    let workspace = target.workspace.as_ref();
     let options = &words.options;
     deliver(
         alloc, plan, inputs, workspace, options, &telling, files, out, err,

@@ -86,16 +86,17 @@ pub(crate) fn conclude<E: io::Write>(
     alloc: Global,
     plan: &UpgradePlan,
     options: &Options,
+    offline: bool,
     err: &mut E,
 ) -> RunResult<()>
     ensures complete { OnOk result (map string_bytes plan.now.missing.items ≡ []) }
     ensures text { OnOk result (Appends (E.contents err.old) (E.contents err.new)
-        (notes plan.now options.now)) }
+        (notes plan.now options.now offline)) }
     ensures refused { IfErr result (λ r. IsMemory r.error ⊎ ((r.error ≡ Unwritten)
         ⊎ ((map string_bytes plan.now.missing.items ≢ [])
         × AreTold (map string_bytes plan.now.missing.items) r.error))) }
 {
     check_names(alloc, plan)?;
-    print_notes(alloc, plan, options, err)?;
+    print_notes(alloc, plan, options, offline, err)?;
     Ok(())
 }

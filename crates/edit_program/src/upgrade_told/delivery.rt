@@ -24,8 +24,8 @@ use std::alloc::Global;
 use std::io;
 
 /// Prints a plan for inputs, writes its outputs, prints the calls of `cargo update` that follow where the
-/// workspace is known, as they are right against the lock file where there is one, writes them to the file that
-/// is named for them, refuses missing names, and prints the notes.
+/// workspace is known, as they are right against the lock file where there is one, writes them to the file
+/// that is named for them, refuses missing names, and prints the notes.
 ///
 /// Nothing is written at a dry run or where the manifests are locked; if the plan has outputs where they are
 /// locked, that is a refusal.
@@ -68,5 +68,5 @@ pub fn deliver<S: Store, O: io::Write, E: io::Write>(
     print_plan(alloc, plan, inputs, options, telling, calls, out, err)?;
     check_lock(options, plan)?;
     carry_out(alloc, written(options, plan), calls, file, files, err)?;
-    conclude(alloc, plan, options, err)
+    conclude(alloc, plan, options, telling.offline, err)
 }

@@ -5,6 +5,7 @@ ghost use Rattle.edit_base.specs.Errors.{IsMemory};
 ghost use Rattle.edit_base.specs.declared.errors.Error.TheVariants.{Output};
 ghost use Rattle.edit_program.specs.Said.{hidden, hidden_note, note, notes, warning, when};
 
+use crate::upgrade_told::absent::print_absent;
 use crate::upgrade_told::hidden::{hidden_rows, hidden_text};
 use edit_base::CargoResult;
 use edit_report::{Row, shell_note, shell_warn};
@@ -64,19 +65,21 @@ fn print_hidden<E: io::Write>(
     shell_note(err, text.as_str())
 }
 
-/// Prints the notes on a plan, and at a dry run that nothing was written.
+/// Prints the notes on a plan, at a dry run that nothing was written, and the crates without an index entry.
 pub(crate) fn print_notes<E: io::Write>(
     alloc: Global,
     plan: &UpgradePlan,
     options: &Options,
+    offline: bool,
     err: &mut E,
 ) -> CargoResult<()>
     ensures text { OnOk result (Appends (E.contents err.old) (E.contents err.new)
-        (notes plan.now options.now)) }
+        (notes plan.now options.now offline)) }
     ensures refused { IfErr result (λ e. IsMemory e ⊎ (e ≡ Output)) }
 {
     note_if(plan.pinned_present, PINNED, err)?;
     note_if(plan.incompatible_present, INCOMPATIBLE, err)?;
     print_hidden(alloc, plan.rows.as_slice(), options.verbosity, err)?;
-    warn_if(options.dry_run, DRY_RUN, err)
+    warn_if(options.dry_run, DRY_RUN, err)?;
+    print_absent(alloc, plan, options, offline, err)
 }

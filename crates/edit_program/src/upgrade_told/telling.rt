@@ -6,7 +6,7 @@ use edit_shown::Presentation;
 /// How an upgrade is told, and where its calls of `cargo update` go.
 #[derive(Clone, Copy, Debug)]
 pub struct Telling<'a> {
-    /// The folder that paths of diffs start from.
+    /// The folder that diffs name files from.
     pub current: &'a str,
     pub presentation: Presentation,
     /// The file, by an absolute normal path, to which the calls are written: one word a line, and an empty

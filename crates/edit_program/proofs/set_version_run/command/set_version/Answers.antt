@@ -46,8 +46,10 @@ returns-clause-done g c =
     words c.args.current.now old new
     (workspace_said c.in_ok-read.read.workspace) c.in_ok-read.read.inputs.items plan
     c.in_ok-read.ensures.workspace c.in_ok-plan.ensures.planned
+    (subst (λ root. Appends (g.O.Write.contents c.args.out.now) (g.O.Write.contents c.print_plan.new.out)
+    (shown words root c.in_ok-read.read.inputs.items plan)) c.as_str.ensures.value
     (subst (λ is. Appends (g.O.Write.contents c.args.out.now) (g.O.Write.contents c.print_plan.new.out)
-    (shown words c.args.current.now is plan)) c.as_slice.ensures.value c.in_ok-print_plan.ensures.shown)
+    (shown words c.as_str.result.now is plan)) c.as_slice.ensures.value c.in_ok-print_plan.ensures.shown))
     (printed_all words (told_lines plan) _ (g.E.Write.contents c.warn_if.new.err)
     (g.E.Write.contents c.print_plan.new.err) _ c.in_ok-warn_if.ensures.text
     c.in_ok-print_plan.ensures.told c.in_ok-warn_if-2.ensures.text) (
@@ -70,8 +72,10 @@ returns-in_err-write_outputs-clause-refused g c =
     words c.args.current.now old new
     (workspace_said c.in_ok-read.read.workspace) c.in_ok-read.read.inputs.items plan
     c.in_ok-read.ensures.workspace c.in_ok-plan.ensures.planned
+    (subst (λ root. Appends (g.O.Write.contents c.args.out.now) (g.O.Write.contents c.print_plan.new.out)
+    (shown words root c.in_ok-read.read.inputs.items plan)) c.as_str.ensures.value
     (subst (λ is. Appends (g.O.Write.contents c.args.out.now) (g.O.Write.contents c.print_plan.new.out)
-    (shown words c.args.current.now is plan)) c.as_slice.ensures.value c.in_ok-print_plan.ensures.shown)
+    (shown words c.as_str.result.now is plan)) c.as_slice.ensures.value c.in_ok-print_plan.ensures.shown))
     (printed_all words (told_lines plan) _ (g.E.Write.contents c.warn_if.new.err)
     (g.E.Write.contents c.print_plan.new.err) _ c.in_ok-warn_if.ensures.text
     c.in_ok-print_plan.ensures.told c.in_ok-warn_if-2.ensures.text)

@@ -12,8 +12,9 @@ pub returns-clause-done : goal.returns-clause-done
 returns-clause-done g c =
     let old = g.S.Store.view c.args.files.now in
     let new = g.S.Store.view c.deliver.new.files in
-    let same = same_delivery c.args.words.now c.args.current c.args.plan.now c.args.target.now c.args.path c.args.lock
-    c.as_slice-inputs.result.now c.as_ref-workspace.result c.as_slice-inputs.ensures.value
+    let same = same_delivery c.args.words.now c.args.current.now c.diff_root.result c.args.plan.now c.args.target.now c.args.path
+    c.args.lock
+    c.as_slice-inputs.result.now c.as_ref-workspace.result c.diff_root.ensures c.as_slice-inputs.ensures.value
     c.as_ref-workspace.ensures.value in
     record {
       is = ap not (c.is_empty.ensures ∙ ap (λ n. n == 0) c.args.plan.now.outputs.ok.0);
@@ -31,7 +32,8 @@ returns-in_err-deliver-clause-stopped g c =
     on_refusal c.from_residual.result _
     (subst (λ d. SameFiles old.file_at new.file_at ⊎ IsCutShort
     (Appends (g.O.Write.contents c.args.out.now) (g.O.Write.contents c.deliver.new.out)) d old new)
-    (same_delivery c.args.words.now c.args.current c.args.plan.now c.args.target.now c.args.path c.args.lock
-    c.as_slice-inputs.result.now c.as_ref-workspace.result c.as_slice-inputs.ensures.value
+    (same_delivery c.args.words.now c.args.current.now c.diff_root.result c.args.plan.now c.args.target.now c.args.path
+    c.args.lock
+    c.as_slice-inputs.result.now c.as_ref-workspace.result c.diff_root.ensures c.as_slice-inputs.ensures.value
     c.as_ref-workspace.ensures.value)
     c.in_err-deliver.ensures.stopped)

@@ -1,0 +1,50 @@
+-- Names as a note has them.
+use Rattle.std.proofs.Common.{◌≡◌, ◌≤◌, ◌-◌, ◌∙◌, ℕ, Bool, false, List, [], ◌∷◌, ◌++◌, ap, arith, le-leb, length, map, refl, sym, take}
+use Rattle.std.specs.Prelude.{String, ◌==◌, codes, decimal, if◌then◌else◌, string_bytes}
+use Rattle.std.specs.List.{join_by}
+use Rattle.std.specs.declared.alloc.Global.{Global}
+use Rattle.std.proofs.lemmas.List.{length-map}
+use Rattle.std.proofs.lemmas.Bool.{true≢false}
+use Rattle.edit_report.specs.Messages.{message_text}
+use Rattle.edit_upgrade.specs.declared.decision.options.Options.{Options}
+use Rattle.edit_upgrade.specs.declared.upgrade.Look.{Look}
+use Rattle.edit_upgrade.specs.declared.upgrade.UpgradePlan.{UpgradePlan}
+use Rattle.edit_program.specs.Absent.{absent, absent_note, absent_text, listed, names_note}
+
+-- the names in a row, as the note has them where it has all
+abbrev joined : List (List ℕ) → List ℕ
+joined names = join_by (λ name. name) (codes ", ") names
+
+-- the names as the note has them where it has not all
+abbrev cut : List (List ℕ) → List ℕ
+cut names = joined (take 5 names) ++ (codes " and " ++ (decimal (length names - 5) ++ codes " more"))
+
+-- at most five names
+pub few_listed : (names : List (String Global)) → length names ≤ 5
+    → joined (map string_bytes names) ≡ listed (map string_bytes names)
+few_listed names few =
+    let count = length-map names string_bytes in
+    let is_few = le-leb (length (map string_bytes names)) 5 (omega (arith, few, count)) in
+    sym (ap (λ b. if b then joined (map string_bytes names) else cut (map string_bytes names)) is_few)
+
+-- the note on crates of which there are some
+some_absent : (names : List (String Global)) → (length names == 0) ≡ false
+    → message_text false (codes "note") (absent_text (map string_bytes names)) ≡ names_note (map string_bytes names)
+some_absent [] none = absurd (true≢false none)
+some_absent (name ∷ names) some = refl
+
+-- the note on the crates without an index entry
+pub absent_said : (p : UpgradePlan) (o : Options) (offline : Bool) (exclude : List (String Global))
+    (looks : List Look) (names slice : List (String Global)) (text message : List ℕ) → offline ≡ false
+    → exclude ≡ o.exclude.items → looks ≡ p.looks.items → map string_bytes names ≡ absent exclude looks
+    → (length names == 0) ≡ false → slice ≡ names → text ≡ absent_text (map string_bytes slice)
+    → message ≡ text → message_text false (codes "note") message ≡ absent_note p o offline
+absent_said p o offline exclude looks names slice text message online excluded looked are some is said shown =
+    let said_as = message_text false (codes "note") in
+    ap said_as (shown ∙ said)
+    ∙ ap (λ (xs : List (String Global)). said_as (absent_text (map string_bytes xs))) is
+    ∙ some_absent names some
+    ∙ ap names_note are
+    ∙ ap (λ (xs : List (String Global)). names_note (absent xs looks)) excluded
+    ∙ ap (λ (xs : List Look). names_note (absent o.exclude.items xs)) looked
+    ∙ sym (ap (λ b. if b then [] else names_note (absent o.exclude.items p.looks.items)) online)

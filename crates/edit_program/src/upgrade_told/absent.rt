@@ -1,0 +1,124 @@
+//! The crates for which an index has no entry.
+ghost use Rattle.std.specs.Prelude.{◌≡◌, ◌⊎◌, ◌++◌, IfErr, IfOk, OnOk, codes, map, string_bytes};
+ghost use Rattle.std.specs.Io.KnownBytes.{Appends};
+ghost use Rattle.std.specs.List.{join_by};
+ghost use Rattle.edit_base.specs.Errors.{IsMemory};
+ghost use Rattle.edit_base.specs.declared.errors.Error.TheVariants.{Output};
+ghost use Rattle.edit_program.specs.Absent as spec;
+
+use edit_base::CargoResult;
+use edit_report::shell_note;
+use edit_upgrade::{Look, Options, UpgradePlan};
+use std::alloc::{AllocError, Global};
+use std::io;
+
+/// How many names a note has.
+const MOST_NAMES: usize = 5;
+
+/// Whether a name is among these.
+fn is_among(names: &[String], name: &str) -> bool
+    ensures { result ≡ spec.is_among names.now name.now }
+{
+    names.iter().any(|other| other.as_str() == name)
+}
+
+/// Whether the index has no entry for a crate that is not excluded.
+fn is_absent(exclude: &[String], look: &Look) -> bool
+    ensures { result ≡ spec.is_absent exclude.now look.now }
+{
+    look.answer.is_none() && !is_among(exclude, look.name.as_str())
+}
+
+/// Adds the name of such a crate.
+fn push_absent(
+    alloc: Global,
+    exclude: &[String],
+    look: &Look,
+    names: &mut Vec<String>,
+) -> Result<(), AllocError>
+    ensures { OnOk result (map string_bytes names.new.items
+        ≡ map string_bytes names.old.items ++ spec.absent_at exclude.now look.now) }
+{
+    if is_absent(exclude, look) {
+        names.push(String::from_str(alloc, look.name.as_str())?)?;
+    }
+    Ok(())
+}
+
+/// The names of such crates, in the order in which they were looked up.
+fn absent_names(
+    alloc: Global,
+    exclude: &[String],
+    looks: &[Look],
+) -> Result<Vec<String>, AllocError>
+    ensures { IfOk result (λ v. map string_bytes v.items ≡ spec.absent exclude.now looks.now) }
+{
+    let mut names = Vec::new(alloc);
+    for look in looks {
+        push_absent(alloc, exclude, look, &mut names)?;
+    }
+    Ok(names)
+}
+
+/// Names, one behind another.
+fn joined(alloc: Global, names: &[String]) -> Result<String, AllocError>
+    ensures { IfOk result (λ s. string_bytes s
+        ≡ join_by (λ name. name) (codes ", ") (map string_bytes names.now)) }
+{
+    names.join(alloc, ", ")
+}
+
+/// Names as the note has them: at most five, and how many follow.
+fn listed(alloc: Global, names: &[String]) -> Result<String, AllocError>
+    ensures { IfOk result (λ s. string_bytes s ≡ spec.listed (map string_bytes names.now)) }
+{
+    if names.len() <= MOST_NAMES {
+        return joined(alloc, names);
+    }
+    let first = joined(alloc, &names[..MOST_NAMES])?;
+    let rest = names.len() - MOST_NAMES;
+    format!(in alloc; "{first} and {rest} more")
+}
+
+/// The word for so many crates.
+fn crates_word(count: usize) -> &'static str
+    ensures { result.now ≡ spec.crates_word count }
+{
+    if count == 1 { "crate" } else { "crates" }
+}
+
+/// The note on crates for which the index has no entry.
+fn absent_text(alloc: Global, names: &[String]) -> Result<String, AllocError>
+    ensures { IfOk result (λ s. string_bytes s ≡ spec.absent_text (map string_bytes names.now)) }
+{
+    let count = names.len();
+    let word = crates_word(count);
+    let list = listed(alloc, names)?;
+    format!(in alloc; "no index entry was found for {count} {word}: {list}")
+}
+
+/// Prints the note on the crates for which the index has no entry, where there are some. Offline nothing is
+/// printed: what fills the index says then which entries it has not.
+pub(crate) fn print_absent<E: io::Write>(
+    alloc: Global,
+    plan: &UpgradePlan,
+    options: &Options,
+    offline: bool,
+    err: &mut E,
+) -> CargoResult<()>
+    ensures text { OnOk result (Appends (E.contents err.old) (E.contents err.new)
+        (spec.absent_note plan.now options.now offline)) }
+    ensures refused { IfErr result (λ e. IsMemory e ⊎ (e ≡ Output)) }
+{
+    if offline {
+        return Ok(());
+    }
+    let exclude = options.exclude.as_slice();
+    let looks = plan.looks.as_slice();
+    let names = absent_names(alloc, exclude, looks)?;
+    if names.is_empty() {
+        return Ok(());
+    }
+    let text = absent_text(alloc, names.as_slice())?;
+    shell_note(err, text.as_str())
+}
