@@ -238,7 +238,7 @@ def index_entries():
     upgrade(30, "Error: Invalid index line 2", "  at @/dir/%s/1/q:2\n" % registry, "  cause: ", words=["--index-dir", "dir"])
     os.remove("%s/dir/%s/1/q" % (WORKSPACE, registry))
     os.symlink("q", "%s/dir/%s/1/q" % (WORKSPACE, registry))
-    upgrade(3, "Error: Failed to read a file", "  at @/dir/%s/1/q\n" % registry, words=["--index-dir", "dir"])
+    upgrade(3, "Error: Failed to read a file", "  at @/dir/%s/1/q\n" % registry, LOOP, words=["--index-dir", "dir"])
     workspace(entries('q = { version = "1", registry = "r" }\n'), config=REGISTRY)
     put(ROOM + "/registry/1/q", bad)
     upgrade(30, "Error: Invalid index line 2", "  at %s/registry/1/q:2\n" % ROOM, "  cause: ", words=[])

@@ -39,8 +39,8 @@ fn held_back(alloc: Global, refusal: Refusal, plan: &UpgradePlan) -> Refusal
     }
 }
 
-/// An error of a plan that is not carried out, with what can be done about it: the manifest that `--locked` keeps as it
-/// is, and the nearest name of an entry for one that is missing.
+/// An error of a plan that is not carried out, with what can be done about it: the manifest that `--locked`
+/// keeps as it is, and the nearest name of an entry for one that is missing.
 pub fn explain_delivery(alloc: Global, refusal: Refusal, plan: &UpgradePlan) -> Refusal
     ensures { result.error ≡ refusal.error }
 {

@@ -35,8 +35,8 @@ fn entry_offset(alloc: Global, document: &Document, place: &[Step]) -> Option<us
     None
 }
 
-/// Where the entry at a place of a manifest is written: `PATH:LINE:COLUMN` of its value, or the path alone where no
-/// value is found.
+/// Where the entry at a place of a manifest is written: `PATH:LINE:COLUMN` of its value, or the path alone
+/// where no value is found.
 pub(crate) fn entry_position(
     alloc: Global,
     input: &Input,

@@ -89,8 +89,9 @@ fn push_files(
     Ok(())
 }
 
-/// The files of an index that the entries of these manifests are looked up in, each once, in order, up to the first
-/// entry that has none: below the folder that is named, else where the registries' addresses name folders.
+/// The files of an index that the entries of these manifests are looked up in, each once, in order, up to
+/// the first entry that has none: below the folder that is named, else where the registries' addresses name
+/// folders.
 pub(crate) fn index_files(
     alloc: Global,
     dir: Option<&str>,

@@ -1,4 +1,4 @@
-//! The members that a new version is asked for, and those whose version gives an error.
+//! The members that get a new version, and those whose version gives an error.
 
 use crate::entries::{entry_position, place_of};
 use crate::same::is_same;
@@ -23,7 +23,7 @@ fn is_among(texts: &[String], text: &str) -> bool {
     texts.iter().any(|other| other.as_str() == text)
 }
 
-/// Whether a selection asks for a package.
+/// Whether a selection has a package.
 pub(crate) fn is_asked(selection: &Selection, package: &Package) -> bool {
     let name = package.name.as_str();
     if selection.workspace || selection.packages.is_empty() {
@@ -60,7 +60,7 @@ fn help_for(alloc: Global, package: &Package) -> Option<String> {
     format!(in alloc; "leave this package out by `--exclude {name}`").ok()
 }
 
-/// The first package that is asked for and has no version to set.
+/// The first selected package that has no version to set.
 pub(crate) fn without_version(
     alloc: Global,
     selection: &Selection,
@@ -106,7 +106,7 @@ fn version_fault(alloc: Global, package: &Package, inputs: &[Input]) -> Option<E
     })
 }
 
-/// The first package that is asked for and whose version the target refuses with this error.
+/// The first selected package whose version the target refuses with this error.
 pub(crate) fn refused_version(
     alloc: Global,
     error: &Error,

@@ -64,7 +64,8 @@ fn last_definition<'a>(configs: &'a [Config], registry: Option<&'a str>) -> Opti
     Some(last)
 }
 
-/// What an error about a registry leaves open: which dependency names it, and which configuration file decides.
+/// What an error about a registry leaves open: which dependency names it, and which configuration file
+/// decides.
 pub(crate) fn registry_cause(
     alloc: Global,
     error: &Error,

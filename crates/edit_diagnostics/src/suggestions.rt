@@ -1,5 +1,5 @@
 //! The name that was meant, where one is misspelt.
-ghost use Rattle.std.specs.Prelude.{Contains, IfSome, map};
+ghost use Rattle.std.specs.Prelude.{◌≡◌, [], Contains, IfSome, IsNone, map};
 
 use edit_base::MissingNames;
 use std::alloc::{AllocError, Global};
@@ -14,8 +14,8 @@ const MOST_MISSING: usize = 5;
 /// How many names one of them is compared with.
 const MOST_NAMES: usize = 5000;
 
-/// How many edits lead from one name to another; none where that is more than a third of the name's length, or one of
-/// them is too long to be compared.
+/// How many edits lead from one name to another; none where that is more than a third of the name's length,
+/// or one of them is too long to be compared.
 fn edits(alloc: Global, name: &str, other: &str) -> Result<Option<usize>, AllocError> {
     if name.len() > LONGEST_NAME || other.len() > LONGEST_NAME {
         return Ok(None);
@@ -32,10 +32,15 @@ fn edits(alloc: Global, name: &str, other: &str) -> Result<Option<usize>, AllocE
     })
 }
 
-/// The first of these names with the fewest edits from a name; none where all are too far from it, or memory runs out.
+/// The first of these names with the fewest edits from a name; none where the name is empty, all are too far
+/// from it, or memory runs out.
 pub fn nearest<'a>(alloc: Global, name: &str, names: &[&'a str]) -> Option<&'a str>
     ensures among { IfSome result (λ s. Contains (map (λ t. t.now) names.now) s.now) }
+    ensures empty { name.now ≡ [] → IsNone result }
 {
+    if name.is_empty() {
+        return None;
+    }
     let mut best: Option<usize> = None;
     let mut fewest = usize::MAX;
     'names: for (i, other) in names.iter().enumerate() {
@@ -49,7 +54,8 @@ pub fn nearest<'a>(alloc: Global, name: &str, names: &[&'a str]) -> Option<&'a s
     names.get(best?).copied()
 }
 
-/// A line of help for missing names: for each the nearest of the names that there are; none where no name is near.
+/// A line of help for missing names: for each the nearest of the names that there are; none where no name
+/// is near.
 pub(crate) fn suggestions(
     alloc: Global,
     missing: &MissingNames,

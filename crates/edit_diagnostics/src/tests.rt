@@ -7,4 +7,5 @@ fn finds_the_name_that_was_meant(rt: HostRuntime) {
     assert!(rt; nearest(alloc, "serd", &names) == Some("serde"));
     assert!(rt; nearest(alloc, "serde_jsno", &names) == Some("serde_json"));
     assert!(rt; nearest(alloc, "tokio", &names).is_none());
+    assert!(rt; nearest(alloc, "", &["a"]).is_none());
 }

@@ -29,11 +29,12 @@ fn at_index<S: Store>(
     ensures reads { OnlyReads (S.view files.old) (S.view files.new) }
 {
     let paths = index_files(alloc, dir, inputs, configs);
-    let cause = match &error {
-        Error::IndexLine { .. } => String::from_str(alloc, INDEX_LINE).ok(),
-        _ => None,
-    };
+    let is_line = matches!(&error, Error::IndexLine { .. });
     let refusal = at_first(alloc, error, &paths, files);
+    if !is_line {
+        return refusal;
+    }
+    let cause = String::from_str(alloc, INDEX_LINE).ok();
     Refusal { cause, ..refusal }
 }
 
@@ -63,9 +64,9 @@ fn folder_named(alloc: Global, asked: &Asked<'_>, current: &str) -> Option<Strin
     absolute(alloc, current, asked.index_dir?).ok()
 }
 
-/// An error of the plan of an upgrade over these manifests, with where it arose and what can be done about it: the
-/// manifest that is no TOML, the entry whose registry or name is refused, or the file of the index. Files are read again
-/// for it, and none changes.
+/// An error of the plan of an upgrade over these manifests, with where it arose and what can be done about
+/// it: the manifest that is no TOML, the entry whose registry or name is invalid, or the file of the index.
+/// Files are read again for it, and none changes.
 pub fn explain_upgrade<S: Store>(
     alloc: Global,
     error: Error,
