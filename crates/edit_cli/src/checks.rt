@@ -3,6 +3,7 @@
 use clap::ArgMatches;
 use edit_base::CargoResult;
 use edit_base::paths::{folder, join};
+use edit_steps::absolute;
 use std::fs;
 use std::fs::Metadata;
 use std::os::unix::fs::MetadataExt;
@@ -43,7 +44,8 @@ impl<'a> Folders<'a> {
     }
 }
 
-/// The folder of an index that is looked in: not where an index file is named too, which is another usage error.
+/// The folder of an index that is looked in: not where an index file is named too, which is another usage
+/// error.
 fn index_folder<'a>(arguments: &ArgMatches<'a>) -> Option<&'a str> {
     match arguments.get_str("index-file") {
         Some(_) => None,
@@ -72,14 +74,14 @@ pub(crate) fn fault_of(
     }
 }
 
-/// What is wrong with the file for the calls.
+/// What is wrong with the file for the calls, at the path where it would be written.
 fn calls_fault(
     rt: &HostRuntime,
     arguments: &ArgMatches<'_>,
     folders: Folders<'_>,
     named: &str,
 ) -> CargoResult<Option<String>> {
-    let path = join(rt.alloc(), folders.current, named)?;
+    let path = absolute(rt.alloc(), folders.current, named)?;
     let fault = if is_parted(arguments, folders.current) {
         Some("a call cannot name the workspace, since the path has a line end")
     } else if !is_folder(rt, folder(path.as_str())) {

@@ -85,8 +85,8 @@ fn stage_and_write<S: Store>(alloc: Global, outputs: &[Output], store: &mut S) -
     write_all(alloc, outputs, store)
 }
 
-/// Writes the outputs in order, each to its own path, and stops at the first error. The file that was being written may
-/// then hold anything.
+/// Writes the outputs in order, each to its own path, and stops at the first error. The file that was being
+/// written may then hold anything.
 ///
 /// Before the first of them is written all are made ready: where that fails, each file is as it was.
 pub fn apply<S: Store>(alloc: Global, outputs: &[Output], store: &mut S) -> CargoResult<()>

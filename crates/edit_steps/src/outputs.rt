@@ -196,8 +196,8 @@ pub fn write_outputs<S: Store>(alloc: Global, outputs: &[Output], files: &mut S)
     }
 }
 
-/// Makes the writes of outputs ready that `write_outputs` makes later. An error gives up every write that is ready.
-/// No file changes.
+/// Makes the writes of outputs ready that `write_outputs` makes later. An error gives up every write that is
+/// ready. No file changes.
 pub fn stage_outputs<S: Store>(alloc: Global, outputs: &[Output], files: &mut S) -> RunResult<()>
     ensures reads { OnlyReads (S.view files.old) (S.view files.new) }
     ensures ready { OnOk result ((S.view files.new).stage_errors ≡ (S.view files.old).stage_errors) }

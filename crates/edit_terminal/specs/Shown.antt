@@ -40,8 +40,8 @@ shown_char c =
 abbrev pub shown : List ℕ → List ℕ
 shown cs = flat_map shown_char cs
 
--- a stream has got the whole characters of some bytes, each as a terminal shows it, and `rest` of the bytes are
--- the beginning of a character that is not whole yet
+-- a stream has got the whole characters of some bytes, each as a terminal shows it, and `rest` of the bytes
+-- are the beginning of a character that is not whole yet
 unfoldable pub Shows : Option (List ℕ) → Option (List ℕ) → List ℕ → List ℕ → Type 0
 Shows old new bytes rest =
     (cs : List ℕ) × (all_scalars cs ≡ true) × (bytes ≡ encode_utf8_all cs ++ rest) × (length rest < 4)

@@ -13,7 +13,8 @@ fn is_within(code: u32, first: u32, last: u32) -> bool
     first <= code && code <= last
 }
 
-/// Whether a character sets the direction of text: then a terminal may show a line in another order than it has.
+/// Whether a character sets the direction of text: then a terminal may show a line in another order than it
+/// has.
 fn is_directional(c: char) -> bool
     ensures { result ≡ is_directional c }
 {
@@ -24,7 +25,8 @@ fn is_directional(c: char) -> bool
         || is_within(code, 0x2066, 0x2069)
 }
 
-/// Whether a terminal does something else with a character than to show it. Tabs and line ends are left to it.
+/// Whether a terminal does something else with a character than to show it. Tabs and line ends are left to
+/// it.
 fn is_active(c: char) -> bool
     ensures { result ≡ is_active c }
 {

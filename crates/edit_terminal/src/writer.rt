@@ -8,9 +8,9 @@ use std::alloc::Global;
 use std::io::ErrorKind;
 use std::{io, mem, str};
 
-/// A writer to a terminal, which hands on each character so that the terminal shows it and does nothing else with it:
-/// see `write_shown`. It takes texts in UTF-8, in pieces of any length; other bytes are an error. After an error it
-/// begins anew, as if no byte had come.
+/// A writer to a terminal, which hands on each character so that the terminal shows it and does nothing else
+/// with it: see `write_shown`. It takes texts in UTF-8, in pieces of any length; other bytes are an error.
+/// After an error it begins anew, as if no byte had come.
 #[derive(Drop)]
 pub struct TerminalWriter<W: io::Write + Drop> {
     to: W,
@@ -38,7 +38,8 @@ impl<W: io::Write + Drop> TerminalWriter<W> {
     }
 }
 
-/// How many of the bytes are in whole characters: all, or all but those of a last character that is not whole.
+/// How many of the bytes are in whole characters: all, or all but those of a last character that is not
+/// whole.
 fn whole_length(bytes: &[u8]) -> io::Result<usize>
     ensures within { IfOk result (λ n. n ≤ length bytes.now) }
     ensures text { IfOk result (λ n. IsUtf8 (take n bytes.now)) }

@@ -14,8 +14,8 @@ places =
     ∷ path_rule (codes "index-file")
     ∷ []
 
--- the options that name the folder of an index, the file of the calls that follow, and the lock file that these
--- have to be right against
+-- the options that name the folder of an index, the file of the calls that follow, and the lock file that
+-- these have to be right against
 abbrev pub outlets : List Rule
 outlets =
     path_rule (codes "index-dir")

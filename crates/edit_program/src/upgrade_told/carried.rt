@@ -21,8 +21,8 @@ use edit_upgrade::{Options, UpgradePlan};
 use std::alloc::Global;
 use std::io;
 
-/// Writes outputs, prints the calls of `cargo update`, and writes the file of the calls. An error gives up every write
-/// that is ready.
+/// Writes outputs, prints the calls of `cargo update`, and writes the file of the calls. An error gives up
+/// every write that is ready.
 fn write_in_order<S: Store, E: io::Write>(
     alloc: Global,
     outputs: &[Output],
@@ -53,8 +53,8 @@ fn write_in_order<S: Store, E: io::Write>(
     write_outputs(alloc, file, files)
 }
 
-/// Writes outputs, prints the calls of `cargo update`, and writes the file of the calls. That file is made ready first, so
-/// that a folder in which it cannot be written leaves the outputs as they were.
+/// Writes outputs, prints the calls of `cargo update`, and writes the file of the calls. That file is made
+/// ready first, so that a folder in which it cannot be written leaves the outputs as they were.
 pub(crate) fn carry_out<S: Store, E: io::Write>(
     alloc: Global,
     outputs: &[Output],
