@@ -26,11 +26,6 @@ begin() { # PROGRAM
   tar -xzf "$room"/cargo-edit-*.tar.gz -C "$room/alone"
   (cd "$room"/alone/* && ./install.sh "$room/prefix") > "$room/log" 2>&1 || { cat "$room/log"; exit 1; }
   if [ -n "${CARGO_CHECK_SCRIPTS-}" ]; then cp "$CARGO_CHECK_SCRIPTS"/cargo-* "$room/prefix/bin"; fi
-  # (a certificate of the loopback address and its key, which nothing trusts and which go with this folder)
-  openssl req -x509 -newkey ec -pkeyopt ec_paramgen_curve:prime256v1 -nodes -days 2 -subj /CN=127.0.0.1 \
-    -addext subjectAltName=IP:127.0.0.1 -keyout "$room/key.pem" -out "$room/certificate.pem" 2> "$room/log" ||
-    { cat "$room/log"; exit 1; }
-  cat "$room/certificate.pem" "$room/key.pem" > "$room/loopback.pem"
   python3 "$here/tools/cargo_checks/registry.py" "$room" &
   server=$!
   for _ in $(seq 100); do [ -f "$room/port" ] || sleep 0.1; done

@@ -4,8 +4,8 @@
     registry.py DIR
 
 Serves the sparse registries `one` and `two` with ETags, and the files of their crates; `files` is a registry whose index is a
-git repository at DIR/files. DIR/loopback.pem has to hold a certificate of 127.0.0.1 and its key. DIR/port gets the port,
-DIR/tls-port that of the same by https.
+git repository at DIR/files. DIR/port gets the port, DIR/tls-port that of the same by https. DIR/certificate.pem gets a
+certificate of 127.0.0.1 that nothing trusts, DIR/key.pem its key.
 DIR/asked gets a line for each request of a client that is not cargo: its path, `sent` or `kept` (304), its user agent, what it
 has for Authorization or `-`, its Accept-Encoding or `-`, and `proxied` where this server was its proxy. DIR/mode says what
 such a client is answered:
@@ -83,6 +83,14 @@ def write(path, text):
     os.makedirs(os.path.dirname(path), exist_ok=True)
     with open(path, "wb") as file:
         file.write(text)
+
+
+def make_certificate():
+    """Makes the certificate of the loopback address, and its key."""
+    subprocess.run(["openssl", "req", "-x509", "-newkey", "ec", "-pkeyopt", "ec_paramgen_curve:prime256v1", "-nodes",
+                    "-days", "2", "-subj", "/CN=127.0.0.1", "-addext", "subjectAltName=IP:127.0.0.1",
+                    "-keyout", room + "/key.pem", "-out", room + "/certificate.pem"],
+                   check=True, stderr=subprocess.DEVNULL)
 
 
 class Answers(http.server.BaseHTTPRequestHandler):
@@ -217,8 +225,9 @@ subprocess.run(git + ["add", "."], check=True)
 subprocess.run(git + ["commit", "-q", "-m", "index"], check=True)
 threading.Thread(target=server.serve_forever, daemon=True).start()
 safe = Server(("127.0.0.1", 0), Answers)
+make_certificate()
 context = ssl.SSLContext(ssl.PROTOCOL_TLS_SERVER)
-context.load_cert_chain(room + "/loopback.pem")
+context.load_cert_chain(room + "/certificate.pem", room + "/key.pem")
 safe.socket = context.wrap_socket(safe.socket, server_side=True)
 threading.Thread(target=safe.serve_forever, daemon=True).start()
 for name, number in (("tls-port", safe.server_address[1]), ("port", port)):

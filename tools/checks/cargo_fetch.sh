@@ -305,11 +305,12 @@ row_signals() {
     # (a shell has its background jobs ignore INT)
     python3 -c 'import os, signal; signal.signal(signal.SIGINT, signal.SIG_DFL); os.setsid()
 os.execvp("cargo-upgrade", ["cargo-upgrade", "upgrade"])' > "$room/out" 2> "$room/err" < /dev/null &
-    while [ "$(requests)" -lt 1 ]; do
+    # (this run's own folder shows that it fetches: a request may be one of the run before)
+    while [ "$(requests)" -lt 1 ] || [ -z "$(find "$cache" -path '*/.run.*/curl' 2> /dev/null)" ]; do
       kill -0 "$!" 2> /dev/null || fail "$signal: it asks for nothing"
       sleep 0.05
     done
-    kill "-$signal" -- "-$!"
+    kill "-$signal" -- "-$!" || fail "$signal: there is no such run"
     touch "$room/open"
     wait "$!"
     [ -z "$(ls -A "$room/tmp")" ] || fail "$signal: left in TMPDIR"
