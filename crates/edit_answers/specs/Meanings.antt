@@ -16,7 +16,7 @@ abbrev pub new_meaning : Bool → Meaning
 new_meaning true = New
 new_meaning false = Moved
 
--- what the status of a transfer that did not fail means; a body that came behind a redirect is told apart
+-- what the status of a transfer that did not fail means; a body behind a redirect has a meaning of its own
 pub data MeansBy (code : Bor (List ℕ)) (redirects : List ℕ) : Meaning → Type 0 where
   new : code.now ≡ codes "200" → MeansBy code redirects (new_meaning (bytes_eq redirects (codes "0")))
   not_modified : code.now ≡ codes "304" → MeansBy code redirects NotModified
