@@ -1,10 +1,11 @@
 #!/usr/bin/env python3
-"""edits.py CALLS [PEER]: what an edit costs on manifests of 100 kB and 1 MB, by the program edit_calls (CALLS) and, where
-it is named, by its peer over `toml_edit` (bench/edits_peer.sh builds it), in one run.
+"""edits.py CALLS [PEER]: what an edit costs on manifests of 100 kB and 1 MB, by the program edit_calls
+(CALLS) and, where it is named, by its peer over `toml_edit` (bench/build.sh builds it), in one run.
 
-Each edit is one run of the program, which reads the manifest, makes the edit (which reads what it leaves and compares the
-trees) and prints the text. `set_literal` at a place where no value stands reads alone: the other rows say how many
-readings an edit costs, and what ten times the text costs. Processor seconds, least of ROUNDS interleaved rounds."""
+Each edit is one run of the program, which reads the manifest, makes the edit (which reads what it leaves and
+compares the trees) and prints the text. `set_literal` at a place where no value stands reads alone: the other
+rows say how many readings an edit costs, and what ten times the text costs. Processor seconds, least of
+ROUNDS interleaved rounds."""
 
 import pathlib
 import resource
@@ -52,7 +53,7 @@ def edits(entry):
     }
 
 
-def told(command):
+def output(command):
     """What a run prints."""
     return subprocess.run(command, check=True, stdout=subprocess.PIPE).stdout
 
@@ -72,7 +73,8 @@ def main():
                         time = spent([program, str(path), *words])
                         least[program, row, size] = min(time, least.get((program, row, size), time))
         path, rows = sizes[SIZES[0]]
-        other = [row for row, words in rows.items() if len({told([program, str(path), *words]) for program in programs}) > 1]
+        other = [row for row, words in rows.items()
+                 if len({output([program, str(path), *words]) for program in programs}) > 1]
     show(programs, least)
     if other:
         print("\nThe two leave other texts: " + ", ".join(other) + ".")
@@ -86,10 +88,10 @@ def show(programs, least):
     print("|---|---|---|---|---|" + "---|" * len(peer))
     for row in edits(0):
         small, large = least[programs[0], row, small_size], least[programs[0], row, large_size]
-        kept = "" if large <= WANTED * small else " (missed)"
+        missed = "" if large <= WANTED * small else " (missed)"
         readings = large / least[programs[0], "read alone", large_size]
         ratio = "".join(f" {large / least[other, row, large_size]:.2f} |" for other in peer)
-        print(f"| {row} | {small:.4f} | {large:.4f} | {large / small:.1f}{kept} | {readings:.1f} |{ratio}")
+        print(f"| {row} | {small:.4f} | {large:.4f} | {large / small:.1f}{missed} | {readings:.1f} |{ratio}")
 
 
 if __name__ == "__main__":

@@ -1,9 +1,10 @@
 #!/usr/bin/env python3
-"""features.py CALLS: what an update of an entry costs by its features, where their texts collide under the hash of the set
-that joins them and where they do not, by the program edit_calls (CALLS).
+"""features.py CALLS: what an update of an entry costs by its features, where their texts collide under the
+hash of the set that joins them and where they do not, by the program edit_calls (CALLS).
 
-Each run reads a manifest of one entry with N features, reads the entry's record, adds one feature and an option, and updates the entry.
-Processor seconds, least of ROUNDS interleaved rounds; beside them what reading the manifest alone costs."""
+Each run reads a manifest of one entry with N features, reads the entry's record, adds one feature and an
+option, and updates the entry. Processor seconds, least of ROUNDS interleaved rounds; beside them what reading
+the manifest alone costs."""
 
 import pathlib
 import resource
@@ -43,9 +44,9 @@ def main():
         for count in COUNTS:
             for name, text in TEXTS.items():
                 path.write_text(manifest(text, count))
-                least = {call: min(spent([program, str(path), *words]) for _ in range(ROUNDS)) for call, words in CALLS.items()}
-                ratio = least["update"] / least["read alone"]
-                print(f"| {count:,} | {name} | {least['read alone']:.4f} | {least['update']:.4f} | {ratio:.1f} |")
+                read, update = (min(spent([program, str(path), *words]) for _ in range(ROUNDS))
+                                for words in CALLS.values())
+                print(f"| {count:,} | {name} | {read:.4f} | {update:.4f} | {update / read:.1f} |")
 
 
 if __name__ == "__main__":

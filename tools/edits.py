@@ -1,4 +1,4 @@
-"""Wrong bodies as edits, each with the functions that it changes, and what a check says of functions."""
+"""Mutants as edits: what each changes, what a check says of functions, and whether that refuses a mutant."""
 import os
 import re
 
@@ -7,6 +7,9 @@ from source import Source
 # what a proof file is told where it names what is no longer there; what cites such a proof follows from that
 TAKEN_AWAY = re.compile(r"is not in scope|has no field|has no `|is no name|takes? no such")
 FOLLOWS = re.compile(r"was not admitted")
+PROOF = re.compile(r"(?:\./)?(proofs/(\S+)/(?:Answers|Invariants|Proof)\.antt):(\d+):\d+: error: (.*)")
+# what a proof file names at the start of a line: a lemma, or the answer to a goal
+NAMED = re.compile(r"(?:pub )?([\w-]+)(?: [\w ]*)?(?::|=|$)")
 
 
 class Unusable(Exception):
@@ -14,12 +17,14 @@ class Unusable(Exception):
 
 
 class Edit:
-    """A wrong body: the pairs of texts, the functions that they lie in, and all functions of their cycles."""
+    """A mutant: the pairs of texts, the functions that they lie in, all functions of their cycles, and an input on which
+    its result differs, where it names one."""
 
     def __init__(self, file, source: Source):
         self.file, self.folder, self.functions, self.members, self.apart = file, source.folder, set(), set(), set()
         with open(file, encoding="utf-8") as it:
-            self.pairs = list(pairs(it.read()))
+            text = it.read()
+        self.pairs, self.differs = list(pairs(text)), differs(text)
         if not self.pairs:
             raise Unusable("it has no 'old:' and 'new:' pair")
         made = {}
@@ -31,9 +36,9 @@ class Edit:
                 raise Unusable("an 'old:' text lies in no function's body: %s" % old.strip())
             changed = inside[-1]
             self.functions.add(changed.name)
-            self.members.add(changed.name)
+            self.members |= {changed.name} | changed.cycles
             if changed.cycle:
-                self.members |= {changed.cycle} | {it.name for it in functions if it.cycle == changed.cycle}
+                self.members |= {it.name for it in functions if it.cycle == changed.cycle}
             made[path] = text.replace(old, new)
 
     def text(self, made, path):
@@ -85,21 +90,34 @@ def pairs(text):
             old = None
 
 
-class Said:
-    """What a check says of the functions: proved, refused for reasons of their own, or waiting for others."""
+def differs(text):
+    """The input on which a mutant says that its result differs, or none."""
+    said = [line[8:].strip() for line in text.split("\n") if line.startswith("differs:")]
+    if len(said) > 1 or said == [""]:
+        raise Unusable("it has more than one 'differs:' line, or one that names no input")
+    return said[0] if said else None
 
-    def __init__(self, text, crate):
-        self.text, self.lines = text, text.rstrip("\n").split("\n")
-        self.proved, self.own, self.taken, self.other, self.waits = set(), {}, {}, {}, {}
+
+class Said:
+    """What a check says of the functions. `proved`: those that it proved. By the name of a function: `open`: the goals
+    that the search left; `broken`: each term of its own proof that no longer fits, with the goal that it answers; `taken`:
+    what its proof names and the edit took away; `waits`: the functions that it calls and that are not proved; `other`:
+    anything else."""
+
+    def __init__(self, text, crate, folder):
+        self.text, self.folder, self.lines = text, folder, text.rstrip("\n").split("\n")
+        self.proved, self.open, self.broken, self.taken, self.other, self.waits = set(), {}, {}, {}, {}, {}
         for at, line in enumerate(self.lines):
             function = re.match(r"fn %s::(\S+): (.*)" % crate, line)
-            proof = re.match(r"(?:\./)?proofs/(\S+)/(?:Answers|Invariants|Proof)\.antt:\d+:\d+: error: (.*)", line)
+            proof = PROOF.match(line)
             if function:
                 self.of_function(plain(function[1]), function[2], crate)
-            elif proof and not FOLLOWS.search(proof[2]):
-                whole = " ".join([proof[2], *self.behind(at)])
-                kind = self.taken if TAKEN_AWAY.search(whole) else self.own
-                kind.setdefault(plain(proof[1].replace("/", "::")), whole)
+            elif proof and not FOLLOWS.search(proof[4]):
+                name, whole = plain(proof[2].replace("/", "::")), " ".join([proof[4], *self.behind(at)])
+                if TAKEN_AWAY.search(whole):
+                    self.taken.setdefault(name, whole)
+                else:
+                    self.broken.setdefault(name, []).append((self.answer_at(proof[1], int(proof[3])), whole))
 
     def behind(self, at):
         """The lines that go on with what is told at a line, which begin with two spaces."""
@@ -110,6 +128,16 @@ class Said:
             more.append(line.strip())
         return more
 
+    def answer_at(self, path, number):
+        """The name in a proof file whose term stands at a line."""
+        try:
+            with open(os.path.join(self.folder, path), encoding="utf-8") as file:
+                lines = file.read().split("\n")[:number]
+        except OSError:
+            return ""
+        named = [it[1] for it in map(NAMED.match, lines) if it and it[1] not in ("use", "pub", "--")]
+        return named[-1] if named else ""
+
     def of_function(self, name, said, crate):
         if said == "no holes" or said.startswith("depends on a hole in"):
             self.proved.add(name)
@@ -118,9 +146,14 @@ class Said:
             self.waits.setdefault(name, set()).update(
                 plain(it) for it in re.findall(r"`%s::([^`]+)`" % crate, calls))
         if "did not prove" in said:
-            self.own[name] = said[said.index("`search` did not prove"):]
+            self.open[name] = said[said.index("`search` did not prove"):]
         elif name not in self.waits:
             self.other[name] = said
+
+    def strangers(self, changed):
+        """The functions that are refused and are none of these."""
+        refused = {*self.open, *self.broken, *self.taken, *self.other}
+        return sorted(it for it in refused if not holds(changed, it))
 
     def reached_prover(self):
         return self.lines[-1].startswith("only=")
@@ -137,6 +170,40 @@ class Said:
             found |= more
             left |= more
         return found
+
+
+def judged(edit, said, changed):
+    """What a check says of an edit where these functions are changed: 'refused', 'failed' or 'again', and why; with
+    'again' the functions beside which it is not to be tried."""
+    ours = lambda found: [found[it] for it in sorted(found) if holds(edit.members, it)]
+    waits = {it for name in said.waits if holds(edit.members, name) for it in said.whole_wait(name)}
+    foreign = {it for it in changed - edit.members if any(holds({it}, name) for name in waits)}
+    strangers, broken = said.strangers(changed), [it for found in ours(said.broken) for it in found]
+    if not said.reached_prover():
+        return "failed", "the check does not reach the prover: %s" % said.first_error()
+    if strangers:
+        return "failed", "%s is refused too, which no edit touches" % strangers[0]
+    if ours(said.taken):
+        return "failed", "replace this edit: a proof names what it took away: %s" % ours(said.taken)[0]
+    if ours(said.open):
+        return "refused", ours(said.open)[0]
+    for goal, text in broken:
+        if is_of_contract(goal):
+            return "refused", "%s: %s" % (goal, text)
+    if broken and edit.differs:
+        return "refused", "%s: %s: differs at %s" % (*broken[0], edit.differs)
+    if broken:
+        return "failed", (
+            "a term at %s broke, which is no goal of the contract, and no 'differs:' line names an input on which the "
+            "result differs: %s" % (broken[0][0] or "a proof", broken[0][1]))
+    if foreign:
+        return "again", foreign
+    return "failed", (ours(said.other) or ["%s is proved" % ", ".join(sorted(edit.functions))])[0]
+
+
+def is_of_contract(goal):
+    """Whether a goal is one of the function's own `ensures`, at one of its ends."""
+    return goal == "returns" or goal.startswith("returns-")
 
 
 def plain(name):

@@ -8,10 +8,11 @@ ASIDE = re.compile(r'//[^\n]*|/\*.*?\*/|b?r(#*)".*?"\1|b?"(?:\\.|[^"\\])*"|b?\'(
 # a clause stands before the body and has braces of its own
 CLAUSE = re.compile(r"\b(?:requires|ensures|ghost)\*?(?:\s+\w+)?(?:\s*:)?\s*\Z")
 
-# name: as a check prints it; cycle: the cycle of calls that it is in, if it is in one; label: as a reader knows it;
-# head: from its attributes to its clauses; start: of the head; begin, end: of the body, equal where there is none;
-# in_trait: whether it stands in a trait or in the impl of one
-Function = collections.namedtuple("Function", "name cycle label head start begin end in_trait")
+# name: as a check prints it; cycle: the word of its attribute `cycle`, if it has one; cycles: the names that a check may
+# print for the cycle of calls that it is in; label: as a reader knows it; head: from its attributes to its clauses;
+# start: of the head; begin, end: of the body, equal where there is none; in_trait: whether it stands in a trait or in
+# the impl of one
+Function = collections.namedtuple("Function", "name cycle cycles label head start begin end in_trait")
 # what a brace opened: kind is module, trait, impl, function, clause or block
 Opened = collections.namedtuple("Opened", "kind name label head start begin")
 
@@ -55,7 +56,7 @@ class Source:
                     # of the type of an array
                     continue
                 if is_outside and re.search(r"\bfn\s+\w", head):
-                    found.append(function_of(self.opened(outer, head, start, at), at, outer))
+                    found.append(function_of(self.opened(outer, head, start, at), at, outer, within[0].name))
             elif mark == "{":
                 is_clause = is_outside and CLAUSE.search(head)
                 within.append(
@@ -69,7 +70,7 @@ class Source:
                     start = inner.start
                     continue
                 if inner.kind == "function":
-                    found.append(function_of(inner, at, within[-1]))
+                    found.append(function_of(inner, at, within[-1], within[0].name))
             start = at + 1
         return found
 
@@ -101,11 +102,15 @@ class Source:
         return joined(self.homes.get(own, module), own), own
 
 
-def function_of(opened, end, outer):
+def function_of(opened, end, outer, file_module):
     cycle = re.search(r"#\[cycle\((\w+)\)\]", opened.head)
-    module = "::".join(it for it in opened.name.split("::")[:-1] if not it[:1].isupper())
+    scope, _, name = opened.name.rpartition("::")
+    module = "::".join(it for it in scope.split("::") if not it[:1].isupper())
+    # a function that calls itself is a cycle of its own name; a cycle of methods stands with their type or its module
+    cycles = {joined(place, "+" + cycle[1]) for place in (scope, module, file_module)} if cycle else set()
     return Function(
-        opened.name, cycle and joined(module, "+" + cycle[1]), opened.label, opened.head, opened.start, opened.begin, end,
+        opened.name, cycle and cycle[1], cycles | {joined(scope, "+" + name)}, opened.label, opened.head, opened.start,
+        opened.begin, end,
         outer.kind == "trait" or outer.kind == "impl" and " for " in outer.head)
 
 

@@ -1,6 +1,6 @@
 #!/usr/bin/env bash
 # bounds.sh PROGRAM   a manifest that was made to take much memory is read in 128 MB: 1 MB of headers of 80 parts, each of
-# which makes 80 new places. (`bench/document.py` says how many times its length a text takes.)
+# which makes 80 new places. (`bench/run --only hostile` says how many times its length such a text takes.)
 set -eu -o pipefail
 program=$1
 room=$(mktemp -d)

@@ -1,6 +1,6 @@
 #!/usr/bin/env python3
-"""killed.py PROGRAM: the program is killed 100 times at varying moments while it writes the 30 manifests of a workspace, and
-what it leaves stays. Each manifest is always the old or the new text whole, those that are new are the first ones in their
+"""killed.py PROGRAM [KILLS]: the program is killed 100 times (or KILLS times) at varying moments while it writes the 30 manifests
+of a workspace, and what it leaves stays. Each manifest is always the old or the new text whole, those that are new are the first ones in their
 order, and most kills leave all old or all new; leavings do not pile up. An undisturbed run
 then ends as ever, and never writes in place."""
 
@@ -13,7 +13,7 @@ import sys
 import tempfile
 import time
 
-KILLS, MOST_LEFT, MEMBERS = 100, 4, 30
+MOST_LEFT, MEMBERS = 4, 30
 HEAD = b'[dependencies]\na = "1.0"\n'
 LINES = b'{"name":"a","vers":"1.0.0"}\n{"name":"a","vers":"1.5.0"}\n'
 
@@ -87,11 +87,11 @@ def kill(manifests, usual):
     return not ended
 
 
-def kills(manifests, usual):
-    """Kills runs until enough were; what is wrong with what they leave."""
+def kills(manifests, usual, wanted):
+    """Kills runs until as many as wanted were; what is wrong with what they leave."""
     killed = most = partly = 0
-    for turn in range(4 * KILLS):
-        if killed == KILLS:
+    for turn in range(4 * wanted):
+        if killed == wanted:
             break
         manifests.reset()
         killed += kill(manifests, usual)
@@ -100,8 +100,8 @@ def kills(manifests, usual):
             yield f"kill {turn}: a manifest is cut, or new before another one"
         most = max(most, manifests.most_left())
         partly += raised not in (None, 0, MEMBERS)
-    if killed < KILLS:
-        yield f"{killed} runs were killed, of {4 * KILLS}"
+    if killed < wanted:
+        yield f"{killed} runs were killed, of {4 * wanted}"
     if most == 0:
         yield "no run was killed in its write"
     if 2 * partly > killed:
@@ -121,8 +121,8 @@ def parted(manifests):
         yield "the manifest is written in place"
 
 
-def faults(program, room):
-    """What is wrong with the runs."""
+def faults(program, room, wanted):
+    """What is wrong with the runs, of which as many as wanted are killed."""
     manifests = Manifests(program, room)
     usual = []
     for _ in range(5):
@@ -132,7 +132,7 @@ def faults(program, room):
             yield "an undisturbed run does not raise the manifests"
             return
         usual.append(time.monotonic() - began)
-    yield from kills(manifests, min(usual))
+    yield from kills(manifests, min(usual), wanted)
     manifests.reset()
     if not manifests.is_raised():
         yield "the last run does not raise the manifests"
@@ -144,7 +144,7 @@ def faults(program, room):
 def main():
     random.seed(10)
     with tempfile.TemporaryDirectory() as room:
-        wrong = list(faults(sys.argv[1], room))
+        wrong = list(faults(sys.argv[1], room, int(sys.argv[2]) if len(sys.argv) > 2 else 100))
     print("\n".join(wrong), end="\n" if wrong else "")
     sys.exit(1 if wrong else 0)
 

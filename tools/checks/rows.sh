@@ -1,5 +1,7 @@
 #!/bin/sh
-# rows.sh PROGRAM   the tables of rows/: what the program, and edit_calls beside it, print and leave for each row.
+# rows.sh PROGRAM   the cases of tests/cases, inputs that are too long for a case, and files of this machine.
 set -eu
 here=$(cd "$(dirname "$0")" && pwd)
-exec python3 "$here/rows.py" "$1" "$here/../../crates/edit_calls/out/edit_calls"
+"$here/../../tests/cases/run" "$1"
+python3 "$here/generated.py" "$1" "$here/../../crates/edit_calls/out/edit_calls"
+exec python3 "$here/real_files.py" "$1"

@@ -12,17 +12,20 @@ use Rattle.edit_answers.specs.Bodies.{AreNamed, EndsLine, IsDamaged, IsWholeInde
 use Rattle.edit_answers.specs.Bodies.IsDamaged.{bad_line, not_whole}
 use Rattle.edit_answers.specs.declared.bodies.Damage.{Damage}
 
-pub All-unmap : {X Y : Type 0} (P : Y → Type 0) (f : X → Y) (xs : List X) → All P (map f xs) → All (λ x. P (f x)) xs
+pub All-unmap : {X Y : Type 0} (P : Y → Type 0) (f : X → Y) (xs : List X) → All P (map f xs)
+    → All (λ x. P (f x)) xs
 All-unmap P f xs h k d w =
     subst P (get_or-map f xs k d) (h k (f d) (omega (arith, length-map xs f)))
 
 -- a damaged file is not whole
-pub damaged-not-whole : (name body : List ℕ) (damage : Damage) → IsDamaged name body damage → IsWholeIndex name body → ⊥
+pub damaged-not-whole : (name body : List ℕ) (damage : Damage) → IsDamaged name body damage
+    → IsWholeIndex name body → ⊥
 damaged-not-whole name body damage (bad_line n bad) w = none_said (lines_of body) w.entries n w.say bad
 damaged-not-whole name body damage (not_whole entries say none) w = none w
 
 -- a file that does not end with a line end is not whole
-pub not-ended : (b : Bool) (name body : List ℕ) → (IsTrue b ↔ EndsLine body) → b ≡ false → IsWholeIndex name body → ⊥
+pub not-ended : (b : Bool) (name body : List ℕ) → (IsTrue b ↔ EndsLine body) → b ≡ false
+    → IsWholeIndex name body → ⊥
 not-ended b name body ends is w = false≢true (sym is ∙ ends.1 w.ended)
 
 -- the line of an error
@@ -34,4 +37,5 @@ pub not-named : (b : Bool) (name body : List ℕ) (entries : List IndexEntry) �
     → (IsTrue b ↔ AreNamed entries name) → b ≡ false → IsWholeIndex name body → ⊥
 not-named b name body entries say named is w =
     false≢true (sym is
-    ∙ named.1 (subst (λ es. AreNamed es name) (one_reading (lines_of body) w.entries entries w.say say) w.named))
+    ∙ named.1 (subst (λ es. AreNamed es name) (one_reading
+    (lines_of body) w.entries entries w.say say) w.named))

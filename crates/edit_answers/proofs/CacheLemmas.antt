@@ -10,7 +10,8 @@ use Rattle.edit_answers.specs.declared.meaning.Outcome.TheVariants.{Damaged}
 pub from-link : (name : List ℕ) (file : Option (List ℕ)) (had r : Outcome) (lost : Failure)
     → HasDamage name file None → r ≡ by_cached file had lost → FromCache name had lost file r
 from-link name None had r lost clean e = subst (λ o. FromCache name had lost None o) (sym e) none
-from-link name (Some bytes) had r lost clean e = subst (λ o. FromCache name had lost (Some bytes) o) (sym e) (whole bytes clean)
+from-link name (Some bytes) had r lost clean e = subst (λ o. FromCache name had lost (Some bytes) o) (sym e)
+    (whole bytes clean)
 
 pub from-damage : (name : List ℕ) (file : Option (List ℕ)) (had : Outcome) (lost : Failure) (damage : Damage)
     → HasDamage name file (Some damage) → FromCache name had lost file (Damaged damage lost)

@@ -23,7 +23,8 @@ module _ (P : List ℕ → List ℕ → Type 0) where
   pub keeps-same : (a b : Files) → SameFiles a b → Keeps P a b
   keeps-same a b same path = inl (same path)
 
-  pub keeps-write : (a b : Files) (at bytes : List ℕ) → SameBut at a b → b at ≡ Some bytes → P at bytes → Keeps P a b
+  pub keeps-write : (a b : Files) (at bytes : List ℕ) → SameBut at a b → b at ≡ Some bytes → P at bytes
+      → Keeps P a b
   keeps-write a b at bytes same is may path =
       ⊎_elim (λ e. inr (bytes, subst (λ p. b p ≡ Some bytes) (sym e) is, subst (λ p. P p bytes) (sym e) may))
       (λ n. inl (same path n)) (apart path at)
@@ -57,7 +58,8 @@ module _ (P : List ℕ → List ℕ → Type 0) where
 
 module _ (P Q : List ℕ → List ℕ → Type 0) (weaker : (path bytes : List ℕ) → P path bytes → Q path bytes) where
   pub keeps-weaker : (a b : Files) → Keeps P a b → Keeps Q a b
-  keeps-weaker a b h path = ⊎_elim (λ same. inl same) (λ new. inr (new.0, new.1, weaker path new.0 new.2)) (h path)
+  keeps-weaker a b h path = ⊎_elim (λ same. inl same) (λ new. inr (new.0, new.1, weaker path new.0 new.2))
+      (h path)
 
   pub but-weaker : (a b : Files) → KeepsBut P a b → KeepsBut Q a b
   but-weaker a b h = (
@@ -67,7 +69,7 @@ module _ (P Q : List ℕ → List ℕ → Type 0) (weaker : (path bytes : List �
   )
 
 -- a failure that is counted from earlier on
-raised-later : (a b c : ℕ) → a ≤ b → raised b c → raised a c
+pub raised-later : (a b c : ℕ) → a ≤ b → raised b c → raised a c
 raised-later a b c le (inl lt) = inl (omega arith)
 raised-later a b c le (inr end) = grind (arith)
 
@@ -76,7 +78,8 @@ fails-later a b c e le (inl memory) = inl memory
 fails-later a b c e le (inr failed) = inr (failed.0, failed.1, raised-later a b c le failed.2)
 
 -- the failure of a call of a store
-pub fails-call : (call : DeviceCall) (a b : StoreView) (e : Error) → RefusesCall call a b e → Fails a.faults b.faults e
+pub fails-call : (call : DeviceCall) (a b : StoreView) (e : Error) → RefusesCall call a b e
+    → Fails a.faults b.faults e
 fails-call call a b e (inl memory) = inl memory
 fails-call call a b e (inr failed) = inr (call, failed.0, failed.1)
 
@@ -100,14 +103,16 @@ after P Q a b c (Err e) tells le keeps keepsq step = record {
   refused = fails-later a.faults b.faults c.faults e le step.refused;
 }
 
-pub after-reads : {T : Type 0} (P : T → List ℕ → List ℕ → Type 0) (Q : List ℕ → List ℕ → Type 0) (a b c : StoreView)
+pub after-reads : {T : Type 0} (P : T → List ℕ → List ℕ → Type 0) (Q : List ℕ → List ℕ → Type 0)
+    (a b c : StoreView)
     (r : Result T Error) → OnlyReads a b → Changes P Q b c r → Changes P Q a c r
 after-reads P Q a b c r reads step =
     after P Q a b c r reads.tells reads.later (λ v t. keeps-same (P v) a.file_at b.file_at reads.files)
     (λ t. keeps-same Q a.file_at b.file_at reads.files) step
 
 -- a failure for want of memory
-pub memory-fails : {T : Type 0} (P : T → List ℕ → List ℕ → Type 0) (Q : List ℕ → List ℕ → Type 0) (a : StoreView)
+pub memory-fails : {T : Type 0} (P : T → List ℕ → List ℕ → Type 0) (Q : List ℕ → List ℕ → Type 0)
+    (a : StoreView)
     (e : Error) → IsMemory e → Changes P Q a a (Err e)
 memory-fails P Q a e memory = record {
   tells = refl;
@@ -118,7 +123,8 @@ memory-fails P Q a e memory = record {
 }
 
 -- nothing happens
-pub nothing : {T : Type 0} (P : T → List ℕ → List ℕ → Type 0) (Q : List ℕ → List ℕ → Type 0) (a : StoreView) (v : T)
+pub nothing : {T : Type 0} (P : T → List ℕ → List ℕ → Type 0) (Q : List ℕ → List ℕ → Type 0) (a : StoreView)
+    (v : T)
     → Changes P Q a a (Ok v)
 nothing P Q a v = record {
   tells = refl;
@@ -143,7 +149,8 @@ as-ok P R Q Q' a b v u weaker step = record {
 
 pub as-err : {T U : Type 0} (P : T → List ℕ → List ℕ → Type 0) (R : U → List ℕ → List ℕ → Type 0)
     (Q Q' : List ℕ → List ℕ → Type 0) (a b : StoreView) (e : Error)
-    → ((path bytes : List ℕ) → Q path bytes → Q' path bytes) → Changes P Q a b (Err e) → Changes R Q' a b (Err e)
+    → ((path bytes : List ℕ) → Q path bytes → Q' path bytes) → Changes P Q a b (Err e)
+    → Changes R Q' a b (Err e)
 as-err P R Q Q' a b e weaker step = record {
   tells = step.tells;
   later = step.later;
@@ -152,7 +159,8 @@ as-err P R Q Q' a b e weaker step = record {
   refused = step.refused;
 }
 
-pub weakened : {T : Type 0} (P P' : T → List ℕ → List ℕ → Type 0) (Q Q' : List ℕ → List ℕ → Type 0) (a b : StoreView)
+pub weakened : {T : Type 0} (P P' : T → List ℕ → List ℕ → Type 0) (Q Q' : List ℕ → List ℕ → Type 0)
+    (a b : StoreView)
     (r : Result T Error) → (a.tells ≡ true → (v : T) (path bytes : List ℕ) → P v path bytes → P' v path bytes)
     → ((path bytes : List ℕ) → Q path bytes → Q' path bytes) → Changes P Q a b r → Changes P' Q' a b r
 weakened P P' Q Q' a b (Ok v) wp wq step = record {
@@ -165,9 +173,11 @@ weakened P P' Q Q' a b (Ok v) wp wq step = record {
 weakened P P' Q Q' a b (Err e) wp wq step = as-err P P' Q Q' a b e wq step
 
 -- a write
-pub write-changes : {T : Type 0} (P : T → List ℕ → List ℕ → Type 0) (Q : List ℕ → List ℕ → Type 0) (call : DeviceCall)
+pub write-changes : {T : Type 0} (P : T → List ℕ → List ℕ → Type 0) (Q : List ℕ → List ℕ → Type 0)
+    (call : DeviceCall)
     (a b : StoreView) (at bytes : List ℕ) (r : Result T Error) → b.tells ≡ a.tells
-    → OnOk r (a.tells ≡ true → b.file_at at ≡ Some bytes) → SameBut at a.file_at b.file_at → HasCause call a b r
+    → OnOk r (a.tells ≡ true → b.file_at at ≡ Some bytes) → SameBut at a.file_at b.file_at
+    → HasCause call a b r
     → (a.tells ≡ true → b.file_at at ≡ Some bytes → (v : T) → Keeps (P v) a.file_at b.file_at)
     → Changes P Q a b r
 write-changes P Q call a b at bytes (Ok v) tells written others cause keeps = record {
@@ -192,15 +202,18 @@ keeps-anew P a b at bytes same is was path =
     ⊎_elim (λ e. inl (subst (λ p. b p ≡ a p) (sym e) (is ∙ sym was))) (λ n. inl (same path n)) (apart path at)
 
 -- a call that only reads
-pub only-reads : {T : Type 0} (P : T → List ℕ → List ℕ → Type 0) (Q : List ℕ → List ℕ → Type 0) (a b : StoreView) (v : T)
+pub only-reads : {T : Type 0} (P : T → List ℕ → List ℕ → Type 0) (Q : List ℕ → List ℕ → Type 0)
+    (a b : StoreView) (v : T)
     → OnlyReads a b → Changes P Q a b (Ok v)
 only-reads P Q a b v reads = after-reads P Q a b b (Ok v) reads (nothing P Q b v)
 
-pub reads-memory : {T : Type 0} (P : T → List ℕ → List ℕ → Type 0) (Q : List ℕ → List ℕ → Type 0) (a b : StoreView)
+pub reads-memory : {T : Type 0} (P : T → List ℕ → List ℕ → Type 0) (Q : List ℕ → List ℕ → Type 0)
+    (a b : StoreView)
     (e : Error) → OnlyReads a b → IsMemory e → Changes P Q a b (Err e)
 reads-memory P Q a b e reads memory = after-reads P Q a b b (Err e) reads (memory-fails P Q b e memory)
 
-pub reads-fails : {T : Type 0} (P : T → List ℕ → List ℕ → Type 0) (Q : List ℕ → List ℕ → Type 0) (a b : StoreView)
+pub reads-fails : {T : Type 0} (P : T → List ℕ → List ℕ → Type 0) (Q : List ℕ → List ℕ → Type 0)
+    (a b : StoreView)
     (e : Error) → OnlyReads a b → Fails a.faults b.faults e → Changes P Q a b (Err e)
 reads-fails P Q a b e reads fails = record {
   tells = reads.tells;
@@ -211,8 +224,10 @@ reads-fails P Q a b e reads fails = record {
 }
 
 -- what was read stands there after the reading
-pub read-stands : (old mid : Files) (p q : List ℕ) (o : Option (Vec ℕ Global)) (v : Vec ℕ Global) (bytes : List ℕ)
-    → SameFiles old mid → option_map (λ (x : Vec ℕ Global). x.items) o ≡ old p → o ≡ Some v → bytes ≡ v.items → q ≡ p
+pub read-stands : (old mid : Files) (p q : List ℕ) (o : Option (Vec ℕ Global)) (v : Vec ℕ Global)
+    (bytes : List ℕ)
+    → SameFiles old mid → option_map (λ (x : Vec ℕ Global). x.items) o ≡ old p → o ≡ Some v → bytes
+    ≡ v.items → q ≡ p
     → mid q ≡ Some bytes
 read-stands old mid p q o v bytes same was is b e =
     ap mid e ∙ (same p ∙ (sym was ∙ (ap (option_map (λ (x : Vec ℕ Global). x.items)) is ∙ ap Some (sym b))))
@@ -223,7 +238,8 @@ pub then : {U T : Type 0} (F : List ℕ → List ℕ → Type 0) (a b c : StoreV
 then F a b c u r first second =
     after (λ _. F) F a b c r first.tells first.later (λ v t. first.done t) (λ t. first.done t) second
 
-pub on-ok : {T : Type 0} (P P' : T → Type 0) (r : Result T Error) → ((v : T) → P v → P' v) → IfOk r P → IfOk r P'
+pub on-ok : {T : Type 0} (P P' : T → Type 0) (r : Result T Error) → ((v : T) → P v → P' v) → IfOk r P
+    → IfOk r P'
 on-ok P P' (Ok v) f h = f v h
 on-ok P P' (Err e) f h = tt
 
@@ -262,7 +278,8 @@ ok-refused P R Q a b u (Err e) weaker memory step = record {
   refused = inl (ap number_of memory);
 }
 
-pub reads-refused : {T : Type 0} (P : T → List ℕ → List ℕ → Type 0) (Q : List ℕ → List ℕ → Type 0) (a b : StoreView)
+pub reads-refused : {T : Type 0} (P : T → List ℕ → List ℕ → Type 0) (Q : List ℕ → List ℕ → Type 0)
+    (a b : StoreView)
     (r : Result T Error) → OnlyReads a b → IsErrAnd r (λ e. e ≡ Memory) → Changes P Q a b r
 reads-refused P Q a b (Ok v) reads memory = absurd memory
 reads-refused P Q a b (Err e) reads memory = reads-memory P Q a b e reads (ap number_of memory)

@@ -1,9 +1,12 @@
 pub mod BodyLemmas
+mod BoolLemmas
 mod CacheLemmas
 pub mod ChangeLemmas
 mod FollowLemmas
+mod GroupLemmas
 pub mod LineLemmas
 mod LinkLemmas
+mod PruneLemmas
 pub mod PutLemmas
 pub mod SettleLemmas
 pub mod TableLemmas

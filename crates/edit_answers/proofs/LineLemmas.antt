@@ -13,17 +13,20 @@ pub no-number : (line : List ℕ) (number : ℕ) (a : Answer) → HasNo 9 line �
 no-number line number a lacks says = HasNo-at 9 says.digits _ (subst (HasNo 9) says.is lacks)
 
 -- with one tab
-pub no-status : (line digits rest : List ℕ) (number : ℕ) (a : Answer) → line ≡ digits ++ 9 ∷ rest → HasNo 9 digits
+pub no-status : (line digits rest : List ℕ) (number : ℕ) (a : Answer) → line ≡ digits ++ 9 ∷ rest
+    → HasNo 9 digits
     → HasNo 9 rest → SaysAnswer line number a → ⊥
 no-status line digits rest number a is none lacks says =
     let cut = first-cut 9 digits rest says.digits _ none says.no_tab_number (sym is ∙ says.is) in
     HasNo-at 9 a.code.now _ (subst (HasNo 9) cut.1 lacks)
 
 -- with two tabs
-pub no-exit : (line digits code rest : List ℕ) (number : ℕ) (a : Answer) → line ≡ digits ++ 9 ∷ (code ++ 9 ∷ rest)
+pub no-exit : (line digits code rest : List ℕ) (number : ℕ) (a : Answer) → line
+    ≡ digits ++ 9 ∷ (code ++ 9 ∷ rest)
     → HasNo 9 digits → HasNo 9 code → HasNo 9 rest → SaysAnswer line number a → ⊥
 no-exit line digits code rest number a is none none2 lacks says =
-    let cut = first-cut 9 digits (code ++ 9 ∷ rest) says.digits _ none says.no_tab_number (sym is ∙ says.is) in
+    let cut = first-cut 9 digits (code ++ 9 ∷ rest) says.digits _ none says.no_tab_number
+    (sym is ∙ says.is) in
     let cut2 = first-cut 9 code rest a.code.now _ none2 says.no_tab cut.1 in
     HasNo-at 9 a.exit.now _ (subst (HasNo 9) cut2.1 lacks)
 
@@ -39,7 +42,8 @@ no-redirects line digits code exit rest number a is none none2 none3 lacks says 
     HasNo-at 9 a.redirects.now _ (subst (HasNo 9) cut3.1 lacks)
 
 -- without a number
-pub no-parse : (line digits rest : List ℕ) (number : ℕ) (a : Answer) → line ≡ digits ++ 9 ∷ rest → HasNo 9 digits
+pub no-parse : (line digits rest : List ℕ) (number : ℕ) (a : Answer) → line ≡ digits ++ 9 ∷ rest
+    → HasNo 9 digits
     → ((IsNumeral 10 (without_leading_plus digits)
     × (digits_value 10 (without_leading_plus digits) < 2 ^ 64)) → ⊥)
     → SaysAnswer line number a → ⊥

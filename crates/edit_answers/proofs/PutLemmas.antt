@@ -9,7 +9,8 @@ use Rattle.edit_answers.specs.declared.meaning.Outcome.{Outcome}
 use Rattle.edit_answers.specs.declared.meaning.Outcome.TheVariants.{Fetched}
 use Rattle.edit_answers.specs.declared.places.Places.{Places}
 
-pub indexed-puts : (p : Places) (l : LookupText) (o : Outcome) (path bytes : List ℕ) → PutsIndexed p l path bytes
+pub indexed-puts : (p : Places) (l : LookupText) (o : Outcome) (path bytes : List ℕ)
+    → PutsIndexed p l path bytes
     → Puts p l o path bytes
 indexed-puts p l o path bytes e = subst (λ q. Puts p l o q bytes) (sym e) (indexed bytes)
 

@@ -79,7 +79,8 @@ module _ (p : Places) (ls : List LookupText) where
     later = omega (arith, so.later, step.later);
     done = λ t. subst (λ xs. Keeps (PutsOne p ls xs) a.file_at c.file_at) (sym e)
         (keeps-then (PutsOne p ls (os ++ o ∷ [])) a.file_at b.file_at c.file_at
-        (keeps-weaker (PutsOne p ls os) (PutsOne p ls (os ++ o ∷ [])) (one-more os o) a.file_at b.file_at (so.done t))
+        (keeps-weaker (PutsOne p ls os) (PutsOne p ls (os ++ o ∷ [])) (one-more os o) a.file_at b.file_at
+        (so.done t))
         (keeps-weaker (Puts p l o) (PutsOne p ls (os ++ o ∷ [])) (λ path bytes. one-last os o l path bytes is)
         b.file_at c.file_at (step.done (so.tells ∙ t))));
     torn = tt;

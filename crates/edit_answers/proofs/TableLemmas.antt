@@ -40,7 +40,8 @@ one-said text line old new number answer whole says put said k a e =
     (λ is. record {
       line = line;
       whole = whole;
-      says = subst (λ x. SaysAnswer line (k + 1) x) (sym is.1) (subst (λ n. SaysAnswer line n answer) (sym is.0) says);
+      says = subst (λ x. SaysAnswer line (k + 1) x) (sym is.1)
+          (subst (λ n. SaysAnswer line n answer) (sym is.0) says);
     }) (put k a e)
 
 -- the first line of a rest is a line of the text

@@ -19,4 +19,5 @@ front-utf8 s before after u e =
     let at : get_or s (length before) 0 ≡ 10 =
     ap (λ t. get_or t (length before) 0) e ∙ get_or-append_seam before 10 after 0 in
     subst IsUtf8 (ap (take (length before)) e ∙ take-append_seam before (10 ∷ after))
-    (IsUtf8-take s (length before) u (IsCharBoundary-before_ascii s (length before) within (omega (arith, at))))
+    (IsUtf8-take s (length before) u (IsCharBoundary-before_ascii s (length before) within
+    (omega (arith, at))))

@@ -9,4 +9,9 @@ cache_faults store = store.failed
 
 -- the machine's files are not told
 abbrev pub cache_view : {R : Type 0} → CacheStore R → StoreView
-cache_view store = record { tells = false; file_at = λ _. None; faults = cache_faults store; stage_errors = 0 }
+cache_view store = record {
+  tells = false;
+  file_at = λ _. None;
+  faults = cache_faults store;
+  stage_errors = 0;
+}

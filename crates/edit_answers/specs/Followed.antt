@@ -17,7 +17,8 @@ use Rattle.edit_answers.specs.declared.places.Places.{Places}
 -- an address is that of a sparse registry
 abbrev pub is_sparse : List ℕ → Bool
 is_sparse address =
-    starts_with nat_eq address (codes "sparse+http://") || starts_with nat_eq address (codes "sparse+https://")
+    starts_with nat_eq address (codes "sparse+http://") || starts_with nat_eq address
+    (codes "sparse+https://")
 
 -- an address is that of a registry on this machine
 abbrev pub is_local : List ℕ → Bool
@@ -31,7 +32,8 @@ pub data MeansFor (address : List ℕ) (is_offline : Bool) (answer : Option Answ
       → MeansFor address is_offline answer m
 
 -- what becomes of a lookup by the kind of its registry and the answer to it
-pub data Follows (p : Places) (l : LookupText) (number : ℕ) (is_offline : Bool) (answer : Option Answer) (files : Files)
+pub data Follows (p : Places) (l : LookupText) (number : ℕ) (is_offline : Bool) (answer : Option Answer)
+    (files : Files)
     : Outcome → Type 0 where
   local : (o : Outcome) → is_local l.address ≡ true → SettlesLocal l files o
       → Follows p l number is_offline answer files o
@@ -49,7 +51,8 @@ answer_at answers k = the_answer (slice_get answers k)
 
 -- an outcome follows from the answer at its place, over files that differ from the old ones only by what
 -- lookups may put
-pub record HasFollowed (p : Places) (ls : List LookupText) (is_offline : Bool) (answers : List (Option Answer))
+pub record HasFollowed (p : Places) (ls : List LookupText) (is_offline : Bool)
+    (answers : List (Option Answer))
     (old : Files) (k : ℕ) (l : LookupText) (o : Outcome) : Type 0 where
   pub files : Files
   pub from_old : Keeps (PutsSome p ls) old files

@@ -1,12 +1,16 @@
+pub mod Aging
 pub mod Answers
 pub mod Bodies
 pub mod CacheStore
 pub mod Changes
 pub mod CurlVersion
 pub mod Followed
+pub mod Groups
 pub mod Links
 pub mod Locals
 pub mod Meanings
+pub mod Messages
 pub mod Outcomes
 pub mod Places
+pub mod Reasons
 pub mod Stored

@@ -19,7 +19,8 @@ use Rattle.edit_answers.specs.declared.meaning.Outcome.TheVariants.{Absent, Loca
 -- a path without the slash at its end, the root aside
 abbrev pub without_slash : List ℕ → List ℕ
 without_slash path =
-    if ends_with nat_eq path (codes "/") && not (bytes_eq path (codes "/")) then take (length path - 1) path else path
+    if ends_with nat_eq path (codes "/") && not (bytes_eq path (codes "/")) then take
+    (length path - 1) path else path
 
 -- the folder that the path of a URL names, its escapes read
 abbrev pub folder_of : List ℕ → List ℕ

@@ -28,4 +28,5 @@ pub data MeansBy (code : Bor (List ℕ)) (redirects : List ℕ) : Meaning → Ty
 pub data Means : Option Answer → Meaning → Type 0 where
   unanswered : Means None (Failed Unanswered)
   failed : (a : Answer) → a.exit.now ≢ codes "0" → Means (Some a) (Failed (Curl a.exit a.message))
-  answered : (a : Answer) (m : Meaning) → a.exit.now ≡ codes "0" → MeansBy a.code a.redirects.now m → Means (Some a) m
+  answered : (a : Answer) (m : Meaning) → a.exit.now ≡ codes "0" → MeansBy a.code a.redirects.now m
+      → Means (Some a) m

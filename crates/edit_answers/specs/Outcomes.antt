@@ -24,8 +24,10 @@ IsStored o = (o ≡ Fetched) ⊎ (o ≡ Moved)
 -- what a step may write for a lookup: where it was fetched, its entry, a whole index file of its crate; where
 -- no redirect was followed, the validator of such a body; and the file where an upgrade reads it
 pub data Puts (p : Places) (l : LookupText) (o : Outcome) : List ℕ → List ℕ → Type 0 where
-  entry : (bytes : List ℕ) → IsStored o → IsWholeIndex l.name bytes → Puts p l o (cached_path p.cache.now l) bytes
-  validator : (body bytes etag : List ℕ) → o ≡ Fetched → IsWholeIndex l.name body → IsValidatorOf body bytes etag
+  entry : (bytes : List ℕ) → IsStored o → IsWholeIndex l.name bytes
+      → Puts p l o (cached_path p.cache.now l) bytes
+  validator : (body bytes etag : List ℕ) → o ≡ Fetched → IsWholeIndex l.name body
+      → IsValidatorOf body bytes etag
       → Puts p l o (validator_path (cached_path p.cache.now l)) bytes
   indexed : (bytes : List ℕ) → Puts p l o (index_path p.room.now l) bytes
 

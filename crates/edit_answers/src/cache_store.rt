@@ -29,17 +29,17 @@ impl<R: Files<File = File> + Alloc<A = Global> + Drop> CacheStore<R> {
     {
         CacheStore { rt, run, failed: 0 }
     }
+}
 
-    /// The error of a call. Each but want of memory counts as a fault.
-    fn refused(&mut self, call: DeviceCall, error: io::Error) -> Error
-        ensures { IsRefusal call self.old.failed self.new.failed result }
-    {
-        if error.kind() == ErrorKind::OutOfMemory {
-            return Error::Memory;
-        }
-        self.failed = self.failed.saturating_add(1);
-        Error::Device(call)
+/// The error of a call. Each but want of memory is counted.
+pub(crate) fn refused(failed: &mut u64, call: DeviceCall, error: io::Error) -> Error
+    ensures { IsRefusal call failed.old failed.new result }
+{
+    if error.kind() == ErrorKind::OutOfMemory {
+        return Error::Memory;
     }
+    *failed = failed.saturating_add(1);
+    Error::Device(call)
 }
 
 /// Makes the missing folders above a file, for their owner alone.
@@ -120,7 +120,7 @@ impl<R: Files<File = File> + Alloc<A = Global> + Drop> Store for CacheStore<R> {
             Ok(metadata) if metadata.is_dir() => Ok(Kind::Folder),
             Ok(_) => Ok(Kind::Absent),
             Err(error) if is_absent(error.kind()) => Ok(Kind::Absent),
-            Err(error) => Err(self.refused(DeviceCall::Kind, error)),
+            Err(error) => Err(refused(&mut self.failed, DeviceCall::Kind, error)),
         }
     }
 
@@ -128,14 +128,14 @@ impl<R: Files<File = File> + Alloc<A = Global> + Drop> Store for CacheStore<R> {
         match fs::read(&self.rt, path) {
             Ok(bytes) => Ok(Some(bytes)),
             Err(error) if is_absent(error.kind()) => Ok(None),
-            Err(error) => Err(self.refused(DeviceCall::Read, error)),
+            Err(error) => Err(refused(&mut self.failed, DeviceCall::Read, error)),
         }
     }
 
     fn write(&mut self, alloc: Global, path: &str, bytes: &[u8]) -> CargoResult<()> {
         match replace(&self.rt, alloc, path, bytes, self.run) {
             Ok(()) => Ok(()),
-            Err(error) => Err(self.refused(DeviceCall::Write, error)),
+            Err(error) => Err(refused(&mut self.failed, DeviceCall::Write, error)),
         }
     }
 

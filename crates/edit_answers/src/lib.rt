@@ -2,10 +2,13 @@
 //! put where an upgrade reads them, and what is said of the others.
 #![tactic(auto)]
 
+pub mod aging_store;
 pub mod answers;
 pub mod bodies;
+pub mod cache_folder;
 pub mod cache_store;
 pub mod curl_version;
+pub mod groups;
 pub mod link_store;
 pub mod local;
 pub mod lookups;
@@ -13,12 +16,15 @@ pub mod meaning;
 pub mod messages;
 pub mod places;
 pub mod pruning;
+mod reasons;
 pub mod settle;
 pub mod stored;
 mod validators;
 
+pub use aging_store::{Aged, AgingStore, MemoryCache};
 pub use answers::{Answer, read_answers};
 pub use bodies::{Damage, damage_of};
+pub use cache_folder::CacheFolder;
 pub use cache_store::CacheStore;
 pub use curl_version::is_new_enough;
 pub use link_store::LinkStore;

@@ -56,7 +56,8 @@ fn settle_one<'a, S: LinkStore>(
         (Puts places.now (lookup_text lookup.now) Outcome.Fetched)
         (S.view files.old) (S.view files.new) result }
     ensures follows { IfOk result (λ o. (S.view files.old).tells ≡ true
-        → Follows places.now (lookup_text lookup.now) number offline answer.entry (S.view files.old).file_at o) }
+        → Follows places.now (lookup_text lookup.now) number offline answer.entry
+        (S.view files.old).file_at o) }
 {
     if is_local(lookup.address.as_bytes()) {
         return settle_local(alloc, files, places, lookup);

@@ -1,14 +1,18 @@
 //! What is said of entries that were not had.
-ghost use Rattle.std.specs.Prelude.{◌≡◌, [], Some, IfOk, codes, option_map, string_bytes};
+ghost use Rattle.std.specs.Prelude.{◌≡◌, ◌++◌, [], Some, IfOk, OnOk, codes, length, map, option_map, string_bytes};
+ghost use Rattle.std.specs.Fmt.{decimal};
+ghost use Rattle.std.specs.List.{flat_map};
+ghost use Rattle.edit_answers.specs.Groups.{GroupText, group_text, upgraded};
+ghost use Rattle.edit_answers.specs.Messages.{IsReport, cached_line, cached_text, damage_line, damage_text, error_text, left_line, line_of, missing_line, names_text, shown_text, unfetched_text};
+ghost use Rattle.edit_lookups.specs.Escaped.{escaped};
 
 use crate::bodies::Damage;
-use crate::local::{local_folder, local_path};
-use crate::meaning::{Failure, Outcome};
+use crate::groups::{Group, Standing, groups_with, upgraded};
+use crate::meaning::Outcome;
 use crate::places::Places;
-use edit_lookups::{Lookup, cached_path, shown_address};
+use crate::reasons::escaped;
+use edit_lookups::{Lookup, cached_path, push_escaped, shown_address};
 use std::alloc::{AllocError, Global};
-use std::collections::BTreeMap;
-use std::fmt::Write;
 
 /// What is said of a run: its warnings, each with a line end, and why it ends with status 1, if it does.
 #[derive(Debug, Drop)]
@@ -26,135 +30,141 @@ pub struct StoreOptions<'a> {
     pub excluded: &'a [&'a str],
 }
 
-/// The entries of a registry that were not had: why the first of them was not, how many there are, and their
-/// names.
-#[derive(Debug, Drop)]
-struct Group {
-    reason: String,
-    count: usize,
-    names: String,
+/// The address of a registry as messages show it.
+fn shown_text(alloc: Global, address: &str) -> Result<String, AllocError>
+    ensures { IfOk result (λ s. string_bytes s ≡ shown_text address.now) }
+{
+    let shown = shown_address(alloc, address)?;
+    escaped(alloc, shown.as_str())
 }
 
-/// Adds a text, each control character escaped.
-fn push_shown(to: &mut String, text: &str) -> Result<(), AllocError> {
-    for c in text.chars() {
-        if c.is_control() {
-            let code = c as u32;
-            write!(to, "\\u{{{code:x}}}")?;
-        } else {
-            to.push(c)?;
-        }
+/// Adds names, a comma before each.
+fn push_names(text: &mut String, names: &[&str]) -> Result<(), AllocError>
+    ensures { OnOk result (string_bytes text.new ≡ string_bytes text.old
+        ++ flat_map (λ n. codes ", " ++ escaped n.now) names.now) }
+{
+    for name in names {
+        text.push_str(", ")?;
+        push_escaped(text, name)?;
     }
     Ok(())
 }
 
-/// Why entries of a registry were not had.
-fn reason_of(alloc: Global, lookup: &Lookup, failure: Failure) -> Result<String, AllocError> {
-    let mut reason = String::new(alloc);
-    match failure {
-        Failure::Offline => reason.push_str("nothing is fetched offline")?,
-        Failure::NotFetchable => reason.push_str("only sparse registries and folders can be read")?,
-        Failure::Unanswered => reason.push_str("curl gave no answer")?,
-        Failure::Curl(exit, message) => {
-            push_shown(&mut reason, message)?;
-            if message.is_empty() {
-                reason.push_str("curl failed")?;
-            }
-            reason.push_str(", curl: ")?;
-            push_shown(&mut reason, exit)?;
+/// Names, parted by commas.
+fn names_text(alloc: Global, names: &[&str]) -> Result<String, AllocError>
+    ensures { IfOk result (λ s. string_bytes s ≡ names_text (map (λ n. n.now) names.now)) }
+{
+    match names.split_first() {
+        Some((first, rest)) => {
+            let mut text = escaped(alloc, first)?;
+            push_names(&mut text, rest)?;
+            Ok(text)
         }
-        Failure::Status(code) => {
-            reason.push_str("status ")?;
-            push_shown(&mut reason, code)?;
-            if code == "401" || code == "403" {
-                reason.push_str(": it wants a token, `CARGO_REGISTRIES_<NAME>_TOKEN`")?;
-            }
-        }
-        Failure::NotAnIndex => reason.push_str("what came is no index file of the crate")?,
-        Failure::NoFolder => reason.push_str("there is no such folder")?,
-        Failure::BadLine(line) => {
-            let path = local_file(alloc, lookup)?;
-            reason.push_str("invalid index line ")?;
-            write!(&mut reason, "{line}")?;
-            reason.push_str(" of ")?;
-            push_shown(&mut reason, path.as_str())?;
-        }
-    }
-    Ok(reason)
-}
-
-/// The file of an entry in a registry on this machine; empty where its address names no folder.
-fn local_file(alloc: Global, lookup: &Lookup) -> Result<String, AllocError> {
-    match local_folder(alloc, lookup.address)? {
-        Some(folder) => local_path(alloc, folder.as_str(), lookup.path),
         None => Ok(String::new(alloc)),
     }
 }
 
-/// Adds a lookup to the group of its registry.
-fn add(
+/// A number in decimal digits.
+fn number_text(alloc: Global, number: usize) -> Result<String, AllocError>
+    ensures { IfOk result (λ s. string_bytes s ≡ decimal number) }
+{
+    format!(in alloc; "{number}")
+}
+
+/// How many crates a group has.
+fn count_of(group: &Group<'_>) -> usize
+    ensures { result ≡ length (group_text group.now).names }
+{
+    group.names.len()
+}
+
+/// How many crates a group has, in decimal digits.
+fn count_text(alloc: Global, group: &Group<'_>) -> Result<String, AllocError>
+    ensures { IfOk result (λ s. string_bytes s ≡ decimal (length (group_text group.now).names)) }
+{
+    let count = count_of(group);
+    number_text(alloc, count)
+}
+
+/// Which index entries of a registry could not be fetched, and why.
+#[tactic(auto, unfolding(crate::specs::Messages::unfetched_text))]
+fn unfetched_text(
     alloc: Global,
-    groups: &mut BTreeMap<String, Group>,
-    lookup: &Lookup,
-    failure: Failure,
-) -> Result<(), AllocError> {
-    let shown = shown_address(alloc, lookup.address)?;
-    if let Some(group) = groups.get_mut(shown.as_str()) {
-        group.count = group.count.saturating_add(1);
-        group.names.push_str(", ")?;
-        return push_shown(&mut group.names, lookup.name);
+    count: &str,
+    shown: &str,
+    reason: &str,
+) -> Result<String, AllocError>
+    ensures { IfOk result (λ s. string_bytes s ≡ unfetched_text count.now shown.now reason.now) }
+{
+    format!(in alloc; "{count} index entries of {shown} could not be fetched ({reason})")
+}
+
+/// What a warning says of a group whose cached entries serve.
+#[tactic(auto, unfolding(crate::specs::Messages::cached_text))]
+fn cached_text(alloc: Global, group: &Group<'_>) -> Result<String, AllocError>
+    ensures { IfOk result (λ s. string_bytes s ≡ cached_text (group_text group.now)) }
+{
+    let count = count_text(alloc, group)?;
+    let shown = shown_text(alloc, group.address)?;
+    let reason = group.reason.as_str();
+    unfetched_text(alloc, count.as_str(), shown.as_str(), reason)
+}
+
+/// The warning of a group whose cached entries serve.
+fn cached_line(alloc: Global, group: &Group<'_>) -> Result<String, AllocError>
+    ensures { IfOk result (λ s. string_bytes s ≡ cached_line (group_text group.now)) }
+{
+    let what = cached_text(alloc, group)?;
+    let names = names_text(alloc, &group.names)?;
+    format!(in alloc; "warning: {what}: the cached ones are used ({names})\n")
+}
+
+/// The warning of a group whose crates stay as they are.
+fn left_line(alloc: Global, group: &Group<'_>) -> Result<String, AllocError>
+    ensures { IfOk result (λ s. string_bytes s ≡ left_line (group_text group.now)) }
+{
+    let shown = shown_text(alloc, group.address)?;
+    let names = names_text(alloc, &group.names)?;
+    let reason = group.reason.as_str();
+    let what = format!(in alloc; "no index entries of {shown} are cached for {names} ({reason})")?;
+    format!(in alloc; "warning: {what}: these crates stay as they are\n")
+}
+
+/// The line of a group without which an upgrade cannot go on.
+fn missing_line(alloc: Global, group: &Group<'_>) -> Result<String, AllocError>
+    ensures { IfOk result (λ s. string_bytes s ≡ missing_line (group_text group.now)) }
+{
+    let shown = shown_text(alloc, group.address)?;
+    let names = names_text(alloc, &group.names)?;
+    let reason = group.reason.as_str();
+    format!(in alloc; "\n  {shown}: {names} ({reason})")
+}
+
+/// The line of a group whose lookups have a standing.
+fn line_of(alloc: Global, standing: Standing, group: &Group<'_>) -> Result<String, AllocError>
+    ensures { IfOk result (λ s. string_bytes s ≡ line_of standing (group_text group.now)) }
+{
+    match standing {
+        Standing::Cached => cached_line(alloc, group),
+        Standing::Left => left_line(alloc, group),
+        Standing::Missing => missing_line(alloc, group),
     }
-    let mut names = String::new(alloc);
-    push_shown(&mut names, lookup.name)?;
-    let reason = reason_of(alloc, lookup, failure)?;
-    groups.insert(
-        shown,
-        Group {
-            reason,
-            count: 1,
-            names,
-        },
-    )?;
+}
+
+/// Adds the lines of groups whose lookups have a standing.
+fn push_lines(
+    alloc: Global,
+    text: &mut String,
+    standing: Standing,
+    groups: &[Group<'_>],
+) -> Result<(), AllocError>
+    ensures { OnOk result (string_bytes text.new ≡ string_bytes text.old
+        ++ flat_map (line_of standing) (map group_text groups.now)) }
+{
+    for group in groups {
+        text.push_str(line_of(alloc, standing, group)?.as_str())?;
+    }
     Ok(())
-}
-
-/// Whether an upgrade cannot go on without an entry, offline too.
-fn is_fatal(failure: Failure, offline: bool) -> bool {
-    matches!(failure, Failure::NoFolder | Failure::BadLine(_)) || !offline
-}
-
-/// Adds the warning of a group whose cached entries serve.
-fn push_cached(text: &mut String, shown: &str, group: &Group) -> Result<(), AllocError> {
-    let Group {
-        reason,
-        count,
-        names,
-    } = group;
-    write!(text, "warning: {count} index entries of ")?;
-    push_shown(text, shown)?;
-    write!(
-        text,
-        " could not be fetched ({reason}): the cached ones are used ({names})\n"
-    )
-}
-
-/// Adds the line of a group without which an upgrade cannot go on.
-fn push_missing(text: &mut String, shown: &str, group: &Group) -> Result<(), AllocError> {
-    let Group { reason, names, .. } = group;
-    text.push_str("\n  ")?;
-    push_shown(text, shown)?;
-    write!(text, ": {names} ({reason})")
-}
-
-/// Adds the warning of a group that is left as it is.
-fn push_left(text: &mut String, shown: &str, group: &Group) -> Result<(), AllocError> {
-    let Group { reason, names, .. } = group;
-    text.push_str("warning: no index entries of ")?;
-    push_shown(text, shown)?;
-    write!(
-        text,
-        " are cached for {names} ({reason}): these crates stay as they are\n"
-    )
 }
 
 /// The report of a run whose lookups are malformed.
@@ -168,104 +178,93 @@ pub fn unreadable(alloc: Global) -> Result<Report, AllocError>
     })
 }
 
-/// Whether a name is among those of crates that are not upgraded.
-fn is_excluded(excluded: &[&str], name: &str) -> bool {
-    excluded.iter().any(|other| *other == name)
-}
-
-/// The groups of outcomes: of those that the cached entry serves, of those that are left, and of those
-/// without which an upgrade cannot go on.
-#[derive(Drop)]
-struct Groups {
-    cached: BTreeMap<String, Group>,
-    left: BTreeMap<String, Group>,
-    fatal: BTreeMap<String, Group>,
-}
-
-/// Adds an outcome to its group.
-fn add_outcome(
-    alloc: Global,
-    groups: &mut Groups,
-    lookup: &Lookup,
-    outcome: Outcome,
-    offline: bool,
-) -> Result<(), AllocError> {
-    match outcome {
-        Outcome::Cached(Failure::Offline) => Ok(()),
-        Outcome::Cached(failure) => add(alloc, &mut groups.cached, lookup, failure),
-        Outcome::Missing(failure) | Outcome::Damaged(_, failure) => {
-            if is_fatal(failure, offline) {
-                add(alloc, &mut groups.fatal, lookup, failure)
-            } else {
-                add(alloc, &mut groups.left, lookup, failure)
-            }
-        }
-        _ => Ok(()),
-    }
-}
-
-/// Adds the warning of an outcome whose cached entry is damaged, with the file of that entry.
-fn push_damage(
-    alloc: Global,
-    text: &mut String,
-    cache: &str,
-    lookup: &Lookup,
-    outcome: Outcome,
-) -> Result<(), AllocError> {
-    let Outcome::Damaged(damage, _) = outcome else {
-        return Ok(());
-    };
-    let path = cached_path(alloc, cache, lookup)?;
-    text.push_str("warning: the cached index entry ")?;
-    push_shown(text, path.as_str())?;
+/// The warning of a damaged file in the cache.
+fn damage_text(alloc: Global, path: &str, damage: Damage) -> Result<String, AllocError>
+    ensures { IfOk result (λ s. string_bytes s ≡ damage_text path.now damage) }
+{
+    let path = escaped(alloc, path)?;
     match damage {
-        Damage::BadLine(line) => write!(text, ":{line} is no index line")?,
-        Damage::NotWhole => text.push_str(" is not whole")?,
+        Damage::BadLine(line) => {
+            let place = format!(in alloc; "{path}:{line}")?;
+            let what = format!(in alloc; "{place} is no index line, so the file is not used")?;
+            format!(in alloc; "warning: the cached index entry {what}: remove it\n")
+        }
+        Damage::NotWhole => format!(in alloc;
+            "warning: the cached index entry {path} is not whole, so the file is not used: remove it\n"
+        ),
     }
-    text.push_str(", so the file is not used: remove it\n")
 }
 
-/// The error of the groups without which an upgrade cannot go on.
-fn error_of(alloc: Global, groups: &BTreeMap<String, Group>) -> Result<Option<String>, AllocError> {
+/// The warning of a lookup whose cached entry is damaged; empty for any other.
+fn damage_line(
+    alloc: Global,
+    cache: &str,
+    pair: &(Lookup<'_>, Outcome<'_>),
+) -> Result<String, AllocError>
+    ensures { IfOk result (λ s. string_bytes s ≡ damage_line cache.now pair.now) }
+{
+    let Outcome::Damaged(damage, _) = pair.1 else {
+        return Ok(String::new(alloc));
+    };
+    let path = cached_path(alloc, cache, &pair.0)?;
+    damage_text(alloc, path.as_str(), damage)
+}
+
+/// The warnings of the lookups whose cached entries are damaged.
+fn damage_lines(
+    alloc: Global,
+    cache: &str,
+    pairs: &[(Lookup<'_>, Outcome<'_>)],
+) -> Result<String, AllocError>
+    ensures { IfOk result (λ s. string_bytes s ≡ flat_map (damage_line cache.now) pairs.now) }
+{
+    let mut text = String::new(alloc);
+    for pair in pairs {
+        text.push_str(damage_line(alloc, cache, pair)?.as_str())?;
+    }
+    Ok(text)
+}
+
+/// The error of the groups without which an upgrade cannot go on; none where there are none.
+fn error_of(alloc: Global, groups: &[Group<'_>]) -> Result<Option<String>, AllocError>
+    ensures { IfOk result (λ o. option_map string_bytes o ≡ error_text (map group_text groups.now)) }
+{
     if groups.is_empty() {
         return Ok(None);
     }
     let mut text = String::from_str(
         alloc,
-        "index entries are neither had nor cached; leave the crates out by `--exclude`, or as they are by `--offline`:",
+        "index entries are neither had nor cached; leave the crates out by `--exclude`, ",
     )?;
-    for (shown, group) in groups {
-        push_missing(&mut text, shown.as_str(), group)?;
-    }
+    text.push_str("or as they are by `--offline`:")?;
+    push_lines(alloc, &mut text, Standing::Missing, groups)?;
     Ok(Some(text))
 }
 
-/// What is said of the outcomes of lookups. Nothing is said of crates that are not upgraded.
+/// What is said of the outcomes of lookups: a warning of each damaged entry, one of each registry whose
+/// cached entries serve, one of each registry whose crates stay as they are, and an error with a line for
+/// each registry without which an upgrade cannot go on. Nothing is said of crates that are not upgraded.
 pub fn report_of(
     alloc: Global,
     places: &Places,
     lookups: &[Lookup<'_>],
     outcomes: &[Outcome<'_>],
     options: &StoreOptions<'_>,
-) -> Result<Report, AllocError> {
-    let mut groups = Groups {
-        cached: BTreeMap::new(alloc),
-        left: BTreeMap::new(alloc),
-        fatal: BTreeMap::new(alloc),
-    };
-    let mut warnings = String::new(alloc);
-    for (lookup, outcome) in lookups.iter().zip(outcomes) {
-        if !is_excluded(options.excluded, lookup.name) {
-            add_outcome(alloc, &mut groups, lookup, *outcome, options.offline)?;
-            push_damage(alloc, &mut warnings, places.cache, lookup, *outcome)?;
-        }
-    }
-    for (shown, group) in &groups.cached {
-        push_cached(&mut warnings, shown.as_str(), group)?;
-    }
-    for (shown, group) in &groups.left {
-        push_left(&mut warnings, shown.as_str(), group)?;
-    }
-    let error = error_of(alloc, &groups.fatal)?;
+) -> Result<Report, AllocError>
+    ensures { IfOk result (IsReport places.now.cache.now options.now.offline
+        (upgraded options.now.excluded.now lookups.now outcomes.now)) }
+{
+    let offline = options.offline;
+    let pairs = upgraded(alloc, options.excluded, lookups, outcomes)?;
+    let cached = groups_with(alloc, Standing::Cached, offline, &pairs)?;
+    let left = groups_with(alloc, Standing::Left, offline, &pairs)?;
+    let missing = groups_with(alloc, Standing::Missing, offline, &pairs)?;
+    let mut warnings = damage_lines(alloc, places.cache, &pairs)?;
+    push_lines(alloc, &mut warnings, Standing::Cached, &cached)?;
+    push_lines(alloc, &mut warnings, Standing::Left, &left)?;
+    let error = error_of(alloc, &missing)?;
     Ok(Report { warnings, error })
 }
+
+#[cfg(test)]
+mod tests;

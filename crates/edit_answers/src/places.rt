@@ -2,11 +2,8 @@
 ghost use Rattle.std.specs.Prelude.{◌≡◌, IfOk, string_bytes};
 ghost use Rattle.edit_answers.specs.Places.{body_path, index_path};
 ghost use Rattle.edit_lookups.specs.Lookups.{lookup_text};
-ghost use Rattle.edit_sources.specs.Folders.{registry_folder};
 
-use edit_lookups::Lookup;
-use edit_sources::index_dir::folder::ESCAPED;
-use percent_encoding::utf8_percent_encode;
+use edit_lookups::{Lookup, registry_folder};
 use std::alloc::{AllocError, Global};
 
 /// The folders of a fetch: the cache, and the room of this run.
@@ -23,20 +20,11 @@ pub fn body_path(alloc: Global, room: &str, number: usize) -> Result<String, All
     format!(in alloc; "{room}/{number}")
 }
 
-/// The folder of a registry: its address, each `%` as `%25` and each `/` as `%2F`.
-fn folder(alloc: Global, address: &str) -> Result<String, AllocError>
-    ensures { IfOk result (λ s. string_bytes s ≡ registry_folder address.now) }
-{
-    let mut folder = String::new(alloc);
-    utf8_percent_encode(address, ESCAPED).append_to(&mut folder)?;
-    Ok(folder)
-}
-
 /// The file where an upgrade reads an entry, in the index of a run.
 pub fn index_path(alloc: Global, room: &str, lookup: &Lookup) -> Result<String, AllocError>
     ensures { IfOk result (λ s. string_bytes s ≡ index_path room.now (lookup_text lookup.now)) }
 {
-    let folder = folder(alloc, lookup.address)?;
+    let folder = registry_folder(alloc, lookup.address)?;
     let path = lookup.path;
     format!(in alloc; "{room}/index/{folder}/{path}")
 }

@@ -1,96 +1,167 @@
 //! What goes from a cache because no run has used it for a long time.
+ghost use Rattle.std.specs.Prelude.{◌≡◌, ◌&&◌, ℕ, List, true, IfOk, OnOk, codes, if◌then◌else◌, map, string_bytes};
+ghost use Rattle.std.specs.BTreeSet.{contains_text};
+ghost use Rattle.std.specs.Str.{bytes_eq};
+ghost use Rattle.edit_answers.specs.Aging.{Prunes, RemovesUnused, aged_text, days_left, entry_of, is_recent, is_used, owner_of};
 
-use std::alloc::Global;
-use std::fs::{File, Files};
-use std::time::{Clock, SystemTime};
-use std::{fs, io};
-
-/// The seconds of a day.
-const DAY: u64 = 24 * 60 * 60;
+use crate::aging_store::{Aged, AgingStore};
+use edit_base::{CargoResult, Error};
+use std::alloc::{AllocError, Global};
+use std::collections::BTreeSet;
 
 /// For how many days an entry stays that no run uses. A run that uses one writes its validator anew.
 const UNUSED: u64 = 90;
 
-/// For how many days the room of a run stays that was killed. A run that ends removes its own.
+/// For how many days the folder of a run stays that was killed. A run that ends removes its own.
 const LEFT: u64 = 1;
 
-/// Removes each entry of a cache, with its validator, that no run has used for 90 days, and the room of each
-/// run that was killed more than a day ago. What cannot be read or removed is left.
-pub fn prune<R: Files<File = File> + Alloc<A = Global> + Clock + Clone + Drop>(
-    rt: &R,
-    cache: &str,
-) -> io::Result<()> {
-    let now = SystemTime::now(rt)?;
-    let mut folders = Vec::new(rt.alloc());
-    folders.push(String::from_str(rt.alloc(), cache)?)?;
-    for _ in 0..u64::MAX {
-        let Some(folder) = folders.pop() else {
-            return Ok(());
-        };
-        let _ = prune_folder(rt, folder.as_str(), now, &mut folders);
+/// The file of an entry, by its path or that of its validator.
+fn entry_of(path: &str) -> &str
+    ensures { result.now ≡ entry_of path.now }
+{
+    match path.strip_suffix(".etag") {
+        Some(entry) => entry,
+        None => path,
+    }
+}
+
+/// What a file belongs to: its entry, or the folder of a run.
+fn owner_of(alloc: Global, aged: &Aged) -> Result<String, AllocError>
+    ensures { IfOk result (λ s. string_bytes s ≡ owner_of (aged_text aged.now)) }
+{
+    let path = aged.path.as_str();
+    if aged.is_run {
+        return format!(in alloc; "{path}/");
+    }
+    String::from_str(alloc, entry_of(path))
+}
+
+/// Whether a file was written not long ago.
+fn is_recent(aged: &Aged) -> bool
+    ensures { result ≡ is_recent (aged_text aged.now) }
+{
+    if aged.is_run {
+        aged.days < LEFT
+    } else {
+        aged.days < UNUSED
+    }
+}
+
+/// Adds the owner of a file that was written not long ago.
+fn add_used(alloc: Global, used: &mut BTreeSet<String>, aged: &Aged) -> Result<(), AllocError>
+    ensures { OnOk result ((q : List ℕ) → contains_text used.new q
+        ≡ (if is_recent (aged_text aged.now) && bytes_eq (owner_of (aged_text aged.now)) q then true
+        else contains_text used.old q)) }
+{
+    if is_recent(aged) {
+        used.insert(owner_of(alloc, aged)?)?;
     }
     Ok(())
 }
 
-/// The same for the entries of a folder and the rooms in it; each other folder in it is added to `folders`.
-fn prune_folder<R: Files<File = File> + Alloc<A = Global> + Clock + Clone + Drop>(
-    rt: &R,
-    folder: &str,
-    now: SystemTime,
-    folders: &mut Vec<String>,
-) -> io::Result<()> {
-    for entry in fs::read_dir(rt, folder)? {
-        let entry = entry?;
-        let path = entry.path().to_str().unwrap_or("");
-        let kind = entry.file_type()?;
-        if kind.is_file() {
-            prune_entry(rt, path, now)?;
-        } else if kind.is_dir() && entry.file_name().starts_with(".run.") {
-            prune_room(rt, path, now);
-        } else if kind.is_dir() {
-            folders.push(String::from_str(rt.alloc(), path)?)?;
+/// The owners of files that were written not long ago.
+fn used_owners(alloc: Global, files: &[Aged]) -> Result<BTreeSet<String>, AllocError>
+    ensures { IfOk result (λ s. (q : List ℕ) → contains_text s q ≡ is_used (map aged_text files.now) q) }
+{
+    let mut used = BTreeSet::new(alloc);
+    'files: for aged in files {
+        add_used(alloc, &mut used, aged)?;
+    }
+    Ok(used)
+}
+
+/// Whether the owner of a file is among these.
+fn is_used(alloc: Global, used: &BTreeSet<String>, aged: &Aged) -> Result<bool, AllocError>
+    ensures { IfOk result (λ b. b ≡ contains_text used.now (owner_of (aged_text aged.now))) }
+{
+    let owner = owner_of(alloc, aged)?;
+    Ok(used.contains(owner.as_str()))
+}
+
+/// Removes a file unless it is used. A file that the machine does not remove is left.
+fn remove_unused<S: AgingStore>(
+    alloc: Global,
+    cache: &mut S,
+    aged: &Aged,
+    is_used: bool,
+) -> CargoResult<()>
+    ensures { RemovesUnused is_used (aged_text aged.now) (S.aging cache.old) (S.aging cache.new) result }
+{
+    if is_used {
+        return Ok(());
+    }
+    match cache.remove(alloc, aged) {
+        Ok(()) => Ok(()),
+        // (a file that cannot be removed does no harm)
+        Err(Error::Device(_)) => Ok(()),
+        Err(error) => Err(error),
+    }
+}
+
+/// Removes each entry of a cache, with its validator, to neither of which something was written for 90 days,
+/// and the folder of each run that nothing was written to for a day. A file that the machine does not remove
+/// is left; the error is want of memory, or that the machine does not list the files.
+pub fn prune<S: AgingStore>(alloc: Global, cache: &mut S) -> CargoResult<()>
+    ensures { Prunes (S.aging cache.old) (S.aging cache.new) result }
+{
+    let files = match cache.list(alloc) {
+        Ok(files) => files,
+        Err(error) => return Err(error),
+    };
+    let used = used_owners(alloc, &files)?;
+    for i in 0..files.len() {
+        let aged = &files[i];
+        let is_used = is_used(alloc, &used, aged)?;
+        match remove_unused(alloc, cache, aged, is_used) {
+            Ok(()) => {}
+            Err(error) => return Err(error),
         }
     }
     Ok(())
 }
 
-/// Removes the room of a run that was killed more than a day ago.
-fn prune_room<R: Files<File = File> + Alloc<A = Global> + Drop>(
-    rt: &R,
-    path: &str,
-    now: SystemTime,
-) {
-    if is_older(rt, path, now, LEFT) {
-        let _ = fs::remove_dir_all(rt, path);
-    }
-}
+#[cfg(test)]
+mod tests {
+    use super::*;
+    use crate::aging_store::MemoryCache;
+    use std::test::Fail;
 
-/// Removes an entry and its validator, by the path of either, where neither was written for 90 days.
-fn prune_entry<R: Files<File = File> + Alloc<A = Global> + Drop>(
-    rt: &R,
-    path: &str,
-    now: SystemTime,
-) -> io::Result<()> {
-    let entry = path.strip_suffix(".etag").unwrap_or(path);
-    let validator = format!(in rt.alloc(); "{entry}.etag")?;
-    if is_older(rt, entry, now, UNUSED) && is_older(rt, validator.as_str(), now, UNUSED) {
-        // (the other of the two has gone already, or was never there)
-        let _ = fs::remove_file(rt, validator.as_str());
-        let _ = fs::remove_file(rt, entry);
+    fn add(
+        alloc: Global,
+        cache: &mut MemoryCache,
+        path: &str,
+        is_run: bool,
+        days: u64,
+    ) -> Result<(), Fail> {
+        let path = String::from_str(alloc, path)?;
+        cache.files.push(Aged { path, is_run, days })?;
+        Ok(())
     }
-    Ok(())
-}
 
-/// Whether nothing stands at a path, or it was last written more than this many days ago.
-fn is_older<R: Files<File = File>>(rt: &R, path: &str, now: SystemTime, days: u64) -> bool {
-    let Ok(metadata) = fs::metadata(rt, path) else {
-        return true;
-    };
-    let Ok(modified) = metadata.modified() else {
-        return false;
-    };
-    match now.duration_since(modified) {
-        Ok(since) => since.as_secs() / DAY >= days,
-        Err(_) => false,
+    #[test]
+    fn unused_entries(rt: HostRuntime) -> Result<(), Fail> {
+        let alloc = rt.alloc();
+        let mut cache = MemoryCache {
+            files: Vec::new(alloc),
+        };
+        add(alloc, &mut cache, "/c/h/se/rd/serde", false, 400)?;
+        add(alloc, &mut cache, "/c/h/se/rd/serde.etag", false, 89)?;
+        add(alloc, &mut cache, "/c/h/3/l/log", false, 90)?;
+        add(alloc, &mut cache, "/c/h/3/l/log.etag", false, 90)?;
+        add(alloc, &mut cache, "/c/.run.1", true, 1)?;
+        add(alloc, &mut cache, "/c/.run.2", true, 0)?;
+        add(alloc, &mut cache, "/c/h/2/ab", false, 0)?;
+        prune(alloc, &mut cache)?;
+        let left = [
+            "/c/h/se/rd/serde",
+            "/c/h/se/rd/serde.etag",
+            "/c/.run.2",
+            "/c/h/2/ab",
+        ];
+        assert_eq!(rt; cache.files.len(), left.len());
+        for (aged, path) in cache.files.iter().zip(left.iter()) {
+            assert_eq!(rt; aged.path.as_str(), *path);
+        }
+        Ok(())
     }
 }

@@ -1,12 +1,12 @@
 -- The answers of an index that are kept: a finite map from address and name to the first answer (own).
-use Rattle.std.specs.Prelude.{◌≡◌, ◌≢◌, ℕ, ◌⊎◌, List, Option, None, Bool, option_map, option_and_then, string_bytes, Result, Ok, Err, IsOk, IsSome, IfSome, IfErr, OnOk, OnErr}
+use Rattle.std.specs.Prelude.{◌≡◌, ◌≢◌, ℕ, ◌⊎◌, List, Option, None, Bool, option_map, option_and_then, string_bytes, Result, Ok, IsOk, IsSome, IfSome, IfErr, OnOk, OnErr}
 use Rattle.std.specs.List.{list_any}
 use Rattle.std.specs.Str.{bytes_eq}
 use Rattle.std.specs.BTreeMap.{get_by_text}
 use Rattle.url.specs.Parts.{Parts, serialize}
 use Rattle.edit_base.specs.declared.errors.Error.{Error}
 use Rattle.edit_base.specs.Errors.{number_of, IsMemory}
-use Rattle.edit_sources.specs.Index.{IndexView, Outcomes, SameOutcomes, HasLookCause, IsLookRefusal, answer_of}
+use Rattle.edit_sources.specs.Index.{IndexView, Outcomes, SameOutcomes, HasLookCause, IsGivenRefusal, answer_of}
 use Rattle.edit_sources.specs.declared.index.IndexKrate.{IndexKrate}
 use Rattle.edit_cache.specs.Kept.{IsRanked}
 use Rattle.edit_cache.specs.declared.cache.IndexCache.{IndexCache}
@@ -61,8 +61,8 @@ pub record Fetches {I T : Type 0} (seen now : IndexView) (address : Parts) (name
 abbrev pub ranking_at : {I : Type 0} → IndexCache I → List ℕ → List ℕ → Option Ranked
 ranking_at cache address name = option_and_then (λ kept. kept.ranked) (told_at cache address name)
 
--- a call that sees to it that an answer and its ranking are kept: it looks as `Fetches` does, and a refusal
--- for want of memory leaves the answer (own)
+-- a call that sees to it that an answer and its ranking are kept: it looks up as `Fetches` does, and an answer
+-- that it adds is one that the index gave, also where memory runs out (own)
 pub record Ranks {I T : Type 0} (seen now : IndexView) (address : Parts) (name : List ℕ)
     (old new : IndexCache I) (result : Result T Error) : Type 0 where
   pub ranked : OnOk result (IfSome (kept_at new (serialize address) name)
@@ -78,5 +78,5 @@ pub record Ranks {I T : Type 0} (seen now : IndexView) (address : Parts) (name :
 -- why an answer is not told: want of memory, or, where none was kept, a refusal that the index gives or a
 -- fault of its device (own)
 abbrev pub IsMissed : Outcomes → Parts → List ℕ → Option (Option IndexKrate) → Error → Type 0
-IsMissed gives address name kept e = IsMemory e ⊎ ((kept ≡ None)
-    × ((IsLookRefusal (number_of e) × gives address name (Err (number_of e))) ⊎ (number_of e ≡ 3)))
+IsMissed gives address name kept e =
+    IsMemory e ⊎ ((kept ≡ None) × (IsGivenRefusal gives address name e ⊎ (number_of e ≡ 3)))

@@ -1,14 +1,16 @@
 //! The subcommand `fetch-plan`: which index entries are to be fetched, as a configuration of curl.
 
-mod arguments;
 mod configurations;
 mod environment;
 mod tokens;
 mod unread;
 
+use crate::fetch_arguments::{
+    FetchArguments, excluded_names, metadata_file, print_usage, read_arguments, upgrade_matches,
+};
 use crate::machine::{machine_error, variable};
-use crate::streams::errors;
-use arguments::{FetchArguments, USAGE, read_arguments};
+use crate::parsing::words_of;
+use clap::ArgMatches;
 use configurations::{all_configs, write_configurations};
 use edit_base::paths::join;
 use edit_base::{CargoResult, Error};
@@ -24,22 +26,39 @@ use unread::unread_error;
 
 /// Runs `fetch-plan` with these arguments, and answers its status: that of `looks` where that is not 0, 1 for
 /// registries of which no entry can be had, and 2 for a usage error.
-pub(crate) fn fetch_plan(
+pub(crate) fn fetch_plan<E: Write>(
     rt: &HostRuntime,
     arguments: &[&str],
     current: &str,
     home: Option<&str>,
+    err: &mut E,
 ) -> CargoResult<u8> {
     let Some(arguments) = read_arguments(arguments) else {
-        let _ = writeln!(rt.stderr(), "{USAGE}");
-        return Ok(2);
+        return Ok(print_usage("fetch-plan", err));
     };
+    let words = words_of(rt.alloc(), "upgrade", arguments.upgrade)?;
+    let matches = match upgrade_matches(rt, &words, err)? {
+        Ok(matches) => matches,
+        Err(status) => return Ok(status),
+    };
+    plan_upgrade(rt, &arguments, &matches, current, home, err)
+}
+
+/// Plans the transfers of an upgrade, and answers the status.
+fn plan_upgrade<E: Write>(
+    rt: &HostRuntime,
+    arguments: &FetchArguments<'_>,
+    matches: &ArgMatches<'_>,
+    current: &str,
+    home: Option<&str>,
+    err: &mut E,
+) -> CargoResult<u8> {
     let mut files = HostStore::new(rt.clone()?);
     let room = join(rt.alloc(), current, arguments.room)?;
-    let all = all_configs(rt, &mut files, arguments.upgrade, current, home)?;
+    let all = all_configs(rt, &mut files, metadata_file(matches), current, home)?;
     let environment = write_configurations(rt, &mut files, room.as_str(), &all)?;
     let mut text = Vec::new(rt.alloc());
-    let status = lookups_text(rt, &arguments, current, home, &mut text)?;
+    let status = lookups_text(rt, arguments, current, home, &mut text, err)?;
     if status != 0 {
         return Ok(status);
     }
@@ -50,25 +69,26 @@ pub(crate) fn fetch_plan(
     let configs = read_configs(rt.alloc(), &mut files, manifest_path.as_str(), home)?;
     let mut settings = settings(rt, &mut files, &configs)?;
     settings.offline = settings.offline || arguments.offline;
+    let excluded = excluded_names(matches).unwrap_or(&[]);
     if !settings.offline
-        && let Some(error) = unread_error(rt, text, arguments.upgrade, &environment, &all)?
+        && let Some(error) = unread_error(rt, text, excluded, &environment, &all)?
     {
-        let _ = writeln!(rt.stderr(), "Error: {error}");
+        let _ = writeln!(err, "Error: {error}");
         return Ok(1);
     }
-    let tokens = registry_tokens(rt, &environment, &configs)?;
-    plan_lookups(
-        rt, &mut files, &arguments, current, &settings, &tokens, text,
-    )
+    let tokens = registry_tokens(rt, &environment, &configs, err)?;
+    let count = plan_lookups(rt, &mut files, arguments, current, &settings, &tokens, text)?;
+    print_count(rt, count, err)
 }
 
 /// Runs `looks` with the arguments of the upgrade, and answers its status; what it prints is added to `text`.
-fn lookups_text(
+fn lookups_text<E: Write>(
     rt: &HostRuntime,
     arguments: &FetchArguments<'_>,
     current: &str,
     home: Option<&str>,
     text: &mut Vec<u8>,
+    err: &mut E,
 ) -> CargoResult<u8> {
     let mut words = Vec::new(rt.alloc());
     words.push("looks")?;
@@ -77,7 +97,6 @@ fn lookups_text(
     }
     let mut files = HostStore::new(rt.clone()?);
     let index_files = HostStore::new(rt.clone()?);
-    let mut err = errors(rt)?;
     Ok(run(
         rt.alloc(),
         &words,
@@ -86,11 +105,11 @@ fn lookups_text(
         &mut files,
         index_files,
         text,
-        &mut err,
+        err,
     ))
 }
 
-/// Plans the transfers of lookups, and prints their count.
+/// Plans the transfers of lookups, and answers their count; none where the lookups cannot be read.
 fn plan_lookups(
     rt: &HostRuntime,
     files: &mut HostStore<HostRuntime>,
@@ -99,7 +118,7 @@ fn plan_lookups(
     settings: &NetSettings,
     owned: &[(String, String)],
     text: &str,
-) -> CargoResult<u8> {
+) -> CargoResult<Option<usize>> {
     let mut tokens = Vec::new(rt.alloc());
     for (address, token) in owned {
         tokens.push(Token {
@@ -115,23 +134,18 @@ fn plan_lookups(
         settings,
         tokens: &tokens,
     };
-    write_plan(rt, files, &plan, text)
+    edit_fetch::fetch_plan(rt.alloc(), files, &plan, text)
 }
 
-/// Writes the plan, and prints the count of transfers.
-fn write_plan(
-    rt: &HostRuntime,
-    files: &mut HostStore<HostRuntime>,
-    plan: &FetchPlan<'_>,
-    text: &str,
-) -> CargoResult<u8> {
-    match edit_fetch::fetch_plan(rt.alloc(), files, plan, text)? {
+/// Prints the count of transfers, and answers the status; none is an error.
+fn print_count<E: Write>(rt: &HostRuntime, count: Option<usize>, err: &mut E) -> CargoResult<u8> {
+    match count {
         Some(count) => {
             writeln!(rt.stdout(), "{count}").map_err(machine_error)?;
             Ok(0)
         }
         None => {
-            let _ = writeln!(rt.stderr(), "Error: the lookups cannot be read");
+            let _ = writeln!(err, "Error: the lookups cannot be read");
             Ok(1)
         }
     }

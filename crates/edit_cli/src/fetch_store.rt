@@ -1,49 +1,16 @@
 //! The subcommands `fetch-store`, which stores the index entries that curl fetched, and `check-curl`.
 
-use crate::options::value_of;
-use crate::parsing::{parse_words, print_parse_error, words_of};
-use edit_answers::{CacheStore, Places, Report, StoreOptions, is_new_enough, prune, store_answers};
+use crate::fetch_arguments::{
+    FetchArguments, excluded_names, print_usage, read_arguments, upgrade_matches,
+};
+use crate::parsing::words_of;
+use edit_answers::{
+    CacheFolder, CacheStore, Places, Report, StoreOptions, is_new_enough, prune, store_answers,
+};
 use edit_base::paths::join;
 use edit_base::{CargoResult, DeviceCall, Error};
 use std::io::Write;
 use std::{fs, process};
-
-/// What is printed for arguments that are not those of `fetch-store`.
-const USAGE: &str =
-    "Usage: cargo-edit fetch-store --cache DIR --room DIR [--offline] -- UPGRADE-ARGUMENTS..";
-
-/// The arguments of `fetch-store`.
-#[derive(Clone, Copy, Debug)]
-struct StoreArguments<'a> {
-    /// The folder of the cache.
-    cache: &'a str,
-    /// The folder that the transfers of this run used.
-    room: &'a str,
-    /// Whether nothing was to be fetched.
-    offline: bool,
-    /// The arguments of the upgrade whose index entries were fetched.
-    upgrade: &'a [&'a str],
-}
-
-/// Reads options up to `--`; none where an option is unknown, has no value or is missing.
-fn read_arguments<'a>(arguments: &'a [&'a str]) -> Option<StoreArguments<'a>> {
-    let end = arguments.iter().position(|argument| *argument == "--")?;
-    let options = arguments.get(..end)?;
-    let upgrade = arguments.get(end + 1..)?;
-    let cache = value_of(options, "--cache")?;
-    let room = value_of(options, "--room")?;
-    let offline = options.iter().any(|option| *option == "--offline");
-    let count = if offline { 5 } else { 4 };
-    if options.len() != count {
-        return None;
-    }
-    Some(StoreArguments {
-        cache,
-        room,
-        offline,
-        upgrade,
-    })
-}
 
 /// Runs `fetch-store` with these arguments, and answers its status: 1 where entries are neither fetched nor
 /// cached, and 2 for a usage error.
@@ -54,21 +21,16 @@ pub(crate) fn fetch_store<E: Write>(
     err: &mut E,
 ) -> CargoResult<u8> {
     let Some(arguments) = read_arguments(arguments) else {
-        let _ = writeln!(err, "{USAGE}");
-        return Ok(2);
+        return Ok(print_usage("fetch-store", err));
     };
     let words = words_of(rt.alloc(), "upgrade", arguments.upgrade)?;
-    let matches = match parse_words(rt.alloc(), &words) {
+    let matches = match upgrade_matches(rt, &words, err)? {
         Ok(matches) => matches,
-        Err(error) => return print_parse_error(&error, &mut rt.stdout(), err),
+        Err(status) => return Ok(status),
     };
-    let upgrade = matches.subcommand().map(|(_, matches)| matches);
-    let excluded = upgrade
-        .and_then(|matches| matches.get_strs("exclude"))
-        .unwrap_or(&[]);
     let options = StoreOptions {
         offline: arguments.offline,
-        excluded,
+        excluded: excluded_names(&matches).unwrap_or(&[]),
     };
     store(rt, &arguments, &options, current, err)
 }
@@ -77,7 +39,7 @@ pub(crate) fn fetch_store<E: Write>(
 /// the status.
 fn store<E: Write>(
     rt: &HostRuntime,
-    arguments: &StoreArguments<'_>,
+    arguments: &FetchArguments<'_>,
     options: &StoreOptions<'_>,
     current: &str,
     err: &mut E,
@@ -96,8 +58,8 @@ fn store<E: Write>(
     let mut files = CacheStore::new(rt.clone()?, process::id(rt.process()));
     match store_answers(rt.alloc(), &mut files, &places, options) {
         Ok(report) => {
-            // (an entry that cannot be removed does no harm)
-            let _ = prune(rt, cache.as_str());
+            // (an entry that stays does no harm)
+            let _ = prune(rt.alloc(), &mut CacheFolder::new(rt.clone()?, cache));
             Ok(print_report(&report, err))
         }
         Err(Error::Device(DeviceCall::Write)) => {

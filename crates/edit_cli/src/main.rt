@@ -2,11 +2,11 @@
 #![tactic(auto)]
 
 mod checks;
+mod fetch_arguments;
 mod fetch_plan;
 mod fetch_store;
 mod machine;
 mod next_call;
-mod options;
 mod parsing;
 mod shell_options;
 mod streams;
@@ -43,8 +43,20 @@ fn main(rt: HostRuntime) -> ExitCode {
     match start(&rt) {
         Ok(status) => ExitCode::from(status),
         Err(error) => {
-            let _ = writeln!(rt.stderr(), "Error: {error}");
+            print_start_error(&rt, &error);
             ExitCode::from(1)
+        }
+    }
+}
+
+/// Prints the error that ends the program; where there is no memory for its stream, that.
+fn print_start_error(rt: &HostRuntime, error: &Error) {
+    match errors(rt) {
+        Ok(mut err) => {
+            let _ = writeln!(err, "Error: {error}");
+        }
+        Err(_) => {
+            let _ = writeln!(rt.stderr(), "Error: {}", Error::Memory);
         }
     }
 }
@@ -175,25 +187,22 @@ fn run_own(rt: &HostRuntime, words: &[&str], folders: Folders<'_>) -> CargoResul
     let current = folders.current;
     let mut err = errors(rt)?;
     match *first {
-        "fetch-plan" => fetch_plan::fetch_plan(rt, arguments, current, folders.home),
+        "fetch-plan" => fetch_plan::fetch_plan(rt, arguments, current, folders.home, &mut err),
         "fetch-store" => fetch_store(rt, arguments, current, &mut err),
-        _ => next_call_at(rt, arguments, current),
+        _ => next_call_at(rt, arguments, current, &mut err),
     }
 }
 
 /// Runs the arguments of `next-call` in a folder.
-fn next_call_at(rt: &HostRuntime, arguments: &[&str], current: &str) -> CargoResult<u8> {
+fn next_call_at<E: Write>(
+    rt: &HostRuntime,
+    arguments: &[&str],
+    current: &str,
+    err: &mut E,
+) -> CargoResult<u8> {
     let mut files = HostStore::new(rt.clone()?);
     let mut out = output(rt, false)?;
-    let mut err = errors(rt)?;
-    Ok(next_call(
-        rt.alloc(),
-        arguments,
-        current,
-        &mut files,
-        &mut out,
-        &mut err,
-    ))
+    Ok(next_call(rt.alloc(), arguments, current, &mut files, &mut out, err))
 }
 
 /// Runs these arguments as a subcommand of `edit_program`. What it prints on standard output is for people,

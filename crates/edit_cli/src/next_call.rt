@@ -26,23 +26,12 @@ struct Next<'a> {
     offline: bool,
 }
 
-/// An option with a file, which has to be given.
-fn file<'a>(alloc: Global, id: &'a str, help: &'a str) -> Arg<'a> {
+/// An option with a value, which has to be given.
+fn required<'a>(alloc: Global, id: &'a str, value: &'a str, help: &'a str) -> Arg<'a> {
     Arg::new(alloc, id)
         .long(id)
         .help(help)
-        .value_name("FILE")
-        .action(ArgAction::Set)
-        .value_parser(ValueParser::NonEmptyString)
-        .required(true)
-}
-
-/// The option that says which call was the last one.
-fn after<'a>(alloc: Global) -> Arg<'a> {
-    Arg::new(alloc, "after")
-        .long("after")
-        .help("The number of the call before this one, from 1; 0 before the first call")
-        .value_name("N")
+        .value_name(value)
         .action(ArgAction::Set)
         .value_parser(ValueParser::NonEmptyString)
         .required(true)
@@ -64,18 +53,25 @@ fn command<'a>(alloc: Global) -> Result<Command<'a>, AllocError> {
         )
         .no_binary_name(true)
         .bin_name("cargo-edit next-call")?
-        .arg(file(
+        .arg(required(
             alloc,
             "calls",
+            "FILE",
             "The file that `upgrade --update-calls` wrote",
         ))?
-        .arg(file(
+        .arg(required(
             alloc,
             "lock-before",
+            "FILE",
             "The Cargo.lock as it was before the first call",
         ))?
-        .arg(file(alloc, "lock-file", "The Cargo.lock as it is now"))?
-        .arg(after(alloc))?
+        .arg(required(alloc, "lock-file", "FILE", "The Cargo.lock as it is now"))?
+        .arg(required(
+            alloc,
+            "after",
+            "N",
+            "The number of the call before this one, from 1; 0 before the first call",
+        ))?
         .arg(offline(alloc))
 }
 

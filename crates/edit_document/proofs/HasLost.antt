@@ -1,39 +1,25 @@
 -- A document has lost an item where all beside the innermost table that is left is the same, and that table
 -- has lost a part.
-use Rattle.std.proofs.Common.{◌≡◌, ℕ, zero, suc, ◌+◌, ◌<◌, Bool, true, false, cond, List, [], ◌∷◌, ◌++◌, length, get_or, take, drop, Option, Some, None, option_map, refl, sym, ap, subst, ◌∙◌, append_assoc, true≢false, arith}
+use Rattle.std.proofs.Common.{◌≡◌, ℕ, zero, suc, ◌+◌, ◌<◌, Bool, true, false, cond, List, [], ◌∷◌, ◌++◌, length, get_or, take, drop, Option, Some, None, refl, sym, ap, subst, ◌∙◌, append_assoc, true≢false, arith}
 use Rattle.std.specs.Bool.{Decides}
 use Rattle.edit_syntax.specs.Grammar.{Text}
 use Rattle.edit_document.specs.declared.place.Step.{Step as WrittenStep}
-use Rattle.edit_tree.specs.Assertions.{Place, at, Assertion, NoClash, assertions}
-use Rattle.edit_document.specs.Compared.{nth_part, tree_below}
+use Rattle.edit_tree.specs.Assertions.{Place, Step, at, assertions}
+use Rattle.edit_document.specs.Compared.{tree_below}
 use Rattle.edit_tree.specs.EditBytes.{is_within}
 use Rattle.edit_document.specs.Items.{place_seen, step_seen, place_numbered, view_numbered}
 use Rattle.edit_document.specs.Lost.{SameButOrderBeside, LosesPart, IsLeft, IsLost, IsInnermost}
-use Rattle.edit_tree.specs.Meant.{staying, tree_left, SameButOrder, Removed, shrunk}
+use Rattle.edit_tree.specs.Meant.{Loses, from_table, from_inline_table, from_array, from_table_array, Removed}
 use Rattle.edit_tree.specs.Shown.{Shown, tree_of, ShowsTree}
-use Rattle.edit_tree.specs.Tree.{View, kind_at, view_in}
-use Rattle.edit_document.proofs.KeptParts.{none_view, not_longer}
+use Rattle.edit_tree.specs.Tree.{View, kind_at}
+use Rattle.edit_document.proofs.KeptParts.{none_view}
 use Rattle.edit_document.proofs.KeptSteps.{whole_is}
-use Rattle.edit_document.proofs.LostSteps.{order_turn, order_none}
-use Rattle.edit_tree.proofs.NothingBelow.{Rooted, done, next, rooted}
-use Rattle.edit_document.proofs.RemovedTrees.{here_moved, removed_beside, removed_part, removed_tree}
+use Rattle.edit_document.proofs.RemovedTrees.{removed_beside, removed_part, removed_tree}
 use Rattle.edit_document.proofs.LeftAround.{within_rest}
-use Rattle.edit_tree.proofs.SamePlace.{not_root, other_place}
-use Rattle.edit_document.proofs.LosesParts.{part_is}
-use Rattle.edit_document.proofs.SameParts.{NoneBelow, NothingElse}
+use Rattle.edit_document.proofs.SameParts.{NoneBelow}
 use Rattle.edit_document.proofs.MemberViews.{place_more}
 
--- nothing asserts the root
-rootless : (base xs : List Assertion) → Rooted base xs → kind_at xs [] ≡ None
-rootless _ _ (done b) = refl
-rootless _ _ (next b x xs p s e st r) =
-    ap (λ c. cond c (Some x.kind) (kind_at xs [])) (other_place x.place [] (λ f. not_root p s (sym e ∙ f))) ∙
-    rootless (x ∷ b) xs r
-
-pub no_root : (form : Text) → kind_at (assertions form) [] ≡ None
-no_root form = rootless [] (assertions form) (rooted form)
-
-module _ (d e : Shown) (form : Text) (shows : ShowsTree d form) (clash : NoClash (assertions form))
+module _ (d e : Shown) (form : Text) (shows : ShowsTree d form)
     (below_d : NoneBelow d) (below_e : NoneBelow e)
     (steps : List WrittenStep) (kept : ℕ) (step : WrittenStep) (is : step ≡ get_or steps kept step)
     (stands : tree_of d (place_seen steps) ≡ None → ⊥) (inn : IsInnermost form steps kept) where
@@ -81,49 +67,38 @@ module _ (d e : Shown) (form : Text) (shows : ShowsTree d form) (clash : NoClash
   -- where the walk ends early, the item was not removed alone
   pub lost_nowhere : (SameButOrderBeside (place_seen (take kept steps)) (tree_of d) (tree_of e)
       → tree_of e (place_seen (take kept steps)) ≡ None)
-      → Removed (place_seen steps) (assertions form) (tree_of e) → ⊥
+      → Removed form (place_seen steps) (tree_of d) (tree_of e) → ⊥
   lost_nowhere none removed =
       let q = place_seen (take kept steps) in
       let t = step_seen step in
       let r = place_seen (drop (kept + 1) steps) in
-      let h : Removed (q ++ t ∷ r) (assertions form) (tree_of e) =
-      subst (λ g. Removed g (assertions form) (tree_of e)) split removed in
-      let gone = none (removed_beside form clash (no_root form) q t r stood left lost (tree_of d)
-      (tree_of e) shows h) in
-      let same : SameButOrder (tree_left (q ++ t ∷ r) (assertions form) q) (tree_of e q) =
-      subst (λ z. SameButOrder (tree_left (q ++ t ∷ r) (assertions form) q) (tree_of e z))
-      (here_moved form clash (no_root form) q t r stood left lost (tree_of d) (tree_of e) shows)
-      (h.elsewhere q (not_longer q t r)) in
-      let empty : tree_left (q ++ t ∷ r) (assertions form) q ≡ None =
-      order_none (tree_of e q) (tree_left (q ++ t ∷ r) (assertions form) q)
-      (order_turn (tree_left (q ++ t ∷ r) (assertions form) q) (tree_of e q) same) gone in
-      left (pick (q ++ t ∷ r) q (view_in (staying (q ++ t ∷ r) (assertions form)) q) empty)
+      let h : Removed form (q ++ t ∷ r) (tree_of d) (tree_of e) =
+      subst (λ g. Removed form g (tree_of d) (tree_of e)) split removed in
+      stays_there t (tree_of d q) (tree_of e q) (h.loses q t r refl left lost)
+      (none (removed_beside form q t r stood left lost (tree_of d) (tree_of e) shows h))
     where
-      pick : (g q : Place) (o : Option View) → option_map (shrunk g q) o ≡ None → o ≡ None
-      pick g q None f = refl
-      pick g q (Some v) f = absurd cc
+      stays_there : (t : Step) (o p : Option View) → Loses t o p → p ≡ None → ⊥
+      stays_there t _ _ (from_table ms ns h) e = cc
+      stays_there t _ _ (from_inline_table ms ns h) e = cc
+      stays_there t _ _ (from_array n) e = cc
+      stays_there t _ _ (from_table_array n) e = cc
 
   pub lost_there : (n m : ℕ) → SameButOrderBeside (place_seen (take kept steps)) (tree_of d) (tree_of e)
       → place_numbered d n ≡ place_seen (take kept steps) → place_numbered e m ≡ place_seen (take kept steps)
-      → tree_of d (place_numbered d n) ≡ Some (view_numbered d n) → (j : ℕ)
-      → nth_part (view_numbered d n) j ≡ Some (step_seen step)
       → (b : Bool) → Decides b (LosesPart (step_seen step) (tree_below d (place_numbered d n))
       (tree_below e (place_numbered e m)))
-      → Decides b (Removed (place_seen steps) (assertions form) (tree_of e))
-  lost_there n m beside left_place right_place here j part b decided = (
-    λ yes. subst (λ g. Removed g (assertions form) (tree_of e)) (sym split)
-        (removed_tree form clash (no_root form) (place_seen (take kept steps)) (step_seen step)
+      → Decides b (Removed form (place_seen steps) (tree_of d) (tree_of e))
+  lost_there n m beside left_place right_place b decided = (
+    λ yes. subst (λ g. Removed form g (tree_of d) (tree_of e)) (sym split)
+        (removed_tree form (place_seen (take kept steps)) (step_seen step)
         (place_seen (drop (kept + 1) steps)) stood left lost
-        (tree_of d) (tree_of e) shows (view_numbered d n) j view part beside (to (decided.0 yes)) below_e),
-    λ h. decided.1 (from (removed_part form clash (no_root form) (place_seen (take kept steps))
+        (tree_of d) (tree_of e) shows beside (to (decided.0 yes)) below_e),
+    λ h. decided.1 (from (removed_part form (place_seen (take kept steps))
         (step_seen step) (place_seen (drop (kept + 1) steps)) stood left lost
-        (tree_of d) (tree_of e) shows (view_numbered d n) j view part
-        (subst (λ g. Removed g (assertions form) (tree_of e)) split h))),
+        (tree_of d) (tree_of e) shows
+        (subst (λ g. Removed form g (tree_of d) (tree_of e)) split h))),
   )
     where
-      view : tree_of d (place_seen (take kept steps)) ≡ Some (view_numbered d n)
-      view = ap (tree_of d) (sym left_place) ∙ here
-
       to : LosesPart (step_seen step) (tree_below d (place_numbered d n)) (tree_below e (place_numbered e m))
           → LosesPart (step_seen step) (λ k. tree_of d (place_seen (take kept steps) ++ k))
           (λ k. tree_of e (place_seen (take kept steps) ++ k))
@@ -152,7 +127,7 @@ module _ (d e : Shown) (form : Text) (shows : ShowsTree d form) (clash : NoClash
     pub first_nowhere : (b : Bool) → b ≡ false
         → (SameButOrderBeside (place_seen first) (tree_of d) (tree_of e)
         → tree_of e (place_seen first) ≡ None)
-        → Decides b (Removed (place_seen steps) (assertions form) (tree_of e))
+        → Decides b (Removed form (place_seen steps) (tree_of d) (tree_of e))
     first_nowhere b off none = (
       λ yes. absurd (true≢false (sym yes ∙ off)),
       λ h. absurd (lost_nowhere (subst (λ f. SameButOrderBeside (place_seen f) (tree_of d) (tree_of e)
@@ -161,16 +136,14 @@ module _ (d e : Shown) (form : Text) (shows : ShowsTree d form) (clash : NoClash
 
     pub first_there : (n m : ℕ) → SameButOrderBeside (place_seen first) (tree_of d) (tree_of e)
         → place_numbered d n ≡ place_seen first
-        → place_numbered e m ≡ place_seen first → tree_of d (place_numbered d n) ≡ Some (view_numbered d n)
-        → NothingElse d n
+        → place_numbered e m ≡ place_seen first
         → (b : Bool) → Decides b (LosesPart (step_seen step) (tree_below d (place_numbered d n))
         (tree_below e (place_numbered e m)))
-        → Decides b (Removed (place_seen steps) (assertions form) (tree_of e))
-    first_there n m beside left_place right_place here nothing b decided =
-        let p = part_is d n (step_seen step) nothing (first_stands n left_place) in
+        → Decides b (Removed form (place_seen steps) (tree_of d) (tree_of e))
+    first_there n m beside left_place right_place b decided =
         lost_there n m (subst (λ f. SameButOrderBeside (place_seen f) (tree_of d) (tree_of e)) cut beside)
         (left_place ∙ ap place_seen cut)
-        (right_place ∙ ap place_seen cut) here p.0 p.1 b decided
+        (right_place ∙ ap place_seen cut) b decided
 
 -- some step comes next
 next_of : (steps : List WrittenStep) (k : ℕ) → k < length steps → (step : WrittenStep)
@@ -179,13 +152,13 @@ next_of [] k lt = absurd (omega (arith, lt))
 next_of (s ∷ steps) zero lt = (s, refl)
 next_of (s ∷ steps) (suc k) lt = next_of steps k (omega (arith, lt))
 
-pub nowhere : (d e : Shown) (form : Text) → ShowsTree d form → NoClash (assertions form) → NoneBelow d
+pub nowhere : (d e : Shown) (form : Text) → ShowsTree d form → NoneBelow d
     → NoneBelow e
     → (steps : List WrittenStep) (kept : ℕ) → (tree_of d (place_seen steps) ≡ None → ⊥)
     → IsInnermost form steps kept
     → (first : List WrittenStep) → first ≡ take kept steps
     → (SameButOrderBeside (place_seen first) (tree_of d) (tree_of e) → tree_of e (place_seen first) ≡ None)
-    → Decides false (Removed (place_seen steps) (assertions form) (tree_of e))
-nowhere d e form shows clash below_d below_e steps kept stands inn first cut none =
+    → Decides false (Removed form (place_seen steps) (tree_of d) (tree_of e))
+nowhere d e form shows below_d below_e steps kept stands inn first cut none =
     let s = next_of steps kept inn.less in
-    first_nowhere d e form shows clash below_d below_e steps kept s.0 s.1 stands inn first cut false refl none
+    first_nowhere d e form shows below_d below_e steps kept s.0 s.1 stands inn first cut false refl none

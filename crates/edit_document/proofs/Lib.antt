@@ -107,12 +107,8 @@ pub mod InlineSpots
 pub mod InsertFacts
 pub mod RemoveFacts
 -- What is left when an item is removed
-pub mod StayingElements
-pub mod OnceSizes
-pub mod LeftViews
 pub mod KeptNodes
 pub mod KeptParts
-pub mod LostSteps
 pub mod KeptSteps
 pub mod LostParts
 pub mod LeftAround

@@ -5,8 +5,8 @@ use Rattle.std.proofs.lemmas.Bool.{cases_lt, lt-ltb}
 use Rattle.edit_tree.specs.Assertions.{Step, key, index, Place, at}
 use Rattle.edit_document.specs.Compared.{nth_part, element_step, kind_of, tree_below, AreSteps, AreNames, AreKeys, HasNamesOf}
 use Rattle.edit_document.specs.Items.{place_numbered, view_numbered, names_in, count_in}
-use Rattle.edit_document.specs.Lost.{Loses, LosesPart, moved_place, MovedParts, HasNamesBut}
-use Rattle.edit_tree.specs.Meant.{SameButOrder, same, moved, is_member}
+use Rattle.edit_document.specs.Lost.{LosesPart, moved_place, MovedParts, HasNamesBut}
+use Rattle.edit_tree.specs.Meant.{Loses, SameButOrder, same, moved, is_member}
 use Rattle.edit_tree.specs.Shown.{Shown, tree_of}
 use Rattle.edit_tree.specs.Tree.{View, string, truth, whole, fractional, moment, static_array, table_array, inline_table, table}
 use Rattle.edit_document.proofs.SameParts.{part_or, part_less, one_down, NothingElse, NoneBelow}

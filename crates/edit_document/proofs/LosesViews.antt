@@ -8,8 +8,8 @@ use Rattle.edit_syntax.proofs.Cases.{by_test}
 use Rattle.edit_tree.specs.Assertions.{Step, key, index, Place, at, same_step}
 use Rattle.edit_document.specs.Compared.{nth_part, element_step, kind_of, AreSteps}
 use Rattle.edit_document.specs.Items.{names_in, count_in, Numbers}
-use Rattle.edit_document.specs.Lost.{LosesStep, Loses, from_table, from_inline_table, from_array, from_table_array, moved_index, moved_place}
-use Rattle.edit_tree.specs.Meant.{moved}
+use Rattle.edit_document.specs.Lost.{moved_index, moved_place}
+use Rattle.edit_tree.specs.Meant.{moved, LosesStep, Loses, from_table, from_inline_table, from_array, from_table_array}
 use Rattle.edit_tree.specs.Shown.{Shown}
 use Rattle.edit_tree.specs.Tree.{View, string, truth, whole, fractional, moment, static_array, table_array, inline_table, table}
 use Rattle.edit_document.proofs.GrownNames.{tabled}

@@ -1,5 +1,5 @@
 -- What two documents show where the second has lost an item of the first.
-use Rattle.std.specs.Prelude.{◌≡◌, ℕ, suc, ◌+◌, ◌-◌, ◌<◌, Bool, true, false, nat_lt, if◌then◌else◌, not, ◌&&◌, List, [], ◌∷◌, ◌++◌, length, take, slice_get, Option, Some, None, MatchOption}
+use Rattle.std.specs.Prelude.{◌≡◌, ℕ, ◌+◌, ◌-◌, ◌<◌, Bool, true, false, nat_lt, if◌then◌else◌, ◌&&◌, List, [], ◌∷◌, ◌++◌, length, take, slice_get, Option, Some, None, MatchOption}
 use Rattle.std.specs.List.{list_any}
 use Rattle.edit_syntax.specs.Grammar.{Text}
 use Rattle.edit_document.specs.declared.place.Step.{Step as WrittenStep}
@@ -7,24 +7,10 @@ use Rattle.edit_tree.specs.Assertions.{Step, key, index, Place, at, same_step, s
 use Rattle.edit_document.specs.Compared.{nth_part, SameButOrderBelow, IsNumber}
 use Rattle.edit_tree.specs.EditBytes.{is_within}
 use Rattle.edit_document.specs.Items.{place_seen, place_numbered, view_numbered, names_in}
-use Rattle.edit_tree.specs.Meant.{Tree, staying, moved, is_member, SameButOrder}
+use Rattle.edit_tree.specs.Meant.{Tree, Vanishes, moved, is_member, SameButOrder, Loses}
 use Rattle.edit_tree.specs.Shown.{Shown, tree_of}
-use Rattle.edit_tree.specs.Tree.{View, static_array, table_array, inline_table, table, view_in}
 
 -- ---- trees
-
--- the same steps but one
-pub record LosesStep (t : Step) (ms ns : List Step) : Type 0 where
-  pub count : length ms ≡ suc (length ns)
-  pub members : (s : Step) → list_any (same_step s) ns ≡ (list_any (same_step s) ms && not (same_step t s))
-
--- a table has a member less, or an array an element
-pub data Loses (t : Step) : Option View → Option View → Type 0 where
-  from_table : (ms ns : List Step) → LosesStep t ms ns → Loses t (Some (table ms)) (Some (table ns))
-  from_inline_table : (ms ns : List Step) → LosesStep t ms ns
-      → Loses t (Some (inline_table ms)) (Some (inline_table ns))
-  from_array : (n : ℕ) → Loses t (Some (static_array (suc n))) (Some (static_array n))
-  from_table_array : (n : ℕ) → Loses t (Some (table_array (suc n))) (Some (table_array n))
 
 -- what is neither a place nor below it is the same in two trees, but for the order of members
 abbrev pub SameButOrderBeside : Place → Tree → Tree → Type 0
@@ -52,11 +38,11 @@ is_named form p = list_any (λ a. same_place a.by p && same_place a.place p) (as
 
 -- something stays at the place
 abbrev pub IsLeft : Text → Place → Place → Type 0
-IsLeft form gone q = view_in (staying gone (assertions form)) q ≡ None → ⊥
+IsLeft form gone q = Vanishes form gone q → ⊥
 
 -- nothing does
 abbrev pub IsLost : Text → Place → Place → Type 0
-IsLost form gone q = view_in (staying gone (assertions form)) q ≡ None
+IsLost form gone q = Vanishes form gone q
 
 -- It is left, whatever goes that lies one step below it or deeper; or it is lost where what lies one step
 -- below it is lost.

@@ -57,7 +57,8 @@ pub(crate) enum Seen<'a> {
 }
 
 impl Document {
-    /// Reads a text. What is no document is refused, with a byte near which it goes wrong.
+    /// Reads a text. What is no document is refused, with a byte near which it goes wrong. A text of 4 GiB
+    /// or more is refused as if memory had run out, since ranges of the text are kept as `u32`.
     pub fn read(alloc: Global, text: &str) -> CargoResult<Document>
         ensures bytes { IfOk result (λ d. d.bytes ≡ text.now) }
         // What is read is a document, and shows its tree.
@@ -80,7 +81,7 @@ impl Document {
         })
     }
 
-    /// The text, as it was read.
+    /// The text, with the edits so far.
     pub fn as_str(&self) -> &str
         ensures { result.now ≡ self.now.bytes }
     {
@@ -263,7 +264,7 @@ impl Document {
         Ok(copy.with_pieces_of(self))
     }
 
-    /// The text, as it was read.
+    /// The text, with the edits so far.
     pub fn text(&self, alloc: Global) -> CargoResult<String>
         ensures text { IfOk result (λ s. string_bytes s ≡ self.now.bytes) }
         ensures refused { IfErr result IsMemory }
@@ -277,5 +278,11 @@ impl fmt::Display for Document {
 
     fn fmt<W: fmt::Write>(&self, f: &mut fmt::Formatter<W>) -> fmt::Result {
         f.write_str(self.as_str())
+    }
+}
+
+impl fmt::Debug for Document {
+    fn fmt<W: fmt::Write>(&self, f: &mut fmt::Formatter<W>) -> fmt::Result {
+        write!(f, "Document({:?})", self.as_str())
     }
 }

@@ -3,7 +3,7 @@ ghost use Rattle.std.specs.Prelude.{◌≡◌, ◌⊎◌, [], None, IfOk, IfErr,
 ghost use Rattle.edit_base.specs.Errors.{IsMemory};
 ghost use Rattle.edit_base.specs.declared.errors.Error.TheVariants.{EditRefused};
 ghost use Rattle.edit_syntax.specs.Grammar.{Text};
-ghost use Rattle.edit_tree.specs.Assertions.{at, key as key_step, assertions};
+ghost use Rattle.edit_tree.specs.Assertions.{at, key as key_step};
 ghost use Rattle.edit_tree.specs.EditBytes.{inserted_text, replaced_text};
 ghost use Rattle.edit_document.specs.Items.{place_seen};
 ghost use Rattle.edit_tree.specs.Meant.{Inserted, InsertFails, HasReplaced, ReplaceFails, Removed, RemoveFails};
@@ -112,11 +112,12 @@ impl Document {
         ensures bytes { IfOk result (λ _. (form : Text) → IsManifest self.old.bytes form
             → self.new.bytes ≡ removed_text (place_seen place.now) form) }
         ensures tree { IfOk result (λ _. (form : Text) → IsManifest self.old.bytes form
-            → Removed (place_seen place.now) (assertions form) (tree_of self.new)) }
+            → Removed form (place_seen place.now) (tree_of self.old) (tree_of self.new)) }
         ensures err { IfErr result (λ _. self.new ≡ self.old) }
         ensures refused { IfErr result (λ e. IsMemory e ⊎ ((e ≡ EditRefused)
             × RemoveFails (place_seen place.now) self.old.bytes)) }
     {
+        self.has_form();
         let new = read_edited(alloc, text)?;
         if !self.has_lost(&new, place) {
             return Err(Error::EditRefused);

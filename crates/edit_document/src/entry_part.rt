@@ -8,7 +8,7 @@ use crate::document::Seen;
 use crate::new_item::{NewItem, NewValue};
 
 /// A part of a new entry.
-#[derive(Clone, Copy)]
+#[derive(Clone, Copy, Debug)]
 pub(crate) enum Part<'a> {
     /// The entry itself.
     Whole,
@@ -31,7 +31,7 @@ pub(crate) enum Said<'a> {
 }
 
 /// A part of a new entry, in which something stands. Of members of the same name the first alone is one.
-#[derive(Clone, Copy)]
+#[derive(Clone, Copy, Debug)]
 pub(crate) struct EntryPart<'a> {
     item: &'a NewItem,
     part: Part<'a>,

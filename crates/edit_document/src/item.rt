@@ -5,7 +5,7 @@ use crate::document::{Document, Seen};
 use crate::entry_part::EntryPart;
 
 /// A node of a document, by its number.
-#[derive(Clone, Copy)]
+#[derive(Clone, Copy, Debug)]
 struct NodeOf<'a> {
     document: &'a Document,
     number: usize,
@@ -13,14 +13,14 @@ struct NodeOf<'a> {
 }
 
 /// Where an item stands: at a node of a document, or at a part of a new entry.
-#[derive(Clone, Copy)]
+#[derive(Clone, Copy, Debug)]
 enum Source<'a> {
     Node(NodeOf<'a>),
     Part(EntryPart<'a>),
 }
 
 /// A view of what stands at a place of a document, or of a new entry.
-#[derive(Clone, Copy)]
+#[derive(Clone, Copy, Debug)]
 pub struct Item<'a> {
     source: Source<'a>,
 }
@@ -266,7 +266,7 @@ impl<'a> Item<'a> {
 }
 
 /// The keys of a table that are left.
-#[derive(Drop)]
+#[derive(Debug, Drop)]
 pub struct Keys<'a> {
     item: Item<'a>,
     next: usize,

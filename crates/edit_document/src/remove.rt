@@ -3,7 +3,6 @@ ghost use Rattle.std.specs.Prelude.{◌≡◌, ◌⊎◌, [], None, IfOk, IfErr}
 ghost use Rattle.edit_base.specs.Errors.{IsMemory};
 ghost use Rattle.edit_base.specs.declared.errors.Error.TheVariants.{EditRefused};
 ghost use Rattle.edit_syntax.specs.Grammar.{Text};
-ghost use Rattle.edit_tree.specs.Assertions.{assertions};
 ghost use Rattle.edit_document.specs.Items.{place_seen};
 ghost use Rattle.edit_tree.specs.Meant.{Removed, RemoveFails};
 ghost use Rattle.edit_tree.specs.RemovedBytes.{removed_text};
@@ -23,9 +22,9 @@ impl Document {
         // Statements go with their lines, and elements and members with a comma.
         ensures bytes { IfOk result (λ _. (form : Text) → IsManifest self.old.bytes form
             → self.new.bytes ≡ removed_text (place_seen place.now) form) }
-        // All else shows what it did, but for the tables and arrays that nothing asserts any more.
+        // All else shows what it did, but for the tables and arrays around the item that vanish with it.
         ensures tree { IfOk result (λ _. (form : Text) → IsManifest self.old.bytes form
-            → Removed (place_seen place.now) (assertions form) (tree_of self.new)) }
+            → Removed form (place_seen place.now) (tree_of self.old) (tree_of self.new)) }
         ensures err { IfErr result (λ _. self.new ≡ self.old) }
         // Where memory does not run out, the text without the item reads otherwise than that.
         ensures refused { IfErr result (λ e. IsMemory e ⊎ ((e ≡ EditRefused)

@@ -2,12 +2,12 @@
 ghost use Rattle.std.specs.Prelude.{◌≡◌, ◌<◌, ◌≤◌, [], None, Some, length, take};
 ghost use Rattle.std.specs.Bool.{Decides};
 ghost use Rattle.edit_syntax.specs.Grammar.{Text};
-ghost use Rattle.edit_tree.specs.Assertions.{Step as StepSeen, at, key as key_step, assertions};
+ghost use Rattle.edit_tree.specs.Assertions.{Step as StepSeen, at, key as key_step};
 ghost use Rattle.edit_document.specs.Compared.{nth_part, tree_below};
 ghost use Rattle.edit_document.specs.Items.{place_numbered, view_numbered, place_seen, step_seen, Numbers};
-ghost use Rattle.edit_document.specs.Lost.{HasNamesBut, Loses, MovedPart, MovedParts, LosesPart, moved_place};
+ghost use Rattle.edit_document.specs.Lost.{HasNamesBut, MovedPart, MovedParts, LosesPart, moved_place};
 ghost use Rattle.edit_document.specs.Lost as lost;
-ghost use Rattle.edit_tree.specs.Meant.{Removed};
+ghost use Rattle.edit_tree.specs.Meant.{Loses, Removed};
 ghost use Rattle.edit_tree.specs.Shown.{tree_of};
 ghost use Rattle.edit_tree.specs.Supported.{IsManifest};
 
@@ -194,7 +194,7 @@ impl Document {
         requires inner { place_seen place.now ≡ [] → ⊥ }
         requires stands { tree_of self.now (place_seen place.now) ≡ None → ⊥ }
         ensures { (form : Text) → IsManifest self.now.bytes form
-            → Decides result (Removed (place_seen place.now) (assertions form) (tree_of other.now)) }
+            → Decides result (Removed form (place_seen place.now) (tree_of self.now) (tree_of other.now)) }
     {
         self.has_form();
         self.is_tree();

@@ -1,12 +1,10 @@
 -- The tokens of registries (Cargo reference, "Registries", Registry Authentication).
-use Rattle.std.specs.Prelude.{◌≡◌, ℕ, List, ◌∷◌, ◌++◌, Option, None, Ok, Err, ◌==◌, ◌⊎◌, codes, map, option_map, if◌then◌else◌}
+use Rattle.std.specs.Prelude.{◌≡◌, ℕ, List, ◌∷◌, ◌++◌, Option, None, Ok, ◌==◌, codes, map, option_map, if◌then◌else◌}
 use Rattle.std.specs.Char.{to_ascii_uppercase}
 use Rattle.std.specs.List.{find}
 use Rattle.std.specs.Str.{bytes_eq}
 use Rattle.url.specs.Parser.{parse_url}
 use Rattle.url.specs.Parts.{Parts, serialize}
-use Rattle.url.specs.declared.error.ParseError.{ParseError}
-use Rattle.url.specs.declared.error.ParseError.TheVariants.{Overflow}
 use Rattle.edit_fetch.specs.declared.tokens.Token.{Token}
 
 -- the token of the registry with an address: the first
@@ -36,7 +34,3 @@ pub record IsAddressOf (text address : List ℕ) : Type 0 where
   pub url : Parts
   pub reads : parse_url None text ≡ Ok url
   pub writes : address ≡ serialize url
-
--- a text is no URL, or one of 4 GB
-abbrev pub IsNoAddress : List ℕ → Type 0
-IsNoAddress text = (e : ParseError) × ((parse_url None text ≡ Err e) ⊎ (e ≡ Overflow))

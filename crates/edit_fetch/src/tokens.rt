@@ -1,7 +1,7 @@
 //! The tokens of registries.
-ghost use Rattle.std.specs.Prelude.{◌≡◌, ◌<◌, IfOk, IfSome, MatchOption, option_map, string_bytes};
+ghost use Rattle.std.specs.Prelude.{◌≡◌, ◌<◌, ℕ, List, IfOk, IfSome, MatchOption, option_map, string_bytes};
 ghost use Rattle.std.specs.Str.{IsAscii};
-ghost use Rattle.edit_fetch.specs.Tokens.{IsAddressOf, IsNoAddress, IsTokenOf, token_of, token_variable, variable_byte};
+ghost use Rattle.edit_fetch.specs.Tokens.{IsAddressOf, IsTokenOf, token_of, token_variable, variable_byte};
 
 use std::alloc::{AllocError, Global};
 use url::{ParseError, Url};
@@ -61,14 +61,15 @@ pub fn token_variable(alloc: Global, name: &str) -> Result<Option<String>, Alloc
     Ok(Some(variable))
 }
 
-/// The address of an index as lookups have it, where the text is a URL.
+/// The address of an index as lookups have it; none where the text is no URL.
 pub fn registry_address(alloc: Global, index: &str) -> Result<Option<String>, AllocError>
-    ensures { IfOk result (λ o. MatchOption o (IsNoAddress index.now)
+    ensures { IfOk result (λ o. MatchOption o ((address : List ℕ) → IsAddressOf index.now address → ⊥)
         (λ s. IsAddressOf index.now (string_bytes s))) }
 {
     match Url::parse(alloc, index) {
         Ok(url) => Ok(Some(String::from_str(alloc, url.as_str())?)),
-        Err(ParseError::OutOfMemory) => Err(AllocError),
+        // (a URL of 4 GB or more has no room either)
+        Err(ParseError::OutOfMemory | ParseError::Overflow) => Err(AllocError),
         Err(_) => Ok(None),
     }
 }
@@ -84,6 +85,7 @@ mod tests {
         assert_eq!(rt; variable.as_str(), "CARGO_REGISTRIES_MY_REGISTRY_TOKEN");
         let address = registry_address(rt.alloc(), "HTTPS://Index.Example")?.ok_or("no address")?;
         assert_eq!(rt; address.as_str(), "https://index.example/");
+        assert!(rt; registry_address(rt.alloc(), "index.example")?.is_none());
         Ok(())
     }
 }

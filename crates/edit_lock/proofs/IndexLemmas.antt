@@ -100,7 +100,8 @@ same-filter : (name : List ℕ) (f g : List ℕ → Bool) → ((q : List ℕ) �
     → map spec_of (filter (λ p. bytes_eq name p.name && not (f (spec_of p))) packages)
     ≡ map spec_of (filter (λ p. bytes_eq name p.name && not (g (spec_of p))) packages)
 same-filter name f g same packages =
-    ap (λ (h : List ℕ → Bool). map spec_of (filter (λ p. bytes_eq name p.name && not (h (spec_of p))) packages))
+    ap (λ (h : List ℕ → Bool). map spec_of (filter
+    (λ p. bytes_eq name p.name && not (h (spec_of p))) packages))
     (fun_ext same)
 
 -- what is found at a name is what the name has gained

@@ -25,7 +25,8 @@ all-locked : (packages : List Package) → All (λ p. locks packages (spec_of p)
 all-locked [] = All-nil (λ p. locks [] (spec_of p) ≡ true)
 all-locked (p ∷ ps) =
     All-cons (λ x. locks (p ∷ ps) (spec_of x) ≡ true) p ps
-    (itself (bytes_eq (spec_of p) (spec_of p)) (locks ps (spec_of p)) ((bytes_eq-Decides (spec_of p) (spec_of p)).1 refl))
+    (itself (bytes_eq (spec_of p) (spec_of p)) (locks ps (spec_of p))
+    ((bytes_eq-Decides (spec_of p) (spec_of p)).1 refl))
     (All-weaker (λ x. locks ps (spec_of x) ≡ true) (λ x. locks (p ∷ ps) (spec_of x) ≡ true)
     (λ x e. later (bytes_eq (spec_of p) (spec_of x)) (locks ps (spec_of x)) e) ps (all-locked ps))
 

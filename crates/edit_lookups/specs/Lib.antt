@@ -1,4 +1,5 @@
 pub mod Cached
+pub mod Escaped
 pub mod Lookups
 pub mod Shown
 pub mod Validators

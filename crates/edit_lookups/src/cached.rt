@@ -11,15 +11,21 @@ use edit_sources::index_dir::folder::ESCAPED;
 use percent_encoding::utf8_percent_encode;
 use std::alloc::{AllocError, Global};
 
-/// The folder of a registry in the cache: its address without userinfo, each `%` as `%25` and each `/` as
-/// `%2F`.
+/// The folder of a registry: its address, each `%` as `%25` and each `/` as `%2F`.
+pub fn registry_folder(alloc: Global, address: &str) -> Result<String, AllocError>
+    ensures { IfOk result (λ s. string_bytes s ≡ registry_folder address.now) }
+{
+    let mut folder = String::new(alloc);
+    utf8_percent_encode(address, ESCAPED).append_to(&mut folder)?;
+    Ok(folder)
+}
+
+/// The folder of a registry in the cache: that of its address without userinfo.
 fn cached_folder(alloc: Global, address: &str) -> Result<String, AllocError>
     ensures { IfOk result (λ s. string_bytes s ≡ registry_folder (shown_address address.now)) }
 {
     let shown = shown_address(alloc, address)?;
-    let mut folder = String::new(alloc);
-    utf8_percent_encode(shown.as_str(), ESCAPED).append_to(&mut folder)?;
-    Ok(folder)
+    registry_folder(alloc, shown.as_str())
 }
 
 /// The file of an entry in the cache.

@@ -1,15 +1,16 @@
 -- The way upwards, past folders without a manifest.
-use Rattle.std.proofs.Common.{◌≡◌, ◌≢◌, ℕ, List, [], ◌∷◌, ◌++◌, Bool, true, Option, Some, None, ◌∙◌, sym, subst, inr}
+use Rattle.std.proofs.Common.{◌≡◌, ◌≢◌, ℕ, List, [], ◌∷◌, ◌++◌, Bool, true, Option, Some, None, ◌∙◌, sym, subst, inl, inr, ⊎_elim}
 use Rattle.std.proofs.Math.Path.{fun_ext}
 use Rattle.std.proofs.lemmas.List.Elements.{All-nil, All-cons, All-append}
-use Rattle.std.specs.Prelude.{codes}
+use Rattle.std.specs.Prelude.{◌⊎◌, codes}
 use Rattle.edit_base.specs.Paths.{IsFolderOf, IsNormalOf, joined}
 use Rattle.edit_base.specs.declared.errors.Error.{Error}
+use Rattle.edit_base.specs.declared.errors.Error.TheVariants.{NoPath}
 use Rattle.edit_store.specs.Climbs.{Climbs}
 use Rattle.edit_store.specs.Climbs.Climbs.{begin, step}
 use Rattle.edit_store.specs.Store.{Files, SameFiles, StandsAt}
 use Rattle.edit_store.specs.declared.store.Kind.TheVariants.{File, Folder}
-use Rattle.edit_manifest.specs.Located.{HasNoManifest, HasNoneAbove, HaveNone, IsManifestAt, IsManifestPath, IsMissing, IsNearest, IsNotFound, IsUnfound, manifest_in}
+use Rattle.edit_manifest.specs.Located.{HasNoManifest, HasNoneAbove, HaveNone, IsManifestAt, IsManifestPath, IsMissing, IsNearest, IsNotFound, IsUnfound, NamesFolder, NamesStart, manifest_in}
 use Rattle.edit_manifest.specs.Located.HasNoManifest.{specified as lacks_there, unspecified as lacks_here}
 use Rattle.edit_manifest.specs.Located.IsManifestAt.{named, nearest}
 use Rattle.edit_manifest.specs.Located.IsManifestPath.{specified, unspecified}
@@ -120,3 +121,18 @@ pub none_unspecified : (files : Files) (current start place : List ℕ) (o : Opt
 none_unspecified files current start place o e given is normal none =
     subst (λ x. HasNoManifest files current e x) (sym given)
     (lacks_here place normal (subst (λ text. IsNotFound files text e) is none))
+
+-- the error names the folder at the path that is specified, or says that nothing stands there
+pub start_specified : (current name whole place : List ℕ) (o : Option (List ℕ)) (e : Error) → o ≡ Some name
+    → whole ≡ joined current name → IsNormalOf whole place → (e ≡ NoPath) ⊎ NamesFolder place e
+    → NamesStart current o e
+start_specified current name whole place o e given is normal lacks =
+    subst (λ x. NamesStart current x e) (sym given)
+    (⊎_elim inl (λ names. inr (place, subst (λ text. IsNormalOf text place) is normal, names)) lacks)
+
+-- the error names the current folder
+pub start_unspecified : (current start place : List ℕ) (o : Option (List ℕ)) (e : Error) → o ≡ None
+    → start ≡ place → IsNormalOf current place → NamesFolder start e → NamesStart current o e
+start_unspecified current start place o e given is normal names =
+    subst (λ x. NamesStart current x e) (sym given)
+    (place, normal, subst (λ text. NamesFolder text e) is names)

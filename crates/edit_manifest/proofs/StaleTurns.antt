@@ -1,5 +1,5 @@
 -- The strings of features that go are each where they were, once those before them are gone.
-use Rattle.std.proofs.Common.{◌≡◌, ℕ, zero, suc, ◌<◌, ◌-◌, Bool, true, false, not, ◌&&◌, ◌==◌, nat_lt, cond, List, [], ◌∷◌, ◌++◌, Option, None, Some, refl, sym, ap, ◌∙◌, arith}
+use Rattle.std.proofs.Common.{◌≡◌, ℕ, zero, suc, ◌<◌, ◌-◌, Bool, true, false, not, ◌&&◌, ◌==◌, nat_lt, cond, List, [], ◌∷◌, ◌++◌, Option, None, Some, refl, sym, ap, ◌∙◌, true≢false, arith}
 use Rattle.std.specs.Prelude.{slice_get, codes}
 use Rattle.std.specs.List.{AllByRecursion, filter, flat_map}
 use Rattle.edit_syntax.specs.Grammar.{Text}
@@ -66,16 +66,26 @@ IsElement f n q = (i : ℕ) × (i < n) × (q ≡ at (of_feature f) (index i))
 abbrev IsOf : List ℕ → Place → Type 0
 IsOf f q = (i : ℕ) × (q ≡ at (of_feature f) (index i))
 
+other_name : (f g : List ℕ) → same_bytes f g ≡ false → same_bytes g f ≡ false
+other_name f g e = by_test (same_bytes g f)
+    (λ h. absurd (true≢false (sym h ∙ ap (λ z. same_bytes g z) (sym (same_bytes_is g f h)) ∙
+    ap (λ z. same_bytes z g) (same_bytes_is g f h) ∙ e)))
+    (λ h. h)
+
 -- the elements of a feature do not move for those of another
 other_feature : (f g : List ℕ) (i j : ℕ) → same_bytes f g ≡ false
     → Outlives (at (of_feature f) (index i)) (at (of_feature g) (index j))
 other_feature f g i j e = (
   ap (λ b. b && (i == j && true)) e,
+  ap (λ b. b && (j == i && true)) (other_name f g e),
   ap (λ b. key (codes "features") ∷ key g ∷ cond b (moved (index i ∷ []) (index j ∷ [])) (index j ∷ [])) e,
 )
 
 not_same : (i j : ℕ) → j < i → (i == j) ≡ false
 not_same i j lt = search (arith)
+
+not_same_back : (i j : ℕ) → j < i → (j == i) ≡ false
+not_same_back i j lt = search (arith)
 
 not_less : (i j : ℕ) → j < i → nat_lt i j ≡ false
 not_less i j lt = search (arith)
@@ -86,6 +96,7 @@ later_element : (f : List ℕ) (i j : ℕ) → j < i → Outlives (at (of_featur
 later_element f i j lt = by_test (same_bytes f f)
     (λ h. (
       ap (λ b. b && (i == j && true)) h ∙ ap (λ b. b && true) (not_same i j lt),
+      ap (λ b. b && (j == i && true)) h ∙ ap (λ b. b && true) (not_same_back i j lt),
       ap (λ b. key (codes "features") ∷ key f ∷ cond b (moved (index i ∷ []) (index j ∷ [])) (index j ∷ [])) h
           ∙ ap (λ b. key (codes "features") ∷ key f ∷ index (cond b (j - 1) j) ∷ []) (not_less i j lt),
     ))

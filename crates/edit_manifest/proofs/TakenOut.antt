@@ -5,7 +5,7 @@ use Rattle.edit_base.specs.declared.errors.Error.{Error}
 use Rattle.edit_base.specs.declared.errors.Error.TheVariants.{EditRefused}
 use Rattle.edit_base.specs.Errors.{IsMemory}
 use Rattle.edit_syntax.specs.Grammar.{Text}
-use Rattle.edit_tree.specs.Assertions.{Place, Step, key, index, at, assertions}
+use Rattle.edit_tree.specs.Assertions.{Place, Step, key, index, at}
 use Rattle.edit_tree.specs.EditBytes.{is_within}
 use Rattle.edit_document.specs.declared.item.Item.{Item}
 use Rattle.edit_document.specs.declared.place.Step.{Step as WrittenStep}
@@ -21,7 +21,7 @@ use Rattle.edit_manifest.specs.Removals.{Without, OneStays}
 use Rattle.edit_manifest.specs.RemovedEntries.{TakesOut, StaysIn, entry_stays, table_stays, IsKept, IsNotTakenOut, bare_table, entry_of, is_bare, missing_table}
 use Rattle.edit_manifest.specs.Tables.{keyed}
 use Rattle.edit_manifest.proofs.MissingTables.{more_than_none}
-use Rattle.edit_manifest.proofs.Withouts.{first_stays, without_one}
+use Rattle.edit_manifest.proofs.Withouts.{first_stays, shown_removed, without_one}
 
 -- ---- places
 
@@ -37,17 +37,16 @@ member_keyed n [] = refl
 member_keyed n (m ∷ ns) = member_keyed m ns
 
 -- a member that was removed is not there
-pub member_gone : (p : Place) (n : List ℕ) (form : Text) (new : Tree)
-    → Removed (at p (key n)) (assertions form) new
-    → new (at p (key n)) ≡ None
-member_gone p n form new removed = removed.nothing_there (member_at p n) (at p (key n))
+pub member_gone : (p : Place) (n : List ℕ) (form : Text) (old new : Tree)
+    → Removed form (at p (key n)) old new → new (at p (key n)) ≡ None
+member_gone p n form old new removed = removed.nothing_there (member_at p n) (at p (key n))
     (inside_self (at p (key n)))
 
 -- nor is what stood in a table that was
-pub inner_gone : (path : List (List ℕ)) (p : Place) (n : List ℕ) (form : Text) (new : Tree) → p ≡ keyed path
-    → (p ≡ [] → ⊥) → Removed p (assertions form) new → new (at p (key n)) ≡ None
-inner_gone [] p n form new e inner removed = absurd (inner e)
-inner_gone (m ∷ ms) p n form new e inner removed =
+pub inner_gone : (path : List (List ℕ)) (p : Place) (n : List ℕ) (form : Text) (old new : Tree)
+    → p ≡ keyed path → (p ≡ [] → ⊥) → Removed form p old new → new (at p (key n)) ≡ None
+inner_gone [] p n form old new e inner removed = absurd (inner e)
+inner_gone (m ∷ ms) p n form old new e inner removed =
     removed.nothing_there (ap is_member e ∙ member_keyed m ms) (at p (key n))
     (inside_more p p (key n ∷ []) (inside_self p))
 
@@ -92,20 +91,28 @@ bare_some t (s ∷ ss) inner e = ap (λ b. cond b ((s ∷ ss) ∷ []) []) e
 
 module _ (path : List (List ℕ)) (name : List ℕ) (old : Shown) (form : Text) (r p : Place)
     (table : r ≡ keyed path)
-    (entry : p ≡ at r (key name)) (reads : IsManifest old.bytes form) where
+    (entry : p ≡ at r (key name)) (reads : IsManifest old.bytes form) (shown : ShowsTree old form) where
   place_is : p ≡ entry_of path name
   place_is = entry ∙ ap (λ q. at q (key name)) table
+
+  -- the entry is removed
+  first_out : (middle : Shown) (g : Text) → middle.bytes ≡ removed_text p form → IsManifest middle.bytes g
+      → ShowsTree middle g → Removed form p (tree_of old) (tree_of middle)
+      → Without (entry_of path name ∷ []) old.bytes middle.bytes
+  first_out middle g bytes again shows removed = subst (λ q. Without (q ∷ []) old.bytes middle.bytes) place_is
+      (without_one p form g old.bytes middle.bytes reads bytes again
+      (shown_removed form g p old middle shown shows removed))
 
   pub taken_out : (middle new : Shown) (g : Text) → missing_table (tree_of old) path ≡ None
       → (tree_of old p ≡ None → ⊥)
       → middle.bytes ≡ removed_text p form → IsManifest middle.bytes g → ShowsTree middle g
+      → Removed form p (tree_of old) (tree_of middle)
       → Without (bare_table (tree_of middle) r) middle.bytes new.bytes → TakesOut path name old new
-  taken_out middle new g tables stood bytes again shows rest = record {
+  taken_out middle new g tables stood bytes again shows removed rest = record {
     tables = tables;
     stood = subst (λ q. tree_of old q ≡ None → ⊥) place_is stood;
     between = middle.bytes;
-    entry = subst (λ q. Without (q ∷ []) old.bytes middle.bytes) place_is
-        (without_one p form old.bytes middle.bytes reads bytes);
+    entry = first_out middle g bytes again shows removed;
     form = g;
     reads = again;
     emptied = subst (λ (ps : List Place). Without ps middle.bytes new.bytes)
@@ -140,16 +147,14 @@ module _ (path : List (List ℕ)) (name : List ℕ) (old : Shown) (form : Text) 
   -- its table cannot
   pub table_kept : (middle : Shown) (g : Text) (e : Error) → missing_table (tree_of old) path ≡ None
       → (tree_of old p ≡ None → ⊥) → middle.bytes ≡ removed_text p form → IsManifest middle.bytes g
-      → ShowsTree middle g
+      → ShowsTree middle g → Removed form p (tree_of old) (tree_of middle)
       → IsMemory e ⊎ ((e ≡ EditRefused) × OneStays (bare_table (tree_of middle) r) middle.bytes)
       → IsNotTakenOut path name old e
-  table_kept middle g e tables stood bytes again shows (inl memory) = inl memory
-  table_kept middle g e tables stood bytes again shows (inr why) =
+  table_kept middle g e tables stood bytes again shows removed (inl memory) = inl memory
+  table_kept middle g e tables stood bytes again shows removed (inr why) =
       refused_for e tables stood (
         why.0,
-        table_stays middle.bytes g
-            (subst (λ q. Without (q ∷ []) old.bytes middle.bytes) place_is
-            (without_one p form old.bytes middle.bytes reads bytes)) again
+        table_stays middle.bytes g (first_out middle g bytes again shows removed) again
             (subst (λ (ps : List Place). OneStays ps middle.bytes)
             (ap (bare_table (tree_of middle)) table ∙ bare_same (tree_of middle) (view_at g) (keyed path)
             (shows (keyed path)))

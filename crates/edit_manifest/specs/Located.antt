@@ -74,6 +74,13 @@ pub data HasNoManifest (files : Files) (current : List ℕ) (e : Error) : Option
   unspecified : (place : List ℕ) → IsNormalOf current place → IsNotFound files place e
       → HasNoManifest files current e None
 
+-- the error where no manifest is found, over any store: nothing stands at a path that is named, or no folder
+-- has a manifest, and the error names the folder from which they were searched
+abbrev pub NamesStart : List ℕ → Option (List ℕ) → Error → Type 0
+NamesStart current (Some name) e =
+    (e ≡ NoPath) ⊎ ((place : List ℕ) × IsNormalOf (joined current name) place × NamesFolder place e)
+NamesStart current None e = (place : List ℕ) × IsNormalOf current place × NamesFolder place e
+
 -- memory ran out, or the device failed in this call and the count of faults rose
 abbrev pub IsFault : DeviceCall → ℕ → ℕ → Error → Type 0
 IsFault call before now e = IsMemory e ⊎ ((e ≡ Device call) × raised before now)

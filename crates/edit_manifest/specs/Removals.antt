@@ -3,16 +3,18 @@ use Rattle.std.specs.Prelude.{◌≡◌, ℕ, false, List, [], ◌∷◌, ◌++�
 use Rattle.std.specs.List.{AllByRecursion}
 use Rattle.edit_tree.specs.Assertions.{Place}
 use Rattle.edit_tree.specs.EditBytes.{is_within}
-use Rattle.edit_tree.specs.Meant.{Tree, RemoveFails, moved}
+use Rattle.edit_tree.specs.Meant.{Tree, Removed, RemoveFails, moved}
 use Rattle.edit_tree.specs.RemovedBytes.{removed_text}
 use Rattle.edit_tree.specs.Supported.{IsManifest}
-use Rattle.edit_tree.specs.Tree.{string}
+use Rattle.edit_tree.specs.Tree.{string, view_at}
 use Rattle.edit_syntax.specs.Grammar.{Text}
 
--- a text, and what is left of it without the items at these places, removed one after the other
+-- A text, and what is left of it without the items at these places, removed one after the other: each time a
+-- document that shows the tree of the one before it without the item.
 pub data Without : List Place → List ℕ → List ℕ → Type 0 where
   none : (bytes : List ℕ) → Without [] bytes bytes
-  next : (place : Place) (more : List Place) (form : Text) (old new : List ℕ) → IsManifest old form
+  next : (place : Place) (more : List Place) (form left : Text) (old new : List ℕ) → IsManifest old form
+      → IsManifest (removed_text place form) left → Removed form place (view_at form) (view_at left)
       → Without more (removed_text place form) new → Without (place ∷ more) old new
 
 -- one of the items cannot be removed, once those before it are
@@ -35,9 +37,10 @@ HasString t place = (text : List ℕ) × (t place ≡ Some (string text))
 abbrev pub AreStrings : Tree → List Place → Type 0
 AreStrings t places = AllByRecursion (HasString t) places
 
--- the place is where it was, once another one is gone
+-- the second place is neither in the first nor around it, and is where it was once the first is gone
 abbrev pub Outlives : Place → Place → Type 0
-Outlives gone place = (is_within gone place ≡ false) × (moved gone place ≡ place)
+Outlives gone place =
+    (is_within gone place ≡ false) × (is_within place gone ≡ false) × (moved gone place ≡ place)
 
 -- each of these places is where it was, once those before it are gone
 abbrev pub AreInTurn : List Place → Type 0

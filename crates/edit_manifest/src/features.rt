@@ -207,6 +207,7 @@ fn without(alloc: Global, document: &Document, places: &[Place]) -> CargoResult<
     'places: for place in places {
         left.has_form();
         left.remove(alloc, place)?;
+        left.has_form();
     }
     Ok(left)
 }

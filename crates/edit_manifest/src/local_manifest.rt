@@ -1,11 +1,11 @@
 //! A manifest with the path of its file.
-ghost use Rattle.std.specs.Prelude.{◌≡◌, ◌⊎◌, Some, true, IfErr, IfOk, OnOk, option_map, string_bytes};
+ghost use Rattle.std.specs.Prelude.{◌≡◌, ◌⊎◌, Some, true, false, IfErr, IfOk, OnOk, option_map, string_bytes};
 ghost use Rattle.edit_base.specs.Errors.{IsMemory};
 ghost use Rattle.edit_base.specs.declared.errors.DeviceCall.TheVariants as call;
 ghost use Rattle.edit_store.specs.Store.{HasCause, OnlyReads, SameBut};
 ghost use Rattle.edit_manifest.specs.Finding.{IsFound, IsUnfoundOrUnread};
-ghost use Rattle.edit_manifest.specs.Loaded.{IsUnloaded, IsUnread, NamesPath, is_absolute};
-ghost use Rattle.edit_manifest.specs.Located.{IsFault};
+ghost use Rattle.edit_manifest.specs.Loaded.{IsReadError, IsUnloaded, IsUnread, NamesPath, is_absolute};
+ghost use Rattle.edit_manifest.specs.Located.{IsFault, NamesStart};
 
 use crate::locate::find;
 use crate::manifest::Manifest;
@@ -41,6 +41,9 @@ fn load<S: Store>(alloc: Global, store: &mut S, path: String) -> CargoResult<Loc
         IsFault call.Read (S.view store.old).faults (S.view store.new).faults e
         ⊎ ((S.view store.old).tells ≡ true
         → IsUnread ((S.view store.old).file_at (string_bytes path)) e)) }
+    // over any store
+    ensures only { IfErr result (λ e. IsFault call.Read (S.view store.old).faults (S.view store.new).faults e
+        ⊎ IsReadError e) }
 {
     match store.read(alloc, path.as_str()) {
         Ok(Some(bytes)) => {
@@ -66,14 +69,19 @@ impl LocalManifest {
             (option_map (λ s. s.now) specified.entry) (string_bytes m.path) m.manifest.document.bytes) }
         ensures refused { IfErr result (IsUnfoundOrUnread (S.view store.old) (S.view store.new)
             current.now (option_map (λ s. s.now) specified.entry)) }
+        // over any store
+        ensures only { IfErr result (λ e.
+            IsFault call.Kind (S.view store.old).faults (S.view store.new).faults e
+            ⊎ (IsFault call.Read (S.view store.old).faults (S.view store.new).faults e
+            ⊎ (NamesStart current.now (option_map (λ s. s.now) specified.entry) e ⊎ IsReadError e))) }
     {
         let path = find(alloc, store, specified, current)?;
         load(alloc, store, path)
     }
 
-    /// Reads the manifest at an absolute path. Refused with 4 where the path is not absolute, with 3 where
-    /// the device fails, with 5 where no file stands there, and with 2 and 1 where its bytes are not UTF-8 or
-    /// no TOML document.
+    /// Reads the manifest at an absolute path. `NotAbsolute` where the path is not absolute, `Device` where
+    /// the device fails, `NoManifest` where no file stands there, and `NotUtf8` and `NotToml` where its bytes
+    /// are not UTF-8 or no TOML document.
     pub fn try_new<S: Store>(alloc: Global, store: &mut S, path: &str) -> CargoResult<LocalManifest>
         ensures store { OnlyReads (S.view store.old) (S.view store.new) }
         ensures path { IfOk result (λ m. string_bytes m.path ≡ path.now) }
@@ -81,6 +89,10 @@ impl LocalManifest {
         ensures read { IfOk result (λ m. (S.view store.old).tells ≡ true
             → (S.view store.old).file_at path.now ≡ Some m.manifest.document.bytes) }
         ensures refused { IfErr result (IsUnloaded (S.view store.old) (S.view store.new) path.now) }
+        // over any store
+        ensures only { IfErr result (λ e.
+            IsFault call.Read (S.view store.old).faults (S.view store.new).faults e
+            ⊎ (((is_absolute path.now ≡ false) × NamesPath path.now e) ⊎ IsReadError e)) }
     {
         if !path.starts_with('/') {
             return Err(not_absolute(alloc, path));

@@ -2,8 +2,9 @@
 ghost use Rattle.std.specs.Prelude.{◌≡◌, ◌⊎◌, true, IfErr, IfOk, MatchBool, MatchOption, option_map, string_bytes};
 ghost use Rattle.edit_base.specs.Errors.{IsMemory};
 ghost use Rattle.edit_base.specs.declared.errors.DeviceCall.TheVariants as call;
+ghost use Rattle.edit_base.specs.declared.errors.Error.TheVariants.{NoPath};
 ghost use Rattle.edit_store.specs.Store.{OnlyReads};
-ghost use Rattle.edit_manifest.specs.Located.{HasNoManifest, IsFault, IsManifestAt, IsManifestPath, IsMissing, IsNearest, IsNotFound, IsThere, IsUnfound, NamesFolder, manifest_in};
+ghost use Rattle.edit_manifest.specs.Located.{HasNoManifest, IsFault, IsManifestAt, IsManifestPath, IsMissing, IsNearest, IsNotFound, IsThere, IsUnfound, NamesFolder, NamesStart, manifest_in};
 
 use edit_base::paths::{folder, join, normal};
 use edit_base::{CargoResult, Error};
@@ -63,6 +64,9 @@ fn search<S: Store>(alloc: Global, store: &mut S, start: &str) -> CargoResult<St
     ensures refused { IfErr result (λ e.
         IsFault call.Kind (S.view store.old).faults (S.view store.new).faults e
         ⊎ ((S.view store.old).tells ≡ true → IsNotFound (S.view store.old).file_at start.now e)) }
+    // over any store
+    ensures only { IfErr result (λ e. IsFault call.Kind (S.view store.old).faults (S.view store.new).faults e
+        ⊎ NamesFolder start.now e) }
 {
     let mut dir = start;
     'folders: while dir != "/" {
@@ -86,6 +90,9 @@ fn find_at<S: Store>(alloc: Global, store: &mut S, path: String) -> CargoResult<
         IsFault call.Kind (S.view store.old).faults (S.view store.new).faults e
         ⊎ ((S.view store.old).tells ≡ true
         → IsUnfound (S.view store.old).file_at (string_bytes path) e)) }
+    // over any store
+    ensures only { IfErr result (λ e. IsFault call.Kind (S.view store.old).faults (S.view store.new).faults e
+        ⊎ ((e ≡ NoPath) ⊎ NamesFolder (string_bytes path) e)) }
 {
     match store.kind(alloc, path.as_str()) {
         Ok(Kind::File) => Ok(path),
@@ -97,7 +104,7 @@ fn find_at<S: Store>(alloc: Global, store: &mut S, path: String) -> CargoResult<
 
 /// The path of a manifest: the file that is specified, or the nearest `Cargo.toml` from the folder that is
 /// specified upwards; where none is, from the current folder upwards. A relative path starts in the current
-/// folder. Refused with 6 where nothing stands at the path, and with 7 where no folder has a `Cargo.toml`.
+/// folder. `NoPath` where nothing stands at the path, `ManifestNotFound` where no folder has a `Cargo.toml`.
 pub fn find<S: Store>(
     alloc: Global,
     store: &mut S,
@@ -112,6 +119,9 @@ pub fn find<S: Store>(
         IsFault call.Kind (S.view store.old).faults (S.view store.new).faults e
         ⊎ ((S.view store.old).tells ≡ true → HasNoManifest (S.view store.old).file_at current.now e
         (option_map (λ s. s.now) specified.entry))) }
+    // over any store
+    ensures only { IfErr result (λ e. IsFault call.Kind (S.view store.old).faults (S.view store.new).faults e
+        ⊎ NamesStart current.now (option_map (λ s. s.now) specified.entry) e) }
 {
     match specified {
         Some(path) => {

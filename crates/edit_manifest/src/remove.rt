@@ -95,7 +95,9 @@ fn remove_bare(alloc: Global, document: &mut Document, table: &[Step]) -> CargoR
     if !is_bare(document.item(table)) {
         return Ok(());
     }
-    document.remove(alloc, table)
+    document.remove(alloc, table)?;
+    document.has_form();
+    Ok(())
 }
 
 /// Whether this is a table or an inline table without members.

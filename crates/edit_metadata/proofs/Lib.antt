@@ -1,3 +1,4 @@
+pub mod ElementLoop
 pub mod FirstMember
 pub mod Ids
 pub mod InputLemmas

@@ -47,3 +47,20 @@ zipped-once R (x ∷ xs) [] zs once a b = absurd a
 zipped-once R (x ∷ xs) (y ∷ ys) [] once a b = absurd b
 zipped-once R (x ∷ xs) (y ∷ ys) (z ∷ zs) once a b =
     ap (λ v. v ∷ ys) (once x y z a.0 b.0) ∙ ap (λ vs. z ∷ vs) (zipped-once R xs ys zs once a.1 b.1)
+
+-- a list that fits one with a place more has a place more
+pub zipped-last : {A B : Type 0} (R : A → B → Type 0) (xs : List A) (ys : List B) (y : B)
+    → AllZip R xs (ys ++ y ∷ [])
+    → (front : List A) × (x : A) × (xs ≡ front ++ x ∷ []) × AllZip R front ys × R x y
+zipped-last R [] [] y all = absurd all
+zipped-last R [] (z ∷ ys) y all = absurd all
+zipped-last R (x ∷ []) [] y all = ([], x, refl, tt, all.0)
+zipped-last R (x ∷ z ∷ xs) [] y all = absurd all.1
+zipped-last R (x ∷ xs) (z ∷ ys) y all =
+    let rest = zipped-last R xs ys y all.1 in
+    (x ∷ rest.0, rest.1, ap (λ zs. x ∷ zs) rest.2, (all.0, rest.3), rest.4)
+
+-- a list that fits none is empty, and fits none under another relation
+pub zipped-none : {A B C : Type 0} (R : A → B → Type 0) (S : A → C → Type 0) (xs : List A) → AllZip R xs [] → AllZip S xs []
+zipped-none R S [] all = tt
+zipped-none R S (x ∷ xs) all = absurd all

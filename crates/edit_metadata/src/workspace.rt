@@ -11,6 +11,7 @@ ghost use Rattle.serde_json.specs.View.{view};
 
 use crate::fields::path;
 use crate::folders::check_folders;
+use crate::from_texts::read_without_tree;
 use crate::members::values_at;
 use crate::packages::{read_ids, read_packages};
 use edit_base::{CargoResult, Error};
@@ -60,8 +61,8 @@ fn said_by(alloc: Global, value: &Value) -> CargoResult<Workspace>
     Ok(Workspace { root, packages })
 }
 
-/// The workspace that JSON says.
-fn said(alloc: Global, json: &[u8]) -> CargoResult<Workspace>
+/// The workspace that JSON says, by a tree of its values.
+fn read_by_tree(alloc: Global, json: &[u8]) -> CargoResult<Workspace>
     ensures said { IfOk result (λ w. AreMetadata json.now (workspace_said w)) }
     ensures refused { IfErr result (λ e. IsMemory e ⊎ ((e ≡ Metadata) × SayNothing json.now)) }
 {
@@ -69,6 +70,18 @@ fn said(alloc: Global, json: &[u8]) -> CargoResult<Workspace>
         Ok(value) => said_by(alloc, &value),
         Err(error) if error.is_memory() => Err(Error::Memory),
         Err(_) => Err(Error::Metadata),
+    }
+}
+
+/// The workspace that JSON says: read token by token, and by a tree where that does not tell.
+fn read_json(alloc: Global, json: &[u8]) -> CargoResult<Workspace>
+    ensures said { IfOk result (λ w. AreMetadata json.now (workspace_said w)) }
+    ensures refused { IfErr result (λ e. IsMemory e ⊎ ((e ≡ Metadata) × SayNothing json.now)) }
+{
+    match read_without_tree(alloc, json) {
+        Ok(Some(workspace)) => Ok(workspace),
+        Ok(None) => read_by_tree(alloc, json),
+        Err(error) => Err(error),
     }
 }
 
@@ -86,7 +99,7 @@ impl Workspace {
         ensures readable { IfOk result (λ w. All (λ p. IsReadable (parts_of p.version)) w.packages.items) }
         ensures refused { IfErr result (IsNoWorkspace json.now) }
     {
-        let workspace = said(alloc, json)?;
+        let workspace = read_json(alloc, json)?;
         check_folders(alloc, &workspace.packages)?;
         Ok(workspace)
     }

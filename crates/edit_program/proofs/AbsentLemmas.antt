@@ -1,6 +1,6 @@
 -- Names as a note has them.
 use Rattle.std.proofs.Common.{◌≡◌, ◌≤◌, ◌-◌, ◌∙◌, ℕ, Bool, false, List, [], ◌∷◌, ◌++◌, ap, arith, le-leb, length, map, refl, sym, take}
-use Rattle.std.specs.Prelude.{String, ◌==◌, codes, decimal, if◌then◌else◌, string_bytes}
+use Rattle.std.specs.Prelude.{String, ◌&&◌, ◌==◌, codes, decimal, if◌then◌else◌, is_none, not, string_bytes}
 use Rattle.std.specs.List.{join_by}
 use Rattle.std.specs.declared.alloc.Global.{Global}
 use Rattle.std.proofs.lemmas.List.{length-map}
@@ -9,7 +9,8 @@ use Rattle.edit_report.specs.Messages.{message_text}
 use Rattle.edit_upgrade.specs.declared.decision.options.Options.{Options}
 use Rattle.edit_upgrade.specs.declared.upgrade.Look.{Look}
 use Rattle.edit_upgrade.specs.declared.upgrade.UpgradePlan.{UpgradePlan}
-use Rattle.edit_program.specs.Absent.{absent, absent_note, absent_text, listed, names_note}
+use Rattle.edit_upgrade.specs.UpdateCalls.{is_among}
+use Rattle.edit_program.specs.Absent.{absent, absent_at, absent_note, absent_text, listed, names_note}
 
 -- the names in a row, as the note has them where it has all
 abbrev joined : List (List ℕ) → List ℕ
@@ -33,10 +34,19 @@ some_absent : (names : List (String Global)) → (length names == 0) ≡ false
 some_absent [] none = absurd (true≢false none)
 some_absent (name ∷ names) some = refl
 
+-- tests that agree on each name leave the same crates
+pub same_absent : (one other : List ℕ → Bool) (looks : List Look) → ((name : List ℕ) → one name ≡ other name)
+    → absent one looks ≡ absent other looks
+same_absent one other [] same = refl
+same_absent one other (look ∷ looks) same =
+    ap (λ b. (if is_none look.answer && not b then string_bytes look.name ∷ [] else []) ++ absent one looks)
+    (same (string_bytes look.name))
+    ∙ ap (λ names. absent_at other look ++ names) (same_absent one other looks same)
+
 -- the note on the crates without an index entry
 pub absent_said : (p : UpgradePlan) (o : Options) (offline : Bool) (exclude : List (String Global))
     (looks : List Look) (names slice : List (String Global)) (text message : List ℕ) → offline ≡ false
-    → exclude ≡ o.exclude.items → looks ≡ p.looks.items → map string_bytes names ≡ absent exclude looks
+    → exclude ≡ o.exclude.items → looks ≡ p.looks.items → map string_bytes names ≡ absent (is_among (map string_bytes exclude)) looks
     → (length names == 0) ≡ false → slice ≡ names → text ≡ absent_text (map string_bytes slice)
     → message ≡ text → message_text false (codes "note") message ≡ absent_note p o offline
 absent_said p o offline exclude looks names slice text message online excluded looked are some is said shown =
@@ -45,6 +55,7 @@ absent_said p o offline exclude looks names slice text message online excluded l
     ∙ ap (λ (xs : List (String Global)). said_as (absent_text (map string_bytes xs))) is
     ∙ some_absent names some
     ∙ ap names_note are
-    ∙ ap (λ (xs : List (String Global)). names_note (absent xs looks)) excluded
-    ∙ ap (λ (xs : List Look). names_note (absent o.exclude.items xs)) looked
-    ∙ sym (ap (λ b. if b then [] else names_note (absent o.exclude.items p.looks.items)) online)
+    ∙ ap (λ (xs : List (String Global)). names_note (absent (is_among (map string_bytes xs)) looks)) excluded
+    ∙ ap (λ (xs : List Look). names_note (absent (is_among (map string_bytes o.exclude.items)) xs)) looked
+    ∙ sym (ap (λ b. if b then []
+    else names_note (absent (is_among (map string_bytes o.exclude.items)) p.looks.items)) online)

@@ -1,5 +1,5 @@
 -- Behind a check no file has changed.
-use Rattle.std.proofs.Common.{◌≡◌, ◌∙◌, ◌≤◌, ◌&&◌, ◌||◌, ℕ, Bool, List, [], ◌∷◌, Option, true, false, ap, arith, codes, refl, sym}
+use Rattle.std.proofs.Common.{◌≡◌, ◌∙◌, ◌≤◌, ◌&&◌, ◌||◌, ℕ, Bool, List, [], ◌∷◌, true, false, ap, arith, codes, refl, sym}
 use Rattle.std.specs.Prelude.{if◌then◌else◌}
 use Rattle.std.proofs.lemmas.List.Elements.{All-nil}
 use Rattle.clap.specs.Words.{Row}
@@ -13,6 +13,7 @@ use Rattle.edit_program.specs.declared.upgrade_run.words.UpgradeWords.{UpgradeWo
 use Rattle.edit_program.proofs.DryRuns.{dry_keeps}
 use Rattle.edit_program.specs.Asked.{is_dry, is_given}
 use Rattle.edit_program.specs.Presented.{status_after}
+use Rattle.edit_program.specs.Run.{Run}
 
 -- a status behind a plan is 0 or 1
 small_by : (check due : Bool) (s : ℕ) → s ≡ (if check && due then 1 else 0) → s ≤ 1
@@ -34,11 +35,11 @@ dry_after rows due s is one =
     dry_by (is_given (codes "dry-run") rows) (is_given (codes "check") rows) due s is one
 
 -- an upgrade at a dry run leaves each file as it was
-pub dry_upgrade : (due : Bool) (Shows Says : List ℕ → Type 0) (words : UpgradeWords) (current : List ℕ)
-    (home : Option (List ℕ)) (local old new : StoreView) → words.options.dry_run ≡ true
-    → IsUpgraded due Shows Says words current home local old new → SameFiles old.file_at new.file_at
-dry_upgrade due Shows Says words current home local old new dry h =
-    dry_keeps Shows (delivery_by words current h.plan h.sources.target h.path h.lock) old new dry
+pub dry_upgrade : (due : Bool) (Shows Says : List ℕ → Type 0) (words : UpgradeWords) (run : Run)
+    → words.options.dry_run ≡ true → IsUpgraded due Shows Says words run
+    → SameFiles run.old.file_at run.new.file_at
+dry_upgrade due Shows Says words run dry h =
+    dry_keeps Shows (delivery_by words run.current h.plan h.sources.target h.path h.lock) run.old run.new dry
     h.ends.delivered.told
 
 nothing_written : (outputs : List Output) (old new : StoreView) → outputs ≡ [] → AreWritten outputs old new

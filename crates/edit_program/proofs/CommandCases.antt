@@ -1,5 +1,5 @@
 -- What a command comes to, for the matches that ask for it, and by the subcommand's name.
-use Rattle.std.proofs.Common.{ℕ, List, Option, inl, inr}
+use Rattle.std.proofs.Common.{ℕ, List, inl, inr}
 use Rattle.std.specs.Prelude.{◌⊎◌}
 use Rattle.clap.specs.Words.{Row}
 use Rattle.edit_program.specs.SetVersions.{IsCutShort}
@@ -8,16 +8,17 @@ use Rattle.edit_store.specs.Store.{SameFiles, StoreView}
 use Rattle.edit_program.specs.Upgrading.{IsBroken}
 use Rattle.edit_program.specs.declared.upgrade_run.words.UpgradeWords.{UpgradeWords}
 use Rattle.edit_program.specs.Commands.{HasBroken, HasStoppedSetting}
+use Rattle.edit_program.specs.Run.{Run}
 use Rattle.edit_program.specs.UpgradeAsked.{AskForUpgrade}
 use Rattle.edit_program.specs.VersionWords.{AskForVersions}
 
 -- an upgrade that broke off is one for what the matches ask
-pub broken_for : (rows : List Row) (Shows : List ℕ → Type 0) (current : List ℕ) (home : Option (List ℕ))
-    (local old new : StoreView) (asked : UpgradeWords) → AskForUpgrade rows asked
-    → SameFiles old.file_at new.file_at ⊎ IsBroken Shows asked current home local old new
-    → SameFiles old.file_at new.file_at ⊎ HasBroken rows Shows current home local old new
-broken_for rows Shows current home local old new asked asks (inl same) = inl same
-broken_for rows Shows current home local old new asked asks (inr broken) =
+pub broken_for : (rows : List Row) (Shows : List ℕ → Type 0) (run : Run) (asked : UpgradeWords)
+    → AskForUpgrade rows asked
+    → SameFiles run.old.file_at run.new.file_at ⊎ IsBroken Shows asked run
+    → SameFiles run.old.file_at run.new.file_at ⊎ HasBroken rows Shows run
+broken_for rows Shows run asked asks (inl same) = inl same
+broken_for rows Shows run asked asks (inr broken) =
     inr (record { asked = asked; asks = asks; broken = broken })
 
 -- and so is a setting of versions

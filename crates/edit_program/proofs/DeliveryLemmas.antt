@@ -1,5 +1,5 @@
 -- A delivery, from its steps.
-use Rattle.std.proofs.Common.{◌≡◌, ◌∙◌, ◌+◌, ◌≤◌, ℕ, suc, Bor, List, [], ◌∷◌, ◌++◌, Option, Some, Bool, true, false, ap, append-nil, arith, inl, inr, length, map, option_map, subst, sym, ⊎_elim, Vec, String, Global}
+use Rattle.std.proofs.Common.{◌≡◌, ◌∙◌, ◌+◌, ◌≤◌, ℕ, suc, Bor, List, [], ◌∷◌, ◌++◌, Option, Some, Bool, true, false, ap, append-nil, arith, inl, inr, length, map, option_map, refl, subst, sym, ⊎_elim, Vec, String, Global}
 use Rattle.std.proofs.Math.Nat.{eq-or-lt_of_le}
 use Rattle.std.specs.Prelude.{◌≢◌, ◌⊎◌, ◌||◌, ◌==◌, ℤ, pos, int_le, if◌then◌else◌, not, slice_get, string_bytes}
 use Rattle.std.specs.Io.KnownBytes.{Appends}
@@ -12,7 +12,6 @@ use Rattle.edit_base.specs.Errors.{IsMemory}
 use Rattle.edit_base.specs.declared.errors.DeviceCall.{DeviceCall}
 use Rattle.edit_base.specs.declared.errors.Error.{Error}
 use Rattle.edit_base.specs.declared.errors.Error.TheVariants.{Output as Unwritten}
-use Rattle.edit_metadata.specs.Metadata.{WorkspaceSaid}
 use Rattle.edit_metadata.specs.declared.input.Input.{Input}
 use Rattle.edit_report.specs.Applied.{AreWritten, HaveDistinctPaths, path_of}
 use Rattle.edit_report.specs.declared.output.Output.{Output}
@@ -21,19 +20,17 @@ use Rattle.edit_store.specs.Store.{RefusesCall, StoreView, raised}
 use Rattle.edit_upgrade.specs.UpdateCalls.{Call}
 use Rattle.edit_upgrade.specs.Inputs.{below}
 use Rattle.edit_upgrade.specs.declared.decision.options.Options.{Options}
-use Rattle.edit_upgrade.specs.declared.upgrade.UpgradePlan.{UpgradePlan}
 use Rattle.edit_upgrade.specs.declared.upgrade.Warning.{Warning}
 use Rattle.edit_program.specs.CallsFile.{calls_files, due_path, file_of}
-use Rattle.edit_program.specs.TellingCauses.{AreTold, HasBadWord, IsDeliveryCause}
+use Rattle.edit_program.specs.TellingCauses.{HasBadWord, IsDeliveryCause, LacksNames}
 use Rattle.edit_program.specs.Delivered.{AreBothWritten, IsBehind, IsDelivered, IsToldTo, written}
-use Rattle.edit_program.specs.Delivery.{Delivery, calls_against, calls_of, delivery_of}
+use Rattle.edit_program.specs.Delivery.{Delivery, calls_against}
 use Rattle.edit_lock.specs.Views.{packages_seen}
 use Rattle.edit_upgrade.specs.Views.{calls_seen}
 use Rattle.edit_lock.specs.declared.lock.Lock.{Lock}
 use Rattle.edit_program.specs.Said.{check, check_at, warning, warning_on, warnings_at}
 use Rattle.edit_program.specs.Shown.{diffs_if, messages_as}
 use Rattle.edit_program.specs.Tables.{tables}
-use Rattle.edit_program.specs.declared.upgrade_told.telling.Telling.{Telling}
 use Rattle.edit_program.proofs.PartLemmas.{made_of_part}
 
 -- one number more
@@ -64,26 +61,19 @@ said_of_own verbosity i warnings =
     (λ w other. ap (λ heard. if heard then warning (string_bytes w.text) else [])
     (and_right (not w.verbose || int_le (pos 1) verbosity) (w.input == i) other))
 
--- the calls are not known
-pub calls_cause : (p : UpgradePlan) (o : Options) (old new : StoreView) (e : Error)
-    → IsMemory e ⊎ HasBadWord p o e → IsDeliveryCause p o old new e
-calls_cause p o old new e (inl memory) = inl (inl memory)
-calls_cause p o old new e (inr word) = inr (inr (inr word))
+-- the calls are not known, and no file has changed
+pub calls_cause : (Shows : List ℕ → Type 0) (d : Delivery) (files : StoreView) (e : Error)
+    → IsMemory e ⊎ HasBadWord d.plan d.options e → IsDeliveryCause Shows d files files e
+calls_cause Shows d files e (inl memory) = inl (inl memory)
+calls_cause Shows d files e (inr word) = inr (inr (inl ((λ path. refl), inr word)))
 
--- what is printed was not taken, or memory ran out for it
-pub stream_cause : (p : UpgradePlan) (o : Options) (old new : StoreView) (e : Error)
-    → IsMemory e ⊎ (e ≡ Unwritten) → IsDeliveryCause p o old new e
-stream_cause p o old new e (inl memory) = inl (inl memory)
-stream_cause p o old new e (inr unwritten) = inr (inl unwritten)
-
--- what is said last was not said
-pub end_cause : (p : UpgradePlan) (o : Options) (old new : StoreView) (e : Error)
-    → IsMemory e ⊎ ((e ≡ Unwritten)
-    ⊎ ((map string_bytes p.missing.items ≢ []) × AreTold (map string_bytes p.missing.items) e))
-    → IsDeliveryCause p o old new e
-end_cause p o old new e (inl memory) = inl (inl memory)
-end_cause p o old new e (inr (inl unwritten)) = inr (inl unwritten)
-end_cause p o old new e (inr (inr told)) = inr (inr (inl (inr told)))
+-- the end of the output was not printed, or names are missing, once everything was written
+pub end_cause : (Shows : List ℕ → Type 0) (d : Delivery) (old new : StoreView) (e : Error)
+    → IsToldTo AreBothWritten Shows d old new → IsMemory e ⊎ ((e ≡ Unwritten) ⊎ LacksNames d e)
+    → IsDeliveryCause Shows d old new e
+end_cause Shows d old new e told (inl memory) = inl (inl memory)
+end_cause Shows d old new e told (inr (inl unwritten)) = inr (inl unwritten)
+end_cause Shows d old new e told (inr (inr lacks)) = inr (inr (inr (told, lacks)))
 
 -- what is to be written goes to paths of its own
 pub written_differ : (o : Options) (outputs : List Output) → HaveDistinctPaths outputs
@@ -129,23 +119,22 @@ told_calls lock offline due made calls of lent right are =
 
 -- what was printed and is not held back, and what is left of the files
 pub told_to : (Leaves : List Output → List Output → StoreView → StoreView → Type 0) (Shows : List ℕ → Type 0)
-    (p : UpgradePlan) (inputs : List Input) (w : Option WorkspaceSaid) (o : Options) (t : Telling)
-    (old new : StoreView) (calls : List Call) (outputs made file : List Output)
-    → calls ≡ calls_against (option_map (λ lock. packages_seen lock.now) t.lock) t.offline (calls_of p o w)
-    → Shows (tables t.presentation.format o.verbosity p.rows.items (length inputs)
-    ++ (messages_as t.presentation.format p inputs o calls
-    ++ diffs_if t.presentation.diff t.current.now inputs p.outputs.items))
-    → (o.locked ≡ true → p.outputs.items ≡ []) → outputs ≡ written o p.outputs.items → file ≡ made
-    → map file_of made ≡ calls_files (due_path o (option_map (λ path. path.now) t.update_calls)) calls
-    → Leaves outputs file old new → IsToldTo Leaves Shows (delivery_of p inputs w o t) old new
-told_to Leaves Shows p inputs w o t old new calls outputs made file of shows unlocked is same are leaves = record {
-  shows = subst (λ cs. Shows (tables t.presentation.format o.verbosity p.rows.items (length inputs)
-      ++ (messages_as t.presentation.format p inputs o cs
-      ++ diffs_if t.presentation.diff t.current.now inputs p.outputs.items))) of shows;
+    (d : Delivery) (old new : StoreView) (calls : List Call) (outputs made file : List Output)
+    → calls ≡ d.calls
+    → Shows (tables d.presentation.format d.options.verbosity d.plan.rows.items (length d.inputs)
+    ++ (messages_as d.presentation.format d.plan d.inputs d.options calls
+    ++ diffs_if d.presentation.diff d.current d.inputs d.plan.outputs.items))
+    → (d.options.locked ≡ true → d.plan.outputs.items ≡ [])
+    → outputs ≡ written d.options d.plan.outputs.items → file ≡ made
+    → map file_of made ≡ calls_files (due_path d.options d.calls_path) calls
+    → Leaves outputs file old new → IsToldTo Leaves Shows d old new
+told_to Leaves Shows d old new calls outputs made file of shows unlocked is same are leaves = record {
+  shows = subst (λ cs. Shows (tables d.presentation.format d.options.verbosity d.plan.rows.items (length d.inputs)
+      ++ (messages_as d.presentation.format d.plan d.inputs d.options cs
+      ++ diffs_if d.presentation.diff d.current d.inputs d.plan.outputs.items))) of shows;
   unlocked = unlocked;
   calls = file;
-  are = ap (map file_of) same ∙ are
-      ∙ ap (calls_files (due_path o (option_map (λ (path : Bor (List ℕ)). path.now) t.update_calls))) of;
+  are = ap (map file_of) same ∙ are ∙ ap (calls_files (due_path d.options d.calls_path)) of;
   leaves = subst (λ xs. Leaves xs file old new) is leaves;
 }
 

@@ -1,11 +1,12 @@
 -- What a subcommand comes to is what the words that name it come to.
-use Rattle.std.proofs.Common.{◌≡◌, ◌≤◌, ◌≢◌, ℕ, zero, suc, List, Option, Result, Ok, Err, arith, inl, inr, refl}
+use Rattle.std.proofs.Common.{◌≡◌, ◌≤◌, ◌≢◌, ℕ, zero, suc, List, Result, Ok, Err, arith, inl, inr, refl}
 use Rattle.std.specs.Prelude.{◌⊎◌, IfErr, IfOk, OnErr}
 use Rattle.clap.specs.Words.{Row, Text}
 use Rattle.edit_base.specs.Errors.{IsMemory}
 use Rattle.edit_steps.specs.declared.refusal.Refusal.{Refusal}
-use Rattle.edit_store.specs.Store.{SameFiles, StoreView}
+use Rattle.edit_store.specs.Store.{SameFiles}
 use Rattle.edit_program.specs.Commands.{IsAtFault, IsBrokenBy, IsCauseBy, IsDoneBy}
+use Rattle.edit_program.specs.Run.{Run}
 use Rattle.edit_program.specs.Runs.{AreAtFault, HasFound, HaveEntered, IsDone, IsEnded, IsRefused, IsRunCause}
 
 -- a fault of the subcommand is one of the words
@@ -18,17 +19,17 @@ command_fault words name rows (Err x) entered fault = tt
 
 -- a subcommand that ends with a status is a run that does
 pub command_ended : (words : List Text) (name : Text) (rows : List Row) (Shows Tells : List ℕ → Type 0)
-    (current : List ℕ) (home : Option (List ℕ)) (local old new : StoreView) (r : Result ℕ Refusal) (Q : Type 0)
+    (run : Run) (r : Result ℕ Refusal) (Q : Type 0)
     → HaveEntered words name rows → IfOk r (λ s. s ≤ 2)
-    → IfOk r (λ s. s ≡ 1 → Q → SameFiles old.file_at new.file_at)
-    → IfOk r (λ s. s ≢ 2 → Q → IsDoneBy name rows s Shows Tells current home local old new)
-    → IfOk r (λ s. s ≢ 2 → Q → IsEnded words s Shows Tells current home local old new)
-command_ended words name rows Shows Tells current home local old new (Ok s) Q entered small kept done =
+    → IfOk r (λ s. s ≡ 1 → Q → SameFiles run.old.file_at run.new.file_at)
+    → IfOk r (λ s. s ≢ 2 → Q → IsDoneBy name rows s Shows Tells run)
+    → IfOk r (λ s. s ≢ 2 → Q → IsEnded words s Shows Tells run)
+command_ended words name rows Shows Tells run (Ok s) Q entered small kept done =
     by s small kept done
   where
-    by : (s : ℕ) → s ≤ 2 → (s ≡ 1 → Q → SameFiles old.file_at new.file_at)
-        → (s ≢ 2 → Q → IsDoneBy name rows s Shows Tells current home local old new)
-        → s ≢ 2 → Q → IsEnded words s Shows Tells current home local old new
+    by : (s : ℕ) → s ≤ 2 → (s ≡ 1 → Q → SameFiles run.old.file_at run.new.file_at)
+        → (s ≢ 2 → Q → IsDoneBy name rows s Shows Tells run)
+        → s ≢ 2 → Q → IsEnded words s Shows Tells run
     by zero small kept done other q =
         inl (refl, inr (record { name = name; rows = rows; entered = entered; holds = done other q }))
     by (suc zero) small kept done other q = inr (
@@ -39,48 +40,47 @@ command_ended words name rows Shows Tells current home local old new (Ok s) Q en
       },
     )
     by (suc (suc n)) small kept done other q = absurd (other (omega (arith, small)))
-command_ended words name rows Shows Tells current home local old new (Err x) Q entered small kept done = tt
+command_ended words name rows Shows Tells run (Err x) Q entered small kept done = tt
 
 -- a subcommand that was refused is a run that was
 pub command_refused : (words : List Text) (name : Text) (rows : List Row) (Shows Tells : List ℕ → Type 0)
-    (current : List ℕ) (home : Option (List ℕ)) (local old new : StoreView) (r : Result ℕ Refusal) (Q : Type 0)
+    (run : Run) (r : Result ℕ Refusal) (Q : Type 0)
     → HaveEntered words name rows
-    → OnErr r (Q → SameFiles old.file_at new.file_at
-    ⊎ IsBrokenBy name rows Shows Tells current home local old new)
-    → OnErr r (Q → IsRefused words Shows Tells current home local old new)
-command_refused words name rows Shows Tells current home local old new (Ok s) Q entered refused = tt
-command_refused words name rows Shows Tells current home local old new (Err x) Q entered refused =
+    → OnErr r (Q → SameFiles run.old.file_at run.new.file_at
+    ⊎ IsBrokenBy name rows Shows Tells run)
+    → OnErr r (Q → IsRefused words Shows Tells run)
+command_refused words name rows Shows Tells run (Ok s) Q entered refused = tt
+command_refused words name rows Shows Tells run (Err x) Q entered refused =
     λ q. by (refused q)
   where
-    by : SameFiles old.file_at new.file_at ⊎ IsBrokenBy name rows Shows Tells current home local old new
-        → IsRefused words Shows Tells current home local old new
+    by : SameFiles run.old.file_at run.new.file_at ⊎ IsBrokenBy name rows Shows Tells run
+        → IsRefused words Shows Tells run
     by (inl same) = inl same
     by (inr broken) = inr (record { name = name; rows = rows; entered = entered; holds = broken })
 
 -- and so is why it was
-pub command_why : (words : List Text) (name : Text) (rows : List Row) (current : List ℕ)
-    (home : Option (List ℕ)) (local old new : StoreView) (r : Result ℕ Refusal) → HaveEntered words name rows
-    → IfErr r (λ x. IsMemory x.error ⊎ IsCauseBy name rows current home local old new x.error)
-    → IfErr r (λ x. IsRunCause words current home local old new x.error)
-command_why words name rows current home local old new (Ok s) entered why = tt
-command_why words name rows current home local old new (Err x) entered (inl memory) = inl memory
-command_why words name rows current home local old new (Err x) entered (inr cause) =
-    inr (inr (inr (record { name = name; rows = rows; entered = entered; holds = cause })))
+pub command_why : (words : List Text) (name : Text) (rows : List Row) (Shows : List ℕ → Type 0)
+    (run : Run) (r : Result ℕ Refusal)
+    → HaveEntered words name rows
+    → IfErr r (λ x. IsMemory x.error ⊎ IsCauseBy name rows Shows run x.error)
+    → IfErr r (λ x. IsRunCause words Shows run x.error)
+command_why words name rows Shows run (Ok s) entered why = tt
+command_why words name rows Shows run (Err x) entered (inl memory) = inl memory
+command_why words name rows Shows run (Err x) entered (inr cause) =
+    inr (inr (record { name = name; rows = rows; entered = entered; holds = cause }))
 
 -- a run that ends with 0 is done
-pub ended_done : (words : List Text) (s : ℕ) (Shows Tells : List ℕ → Type 0) (current : List ℕ)
-    (home : Option (List ℕ)) (local old new : StoreView)
-    → IsEnded words s Shows Tells current home local old new → s ≡ 0
-    → IsDone words Shows Tells current home local old new
-ended_done words s Shows Tells current home local old new (inl done) at = done.1
-ended_done words s Shows Tells current home local old new (inr found) at =
+pub ended_done : (words : List Text) (s : ℕ) (Shows Tells : List ℕ → Type 0) (run : Run)
+    → IsEnded words s Shows Tells run → s ≡ 0
+    → IsDone words Shows Tells run
+ended_done words s Shows Tells run (inl done) at = done.1
+ended_done words s Shows Tells run (inr found) at =
     let one : s ≡ 1 = found.0 in absurd (omega (arith, one, at))
 
 -- and one that ends with 1 found what is to be changed
-pub ended_found : (words : List Text) (s : ℕ) (Shows Tells : List ℕ → Type 0) (current : List ℕ)
-    (home : Option (List ℕ)) (local old new : StoreView)
-    → IsEnded words s Shows Tells current home local old new → s ≡ 1
-    → HasFound words Shows Tells current home local old new
-ended_found words s Shows Tells current home local old new (inl done) one =
+pub ended_found : (words : List Text) (s : ℕ) (Shows Tells : List ℕ → Type 0) (run : Run)
+    → IsEnded words s Shows Tells run → s ≡ 1
+    → HasFound words Shows Tells run
+ended_found words s Shows Tells run (inl done) one =
     let none : s ≡ 0 = done.0 in absurd (omega (arith, one, none))
-ended_found words s Shows Tells current home local old new (inr found) one = found.1
+ended_found words s Shows Tells run (inr found) one = found.1

@@ -15,7 +15,7 @@ use Rattle.edit_set_version.specs.Selections.{asked_of}
 use Rattle.edit_set_version.specs.declared.plan.SetVersionPlan.{SetVersionPlan}
 use Rattle.edit_steps.specs.Workspaces.{HaveOwnPaths}
 use Rattle.edit_steps.proofs.DistinctPaths.{none_differ, outputs_differ}
-use Rattle.edit_store.specs.Store.{StoreView}
+use Rattle.edit_store.specs.Store.{SameFiles, StoreView}
 use Rattle.edit_program.specs.SetVersionCauses.{IsSetVersionCause}
 use Rattle.edit_program.specs.Plans.{IsVersionPlan}
 use Rattle.edit_program.specs.Printed.{printed, shown}
@@ -50,20 +50,25 @@ planned_to Leaves Shows Tells words current old new w is plan read planned shows
   leaves = leaves;
 }
 
--- what is printed was not taken, or memory ran out for it
+-- what is printed was not taken, or memory ran out for it, before a file was written
 pub stream_cause : (words : SetVersionWords) (current : List ℕ) (old new : StoreView) (e : Error)
-    → IsMemory e ⊎ (e ≡ Unwritten) → IsSetVersionCause words current old new e
-stream_cause words current old new e (inl memory) = inl (inl (inl memory))
-stream_cause words current old new e (inr unwritten) = inr (inl unwritten)
+    → SameFiles old.file_at new.file_at → IsMemory e ⊎ (e ≡ Unwritten)
+    → IsSetVersionCause words current old new e
+stream_cause words current old new e same (inl memory) = inl (inl memory)
+stream_cause words current old new e same (inr unwritten) = inr (same, inr (inl unwritten))
 
 -- a plan that is not made
 pub plan_cause : (words : SetVersionWords) (current : List ℕ) (old new : StoreView) (w : WorkspaceSaid)
-    (is : List Input) (e : Error) → (old.tells ≡ true → IsRead words current old.file_at w is)
+    (is : List Input) (e : Error) → SameFiles old.file_at new.file_at
+    → (old.tells ≡ true → IsRead words current old.file_at w is)
     → IsCauseOf (target_of words.target) (asked_of words.selection) w is e
     → IsSetVersionCause words current old new e
-plan_cause words current old new w is e read cause = inr (inr (λ t. inr (record {
-  workspace = w;
-  inputs = is;
-  read = read t;
-  cause = cause;
-})))
+plan_cause words current old new w is e same read cause = inr (
+  same,
+  inr (inr (λ t. inr (record {
+    workspace = w;
+    inputs = is;
+    read = read t;
+    cause = cause;
+  }))),
+)

@@ -1,28 +1,24 @@
 -- The note on crates for which an index has no entry (own).
-use Rattle.std.specs.Prelude.{ℕ, ◌-◌, List, [], ◌∷◌, ◌++◌, Bool, false, ◌&&◌, ◌==◌, String, codes, decimal, if◌then◌else◌, is_none, length, nat_le, not, string_bytes, take}
-use Rattle.std.specs.List.{flat_map, join_by, list_any}
-use Rattle.std.specs.Str.{bytes_eq}
-use Rattle.std.specs.declared.alloc.Global.{Global}
+use Rattle.std.specs.Prelude.{ℕ, ◌-◌, List, [], ◌∷◌, ◌++◌, Bool, false, ◌&&◌, ◌==◌, codes, decimal, if◌then◌else◌, is_none, length, map, nat_le, not, string_bytes, take}
+use Rattle.std.specs.List.{flat_map, join_by}
 use Rattle.edit_report.specs.Messages.{message_text}
+use Rattle.edit_upgrade.specs.UpdateCalls.{is_among}
 use Rattle.edit_upgrade.specs.declared.decision.options.Options.{Options}
 use Rattle.edit_upgrade.specs.declared.upgrade.Look.{Look}
 use Rattle.edit_upgrade.specs.declared.upgrade.UpgradePlan.{UpgradePlan}
 
--- whether a name is among these (own)
-abbrev pub is_among : List (String Global) → List ℕ → Bool
-is_among names name = list_any (λ other. bytes_eq (string_bytes other) name) names
+-- whether the index has no entry for a crate whose name does not pass the test for an excluded one (own)
+abbrev pub is_absent : (List ℕ → Bool) → Look → Bool
+is_absent is_excluded look = is_none look.answer && not (is_excluded (string_bytes look.name))
 
--- whether the index has no entry for a crate that is not excluded (own)
-abbrev pub is_absent : List (String Global) → Look → Bool
-is_absent exclude look = is_none look.answer && not (is_among exclude (string_bytes look.name))
+-- the name of a crate, where the index has no entry for it and it is not excluded (own)
+abbrev pub absent_at : (List ℕ → Bool) → Look → List (List ℕ)
+absent_at is_excluded look = if is_absent is_excluded look then string_bytes look.name ∷ [] else []
 
--- the name of such a crate (own)
-abbrev pub absent_at : List (String Global) → Look → List (List ℕ)
-absent_at exclude look = if is_absent exclude look then string_bytes look.name ∷ [] else []
-
--- the names of such crates, in the order in which they were looked up (own)
-abbrev pub absent : List (String Global) → List Look → List (List ℕ)
-absent exclude looks = flat_map (absent_at exclude) looks
+-- the names of the crates that are not excluded and for which the index has no entry, in the order in which
+-- they were looked up (own)
+abbrev pub absent : (List ℕ → Bool) → List Look → List (List ℕ)
+absent is_excluded looks = flat_map (absent_at is_excluded) looks
 
 -- names as the note has them: at most five, and how many follow (own)
 abbrev pub listed : List (List ℕ) → List ℕ
@@ -49,4 +45,5 @@ names_note (name ∷ names) = message_text false (codes "note") (absent_text (na
 -- the note on a plan; offline there is none, since what fills the index says which entries it has not (own)
 abbrev pub absent_note : UpgradePlan → Options → Bool → List ℕ
 absent_note plan options offline =
-    if offline then [] else names_note (absent options.exclude.items plan.looks.items)
+    if offline then []
+    else names_note (absent (is_among (map string_bytes options.exclude.items)) plan.looks.items)

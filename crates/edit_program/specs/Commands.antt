@@ -5,52 +5,53 @@ use Rattle.edit_base.specs.declared.errors.Error.{Error}
 use Rattle.edit_program.specs.SetVersionCauses.{IsSetVersionCause}
 use Rattle.edit_program.specs.SetVersions.{AreVersionsSet, IsCutShort}
 use Rattle.edit_program.specs.declared.set_version_run.words.SetVersionWords.{SetVersionWords}
-use Rattle.edit_store.specs.Store.{StoreView}
+use Rattle.edit_store.specs.Store.{SameFiles, StoreView}
 use Rattle.edit_program.specs.UpgradeCauses.{IsLooksCause, IsUpgradeCause}
 use Rattle.edit_program.specs.Looking.{AreLooksShown}
 use Rattle.edit_program.specs.Upgrading.{IsBroken, IsUpgraded}
 use Rattle.edit_program.specs.declared.upgrade_run.words.UpgradeWords.{UpgradeWords}
 use Rattle.edit_program.specs.Presented.{status_after}
+use Rattle.edit_program.specs.Run.{Run}
 use Rattle.edit_program.specs.UpgradeAsked.{AskForUpgrade, HaveUpgradeFault}
 use Rattle.edit_program.specs.VersionWords.{AskForVersions, HaveVersionFault}
 
 -- the manifests that the matches name were upgraded, behind what is shown and said of the plan; the status is
 -- 1 where they ask to check that and the plan has an output
-pub record HasUpgraded (rows : List Row) (status : ℕ) (Shows Says : List ℕ → Type 0) (current : List ℕ)
-    (home : Option (List ℕ)) (local old new : StoreView) : Type 0 where
+pub record HasUpgraded (rows : List Row) (status : ℕ) (Shows Says : List ℕ → Type 0) (run : Run)
+    : Type 0 where
   pub asked : UpgradeWords
   pub asks : AskForUpgrade rows asked
   pub due : Bool
-  pub upgraded : IsUpgraded due Shows Says asked current home local old new
+  pub upgraded : IsUpgraded due Shows Says asked run
   pub ends : status ≡ status_after rows due
 
 -- the upgrade of the manifests that the matches name was refused, at a write or behind all of them
-pub record HasBroken (rows : List Row) (Shows : List ℕ → Type 0) (current : List ℕ) (home : Option (List ℕ))
-    (local old new : StoreView) : Type 0 where
+pub record HasBroken (rows : List Row) (Shows : List ℕ → Type 0) (run : Run) : Type 0 where
   pub asked : UpgradeWords
   pub asks : AskForUpgrade rows asked
-  pub broken : IsBroken Shows asked current home local old new
+  pub broken : IsBroken Shows asked run
 
--- the upgrade that the matches ask for was refused
-pub record HasUpgradeCause (rows : List Row) (current : List ℕ) (home : Option (List ℕ))
-    (local old new : StoreView) (e : Error) : Type 0 where
+-- why the upgrade that the matches ask for ended with an error
+pub record HasUpgradeCause (rows : List Row) (Shows : List ℕ → Type 0) (run : Run) (e : Error) : Type 0 where
   pub asked : UpgradeWords
   pub asks : AskForUpgrade rows asked
-  pub cause : IsUpgradeCause asked current home local old new e
+  pub cause : IsUpgradeCause Shows asked run e
 
--- the looks that the upgrade needs which the matches ask for were printed
+-- the lookups of the upgrade that the matches ask for were printed, and each file is as it was
 pub record HasLooked (rows : List Row) (Shows : List ℕ → Type 0) (current : List ℕ) (home : Option (List ℕ))
-    (old : StoreView) : Type 0 where
+    (old new : StoreView) : Type 0 where
   pub asked : UpgradeWords
   pub asks : AskForUpgrade rows asked
   pub looked : AreLooksShown Shows asked current home old.file_at
+  pub unchanged : SameFiles old.file_at new.file_at
 
--- they were refused
+-- why the lookups of the upgrade that the matches ask for were not printed; each file is as it was
 pub record HasLooksCause (rows : List Row) (current : List ℕ) (home : Option (List ℕ)) (old new : StoreView)
     (e : Error) : Type 0 where
   pub asked : UpgradeWords
   pub asks : AskForUpgrade rows asked
   pub cause : IsLooksCause asked current home old new e
+  pub unchanged : SameFiles old.file_at new.file_at
 
 -- the versions that the matches ask for were set, behind what is shown and told of them; the status is 1
 -- where they ask to check that and the plan has an output
@@ -69,7 +70,7 @@ pub record HasStoppedSetting (rows : List Row) (Shows Tells : List ℕ → Type 
   pub asks : AskForVersions rows asked
   pub stopped : IsCutShort Shows Tells asked current old new
 
--- the setting of the versions that the matches ask for was refused
+-- why the setting of the versions that the matches ask for ended with an error
 pub record HasSetVersionCause (rows : List Row) (current : List ℕ) (old new : StoreView) (e : Error)
     : Type 0 where
   pub asked : SetVersionWords
@@ -91,24 +92,21 @@ IsAtFault name rows =
     ⊎ ((name ≡ codes "set-version") × HaveVersionFault rows)))
 
 -- a subcommand has done what its matches ask for, with this status
-abbrev pub IsDoneBy : Text → List Row → ℕ → (List ℕ → Type 0) → (List ℕ → Type 0) → List ℕ → Option (List ℕ)
-    → StoreView → StoreView → StoreView → Type 0
-IsDoneBy name rows status Shows Tells current home local old new =
-    ((name ≡ codes "upgrade") × HasUpgraded rows status Shows Tells current home local old new)
-    ⊎ (((name ≡ codes "looks") × (status ≡ 0) × HasLooked rows Shows current home old)
-    ⊎ ((name ≡ codes "set-version") × HasSetVersions rows status Shows Tells current old new))
+abbrev pub IsDoneBy : Text → List Row → ℕ → (List ℕ → Type 0) → (List ℕ → Type 0) → Run → Type 0
+IsDoneBy name rows status Shows Tells run =
+    ((name ≡ codes "upgrade") × HasUpgraded rows status Shows Tells run)
+    ⊎ (((name ≡ codes "looks") × (status ≡ 0) × HasLooked rows Shows run.current run.home run.old run.new)
+    ⊎ ((name ≡ codes "set-version") × HasSetVersions rows status Shows Tells run.current run.old run.new))
 
 -- a subcommand was refused at one of its writes, or behind all of them
-abbrev pub IsBrokenBy : Text → List Row → (List ℕ → Type 0) → (List ℕ → Type 0) → List ℕ → Option (List ℕ)
-    → StoreView → StoreView → StoreView → Type 0
-IsBrokenBy name rows Shows Tells current home local old new =
-    ((name ≡ codes "upgrade") × HasBroken rows Shows current home local old new)
-    ⊎ ((name ≡ codes "set-version") × HasStoppedSetting rows Shows Tells current old new)
+abbrev pub IsBrokenBy : Text → List Row → (List ℕ → Type 0) → (List ℕ → Type 0) → Run → Type 0
+IsBrokenBy name rows Shows Tells run =
+    ((name ≡ codes "upgrade") × HasBroken rows Shows run)
+    ⊎ ((name ≡ codes "set-version") × HasStoppedSetting rows Shows Tells run.current run.old run.new)
 
--- why a subcommand is refused, but for want of memory
-abbrev pub IsCauseBy : Text → List Row → List ℕ → Option (List ℕ) → StoreView → StoreView → StoreView → Error
-    → Type 0
-IsCauseBy name rows current home local old new e =
-    ((name ≡ codes "upgrade") × HasUpgradeCause rows current home local old new e)
-    ⊎ (((name ≡ codes "looks") × HasLooksCause rows current home old new e)
-    ⊎ ((name ≡ codes "set-version") × HasSetVersionCause rows current old new e))
+-- why a subcommand ends with an error, but for want of memory, and what that leaves of the files
+abbrev pub IsCauseBy : Text → List Row → (List ℕ → Type 0) → Run → Error → Type 0
+IsCauseBy name rows Shows run e =
+    ((name ≡ codes "upgrade") × HasUpgradeCause rows Shows run e)
+    ⊎ (((name ≡ codes "looks") × HasLooksCause rows run.current run.home run.old run.new e)
+    ⊎ ((name ≡ codes "set-version") × HasSetVersionCause rows run.current run.old run.new e))

@@ -11,7 +11,8 @@ use Rattle.edit_shown.specs.declared.presentation.Presentation.{Presentation}
 use Rattle.edit_upgrade.specs.Asked.{asked_by}
 use Rattle.edit_upgrade.specs.UpdateCalls.{Call, update_calls}
 use Rattle.edit_upgrade.specs.declared.upgrade.UpgradePlan.{UpgradePlan}
-use Rattle.edit_program.specs.declared.upgrade_told.telling.Telling.{Telling}
+use Rattle.edit_metadata.specs.Workspaces.{workspace_said}
+use Rattle.edit_program.specs.declared.upgrade_told.task.DeliveryTask.{DeliveryTask}
 
 -- the calls of `cargo update`, where there is a workspace
 abbrev pub calls_of : UpgradePlan → Options → Option WorkspaceSaid → List Call
@@ -35,16 +36,16 @@ pub record Delivery : Type 0 where
   pub calls_path : Option (List ℕ)
   pub offline : Bool
 
--- the same, of a plan that is told so
-abbrev pub delivery_of : UpgradePlan → List Input → Option WorkspaceSaid → Options → Telling → Delivery
-delivery_of plan inputs workspace options telling = record {
-  plan = plan;
-  inputs = inputs;
-  options = options;
-  current = telling.current.now;
-  presentation = telling.presentation;
-  calls = calls_against (option_map (λ lock. packages_seen lock.now) telling.lock) telling.offline
-      (calls_of plan options workspace);
-  calls_path = option_map (λ path. path.now) telling.update_calls;
-  offline = telling.offline;
+-- what a task is to deliver
+abbrev pub delivery_of : DeliveryTask → Delivery
+delivery_of task = record {
+  plan = task.plan.now;
+  inputs = task.inputs.now;
+  options = task.options.now;
+  current = task.root.now;
+  presentation = task.presentation;
+  calls = calls_against (option_map (λ lock. packages_seen lock.now) task.lock) task.offline
+      (calls_of task.plan.now task.options.now (option_map (λ w. workspace_said w.now) task.workspace));
+  calls_path = option_map (λ path. path.now) task.update_calls;
+  offline = task.offline;
 }

@@ -3,6 +3,7 @@ pub mod Asked
 pub mod Commands
 pub mod Merged
 pub mod Presented
+pub mod Run
 pub mod Runs
 pub mod UpgradeAsked
 pub mod VersionWords

@@ -8,9 +8,10 @@ use Rattle.edit_base.specs.Errors.{IsMemory}
 use Rattle.edit_base.specs.declared.errors.Error.{Error}
 use Rattle.edit_base.specs.declared.errors.Error.TheVariants.{Merged, Output}
 use Rattle.edit_base.specs.declared.errors.details.MergedCommand.{MergedCommand}
-use Rattle.edit_store.specs.Store.{SameFiles, StoreView}
+use Rattle.edit_store.specs.Store.{SameFiles}
 use Rattle.edit_words.specs.CommandLine.{edit_app}
 use Rattle.edit_program.specs.Merged.{merged_of}
+use Rattle.edit_program.specs.Run.{Run}
 use Rattle.edit_program.specs.Commands.{IsAtFault, IsBrokenBy, IsCauseBy, IsDoneBy}
 
 -- the command line takes the words, and these are the matches of the subcommand that they name
@@ -53,46 +54,52 @@ abbrev pub AreAtFault : List (List ℕ) → Type 0
 AreAtFault words = IsAnswered words 2 ⊎ (NameNone words ⊎ Enter words IsAtFault)
 
 -- a run that is done: help or the version was shown, or the subcommand has done what it was asked for
-abbrev pub IsDone : List (List ℕ) → (List ℕ → Type 0) → (List ℕ → Type 0) → List ℕ → Option (List ℕ)
-    → StoreView → StoreView → StoreView → Type 0
-IsDone words Shows Tells current home local old new =
-    (IsAnswered words 0 × SameFiles old.file_at new.file_at)
-    ⊎ Enter words (λ name rows. IsDoneBy name rows 0 Shows Tells current home local old new)
+abbrev pub IsDone : List (List ℕ) → (List ℕ → Type 0) → (List ℕ → Type 0) → Run → Type 0
+IsDone words Shows Tells run =
+    (IsAnswered words 0 × SameFiles run.old.file_at run.new.file_at)
+    ⊎ Enter words (λ name rows. IsDoneBy name rows 0 Shows Tells run)
 
 -- a check found what is to be changed: no file changed, and the subcommand ends with status 1, since the
 -- words ask to check and its plan has an output
-pub record HasFound (words : List (List ℕ)) (Shows Tells : List ℕ → Type 0) (current : List ℕ)
-    (home : Option (List ℕ)) (local old new : StoreView) : Type 0 where
-  pub kept : SameFiles old.file_at new.file_at
-  pub found : Enter words (λ name rows. IsDoneBy name rows 1 Shows Tells current home local old new)
+pub record HasFound (words : List (List ℕ)) (Shows Tells : List ℕ → Type 0) (run : Run) : Type 0 where
+  pub kept : SameFiles run.old.file_at run.new.file_at
+  pub found : Enter words (λ name rows. IsDoneBy name rows 1 Shows Tells run)
 
 -- a run that ends with a status of its own: it is done, or a check found what is to be changed
-abbrev pub IsEnded : List (List ℕ) → ℕ → (List ℕ → Type 0) → (List ℕ → Type 0) → List ℕ → Option (List ℕ)
-    → StoreView → StoreView → StoreView → Type 0
-IsEnded words status Shows Tells current home local old new =
-    ((status ≡ 0) × IsDone words Shows Tells current home local old new)
-    ⊎ ((status ≡ 1) × HasFound words Shows Tells current home local old new)
+abbrev pub IsEnded : List (List ℕ) → ℕ → (List ℕ → Type 0) → (List ℕ → Type 0) → Run → Type 0
+IsEnded words status Shows Tells run =
+    ((status ≡ 0) × IsDone words Shows Tells run) ⊎ ((status ≡ 1) × HasFound words Shows Tells run)
 
 -- a run that was refused: each file is as it was, or the subcommand was refused at one of its writes or
 -- behind all of them
-abbrev pub IsRefused : List (List ℕ) → (List ℕ → Type 0) → (List ℕ → Type 0) → List ℕ → Option (List ℕ)
-    → StoreView → StoreView → StoreView → Type 0
-IsRefused words Shows Tells current home local old new =
-    SameFiles old.file_at new.file_at
-    ⊎ Enter words (λ name rows. IsBrokenBy name rows Shows Tells current home local old new)
+abbrev pub IsRefused : List (List ℕ) → (List ℕ → Type 0) → (List ℕ → Type 0) → Run → Type 0
+IsRefused words Shows Tells run =
+    SameFiles run.old.file_at run.new.file_at
+    ⊎ Enter words (λ name rows. IsBrokenBy name rows Shows Tells run)
 
--- the words name a command which cargo has by itself, and the refusal says so
+-- the arguments name a command which cargo has by itself, and the error says so
 pub record HasMergedCause (words : List (List ℕ)) (e : Error) : Type 0 where
   pub command : MergedCommand
   pub named : merged_of words ≡ Some command
   pub is : e ≡ Merged command
 
--- why a run is refused: memory ran out, help or the version was not written, cargo has the command by itself,
--- or the subcommand was refused
-abbrev pub IsRunCause : List (List ℕ) → List ℕ → Option (List ℕ) → StoreView → StoreView → StoreView → Error
-    → Type 0
-IsRunCause words current home local old new e =
+-- why a run ends with an error before a subcommand is entered: help or the version was not written, or cargo
+-- has the command by itself
+abbrev pub IsCauseAtOnce : List (List ℕ) → Error → Type 0
+IsCauseAtOnce words e = ((e ≡ Output) × IsAnswered words 0) ⊎ HasMergedCause words e
+
+-- why a run ends with an error, and what that leaves of the files: memory ran out; no subcommand is entered,
+-- and each file is as it was; or the subcommand has a cause
+abbrev pub IsRunCause : List (List ℕ) → (List ℕ → Type 0) → Run → Error → Type 0
+IsRunCause words Shows run e =
     IsMemory e
-    ⊎ (((e ≡ Output) × IsAnswered words 0)
-    ⊎ (HasMergedCause words e
-    ⊎ Enter words (λ name rows. IsCauseBy name rows current home local old new e)))
+    ⊎ ((SameFiles run.old.file_at run.new.file_at × IsCauseAtOnce words e)
+    ⊎ Enter words (λ name rows. IsCauseBy name rows Shows run e))
+
+-- a run ended with an error: why, and what standard error and the files had before it was printed
+pub record HasFailed (words : List (List ℕ)) (Shows : List ℕ → Type 0)
+    (Grows : Option (List ℕ) → List ℕ → Type 0) (run : Run) : Type 0 where
+  pub error : Error
+  pub cause : IsRunCause words Shows run error
+  pub printed : Option (List ℕ)
+  pub left : run.old.tells ≡ true → IsRefused words Shows (Grows printed) run

@@ -1,4 +1,4 @@
--- Why `set-version` is refused.
+-- Why `set-version` ends with an error, and what that leaves of the files.
 use Rattle.std.specs.Prelude.{◌≡◌, ◌⊎◌, ℕ, List, true}
 use Rattle.edit_base.specs.declared.errors.DeviceCall.TheVariants as call
 use Rattle.edit_base.specs.declared.errors.Error.{Error}
@@ -9,7 +9,7 @@ use Rattle.edit_set_version.specs.Bumps.{target_of}
 use Rattle.edit_set_version.specs.PlanRefused.{IsCauseOf}
 use Rattle.edit_set_version.specs.Selections.{asked_of}
 use Rattle.edit_steps.specs.Workspaces.{HasNoWorkspace}
-use Rattle.edit_store.specs.Store.{Files, RefusesCall, StoreView}
+use Rattle.edit_store.specs.Store.{Files, RefusesCall, SameFiles, StoreView}
 use Rattle.edit_program.specs.SetVersions.{IsRead}
 use Rattle.edit_program.specs.declared.set_version_run.words.SetVersionWords.{SetVersionWords}
 
@@ -25,12 +25,15 @@ abbrev pub IsWrong : SetVersionWords → List ℕ → Files → Error → Type 0
 IsWrong words current files e =
     HasNoWorkspace files current words.metadata_json.now e ⊎ HasNoPlan words current files e
 
--- memory ran out, or the device failed in a read or a write and the count of faults rose
-abbrev pub IsFailure : StoreView → StoreView → Error → Type 0
-IsFailure old new e = RefusesCall call.Read old new e ⊎ RefusesCall call.Write old new e
+-- why nothing is written: memory ran out, the device failed in a read and the count of faults rose, the stream
+-- did not take what is printed, or something is wrong with the files
+abbrev pub IsUnset : SetVersionWords → List ℕ → StoreView → StoreView → Error → Type 0
+IsUnset words current old new e =
+    RefusesCall call.Read old new e
+    ⊎ ((e ≡ Unwritten) ⊎ (old.tells ≡ true → IsWrong words current old.file_at e))
 
--- why `set-version` is refused: memory or the device failed, the stream did not take what is printed, or
--- something is wrong with the files
+-- why `set-version` ends with an error: memory or the device failed in a write, or nothing is written and each
+-- file is as it was
 abbrev pub IsSetVersionCause : SetVersionWords → List ℕ → StoreView → StoreView → Error → Type 0
 IsSetVersionCause words current old new e =
-    IsFailure old new e ⊎ ((e ≡ Unwritten) ⊎ (old.tells ≡ true → IsWrong words current old.file_at e))
+    RefusesCall call.Write old new e ⊎ (SameFiles old.file_at new.file_at × IsUnset words current old new e)

@@ -1,37 +1,47 @@
--- Why a plan is not delivered.
+-- Why a plan is not delivered, and what that leaves of the files.
 use Rattle.std.specs.Prelude.{◌≡◌, ◌≢◌, ◌⊎◌, ℕ, List, [], true, map, string_bytes}
 use Rattle.edit_base.specs.declared.errors.DeviceCall.TheVariants as call
 use Rattle.edit_base.specs.declared.errors.Error.{Error}
 use Rattle.edit_base.specs.declared.errors.Error.TheVariants.{DependenciesMissing, Locked, Output as Unwritten}
 use Rattle.edit_base.specs.declared.errors.MissingKind.TheVariants as kind
-use Rattle.edit_report.specs.declared.output.Output.{Output}
-use Rattle.edit_store.specs.Store.{RefusesCall, StoreView}
+use Rattle.edit_store.specs.Store.{RefusesCall, SameFiles, StoreView}
 use Rattle.edit_upgrade.specs.Asked.{asked_by, is_due}
 use Rattle.edit_upgrade.specs.Pins.{IsFirstRefused}
 use Rattle.edit_upgrade.specs.declared.decision.options.Options.{Options}
 use Rattle.edit_upgrade.specs.declared.upgrade.UpgradePlan.{UpgradePlan}
+use Rattle.edit_program.specs.Delivered.{AreBothWritten, IsToldTo}
+use Rattle.edit_program.specs.Delivery.{Delivery}
 
--- names are told that no entry has
+-- the error lists these names that no entry has
 abbrev pub AreTold : List (List ℕ) → Error → Type 0
 AreTold missing (DependenciesMissing told) =
     (told.kind ≡ kind.Dependency) × (map string_bytes told.names.items ≡ missing)
 AreTold missing other = ⊥
 
--- the manifests are locked, and there is something to write, or names are missing, and are told
-abbrev pub IsHeldBack : Options → List Output → List (List ℕ) → Error → Type 0
-IsHeldBack options outputs missing e =
-    ((e ≡ Locked) × (options.locked ≡ true) × (outputs ≢ [])) ⊎ ((missing ≢ []) × AreTold missing e)
-
--- calls are due, and a word is not read
+-- calls are due, and an argument is not read
 abbrev pub HasBadWord : UpgradePlan → Options → Error → Type 0
 HasBadWord plan options e = (is_due (asked_by plan options) ≡ true)
     × IsFirstRefused (map string_bytes options.package.items) e
 
+-- nothing of a plan may be written: the manifests are locked and it has outputs, or an argument is not read
+abbrev pub IsHeldBack : Delivery → Error → Type 0
+IsHeldBack d e =
+    ((e ≡ Locked) × (d.options.locked ≡ true) × (d.plan.outputs.items ≢ [])) ⊎ HasBadWord d.plan d.options e
+
+-- names are missing, and the error lists them
+abbrev pub LacksNames : Delivery → Error → Type 0
+LacksNames d e =
+    (map string_bytes d.plan.missing.items ≢ []) × AreTold (map string_bytes d.plan.missing.items) e
+
+-- a plan is not carried out: nothing of it may be written, and each file is as it was; or names are missing,
+-- which is an error once the plan was printed and all was written
+abbrev pub IsStopped : (List ℕ → Type 0) → Delivery → StoreView → StoreView → Error → Type 0
+IsStopped Shows d old new e =
+    (SameFiles old.file_at new.file_at × IsHeldBack d e)
+    ⊎ (IsToldTo AreBothWritten Shows d old new × LacksNames d e)
+
 -- why a plan is not delivered: memory or the device failed in a write, a stream did not take what is printed,
--- it is held back, or a word is not read
-abbrev pub IsDeliveryCause : UpgradePlan → Options → StoreView → StoreView → Error → Type 0
-IsDeliveryCause plan options old new e =
-    RefusesCall call.Write old new e
-    ⊎ ((e ≡ Unwritten)
-    ⊎ (IsHeldBack options plan.outputs.items (map string_bytes plan.missing.items) e
-    ⊎ HasBadWord plan options e))
+-- or the plan is not carried out
+abbrev pub IsDeliveryCause : (List ℕ → Type 0) → Delivery → StoreView → StoreView → Error → Type 0
+IsDeliveryCause Shows d old new e =
+    RefusesCall call.Write old new e ⊎ ((e ≡ Unwritten) ⊎ IsStopped Shows d old new e)

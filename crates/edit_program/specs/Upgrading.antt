@@ -16,6 +16,7 @@ use Rattle.edit_program.specs.declared.upgrade_run.words.UpgradeWords.{UpgradeWo
 use Rattle.edit_program.specs.Delivered.{IsCutShort, IsDelivered}
 use Rattle.edit_program.specs.Delivery.{Delivery, calls_against, calls_of}
 use Rattle.edit_program.specs.LockRead.{IsLockRead}
+use Rattle.edit_program.specs.Run.{Run}
 use Rattle.edit_program.specs.Said.{said}
 
 -- what the words name was read
@@ -80,13 +81,13 @@ pub record IsAnsweredWith (due : Bool) (Shows Says : List ℕ → Type 0) (old n
 -- the manifests that the words name were upgraded: each output of the plan that is to be written stands in
 -- its file, and behind them the calls in theirs, and no other file changed; the plan is shown, and what is
 -- said of it; the answer is whether it changes a manifest
-abbrev pub IsUpgraded : Bool → (List ℕ → Type 0) → (List ℕ → Type 0) → UpgradeWords → List ℕ
-    → Option (List ℕ) → StoreView → StoreView → StoreView → Type 0
-IsUpgraded due Shows Says words current home local old new =
-    IsPlannedTo (IsAnsweredWith due Shows Says old new) words current home local old.file_at
+abbrev pub IsUpgraded : Bool → (List ℕ → Type 0) → (List ℕ → Type 0) → UpgradeWords → Run → Type 0
+IsUpgraded due Shows Says words run =
+    IsPlannedTo (IsAnsweredWith due Shows Says run.old run.new) words run.current run.home run.index_files
+    run.old.file_at
 
--- an upgrade that was refused at a write, or behind one
-abbrev pub IsBroken : (List ℕ → Type 0) → UpgradeWords → List ℕ → Option (List ℕ) → StoreView → StoreView
-    → StoreView → Type 0
-IsBroken Shows words current home local old new =
-    IsPlannedTo (λ d. IsCutShort Shows d old new) words current home local old.file_at
+-- an upgrade ended with an error at a write, or behind one
+abbrev pub IsBroken : (List ℕ → Type 0) → UpgradeWords → Run → Type 0
+IsBroken Shows words run =
+    IsPlannedTo (λ d. IsCutShort Shows d run.old run.new) words run.current run.home run.index_files
+    run.old.file_at

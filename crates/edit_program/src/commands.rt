@@ -6,11 +6,13 @@ ghost use Rattle.edit_base.specs.Errors.{IsMemory};
 ghost use Rattle.edit_sources.specs.Configured.{given};
 ghost use Rattle.edit_store.specs.Store.{SameFiles};
 ghost use Rattle.edit_program.specs.Commands.{HasBroken, HasLooked, HasLooksCause, HasSetVersionCause, HasSetVersions, HasStoppedSetting, HasUpgradeCause, HasUpgraded, IsAtFault, IsBrokenBy, IsCauseBy, IsDoneBy};
+ghost use Rattle.edit_program.specs.Run.{run_at};
 ghost use Rattle.edit_program.specs.UpgradeAsked.{HaveUpgradeFault};
 ghost use Rattle.edit_program.specs.VersionWords.{HaveVersionFault};
 
 use crate::asked::upgrade_words;
 use crate::faults::refuse_words;
+use crate::place::Place;
 use crate::presented::status_after;
 use crate::set_version_run::set_version;
 use crate::upgrade_run::{looks, upgrade};
@@ -27,8 +29,7 @@ use std::io;
 fn upgrade_asked<S: Store, T: Store + Drop, O: io::Write, E: io::Write>(
     alloc: Global,
     matches: &ArgMatches<'_>,
-    current: &str,
-    cargo_home: Option<&str>,
+    place: &Place<'_>,
     files: &mut S,
     index_files: T,
     out: &mut O,
@@ -41,32 +42,25 @@ fn upgrade_asked<S: Store, T: Store + Drop, O: io::Write, E: io::Write>(
     ensures fault { IfOk result (λ s. s ≡ 2 → HaveUpgradeFault (rows_of (found_of matches.now))) }
     ensures done { IfOk result (λ s. s ≢ 2 → (S.view files.old).tells ≡ true
         → HasUpgraded (rows_of (found_of matches.now)) s (Appends (O.contents out.old) (O.contents out.new))
-        (Appends (E.contents err.old) (E.contents err.new)) current.now (given cargo_home.entry)
-        (T.view index_files) (S.view files.old) (S.view files.new)) }
+        (Appends (E.contents err.old) (E.contents err.new))
+        (run_at place.now.current.now (given place.now.cargo_home)
+        (T.view index_files) (S.view files.old) (S.view files.new))) }
     ensures refused { OnErr result ((S.view files.old).tells ≡ true
         → SameFiles (S.view files.old).file_at (S.view files.new).file_at
         ⊎ HasBroken (rows_of (found_of matches.now)) (Appends (O.contents out.old) (O.contents out.new))
-        current.now (given cargo_home.entry)
-        (T.view index_files) (S.view files.old) (S.view files.new)) }
+        (run_at place.now.current.now (given place.now.cargo_home)
+        (T.view index_files) (S.view files.old) (S.view files.new))) }
     ensures why { IfErr result (λ r. IsMemory r.error ⊎ HasUpgradeCause (rows_of (found_of matches.now))
-        current.now (given cargo_home.entry) (T.view index_files) (S.view files.old) (S.view files.new)
-        r.error) }
+        (Appends (O.contents out.old) (O.contents out.new))
+        (run_at place.now.current.now (given place.now.cargo_home)
+        (T.view index_files) (S.view files.old) (S.view files.new)) r.error) }
 {
     let words = match upgrade_words(alloc, matches) {
         Ok(words) => words,
         Err(WordsError::Memory) => return Err(Refusal::from(Error::Memory)),
         Err(WordsError::Fault(fault)) => return Ok(refuse_words(&fault, err)),
     };
-    let due = upgrade(
-        alloc,
-        &words,
-        current,
-        cargo_home,
-        files,
-        index_files,
-        out,
-        err,
-    )?;
+    let due = upgrade(alloc, &words, place, files, index_files, out, err)?;
     Ok(status_after(matches, due))
 }
 
@@ -87,7 +81,7 @@ fn looks_asked<S: Store, O: io::Write, E: io::Write>(
     ensures done { IfOk result (λ s. s ≢ 2 → (S.view files.old).tells ≡ true
         → (s ≡ 0) × HasLooked (rows_of (found_of matches.now))
         (Appends (O.contents out.old) (O.contents out.new)) current.now (given cargo_home.entry)
-        (S.view files.old)) }
+        (S.view files.old) (S.view files.new)) }
     ensures why { IfErr result (λ r. IsMemory r.error ⊎ HasLooksCause (rows_of (found_of matches.now))
         current.now (given cargo_home.entry) (S.view files.old) (S.view files.new) r.error) }
 {
@@ -140,10 +134,8 @@ fn versions_asked<S: Store, O: io::Write, E: io::Write>(
 /// What a subcommand and its matches come to.
 pub(crate) fn subcommand_asked<S: Store, T: Store + Drop, O: io::Write, E: io::Write>(
     alloc: Global,
-    name: &str,
-    matches: &ArgMatches<'_>,
-    current: &str,
-    cargo_home: Option<&str>,
+    subcommand: (&str, &ArgMatches<'_>),
+    place: &Place<'_>,
     files: &mut S,
     index_files: T,
     out: &mut O,
@@ -153,35 +145,35 @@ pub(crate) fn subcommand_asked<S: Store, T: Store + Drop, O: io::Write, E: io::W
     ensures answered { IfOk result (λ s. s ≡ 2 → files.new ≡ files.old) }
     ensures checked { IfOk result (λ s. s ≡ 1 → (S.view files.old).tells ≡ true
         → SameFiles (S.view files.old).file_at (S.view files.new).file_at) }
-    ensures fault { IfOk result (λ s. s ≡ 2 → IsAtFault name.now (rows_of (found_of matches.now))) }
+    ensures fault { IfOk result (λ s. s ≡ 2
+        → IsAtFault subcommand.entry.0.now (rows_of (found_of subcommand.entry.1.now))) }
     ensures done { IfOk result (λ s. s ≢ 2 → (S.view files.old).tells ≡ true
-        → IsDoneBy name.now (rows_of (found_of matches.now)) s
+        → IsDoneBy subcommand.entry.0.now (rows_of (found_of subcommand.entry.1.now)) s
         (Appends (O.contents out.old) (O.contents out.new))
-        (Appends (E.contents err.old) (E.contents err.new)) current.now (given cargo_home.entry)
-        (T.view index_files) (S.view files.old) (S.view files.new)) }
+        (Appends (E.contents err.old) (E.contents err.new))
+        (run_at place.now.current.now (given place.now.cargo_home)
+        (T.view index_files) (S.view files.old) (S.view files.new))) }
     ensures refused { OnErr result ((S.view files.old).tells ≡ true
         → SameFiles (S.view files.old).file_at (S.view files.new).file_at
-        ⊎ IsBrokenBy name.now (rows_of (found_of matches.now))
+        ⊎ IsBrokenBy subcommand.entry.0.now (rows_of (found_of subcommand.entry.1.now))
         (Appends (O.contents out.old) (O.contents out.new))
-        (Appends (E.contents err.old) (E.contents err.new)) current.now (given cargo_home.entry)
-        (T.view index_files) (S.view files.old) (S.view files.new)) }
-    ensures why { IfErr result (λ r. IsMemory r.error ⊎ IsCauseBy name.now (rows_of (found_of matches.now))
-        current.now (given cargo_home.entry) (T.view index_files) (S.view files.old) (S.view files.new)
-        r.error) }
+        (Appends (E.contents err.old) (E.contents err.new))
+        (run_at place.now.current.now (given place.now.cargo_home)
+        (T.view index_files) (S.view files.old) (S.view files.new))) }
+    ensures why { IfErr result (λ r. IsMemory r.error
+        ⊎ IsCauseBy subcommand.entry.0.now (rows_of (found_of subcommand.entry.1.now))
+        (Appends (O.contents out.old) (O.contents out.new))
+        (run_at place.now.current.now (given place.now.cargo_home)
+        (T.view index_files) (S.view files.old) (S.view files.new)) r.error) }
 {
+    let (name, matches) = subcommand;
     match name {
-        "upgrade" => upgrade_asked(
-            alloc,
-            matches,
-            current,
-            cargo_home,
-            files,
-            index_files,
-            out,
-            err,
-        ),
-        "looks" => looks_asked(alloc, matches, current, cargo_home, files, out, err),
-        "set-version" => versions_asked(alloc, matches, current, files, out, err),
+        "upgrade" => upgrade_asked(alloc, matches, place, files, index_files, out, err),
+        "looks" => {
+            let (current, home) = (place.current, place.cargo_home);
+            looks_asked(alloc, matches, current, home, files, out, err)
+        }
+        "set-version" => versions_asked(alloc, matches, place.current, files, out, err),
         _ => Ok(2),
     }
 }

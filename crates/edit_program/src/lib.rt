@@ -4,14 +4,15 @@
 mod asked;
 mod commands;
 mod faults;
-pub mod looks;
+mod looks;
 mod lookups;
 mod merged;
+mod place;
 mod presented;
 mod program;
-pub mod set_version_run;
-pub mod upgrade_run;
-pub mod upgrade_told;
+mod set_version_run;
+mod upgrade_run;
+mod upgrade_told;
 mod version_words;
 mod words_fault;
 

@@ -5,11 +5,13 @@ ghost use Rattle.edit_sources.specs.Configured.{given};
 ghost use Rattle.edit_base.specs.declared.errors.details.MergedCommand.{MergedCommand};
 ghost use Rattle.edit_words.specs.Filled.{filled};
 ghost use Rattle.edit_program.specs.Merged.{merged_of};
-ghost use Rattle.edit_program.specs.Runs.{AreAtFault, HasFound, IsDone, IsEnded, IsRefused, IsRunCause};
+ghost use Rattle.edit_program.specs.Run.{run_at};
+ghost use Rattle.edit_program.specs.Runs.{AreAtFault, HasFailed, HasFound, IsDone, IsEnded, IsRefused, IsRunCause};
 
 use crate::commands::subcommand_asked;
 use crate::faults::{refuse, shown};
 use crate::merged::merged_of;
+use crate::place::Place;
 use edit_base::Error;
 use edit_steps::{Refusal, RunResult};
 use edit_store::Store;
@@ -17,12 +19,11 @@ use edit_words::{command, filled_words};
 use std::alloc::Global;
 use std::io;
 
-/// What words with all their values come to: a status, or a refusal with its cause.
+/// The outcome of arguments with all their values: a status, or an error.
 fn answer<S: Store, T: Store + Drop, O: io::Write, E: io::Write>(
     alloc: Global,
     words: &[&str],
-    current: &str,
-    cargo_home: Option<&str>,
+    place: &Place<'_>,
     files: &mut S,
     index_files: T,
     out: &mut O,
@@ -35,14 +36,18 @@ fn answer<S: Store, T: Store + Drop, O: io::Write, E: io::Write>(
     ensures fault { IfOk result (λ s. s ≡ 2 → AreAtFault (map (λ w. w.now) words.now)) }
     ensures ended { IfOk result (λ s. s ≢ 2 → (S.view files.old).tells ≡ true
         → IsEnded (map (λ w. w.now) words.now) s (Appends (O.contents out.old) (O.contents out.new))
-        (Appends (E.contents err.old) (E.contents err.new)) current.now (given cargo_home.entry)
-        (T.view index_files) (S.view files.old) (S.view files.new)) }
+        (Appends (E.contents err.old) (E.contents err.new))
+        (run_at place.now.current.now (given place.now.cargo_home)
+        (T.view index_files) (S.view files.old) (S.view files.new))) }
     ensures refused { OnErr result ((S.view files.old).tells ≡ true
         → IsRefused (map (λ w. w.now) words.now) (Appends (O.contents out.old) (O.contents out.new))
-        (Appends (E.contents err.old) (E.contents err.new)) current.now (given cargo_home.entry)
-        (T.view index_files) (S.view files.old) (S.view files.new)) }
-    ensures why { IfErr result (λ r. IsRunCause (map (λ w. w.now) words.now) current.now
-        (given cargo_home.entry) (T.view index_files) (S.view files.old) (S.view files.new) r.error) }
+        (Appends (E.contents err.old) (E.contents err.new))
+        (run_at place.now.current.now (given place.now.cargo_home)
+        (T.view index_files) (S.view files.old) (S.view files.new))) }
+    ensures why { IfErr result (λ r. IsRunCause (map (λ w. w.now) words.now)
+        (Appends (O.contents out.old) (O.contents out.new))
+        (run_at place.now.current.now (given place.now.cargo_home)
+        (T.view index_files) (S.view files.old) (S.view files.new)) r.error) }
 {
     if let Some(command) = merged_of(words) {
         return Err(Refusal::from(Error::Merged(command)));
@@ -53,27 +58,18 @@ fn answer<S: Store, T: Store + Drop, O: io::Write, E: io::Write>(
         Err(error) => return shown(&error, out, err),
     };
     match matches.subcommand() {
-        Some((name, matches)) => subcommand_asked(
-            alloc,
-            name,
-            matches,
-            current,
-            cargo_home,
-            files,
-            index_files,
-            out,
-            err,
-        ),
+        Some((name, matches)) => {
+            subcommand_asked(alloc, (name, matches), place, files, index_files, out, err)
+        }
         None => Ok(2),
     }
 }
 
-/// The same of words as they were given.
+/// The outcome of arguments, in which options may lack their values.
 fn answer_given<S: Store, T: Store + Drop, O: io::Write, E: io::Write>(
     alloc: Global,
     words: &[&str],
-    current: &str,
-    cargo_home: Option<&str>,
+    place: &Place<'_>,
     files: &mut S,
     index_files: T,
     out: &mut O,
@@ -87,29 +83,24 @@ fn answer_given<S: Store, T: Store + Drop, O: io::Write, E: io::Write>(
     ensures fault { IfOk result (λ s. s ≡ 2 → AreAtFault (filled (map (λ w. w.now) words.now))) }
     ensures ended { IfOk result (λ s. s ≢ 2 → (S.view files.old).tells ≡ true
         → IsEnded (filled (map (λ w. w.now) words.now)) s (Appends (O.contents out.old) (O.contents out.new))
-        (Appends (E.contents err.old) (E.contents err.new)) current.now (given cargo_home.entry)
-        (T.view index_files) (S.view files.old) (S.view files.new)) }
+        (Appends (E.contents err.old) (E.contents err.new))
+        (run_at place.now.current.now (given place.now.cargo_home)
+        (T.view index_files) (S.view files.old) (S.view files.new))) }
     ensures refused { OnErr result ((S.view files.old).tells ≡ true
         → IsRefused (filled (map (λ w. w.now) words.now)) (Appends (O.contents out.old) (O.contents out.new))
-        (Appends (E.contents err.old) (E.contents err.new)) current.now (given cargo_home.entry)
-        (T.view index_files) (S.view files.old) (S.view files.new)) }
-    ensures why { IfErr result (λ r. IsRunCause (filled (map (λ w. w.now) words.now)) current.now
-        (given cargo_home.entry) (T.view index_files) (S.view files.old) (S.view files.new) r.error) }
+        (Appends (E.contents err.old) (E.contents err.new))
+        (run_at place.now.current.now (given place.now.cargo_home)
+        (T.view index_files) (S.view files.old) (S.view files.new))) }
+    ensures why { IfErr result (λ r. IsRunCause (filled (map (λ w. w.now) words.now))
+        (Appends (O.contents out.old) (O.contents out.new))
+        (run_at place.now.current.now (given place.now.cargo_home)
+        (T.view index_files) (S.view files.old) (S.view files.new)) r.error) }
 {
     let words = filled_words(alloc, words)?;
-    answer(
-        alloc,
-        words.as_slice(),
-        current,
-        cargo_home,
-        files,
-        index_files,
-        out,
-        err,
-    )
+    answer(alloc, words.as_slice(), place, files, index_files, out, err)
 }
 
-/// Runs the words, which begin with the subcommand, and answers the status: 0 done; 1 a refusal, whose text
+/// Runs the arguments, which begin with the subcommand, and answers the status: 0 done; 1 an error, whose text
 /// is printed on `err` behind `Error: `, with its place in a second line where it is known (of `add` and
 /// `rm`, whatever follows, that cargo has them by itself), or, with `--check`, that something would change;
 /// 2 a fault of the command line, also an empty path. An option that may stand without its value then says
@@ -135,27 +126,25 @@ pub fn run<S: Store, T: Store + Drop, O: io::Write, E: io::Write>(
     ensures fault { result ≡ 2 → AreAtFault (filled (map (λ w. w.now) words.now)) }
     ensures done { result ≡ 0 → (S.view files.old).tells ≡ true
         → IsDone (filled (map (λ w. w.now) words.now)) (Appends (O.contents out.old) (O.contents out.new))
-        (Appends (E.contents err.old) (E.contents err.new)) current.now (given cargo_home.entry)
-        (T.view index_files) (S.view files.old) (S.view files.new) }
-    // a check found what is to be changed, or (`told` is what `err` holds before the refusal is printed)
-    ensures refused { result ≡ 1 → (S.view files.old).tells ≡ true
+        (Appends (E.contents err.old) (E.contents err.new))
+        (run_at current.now (given cargo_home.entry)
+        (T.view index_files) (S.view files.old) (S.view files.new)) }
+    // a check found what is to be changed, or there is an error, with its cause
+    ensures failed { result ≡ 1 → ((S.view files.old).tells ≡ true
         → HasFound (filled (map (λ w. w.now) words.now)) (Appends (O.contents out.old) (O.contents out.new))
-        (Appends (E.contents err.old) (E.contents err.new)) current.now (given cargo_home.entry)
-        (T.view index_files) (S.view files.old) (S.view files.new)
-        ⊎ ((told : _) × IsRefused (filled (map (λ w. w.now) words.now))
-        (Appends (O.contents out.old) (O.contents out.new)) (Appends (E.contents err.old) told)
-        current.now (given cargo_home.entry) (T.view index_files) (S.view files.old) (S.view files.new)) }
+        (Appends (E.contents err.old) (E.contents err.new))
+        (run_at current.now (given cargo_home.entry)
+        (T.view index_files) (S.view files.old) (S.view files.new)))
+        ⊎ HasFailed (filled (map (λ w. w.now) words.now))
+        (Appends (O.contents out.old) (O.contents out.new)) (Appends (E.contents err.old))
+        (run_at current.now (given cargo_home.entry)
+        (T.view index_files) (S.view files.old) (S.view files.new)) }
 {
-    match answer_given(
-        alloc,
-        words,
+    let place = Place {
         current,
         cargo_home,
-        files,
-        index_files,
-        out,
-        err,
-    ) {
+    };
+    match answer_given(alloc, words, &place, files, index_files, out, err) {
         Ok(status) => status,
         Err(refusal) => refuse(alloc, refusal, err),
     }

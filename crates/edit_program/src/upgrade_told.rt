@@ -11,8 +11,8 @@ mod notes;
 mod reports;
 mod rows;
 mod shown;
-mod telling;
+mod task;
 mod warnings;
 
 pub use delivery::deliver;
-pub use telling::Telling;
+pub use task::DeliveryTask;

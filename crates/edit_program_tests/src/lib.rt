@@ -1,5 +1,5 @@
-//! Tests of the program, by `run` of `edit_program`, where its files, an index or its streams fail, and of
-//! the looks that a plan needs. What the built program can show stands in tools/checks/rows.
+//! Tests of the program, by `run` of `edit_program`: its statuses, and runs in which files, an index or streams
+//! fail. What the built program can show stands in tests/cases.
 //!
 //! They stand apart from those of the libraries, which need not wait until the program is proved.
 #![tactic(auto)]
@@ -7,8 +7,8 @@
 #[cfg(test)]
 mod faults;
 #[cfg(test)]
-mod looks;
-#[cfg(test)]
 mod program;
 #[cfg(test)]
 mod rows;
+#[cfg(test)]
+mod status;

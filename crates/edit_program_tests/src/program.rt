@@ -1,5 +1,5 @@
 //! The program where a call of the files fails, or where standard output has no room. Its other rows stand in
-//! tools/checks/rows.
+//! tests/cases.
 use crate::rows::{ROOM, faultless, field, kept, must, ran, same};
 use edit_store::{FaultStore, MemoryStore, Store};
 use std::alloc::Global;

@@ -1,29 +1,31 @@
 -- Edits of members one after the other, where they stop, and what an entry becomes.
 use Rattle.std.proofs.Common.{◌≡◌, ℕ, ◌+◌, ◌<◌, suc, Bool, true, false, ◌&&◌, List, [], ◌∷◌, ◌++◌, Option, Some, None, length, map, get_or, take, drop, drop-cons, refl, sym, ap, ◌∙◌, subst, append_assoc, append-nil, ◌⊎◌, inl, inr}
 use Rattle.std.specs.List.{cons_option, filter_map}
-use Rattle.std.specs.Prelude.{is_some, option_map}
+use Rattle.std.specs.Prelude.{is_some, option_map, MatchBool}
 use Rattle.std.proofs.lemmas.List.{map-append, take-append-drop, take_more}
 use Rattle.std.proofs.lemmas.List.Elements.{filter_map-append}
 use Rattle.edit_base.specs.Errors.{IsMemory}
 use Rattle.edit_base.specs.declared.errors.Error.{Error}
 use Rattle.edit_base.specs.declared.errors.Error.TheVariants.{EditRefused}
-use Rattle.edit_tree.specs.Assertions.{Place}
-use Rattle.edit_tree.specs.EditBytes.{is_one_statement}
+use Rattle.edit_tree.specs.Assertions.{Place, at, key}
+use Rattle.edit_tree.specs.EditBytes.{is_one_statement, replaced_text}
 use Rattle.edit_document.specs.ItemViews.{document_of, place_of}
 use Rattle.edit_document.specs.declared.item.Item.{Item}
-use Rattle.edit_tree.specs.NewItems.{IsEntry}
+use Rattle.edit_tree.specs.NewItems.{IsEntry, NewItem}
 use Rattle.edit_document.specs.NewItemViews.{value_seen}
 use Rattle.edit_document.specs.declared.new_item.NewValue.{NewValue as WrittenValue}
 use Rattle.edit_tree.specs.Shown.{Shown, ShowsTree, tree_of}
 use Rattle.edit_tree.specs.Supported.{IsManifest}
-use Rattle.edit_tree.specs.Tree.{View, view_at}
+use Rattle.edit_tree.specs.Tree.{View, is_value_at, view_at}
+use Rattle.edit_tree.specs.Meant.{Tree, HasSet, HasReplaced, Inserted, Removed}
+use Rattle.edit_tree.proofs.EditedDocuments.{inserted_along, removed_along, replaced_along}
 use Rattle.edit_record.specs.EndViews.{end_seen, ends_seen}
 use Rattle.edit_record.specs.EntryRecords.{EntryRecord, Origin, from_registry, from_path, from_git, from_workspace}
-use Rattle.edit_record.specs.EntryUpdates.{Change, End, changed_by, changes, ends, is_slight, removal_of, removes, replaced_by, update_of}
+use Rattle.edit_record.specs.EntryUpdates.{Change, End, changed_by, changes, ends, is_slight, removal_of, removes, replaced_by, update_of, writes}
 use Rattle.edit_record.specs.NewEntries.{is_short, item_by, item_of}
 use Rattle.edit_record.specs.ReadEntries.{below}
 use Rattle.edit_record.specs.RecordViews.{shown_at}
-use Rattle.edit_record.specs.UpdatedTexts.{ChangeFails, Changed, OneFails, changed_text, update_in}
+use Rattle.edit_record.specs.UpdatedTexts.{ChangeFails, Changed, HasChanged, IsSame, OneFails, ReadsChanged, ReadsReplaced, changed_text, is_there, update_in}
 use Rattle.edit_record.specs.declared.dependency.ends.End.{End as WrittenEnd}
 use Rattle.edit_syntax.specs.Grammar.{Text}
 
@@ -34,15 +36,64 @@ pub then_others : (entry : Place) (cs ds : List Change) (old mid new : List ℕ)
     → Changed entry cs old mid → Changed entry ds mid new → Changed entry (cs ++ ds) old new
 then_others entry [] ds old mid new same rest = subst (λ b. Changed entry ds b new) same rest
 then_others entry (c ∷ cs) ds old mid new h rest =
-    (h.0, h.1, then_others entry cs ds (changed_text entry c h.0) mid new h.2 rest)
+    (h.0, h.1, h.2, then_others entry cs ds (changed_text entry c h.0) mid new h.3 rest)
 
 -- one edit more, whatever form the text before it has
 one_more : (entry : Place) (cs : List Change) (c : Change) (old mid new : List ℕ)
     → Changed entry cs old mid → ((form : Text) × IsManifest mid form)
     → ((form : Text) → IsManifest mid form → new ≡ changed_text entry c form)
+    → ((form : Text) → IsManifest mid form → ReadsChanged entry c form)
     → Changed entry (cs ++ c ∷ []) old new
-one_more entry cs c old mid new h is by =
-    then_others entry cs (c ∷ []) old mid new h (is.0, is.1, by is.0 is.1)
+one_more entry cs c old mid new h is by tree =
+    then_others entry cs (c ∷ []) old mid new h (is.0, is.1, tree is.0 is.1, by is.0 is.1)
+
+-- ---- trees
+
+-- what two documents show after an edit, their forms show
+changed_along : (entry : Place) (c : Change) (form : Text) (s t u w : Tree) → ((q : Place) → s q ≡ t q)
+    → ((q : Place) → u q ≡ w q) → HasChanged entry c form s u → HasChanged entry c form t w
+changed_along entry (writes name v) form s t u w old new h =
+    go (is_value_at form (at entry (key name))) (is_there form (at entry (key name))) h
+  where
+    go : (a b : Bool)
+        → MatchBool a (HasSet (at entry (key name)) v s u)
+        (MatchBool b (IsSame s u) (Inserted entry name v s u))
+        → MatchBool a (HasSet (at entry (key name)) v t w)
+        (MatchBool b (IsSame t w) (Inserted entry name v t w))
+    go true b g = record {
+      there = λ q. sym (new (at entry (key name) ++ q)) ∙ g.there q;
+      elsewhere = λ q out. sym (new q) ∙ g.elsewhere q out ∙ old q;
+    }
+    go false true g = λ q. sym (new q) ∙ g q ∙ old q
+    go false false g = inserted_along entry name v s t u w old new g
+changed_along entry (removes name) form s t u w old new h = go (is_there form (at entry (key name))) h
+  where
+    go : (b : Bool)
+        → MatchBool b (Removed form (at entry (key name)) s u) (IsSame s u)
+        → MatchBool b (Removed form (at entry (key name)) t w) (IsSame t w)
+    go true g = removed_along form (at entry (key name)) s t u w old new g
+    go false g = λ q. sym (new q) ∙ g q ∙ old q
+
+-- a document after an edit
+pub reads_changed : (entry : Place) (c : Change) (form after : Text) (old new : Shown) → ShowsTree old form
+    → IsManifest new.bytes after → ShowsTree new after → new.bytes ≡ changed_text entry c form
+    → HasChanged entry c form (tree_of old) (tree_of new) → ReadsChanged entry c form
+reads_changed entry c form after old new was again is e h = record {
+  after = after;
+  reads = subst (λ (b : List ℕ). IsManifest b after) e again;
+  shows = changed_along entry c form (tree_of old) (view_at form) (tree_of new) (view_at after) was is h;
+}
+
+-- a document with another entry
+pub reads_replaced : (entry : Place) (item : NewItem) (form after : Text) (old new : Shown)
+    → ShowsTree old form → IsManifest new.bytes after → ShowsTree new after
+    → new.bytes ≡ replaced_text entry item form
+    → HasReplaced entry item (tree_of old) (tree_of new) → ReadsReplaced entry item form
+reads_replaced entry item form after old new was again is e h = record {
+  after = after;
+  reads = subst (λ (b : List ℕ). IsManifest b after) e again;
+  shows = replaced_along entry item (tree_of old) (view_at form) (tree_of new) (view_at after) was is h;
+}
 
 -- ---- refusals
 
@@ -123,12 +174,13 @@ module _ (f : End → Option Change) (entry : Place) (xs : List WrittenEnd) (i :
       → Changed entry (filter_map f (ends_seen (take i xs))) old mid
       → ((form : Text) × IsManifest mid form)
       → ((form : Text) → IsManifest mid form → new ≡ changed_text entry c form)
+      → ((form : Text) → IsManifest mid form → ReadsChanged entry c form)
       → Changed entry (filter_map f (ends_seen (take (i + 1) xs))) old new
-  one_made c old mid new is h reads by =
+  one_made c old mid new is h reads by tree =
       let same = given
       ∙ ap (λ (o : Option Change). filter_map f (ends_seen (take i xs)) ++ cons_option o []) is in
       subst (λ cs. Changed entry cs old new) (sym same)
-      (one_more entry (filter_map f (ends_seen (take i xs))) c old mid new h reads by)
+      (one_more entry (filter_map f (ends_seen (take i xs))) c old mid new h reads by tree)
 
   -- an end that asks for one, which was refused
   pub one_refused : (c : Change) (old mid : List ℕ) (e : Error) → f (end_seen x) ≡ Some c

@@ -5,8 +5,9 @@ use Rattle.std.specs.Prelude.{Contains}
 use Rattle.std.specs.List.{filter}
 use Rattle.edit_base.specs.Errors.{IsMemory}
 use Rattle.edit_base.specs.declared.errors.Error.{Error}
+use Rattle.edit_base.specs.declared.errors.Error.TheVariants.{NoVersionPlace}
 use Rattle.edit_manifest.specs.Tables.{Tree}
-use Rattle.edit_manifest.specs.Versions.{package_version}
+use Rattle.edit_manifest.specs.Versions.{IsNoValue, package_version}
 use Rattle.edit_manifest.specs.declared.manifest.Manifest.{Manifest}
 use Rattle.edit_metadata.specs.declared.input.Input.{Input}
 use Rattle.edit_syntax.specs.Grammar.{Text}
@@ -17,8 +18,8 @@ use Rattle.edit_tree.proofs.Shallow.{one_form}
 use Rattle.edit_set_version.specs.Crates.{IsReadOf}
 use Rattle.edit_set_version.specs.Followers.{IsUnfollowed, fixed, memory}
 use Rattle.edit_set_version.specs.Follows.{AllRise}
-use Rattle.edit_set_version.specs.PlanCauses.{requirement}
-use Rattle.edit_set_version.specs.PlanRefused.{HasBadInputBy, IsInputClearBy, StandsAgainstInput}
+use Rattle.edit_set_version.specs.PlanCauses.{literal as of_literal, requirement}
+use Rattle.edit_set_version.specs.PlanRefused.{HasBadInputBy, HasLiteral, IsInputClearBy, StandsAgainstInput}
 use Rattle.edit_set_version.specs.Projects.{path_of}
 use Rattle.edit_set_version.specs.SetVersioned.{Bump, followings, writes_own}
 
@@ -35,6 +36,37 @@ unfollowed_stands bs input m e read (fixed f among refused) = inr (record {
     fixed = refused;
   });
 })
+
+-- a manifest that was read has a literal where a bumped version is to be written into it
+pub has_literal : (bs : List Bump) (input : Input) (m : Manifest) → IsReadOf input m
+    → (filter (writes_own (path_of input)) bs ≢ [] → (form : Text) → IsManifest m.document.bytes form
+    → is_value_at form package_version ≡ true) → HasLiteral bs input
+has_literal bs input m read literal = record {
+  form = read.form;
+  manifest = read.manifest;
+  literal = λ some. literal some read.form
+      (subst (λ (bytes : List ℕ). IsManifest bytes read.form) (sym read.bytes) read.manifest);
+}
+
+-- a bumped version that is to be written into a manifest where no value stands is a cause
+pub unvalued_stands : (bs : List Bump) (input : Input) (m : Manifest) (e : Error) → IsReadOf input m
+    → IsMemory e ⊎ ((e ≡ NoVersionPlace) × (filter (writes_own (path_of input)) bs ≢ [])
+    × IsNoValue m.document package_version)
+    → IsMemory e ⊎ ((e ≡ NoVersionPlace) × StandsAgainstInput bs input e)
+unvalued_stands bs input m e read (inl none) = inl none
+unvalued_stands bs input m e read (inr why) = inr (
+  why.0,
+  record {
+    form = read.form;
+    manifest = read.manifest;
+    against = of_literal (record {
+      written = why.1;
+      no_value = why.2 read.form
+          (subst (λ (bytes : List ℕ). IsManifest bytes read.form) (sym read.bytes) read.manifest);
+      told = why.0;
+    });
+  },
+)
 
 -- nothing does where each is written
 pub written_clear : (bs : List Bump) (input : Input) (m : Manifest) → IsReadOf input m

@@ -27,7 +27,7 @@ use Rattle.edit_set_version.specs.Followers.{IsUnfollowed, fixed, memory}
 use Rattle.edit_set_version.specs.Follows.{AllRise, AreVersions, Follow, IsLeftBy}
 use Rattle.edit_set_version.specs.PlanCauses.{currents, requirement}
 use Rattle.edit_set_version.specs.PlanLines.{Named, lines_of, manifests, shared_lines}
-use Rattle.edit_set_version.specs.PlanRefused.{HasBadInput, HasBadInputBy, IsCauseOf, IsInputClear, IsInputClearBy}
+use Rattle.edit_set_version.specs.PlanRefused.{HasBadInput, HasBadInputBy, HasVersions, IsBehindLiterals, IsCauseOf, IsInputClear, IsInputClearBy, unknown}
 use Rattle.edit_set_version.specs.PlanRefused.IsCauseOf.{manifest as of_manifest, memory as of_memory}
 use Rattle.edit_set_version.specs.Planned.{AreOutputs, HasFollowed, HasOutputsBy, HasSetOutputs, bytes_after, changed, outputs_at, unchanged}
 use Rattle.edit_set_version.specs.Projects.{IsMemberOf, IsProject, IsTreeAt, path_of}
@@ -179,8 +179,6 @@ tells_shared t a w is p project = by (workspace_next t a p) refl
     by None e = tt
     by (Some v) e = (p.tree, project.tree, current (workspace_current a p) refl v e)
 
--- ---- refusals
-
 -- a requirement that cannot follow stands in an input
 pub bad_input : (t : Target) (a : Asked) (w : WorkspaceSaid) (is : List Input) (p : Project) (e : Error)
     → IsProject w is p → HasUnfollowed (bumps t a p) (manifests p) e → IsMemory e ⊎ HasBadInput t a is p e
@@ -210,8 +208,6 @@ bad_input t a w is p e project has = by has.unfollowed
         });
       };
     })
-
--- ---- what stands after a plan
 
 -- what stands after a plan is a manifest of which this holds
 record StandsAfter (old : List ℕ) (outputs : List Output) (Holds : Tree → Type 0) : Type 0 where
@@ -249,8 +245,6 @@ has_followed t a outputs p input versions clear set =
     (λ tree left. follow t a p path (view_at set.form) tree versions rise left) set.are in
     record { form = after.form; manifest = after.manifest; follow = after.holds }
 
--- ---- from the steps to the plan
-
 -- what follows where a call succeeds
 pub where_ok : {T E : Type 0} (r : Result T E) (P : T → Type 0) (X : Type 0) (Q : T → Type 0)
     → ((x : T) → P x → X → Q x) → IfOk r P → OnOk r X → IfOk r Q
@@ -284,17 +278,21 @@ all_followed t a is p outputs versions set clear =
     λ k d within. has_followed t a outputs p (slice_index_or is k d) versions (clear k d within)
     (set k d within)
 
--- a refusal of the outputs or the lines has its cause
+-- an error of the lines or the outputs has its cause
 pub cause_given : (t : Target) (a : Asked) (w : WorkspaceSaid) (is : List Input) (p : Project)
-    (bs : List Bump) (e : Error) → IsProject w is p → bs ≡ bumps t a p
-    → IsMemory e ⊎ (HasUnfollowed bs (manifests p) e ⊎ HasBadInputBy bs is e) → IsCauseOf t a w is e
-cause_given t a w is p bs e project same (inl none) = of_memory none
-cause_given t a w is p bs e project same (inr (inl has)) =
+    (bs : List Bump) (e : Error) → unknown a w ≡ [] → IsProject w is p → HasVersions t a p
+    → bs ≡ bumps t a p
+    → IsMemory e ⊎ (IsBehindLiterals bs is e × (HasUnfollowed bs (manifests p) e ⊎ HasBadInputBy bs is e))
+    → IsCauseOf t a w is e
+cause_given t a w is p bs e known project versions same (inl none) = of_memory none
+cause_given t a w is p bs e known project versions same (inr (behind, inl has)) =
     by (bad_input t a w is p e project
     (subst (λ (cs : List Bump). HasUnfollowed cs (manifests p) e) same has))
   where
     by : IsMemory e ⊎ HasBadInput t a is p e → IsCauseOf t a w is e
     by (inl none) = of_memory none
-    by (inr bad) = of_manifest p project bad
-cause_given t a w is p bs e project same (inr (inr bad)) =
-    of_manifest p project (subst (λ (cs : List Bump). HasBadInputBy cs is e) same bad)
+    by (inr bad) =
+        of_manifest known p project versions (subst (λ (cs : List Bump). IsBehindLiterals cs is e) same behind) bad
+cause_given t a w is p bs e known project versions same (inr (behind, inr bad)) =
+    of_manifest known p project versions (subst (λ (cs : List Bump). IsBehindLiterals cs is e) same behind)
+    (subst (λ (cs : List Bump). HasBadInputBy cs is e) same bad)

@@ -12,7 +12,7 @@ use Rattle.edit_version.specs.Refusals.{IsRefusal}
 use Rattle.edit_version.specs.Requirement.{raise}
 use Rattle.edit_set_version.specs.BumpCauses.{IsUnbumped}
 use Rattle.edit_set_version.specs.Bumps.{Target, bump}
-use Rattle.edit_set_version.specs.Chosen.{Asked, Member, chosen, held_back, inheriting, missing}
+use Rattle.edit_set_version.specs.Chosen.{Asked, Member, chosen, held_back, inheriting}
 use Rattle.edit_set_version.specs.SetVersioned.{Bump, Following, Project, followings, workspace_current, writes_own}
 
 -- names in a row
@@ -53,11 +53,10 @@ pub record HasFixed (bs : List Bump) (file : List ℕ) (form : Text) (e : Error)
   pub among : Contains (followings bs file (view_at form)) following
   pub fixed : IsRefusal (raise following.text following.next) following.text e
 
--- what stands against a plan in the choice of members and in their versions
+-- what stands against a plan in the choice of members, and where nothing does, in their versions
 pub data StandsAgainst (t : Target) (a : Asked) (p : Project) (e : Error) : Type 0 where
-  no_package : IsMissing (missing a (map (λ m. m.name) p.members)) e → StandsAgainst t a p e
   excluded : IsHeldBack (held_back a p.members) (inheriting a p.members) e → StandsAgainst t a p e
-  version : HasUnbumped t a p e → StandsAgainst t a p e
+  version : held_back a p.members ≡ [] → HasUnbumped t a p e → StandsAgainst t a p e
 
 -- what stands against a plan in a manifest
 pub data ManifestStandsAgainst (bs : List Bump) (file : List ℕ) (form : Text) (e : Error) : Type 0 where

@@ -1,9 +1,10 @@
 -- Why a set-version plan over the inputs of a workspace is refused, and what a plan that is given shows not
 -- to stand in them (own, after cargo-edit).
-use Rattle.std.specs.Prelude.{◌≡◌, ◌≢◌, List, [], true, All, Contains, map}
+use Rattle.std.specs.Prelude.{◌≡◌, ◌≢◌, ◌⊎◌, ℕ, List, [], true, All, Contains, map}
 use Rattle.std.specs.List.{filter}
 use Rattle.edit_base.specs.Errors.{IsMemory}
 use Rattle.edit_base.specs.declared.errors.Error.{Error}
+use Rattle.edit_base.specs.declared.errors.Error.TheVariants.{NoVersionPlace}
 use Rattle.edit_syntax.specs.Grammar.{Text}
 use Rattle.edit_tree.specs.Supported.{IsManifest}
 use Rattle.edit_tree.specs.Tree.{is_value_at, view_at}
@@ -30,26 +31,48 @@ pub record HasBadInputBy (bs : List Bump) (inputs : List Input) (e : Error) : Ty
   pub among : Contains inputs input
   pub stands : StandsAgainstInput bs input e
 
--- the same of the bumps of a project
+-- something in an input of a project stands against the plan
 abbrev pub HasBadInput : Target → Asked → List Input → Project → Error → Type 0
 HasBadInput t a inputs p e = HasBadInputBy (bumps t a p) inputs e
-
--- why a plan is refused: memory ran out, a name is missing, an input is no manifest, or something stands
--- against it in the project or in one of its manifests
-pub data IsCauseOf
-    (t : Target) (a : Asked) (w : WorkspaceSaid) (inputs : List Input) (e : Error) : Type 0 where
-  memory : IsMemory e → IsCauseOf t a w inputs e
-  no_package : IsMissing (missing a (map (λ p. p.name) (members w.packages))) e → IsCauseOf t a w inputs e
-  no_manifest : (input : Input) → Contains inputs input → IsBadManifest input.bytes.items e
-      → IsCauseOf t a w inputs e
-  project : (p : Project) → IsProject w inputs p → StandsAgainst t a p e → IsCauseOf t a w inputs e
-  manifest : (p : Project) → IsProject w inputs p → HasBadInput t a inputs p e → IsCauseOf t a w inputs e
 
 -- a version that stays or becomes another
 abbrev pub IsBumpable : Bumped → Type 0
 IsBumpable stays = Unit {0}
 IsBumpable (becomes v) = Unit {0}
 IsBumpable _ = ⊥
+
+-- the asked names that no member of a workspace has
+abbrev pub unknown : Asked → WorkspaceSaid → List (List ℕ)
+unknown a w = missing a (map (λ p. p.name) (members w.packages))
+
+-- no excluded member shares a version that is bumped, and each chosen version stays or becomes another
+pub record HasVersions (t : Target) (a : Asked) (p : Project) : Type 0 where
+  pub excluded : held_back a p.members ≡ []
+  pub versions : All (λ v. IsBumpable (bump t a.metadata v)) (currents a p)
+
+-- where a bumped version is to be written into an input, a literal stands there
+pub record HasLiteral (bs : List Bump) (input : Input) : Type 0 where
+  pub form : Text
+  pub manifest : IsManifest input.bytes.items form
+  pub literal : filter (writes_own (path_of input)) bs ≢ [] → is_value_at form package_version ≡ true
+
+-- the error is that a version has no literal, or each input has the literals of its bumped version
+abbrev pub IsBehindLiterals : List Bump → List Input → Error → Type 0
+IsBehindLiterals bs inputs e = (e ≡ NoVersionPlace) ⊎ All (HasLiteral bs) inputs
+
+-- Why a plan is refused: memory ran out, or the first of these stands, each where none before it does: a name
+-- that no member has, an input that is no manifest, an excluded member that shares a bumped version, a version
+-- that the target refuses, a bumped version without a literal, and a requirement that cannot rise.
+pub data IsCauseOf
+    (t : Target) (a : Asked) (w : WorkspaceSaid) (inputs : List Input) (e : Error) : Type 0 where
+  memory : IsMemory e → IsCauseOf t a w inputs e
+  no_package : IsMissing (unknown a w) e → IsCauseOf t a w inputs e
+  no_manifest : unknown a w ≡ [] → (input : Input) → Contains inputs input
+      → IsBadManifest input.bytes.items e → IsCauseOf t a w inputs e
+  project : unknown a w ≡ [] → (p : Project) → IsProject w inputs p → StandsAgainst t a p e
+      → IsCauseOf t a w inputs e
+  manifest : unknown a w ≡ [] → (p : Project) → IsProject w inputs p → HasVersions t a p
+      → IsBehindLiterals (bumps t a p) inputs e → HasBadInput t a inputs p e → IsCauseOf t a w inputs e
 
 -- nothing in an input stands against these bumps: a version that is to be written has a literal, and no
 -- requirement that follows is refused

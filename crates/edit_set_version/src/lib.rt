@@ -8,6 +8,7 @@ mod crates;
 mod follow;
 pub mod laws;
 mod lines;
+mod literals;
 mod manifests;
 mod names;
 mod numbers;

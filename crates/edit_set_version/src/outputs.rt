@@ -104,7 +104,7 @@ fn push_shared(
 }
 
 /// Adds the next version of the crate whose own one stands in the manifest at this path.
-fn push_own(
+pub(crate) fn push_own(
     alloc: Global,
     writing: &Writing<'_, '_>,
     path: &str,

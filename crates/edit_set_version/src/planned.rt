@@ -12,7 +12,7 @@ ghost use Rattle.edit_set_version.specs.Crates.{IsReadOf, bumps_seen, project_se
 ghost use Rattle.edit_set_version.specs.Follows.{AreVersions};
 ghost use Rattle.edit_set_version.specs.PlanCauses.{StandsAgainst, currents};
 ghost use Rattle.edit_set_version.specs.PlanLines.{lines, lines_of, manifests, shared_lines};
-ghost use Rattle.edit_set_version.specs.PlanRefused.{HasBadInputBy, IsBumpable, IsCauseOf, IsClear, IsInputClearBy};
+ghost use Rattle.edit_set_version.specs.PlanRefused.{HasBadInputBy, IsBehindLiterals, IsBumpable, IsCauseOf, IsClear, IsInputClearBy};
 ghost use Rattle.edit_set_version.specs.Planned.{HasFollowed, HasOutputsBy, HasSetOutputs, OutputsInOrder, has_lines, told_lines};
 ghost use Rattle.edit_set_version.specs.Projects.{AreInputsOf, EachInput, HasProject};
 ghost use Rattle.edit_set_version.specs.Selections.{asked_of};
@@ -23,6 +23,7 @@ ghost use Rattle.edit_set_version.specs.Written.{HaveDistinctPaths, TellsShared}
 use crate::bumps::bumps_of;
 use crate::choose::choose;
 use crate::crates::Bump;
+use crate::literals::check_literals;
 use crate::manifests::manifests_of;
 use crate::numbers::numbers_of;
 use crate::outputs::{Writing, outputs_of};
@@ -104,19 +105,21 @@ fn plan_with(
     ensures changed { IfOk result (λ plan. plan.changed ≡ has_lines plan) }
     ensures clear { OnOk result (All (IsInputClearBy (bumps_seen versions.now.bumps.items)) inputs.now) }
     ensures refused { IfErr result (λ e. IsMemory e
-        ⊎ (HasUnfollowed (bumps_seen versions.now.bumps.items) (manifests (project_seen project.now)) e
-        ⊎ HasBadInputBy (bumps_seen versions.now.bumps.items) inputs.now e)) }
+        ⊎ (IsBehindLiterals (bumps_seen versions.now.bumps.items) inputs.now e
+        × (HasUnfollowed (bumps_seen versions.now.bumps.items) (manifests (project_seen project.now)) e
+        ⊎ HasBadInputBy (bumps_seen versions.now.bumps.items) inputs.now e))) }
 {
     let numbers = numbers_of(alloc, &versions.bumps)?;
     let old = versions.current.as_ref();
     let next = versions.next.as_ref();
-    let lines = plan_lines(alloc, &numbers, project, &versions.bumps, old, next)?;
     let writing = Writing {
         root: project.root.input.path.as_str(),
         shared: next,
         numbers: &numbers,
         bumps: &versions.bumps,
     };
+    check_literals(alloc, &writing, inputs, read)?;
+    let lines = plan_lines(alloc, &numbers, project, &versions.bumps, old, next)?;
     let outputs = outputs_of(alloc, &writing, inputs, read)?;
     let changed = !lines.is_empty();
     Ok(SetVersionPlan {
@@ -130,10 +133,10 @@ fn plan_with(
 ///
 /// The inputs are those that `workspace_inputs` gives. Who gets a new version is what the selection asks for;
 /// each of them gets the version that the target makes of its own; and in each input a requirement with a
-/// path to one of them follows it. Nothing is planned where one of these is refused: a name that no member
-/// has (39), an excluded member that shares the version of the workspace with a chosen one (40), a version
-/// that the target refuses (41, 16 to 19), a version with no place to write it (13), or a requirement that
-/// cannot follow (14, 15).
+/// path to one of them follows it. Nothing is planned where one of these stands, and the first is the error: a
+/// name that no member has (39), an input that is no manifest (2, 1), an excluded member that shares the version
+/// of the workspace with a chosen one (40), a version that the target refuses (41, 16 to 19), a version with no
+/// place to write it (13), or a requirement that cannot follow (14, 15).
 pub fn plan_set_version(
     alloc: Global,
     target: &TargetVersion,
@@ -156,7 +159,7 @@ pub fn plan_set_version(
         → All (λ p. IsReadable (parts_of p.version)) workspace.now.packages.items
         → IfOk result (λ plan. EachInput (workspace_said workspace.now) inputs.now
         (HasFollowed (target_of target.now) (asked_of selection.now) plan.outputs.items)) }
-    // a cause stands in the input, or memory ran out; and where a plan is given none stands
+    // the first cause that stands in the input, or memory ran out; and where a plan is given none stands
     ensures refused { IfErr result (IsCauseOf (target_of target.now) (asked_of selection.now)
         (workspace_said workspace.now) inputs.now) }
     ensures clear { IfOk result (λ plan. HasProject (workspace_said workspace.now) inputs.now

@@ -11,7 +11,7 @@ use Rattle.edit_base.specs.Paths.{joined}
 use Rattle.edit_base.specs.declared.errors.Error.{Error}
 use Rattle.edit_store.specs.Store.{Files, SameFiles, raised}
 use Rattle.edit_sources.specs.Sources.{or_else}
-use Rattle.edit_sources.specs.ConfigurationFiles.{standing, file_in, files_in, IsReadFrom, IsReadOf, HasFailed, FileFails, PlaceFails}
+use Rattle.edit_sources.specs.ConfigurationFiles.{standing, file_in, files_in, IsReadFrom, IsReadOf, HasFailed, FileFails, IsConfigPath, PlaceFails}
 use Rattle.edit_sources.specs.declared.config.Config.{Config}
 
 raised_later : (a b c : ℕ) → a ≤ b → raised b c → raised a c
@@ -85,7 +85,7 @@ files_more files places i place found old new within is all read items =
 pub place_fails : (tells told : Bool) (old new : Files) (places : List (String Global)) (i : ℕ)
     (place : String Global) (text : List ℕ) (e : Error)
     → i < length places → place ≡ get_or places i place → text ≡ string_bytes place → told ≡ tells
-    → SameFiles old new → FileFails told (file_in new text) e
+    → SameFiles old new → FileFails told (IsConfigPath text) (file_in new text) e
     → PlaceFails tells old (map string_bytes places) e
 place_fails tells told old new places i place text e within is said same_told same fails = record {
   place = text;
@@ -99,6 +99,7 @@ place_fails tells told old new places i place text e within is said same_told sa
       ∙ ap (λ t. map string_bytes (take i places) ++ t ∷ map string_bytes (drop (i + 1) places)) (sym said);
   fails = record {
     file = fails.file;
+    at = fails.at;
     stands = λ t. sym (file_in-same old new text same) ∙ fails.stands (same_told ∙ t);
     unread = fails.unread;
   };

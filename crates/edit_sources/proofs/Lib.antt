@@ -4,12 +4,11 @@ pub mod ConfigurationLemmas
 pub mod DefinitionLemmas
 pub mod FileLemmas
 pub mod FolderLemmas
+pub mod FolderOutcomes
 pub mod KeptLemmas
 pub mod KeyLemmas
 pub mod LineLemmas
 pub mod NameLemmas
 pub mod OutcomeLemmas
+pub mod SameLookups
 pub mod SourceLemmas
-pub mod FolderOutcomes
-pub mod JsonGrammarLemmas
-pub mod PutMemberLemmas

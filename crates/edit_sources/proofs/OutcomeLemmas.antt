@@ -12,7 +12,7 @@ use Rattle.serde_json.specs.Find.{get, as_str}
 use Rattle.url.specs.Parts.{Parts}
 use Rattle.edit_version.specs.IndexEntry.{IndexEntry}
 use Rattle.edit_sources.specs.FileIndex.{FileGives}
-use Rattle.edit_sources.specs.Index.{Outcome}
+use Rattle.edit_sources.specs.Index.{LookupError, Outcome, bad_line}
 use Rattle.edit_sources.specs.IndexLines.{LinesSay, IsBadLine, IsIndexLine, SaysEntry, is_blank, lines_of, yanked_of, rust_version_of}
 use Rattle.edit_sources.specs.IndexLines.LinesSay.{none, blank, entry}
 use Rattle.edit_sources.specs.LocalIndex.{HasBadLine, HasEntries, HasNoIndexPath, IsIndexPath, LocalGives, below}
@@ -129,13 +129,13 @@ one_path address name p q a b =
     a.is ∙ ap (λ f. below f (layout name)) folder ∙ sym b.is
 
 -- or none, for one reason
-no_path : (address : Parts) (name p : List ℕ) (n : ℕ) → IsIndexPath address name p
+no_path : (address : Parts) (name p : List ℕ) (n : LookupError) → IsIndexPath address name p
     → HasNoIndexPath address name n → ⊥
 no_path address name p n a (inl h) = h.1 a.scheme
 no_path address name p n a (inr (inl h)) = h.2 a.folder a.folder_of
 no_path address name p n a (inr (inr h)) = let is = a.named in let isnt = h.2.1 in cc
 
-one_reason : (address : Parts) (name : List ℕ) (m n : ℕ) → HasNoIndexPath address name m
+one_reason : (address : Parts) (name : List ℕ) (m n : LookupError) → HasNoIndexPath address name m
     → HasNoIndexPath address name n → m ≡ n
 one_reason address name m n (inl a) (inl b) = a.0 ∙ sym b.0
 one_reason address name m n (inl a) (inr (inl b)) = absurd (a.1 b.1)
@@ -164,6 +164,15 @@ not_both store address name es line tells x y =
     let same : x.bytes ≡ y.bytes = cc in
     none_said (lines_of y.bytes) es line (subst (λ t. LinesSay (lines_of t) es) same x.say) y.bad
 
+-- the first bad line that is told is one
+pub one_line : (store : StoreView) (address : Parts) (name : List ℕ) (m n : ℕ) → store.tells ≡ true
+    → HasBadLine store address name m → HasBadLine store address name n → m ≡ n
+one_line store address name m n tells x y =
+    let h : Some x.bytes ≡ Some y.bytes = one_text store.file_at address name x.path y.path (Some x.bytes)
+    (Some y.bytes) x.at y.at (x.stands tells) (y.stands tells) in
+    let same : x.bytes ≡ y.bytes = cc in
+    one_bad_line (lines_of y.bytes) m n (subst (λ t. IsBadLine (lines_of t) m) same x.bad) y.bad
+
 -- an index in files that its store tells gives one outcome for an address and a name
 pub one_local_outcome : (store : StoreView) (address : Parts) (name : List ℕ) (a b : Outcome)
     → store.tells ≡ true
@@ -174,7 +183,7 @@ one_local_outcome store address name (Ok None) (Ok (Some es)) tells x y =
     (Some y.bytes) x.at y.at (x.absent tells) (y.stands tells) in cc
 one_local_outcome store address name (Ok None) (Err n) tells x (inl why) =
     absurd (no_path address name x.path n x.at why)
-one_local_outcome store address name (Ok None) (Err n) tells x (inr (number, (line, y))) =
+one_local_outcome store address name (Ok None) (Err n) tells x (inr (line, named, y)) =
     let h : None ≡ Some y.bytes = one_text store.file_at address name x.path y.path None
     (Some y.bytes) x.at y.at (x.absent tells) (y.stands tells) in cc
 one_local_outcome store address name (Ok (Some es)) (Ok None) tells x y =
@@ -188,33 +197,25 @@ one_local_outcome store address name (Ok (Some es)) (Ok (Some fs)) tells x y =
     (one_reading (lines_of y.bytes) es fs (subst (λ t. LinesSay (lines_of t) es) same x.say) y.say)
 one_local_outcome store address name (Ok (Some es)) (Err n) tells x (inl why) =
     absurd (no_path address name x.path n x.at why)
-one_local_outcome store address name (Ok (Some es)) (Err n) tells x (inr (number, (line, y))) =
+one_local_outcome store address name (Ok (Some es)) (Err n) tells x (inr (line, named, y)) =
     absurd (not_both store address name es line tells x y)
 one_local_outcome store address name (Err m) (Ok None) tells (inl why) y =
     absurd (no_path address name y.path m y.at why)
-one_local_outcome store address name (Err m) (Ok None) tells (inr (number, (line, x))) y =
+one_local_outcome store address name (Err m) (Ok None) tells (inr (line, named, x)) y =
     let h : Some x.bytes ≡ None = one_text store.file_at address name x.path y.path
     (Some x.bytes) None x.at y.at (x.stands tells) (y.absent tells) in cc
 one_local_outcome store address name (Err m) (Ok (Some es)) tells (inl why) y =
     absurd (no_path address name y.path m y.at why)
-one_local_outcome store address name (Err m) (Ok (Some es)) tells (inr (number, (line, x))) y =
+one_local_outcome store address name (Err m) (Ok (Some es)) tells (inr (line, named, x)) y =
     absurd (not_both store address name es line tells y x)
 one_local_outcome store address name (Err m) (Err n) tells (inl a) (inl b) =
     ap Err (one_reason address name m n a b)
-one_local_outcome store address name (Err m) (Err n) tells (inl why) (inr (number, (line, y))) =
+one_local_outcome store address name (Err m) (Err n) tells (inl why) (inr (line, named, y)) =
     absurd (no_path address name y.path m y.at why)
-one_local_outcome store address name (Err m) (Err n) tells (inr (number, (line, x))) (inl why) =
+one_local_outcome store address name (Err m) (Err n) tells (inr (line, named, x)) (inl why) =
     absurd (no_path address name x.path n x.at why)
-one_local_outcome store address name (Err m) (Err n) tells (inr a) (inr b) = ap Err (a.0 ∙ sym b.0)
-
--- and its refusal 30 one line
-pub one_line : (store : StoreView) (address : Parts) (name : List ℕ) (m n : ℕ) → store.tells ≡ true
-    → HasBadLine store address name m → HasBadLine store address name n → m ≡ n
-one_line store address name m n tells x y =
-    let h : Some x.bytes ≡ Some y.bytes = one_text store.file_at address name x.path y.path (Some x.bytes)
-    (Some y.bytes) x.at y.at (x.stands tells) (y.stands tells) in
-    let same : x.bytes ≡ y.bytes = cc in
-    one_bad_line (lines_of y.bytes) m n (subst (λ t. IsBadLine (lines_of t) m) same x.bad) y.bad
+one_local_outcome store address name (Err m) (Err n) tells (inr a) (inr b) =
+    ap Err (a.1 ∙ ap bad_line (one_line store address name a.0 b.0 tells a.2 b.2) ∙ sym b.1)
 
 -- an index of one file gives one outcome for a name
 pub one_file_outcome : (index : FileIndex) (name : List ℕ) (a b : Outcome) → FileGives index name a

@@ -1,6 +1,6 @@
 -- Which configuration files count, the first one first (Cargo
 -- reference, "Configuration", Hierarchical structure).
-use Rattle.std.specs.Prelude.{◌≡◌, ℕ, List, [], ◌∷◌, ◌++◌, map, Option, Some, None, option_map, Bool, true, codes, ⊤, string_bytes}
+use Rattle.std.specs.Prelude.{◌≡◌, ◌⊎◌, ℕ, List, [], ◌∷◌, ◌++◌, map, Option, Some, None, option_map, Bool, true, codes, ⊤, string_bytes}
 use Rattle.std.specs.List.{filter_map, AllZip}
 use Rattle.std.specs.Option.{option_to_list}
 use Rattle.edit_base.specs.Paths.{joined, IsFolderOf}
@@ -65,9 +65,16 @@ pub record HasFailed (before now : ℕ) (e : Error) : Type 0 where
   pub is : e ≡ Device Read
   pub counted : raised before now
 
--- why no file is read: the one that counts says nothing (own)
-pub record FileFails (tells : Bool) (counts : Option (List ℕ × List ℕ)) (e : Error) : Type 0 where
+-- the path of the configuration file in a place, by one of its two names
+-- (Cargo reference, "Configuration", Hierarchical structure)
+abbrev pub IsConfigPath : List ℕ → List ℕ → Type 0
+IsConfigPath place path = (path ≡ joined place (codes "config")) ⊎ (path ≡ joined place (codes "config.toml"))
+
+-- why no file is read: the one that counts, at such a path, says nothing (own)
+pub record FileFails (tells : Bool) (IsAt : List ℕ → Type 0) (counts : Option (List ℕ × List ℕ)) (e : Error)
+    : Type 0 where
   pub file : List ℕ × List ℕ
+  pub at : IsAt file.0
   pub stands : tells ≡ true → counts ≡ Some file
   pub unread : IsUnread file e
 
@@ -84,7 +91,7 @@ pub record PlaceFails (tells : Bool) (files : Files) (places : List (List ℕ)) 
   pub before : List (List ℕ)
   pub after : List (List ℕ)
   pub within : places ≡ before ++ place ∷ after
-  pub fails : FileFails tells (file_in files place) e
+  pub fails : FileFails tells (IsConfigPath place) (file_in files place) e
 
 -- why the configurations of a manifest are not read (own)
 pub record ConfigsFail (tells : Bool) (files : Files) (manifest : List ℕ) (home : Option (List ℕ))

@@ -1,16 +1,13 @@
 -- What a look in a folder of registries gives (Cargo reference, "Registries", index format).
-use Rattle.std.specs.Prelude.{◌≡◌, ℕ, List, Some, None, Ok, Err, true, ◌⊎◌, string_bytes}
+use Rattle.std.specs.Prelude.{◌≡◌, ℕ, List, Some, None, Ok, Err, true, false, ◌⊎◌, string_bytes}
 use Rattle.url.specs.Parts.{Parts}
-use Rattle.edit_base.specs.declared.errors.Error.{Error}
-use Rattle.edit_base.specs.declared.errors.Error.TheVariants.{IndexLine}
-use Rattle.edit_base.specs.Errors.{number_of}
 use Rattle.edit_version.specs.IndexEntry.{IndexEntry}
-use Rattle.edit_sources.specs.Index.{IndexView, Outcome}
+use Rattle.edit_sources.specs.Index.{IndexView, Outcome, bad_line, bad_name}
 use Rattle.edit_sources.specs.IndexLines.{LinesSay, IsBadLine, lines_of}
 use Rattle.edit_sources.specs.LocalIndex.{StandsIn}
 use Rattle.edit_sources.specs.Names.{is_crate_name}
 use Rattle.edit_store.specs.Store.{StoreView}
-use Rattle.edit_sources.specs.Folders.{HasBadName, entry_path}
+use Rattle.edit_sources.specs.Folders.{entry_path}
 use Rattle.edit_sources.specs.declared.index_dir.dir_index.DirIndex.{DirIndex}
 
 -- the store that an index stands on (own)
@@ -42,18 +39,13 @@ pub record HasBadLine (folder : List ℕ) (store : StoreView) (address : Parts) 
   pub stands : StandsIn store (entry_path folder address name) bytes
   pub bad : IsBadLine (lines_of bytes) line
 
--- what a look gives: no file, the entries of its lines, 29 for a name that no index may have, or 30 for a
--- bad line (own)
+-- what a lookup gives: no file, the entries of its lines, a name that no index may have, or the number of the
+-- first bad line (own)
 abbrev pub DirGives : List ℕ → StoreView → Parts → List ℕ → Outcome → Type 0
 DirGives folder store address name (Ok None) = HasNoFile folder store address name
 DirGives folder store address name (Ok (Some entries)) = HasEntries folder store address name entries
-DirGives folder store address name (Err n) =
-    HasBadName name n ⊎ ((n ≡ 30) × ((line : ℕ) × HasBadLine folder store address name line))
-
--- a refusal 30 has the number of the first bad line (own)
-abbrev pub NumbersLine : List ℕ → StoreView → Parts → List ℕ → Error → Type 0
-NumbersLine folder store address name e =
-    number_of e ≡ 30 → (line : ℕ) × (e ≡ IndexLine line) × HasBadLine folder store address name line
+DirGives folder store address name (Err e) =
+    ((e ≡ bad_name name) × (is_crate_name name ≡ false)) ⊎ ((line : ℕ) × (e ≡ bad_line line) × HasBadLine folder store address name line)
 
 -- an index over a folder of a store: its looks fail as the store does (own)
 abbrev pub dir_view : List ℕ → StoreView → IndexView

@@ -7,7 +7,7 @@ use Rattle.std.specs.BTreeMap.{BTreeMap, get_by_text}
 use Rattle.std.specs.declared.alloc.Global.{Global}
 use Rattle.edit_version.specs.declared.fetch.IndexVersion.{IndexVersion}
 use Rattle.edit_version.specs.IndexEntry.{IndexEntry, entry_of}
-use Rattle.edit_sources.specs.Index.{IndexView, Outcome}
+use Rattle.edit_sources.specs.Index.{IndexView, Outcome, bad_name}
 use Rattle.edit_sources.specs.IndexLines.{LinesSay, lines_of}
 use Rattle.edit_sources.specs.Names.{is_crate_name}
 use Rattle.edit_sources.specs.declared.file_index.FileIndex.{FileIndex}
@@ -34,10 +34,10 @@ abbrev pub if_any : List IndexEntry → Option (List IndexEntry)
 if_any [] = None
 if_any (e ∷ es) = Some (e ∷ es)
 
--- what a look gives at every address: 29 for a name that none may have, else the entries of equal name (own)
+-- what a lookup gives at every address: a name that no index may have, else the entries of equal name (own)
 abbrev pub FileGives : FileIndex → List ℕ → Outcome → Type 0
 FileGives index name outcome =
-    ((is_crate_name name ≡ false) × (outcome ≡ Err 29))
+    ((is_crate_name name ≡ false) × (outcome ≡ Err (bad_name name)))
     ⊎ ((is_crate_name name ≡ true) × (outcome ≡ Ok (if_any (named index name))))
 
 -- an index of one file, which never fails (own)

@@ -15,6 +15,6 @@ registry_folder address = percent_encode ESCAPED address
 abbrev pub entry_path : List ℕ → Parts → List ℕ → List ℕ
 entry_path folder address name = below folder (registry_folder (serialize address) ++ 47 ∷ layout name)
 
--- the number of the refusal of a name that no index may have (own)
+-- the number of the error of a name that no index may have (own)
 abbrev pub HasBadName : List ℕ → ℕ → Type 0
 HasBadName name n = (n ≡ 29) × (is_crate_name name ≡ false)

@@ -1,7 +1,8 @@
 -- What a look in an index may give (Cargo reference, "Registries", index format).
-use Rattle.std.specs.Prelude.{◌≡◌, ℕ, ◌≤◌, ◌⊎◌, ◌↔◌, List, map, Option, option_map, Result, Err, IfErr}
+use Rattle.std.specs.Prelude.{◌≡◌, ℕ, ◌≤◌, ◌⊎◌, ◌↔◌, List, map, Option, option_map, Result, Err, IfErr, string_bytes}
 use Rattle.url.specs.Parts.{Parts}
 use Rattle.edit_base.specs.declared.errors.Error.{Error}
+use Rattle.edit_base.specs.declared.errors.Error.TheVariants.{Scheme, IndexPath, BadCrateName, IndexLine}
 use Rattle.edit_base.specs.Errors.{number_of, IsMemory}
 use Rattle.edit_version.specs.IndexEntry.{IndexEntry, entry_of}
 use Rattle.edit_store.specs.Store.{raised}
@@ -15,9 +16,26 @@ entries_of krate = map entry_of krate.versions.items
 abbrev pub answer_of : Option IndexKrate → Option (List IndexEntry)
 answer_of krate = option_map entries_of krate
 
--- what a look gives: an answer, or the number of a refusal (own)
+-- an error as a lookup gives it: a scheme that the index does not serve, an address that names no folder, a
+-- name that no index may have, the number of a line that says no entry, or any other error by its number (own)
+pub data LookupError : Type 0 where
+  bad_scheme : List ℕ → LookupError
+  bad_address : List ℕ → LookupError
+  bad_name : List ℕ → LookupError
+  bad_line : ℕ → LookupError
+  another : ℕ → LookupError
+
+-- an error as a lookup gives it, with the text or the line that it names (own)
+abbrev pub lookup_error : Error → LookupError
+lookup_error (Scheme scheme) = bad_scheme (string_bytes scheme)
+lookup_error (IndexPath address) = bad_address (string_bytes address)
+lookup_error (BadCrateName name) = bad_name (string_bytes name)
+lookup_error (IndexLine line) = bad_line line
+lookup_error e = another (number_of e)
+
+-- what a lookup gives: an answer, or an error (own)
 abbrev pub Outcome : Type 0
-Outcome = Result (Option (List IndexEntry)) ℕ
+Outcome = Result (Option (List IndexEntry)) LookupError
 
 -- which outcomes a look for a name at an address may have (own)
 abbrev pub Outcomes : Type 1
@@ -40,7 +58,7 @@ SameOutcomes old new =
 
 -- a refusal that an index gives for what is asked and what stands in it (own)
 abbrev pub IsGivenRefusal : Outcomes → Parts → List ℕ → Error → Type 0
-IsGivenRefusal gives address name e = IsLookRefusal (number_of e) × gives address name (Err (number_of e))
+IsGivenRefusal gives address name e = IsLookRefusal (number_of e) × gives address name (Err (lookup_error e))
 
 -- why a look is refused: want of memory, what the index gives, or a fault of the device below, counted (own)
 abbrev pub RefusesLook : IndexView → IndexView → Parts → List ℕ → Error → Type 0

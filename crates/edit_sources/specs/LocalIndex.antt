@@ -3,12 +3,9 @@ use Rattle.std.specs.Prelude.{◌≡◌, ℕ, ◌-◌, List, ◌++◌, Some, Non
 use Rattle.std.specs.List.{list_any}
 use Rattle.std.specs.Str.{IsUtf8}
 use Rattle.percent_encoding.specs.Percent.{percent_decode}
-use Rattle.url.specs.Parts.{Parts, has_host}
-use Rattle.edit_base.specs.declared.errors.Error.{Error}
-use Rattle.edit_base.specs.declared.errors.Error.TheVariants.{IndexLine}
-use Rattle.edit_base.specs.Errors.{number_of}
+use Rattle.url.specs.Parts.{Parts, has_host, serialize}
 use Rattle.edit_version.specs.IndexEntry.{IndexEntry}
-use Rattle.edit_sources.specs.Index.{IndexView, Outcome}
+use Rattle.edit_sources.specs.Index.{IndexView, LookupError, Outcome, bad_scheme, bad_address, bad_name, bad_line}
 use Rattle.edit_sources.specs.IndexLines.{LinesSay, IsBadLine, lines_of}
 use Rattle.edit_sources.specs.Names.{is_crate_name, layout}
 use Rattle.edit_store.specs.Store.{StoreView}
@@ -57,12 +54,12 @@ pub record IsIndexPath (address : Parts) (name path : List ℕ) : Type 0 where
 abbrev pub HasNoName : Parts → List ℕ → Type 0
 HasNoName address name = ((folder : List ℕ) × IsFolderOf address folder) × (is_crate_name name ≡ false)
 
--- why a name has no path, by the number of the refusal: the scheme, else the address, else the name (own)
-abbrev pub HasNoIndexPath : Parts → List ℕ → ℕ → Type 0
-HasNoIndexPath address name n =
-    ((n ≡ 27) × (IsFileAddress address → ⊥))
-    ⊎ (((n ≡ 28) × IsFileAddress address × HasNoFolder address)
-    ⊎ ((n ≡ 29) × IsFileAddress address × HasNoName address name))
+-- why a name has no path, and what the error names: the scheme, else the address, else the name (own)
+abbrev pub HasNoIndexPath : Parts → List ℕ → LookupError → Type 0
+HasNoIndexPath address name e =
+    ((e ≡ bad_scheme address.scheme) × (IsFileAddress address → ⊥))
+    ⊎ (((e ≡ bad_address (serialize address)) × IsFileAddress address × HasNoFolder address)
+    ⊎ ((e ≡ bad_name name) × IsFileAddress address × HasNoName address name))
 
 -- the file at a path holds these bytes, where the store tells them (own)
 abbrev pub StandsIn : StoreView → List ℕ → List ℕ → Type 0
@@ -91,17 +88,13 @@ pub record HasBadLine (store : StoreView) (address : Parts) (name : List ℕ) (l
   pub stands : StandsIn store path bytes
   pub bad : IsBadLine (lines_of bytes) line
 
--- what a look gives: no file, the entries of its lines, a refusal of the path, or 30 for a bad line (own)
+-- what a lookup gives: no file, the entries of its lines, an error of the path, or the number of the first bad
+-- line (own)
 abbrev pub LocalGives : StoreView → Parts → List ℕ → Outcome → Type 0
 LocalGives store address name (Ok None) = HasNoFile store address name
 LocalGives store address name (Ok (Some entries)) = HasEntries store address name entries
-LocalGives store address name (Err n) =
-    HasNoIndexPath address name n ⊎ ((n ≡ 30) × ((line : ℕ) × HasBadLine store address name line))
-
--- a refusal 30 has the number of the first bad line (own)
-abbrev pub NumbersLine : StoreView → Parts → List ℕ → Error → Type 0
-NumbersLine store address name e =
-    number_of e ≡ 30 → (line : ℕ) × (e ≡ IndexLine line) × HasBadLine store address name line
+LocalGives store address name (Err e) =
+    HasNoIndexPath address name e ⊎ ((line : ℕ) × (e ≡ bad_line line) × HasBadLine store address name line)
 
 -- an index over a store: its looks fail as the store does (own)
 abbrev pub local_view : StoreView → IndexView

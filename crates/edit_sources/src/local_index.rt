@@ -1,8 +1,8 @@
 //! An index in files, one for each name.
-ghost use Rattle.std.specs.Prelude.{◌≡◌, Ok, IfOk, IfErr};
+ghost use Rattle.std.specs.Prelude.{◌≡◌, Ok, IfOk};
 ghost use Rattle.edit_store.specs.Store.{OnlyReads};
 ghost use Rattle.edit_sources.specs.Index.{HasLookCause, SameOutcomes, answer_of};
-ghost use Rattle.edit_sources.specs.LocalIndex.{LocalGives, NumbersLine, local_view, store_of};
+ghost use Rattle.edit_sources.specs.LocalIndex.{LocalGives, local_view, store_of};
 
 use crate::index::{Index, IndexKrate};
 use crate::index_lines::read_lines;
@@ -40,8 +40,6 @@ impl<S: Store> Index for LocalIndex<S> {
             (local_view (S.view (store_of self.new))) registry.now name.now result }
         // no file changes
         ensures reads { OnlyReads (S.view (store_of self.old)) (S.view (store_of self.new)) }
-        // a refusal 30 has the number of the first bad line
-        ensures line { IfErr result (NumbersLine (S.view (store_of self.old)) registry.now name.now) }
     {
         let path = match index_path(alloc, registry, name) {
             Ok(path) => path,

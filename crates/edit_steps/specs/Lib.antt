@@ -1,8 +1,9 @@
 pub mod Absolute
-pub mod Workspaces
 pub mod Asking
 pub mod Causes
+pub mod Faults
 pub mod Named
 pub mod Own
-pub mod Sources
 pub mod Printed
+pub mod Sources
+pub mod Workspaces

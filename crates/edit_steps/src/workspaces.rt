@@ -7,6 +7,7 @@ ghost use Rattle.edit_store.specs.Store.{OnlyReads, RefusesCall};
 ghost use Rattle.edit_version.specs.Laws.{IsReadable};
 ghost use Rattle.edit_version.specs.RustVersions.{numbers_of};
 ghost use Rattle.semver.specs.Identifiers.{parts_of};
+ghost use Rattle.edit_steps.specs.Faults.{CountsFault};
 ghost use Rattle.edit_steps.specs.Workspaces.{AreMetadataRead, HasNoMetadata, HasNoWorkspace, HaveOwnPaths, IsWorkspaceRead};
 
 use crate::metadata_fault::at_metadata;
@@ -44,6 +45,7 @@ fn read_metadata<S: Store>(
     ensures refused { IfErr result (λ r. RefusesCall call.Read (S.view files.old) (S.view files.new) r.error
         ⊎ ((S.view files.old).tells ≡ true
         → HasNoMetadata (S.view files.old).file_at current.now named.now r.error)) }
+    ensures counted { IfErr result (λ r. CountsFault (S.view files.old) (S.view files.new) r.error) }
 {
     let path = absolute(alloc, current, named)?;
     let bytes = match files.read_stream(alloc, path.as_str()) {
@@ -129,6 +131,7 @@ pub fn read_workspace<S: Store>(
     ensures refused { IfErr result (λ r. RefusesCall call.Read (S.view files.old) (S.view files.new) r.error
         ⊎ ((S.view files.old).tells ≡ true
         → HasNoWorkspace (S.view files.old).file_at current.now named.now r.error)) }
+    ensures counted { IfErr result (λ r. CountsFault (S.view files.old) (S.view files.new) r.error) }
 {
     let workspace = read_metadata(alloc, named, current, writes, files)?;
     let inputs = match workspace_inputs(alloc, files, &workspace, rust_version, ignore) {

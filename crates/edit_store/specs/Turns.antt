@@ -1,10 +1,12 @@
 -- A store whose one fault comes at a given call (own).
 use Rattle.std.specs.Prelude.{◌≡◌, ℕ, zero, suc, List, true, take, Option, Some, None, Result, IfErr, IsErrAnd, ◌⊎◌}
 use Rattle.edit_base.specs.declared.errors.DeviceCall.{DeviceCall}
+use Rattle.edit_base.specs.declared.errors.DeviceCall.TheVariants.{Kind, Read, Write}
 use Rattle.edit_base.specs.declared.errors.Error.{Error}
+use Rattle.edit_base.specs.declared.errors.Error.TheVariants.{Device}
 use Rattle.edit_base.specs.Errors.{IsMemory}
 use Rattle.edit_store.specs.Memory.{files_in}
-use Rattle.edit_store.specs.Store.{RefusesCall, StoreView}
+use Rattle.edit_store.specs.Store.{StoreView, raised}
 use Rattle.edit_store.specs.declared.fault_store.FaultStore.{FaultStore}
 
 -- how many calls come before the one that fails; none once it has come (own)
@@ -34,10 +36,21 @@ abbrev pub LeavesFront : FaultStore → FaultStore → List ℕ → List ℕ →
 LeavesFront old new path bytes e =
     IsMemory e ⊎ (files_in new.inner path ≡ Some (take (bytes_left old) bytes))
 
--- a call: the one that is to fail does, each other one is refused for memory alone (own)
+-- the error is the device's, for this call, and it is counted (own)
+abbrev pub IsCounted : DeviceCall → FaultStore → FaultStore → Error → Type 0
+IsCounted call old new e = (e ≡ Device call) × raised (faults_of old) (faults_of new)
+
+-- the error of the call that is to fail: the device's, which is counted; only a write, which stores the bytes
+-- that it leaves, may run out of memory first, which is not counted (own)
+abbrev pub IsDueError : DeviceCall → FaultStore → FaultStore → Error → Type 0
+IsDueError Kind old new e = IsCounted Kind old new e
+IsDueError Read old new e = IsCounted Read old new e
+IsDueError Write old new e = (IsMemory e × (faults_of new ≡ faults_of old)) ⊎ IsCounted Write old new e
+
+-- a call: the one that is to fail does, and each other one fails for want of memory alone (own)
 pub record TakesTurn {T : Type 0} (call : DeviceCall) (old new : FaultStore) (result : Result T Error)
     : Type 0 where
   pub turn : calls_left new ≡ one_less (calls_left old)
   pub cut : bytes_left new ≡ bytes_left old
-  pub due : calls_left old ≡ Some 0 → IsErrAnd result (RefusesCall call (fault_view old) (fault_view new))
+  pub due : calls_left old ≡ Some 0 → IsErrAnd result (IsDueError call old new)
   pub other : (calls_left old ≡ Some 0 → ⊥) → IfErr result IsMemory × (faults_of new ≡ faults_of old)

@@ -1,13 +1,13 @@
 -- When the text of an edit reads otherwise than the edit means it.
 use Rattle.std.proofs.Common.{◌≡◌, ℕ, List, Option, sym, ap, subst, ◌∙◌}
 use Rattle.edit_syntax.specs.Grammar.{Text}
-use Rattle.edit_tree.specs.Assertions.{Place, key, assertions}
+use Rattle.edit_tree.specs.Assertions.{Place, key}
 use Rattle.edit_tree.specs.Tree.{View, view_at}
 use Rattle.edit_tree.specs.Supported.{IsManifest}
 use Rattle.edit_tree.specs.EditBytes.{inserted_text, replaced_text}
 use Rattle.edit_tree.specs.RemovedBytes.{removed_text}
 use Rattle.edit_tree.specs.NewItems.{NewValue, NewItem}
-use Rattle.edit_tree.specs.Meant.{Tree, Grown, Inserted, InsertFails, SameButOrder, tree_left, moved, Removed, RemoveFails, item_view, above, is_inline_table, HasReplaced, ReplaceFails}
+use Rattle.edit_tree.specs.Meant.{Tree, Grown, Inserted, InsertFails, SameButOrder, Loses, moved, Removed, RemoveFails, item_view, above, is_inline_table, HasReplaced, ReplaceFails}
 
 -- two trees that show the same everywhere
 abbrev Alike : Tree → Tree → Type 0
@@ -66,12 +66,17 @@ replace_other place item old text s u written shows shown other form was read is
 
 -- ---- without an item
 
-removed_along : (gone : Place) (form : Text) (u w : Tree) → Alike u w → Removed gone (assertions form) u
-    → Removed gone (assertions form) w
-removed_along gone form u w new h = record {
+pub removed_along : (form : Text) (gone : Place) (s t u w : Tree) → Alike s t → Alike u w
+    → Removed form gone s u → Removed form gone t w
+removed_along form gone s t u w old new h = record {
   nothing_there = λ member q low. sym (new q) ∙ h.nothing_there member q low;
-  elsewhere = λ q out. subst (λ o. SameButOrder (tree_left gone (assertions form) q) o) (new (moved gone q))
-      (h.elsewhere q out);
+  beside = λ q below above. subst (λ o. SameButOrder o (w (moved gone q))) (old q)
+      (subst (λ o. SameButOrder (s q) o) (new (moved gone q)) (h.beside q below above));
+  stays = λ q x r e next. subst (λ o. SameButOrder o (w q)) (old q)
+      (subst (λ o. SameButOrder (s q) o) (new q) (h.stays q x r e next));
+  loses = λ q x r e left lost. subst (λ o. Loses x o (w q)) (old q)
+      (subst (λ o. Loses x (s q) o) (new q) (h.loses q x r e left lost));
+  vanishes = λ q x r e lost. sym (new q) ∙ h.vanishes q x r e lost;
 }
 
 pub remove_unread : (gone : Place) (old text : List ℕ)
@@ -80,10 +85,12 @@ pub remove_unread : (gone : Place) (old text : List ℕ)
 remove_unread gone old text written unread form was read is meant =
     unread read (subst (λ (b : List ℕ). IsManifest b read) (sym (written form was)) is)
 
-pub remove_other : (gone : Place) (old text : List ℕ) (u : Tree)
+pub remove_other : (gone : Place) (old text : List ℕ) (s u : Tree)
     → ((form : Text) → IsManifest old form → text ≡ removed_text gone form)
+    → ((form : Text) → IsManifest old form → Alike s (view_at form))
     → ((form : Text) → IsManifest text form → Alike u (view_at form))
-    → ((form : Text) → IsManifest old form → Removed gone (assertions form) u → ⊥) → RemoveFails gone old
-remove_other gone old text u written shown other form was read is meant =
+    → ((form : Text) → IsManifest old form → Removed form gone s u → ⊥) → RemoveFails gone old
+remove_other gone old text s u written shows shown other form was read is meant =
     let here = subst (λ (b : List ℕ). IsManifest b read) (sym (written form was)) is in
-    other form was (removed_along gone form (view_at read) u (λ q. sym (shown read here q)) meant)
+    other form was (removed_along form gone (view_at form) s (view_at read) u (λ q. sym (shows form was q))
+    (λ q. sym (shown read here q)) meant)

@@ -4,15 +4,15 @@ use Rattle.std.specs.Prelude.{codes, option_and_then}
 use Rattle.edit_syntax.specs.FormOf.{form_of}
 use Rattle.edit_syntax.specs.Grammar.{Text}
 use Rattle.edit_tree.specs.Assertions.{Place, key, index, assertions}
-use Rattle.edit_tree.specs.Tree.{View, string, static_array, table_array, inline_table, table}
+use Rattle.edit_tree.specs.Tree.{View, string, static_array, table_array, inline_table, table, view_in}
 use Rattle.edit_tree.specs.NewItems.{a_string, a_truth, a_table}
-use Rattle.edit_tree.specs.Meant.{tree_left, moved, item_view}
+use Rattle.edit_tree.specs.Meant.{staying, moved, item_view}
 use Rattle.edit_tree.proofs.OnTexts.{on_texts}
 
--- what is left at a place of a text without another place
+-- what the assertions that stay show at a place, once all that names another place or one below it is gone
 abbrev left_of : List ℕ → Place → Place → Option View
 left_of bytes gone place =
-    option_and_then (λ (form : Text). tree_left gone (assertions form) place) (form_of bytes)
+    option_and_then (λ (form : Text). view_in (staying gone (assertions form)) place) (form_of bytes)
 
 -- a header stays when its last pair goes
 pub a_header_stays :
@@ -67,10 +67,10 @@ pub stays_there : moved (key (codes "a") ∷ index 1 ∷ []) (key (codes "a") �
 stays_there = refl
 
 -- an array that was written as a value stays when it is empty
-pub an_array_shrinks : left_of (codes "a = [\"x\"]") (key (codes "a") ∷ index 0 ∷ []) (key (codes "a") ∷ [])
-    ≡ Some (static_array 0)
+pub an_array_stays : left_of (codes "a = [\"x\"]") (key (codes "a") ∷ index 0 ∷ []) (key (codes "a") ∷ [])
+    ≡ Some (static_array 1)
 unfolding on_texts
-an_array_shrinks = refl
+an_array_stays = refl
 
 -- an inline table stays when it is empty
 pub an_inline_table_stays :

@@ -72,4 +72,3 @@ pub mod ValueAsserters
 pub mod AssertedWays
 pub mod ElementWays
 pub mod StayingWays
-pub mod AlikeKinds

@@ -1,21 +1,17 @@
 -- Which assertions stay when an item is removed: what stays at a place stays at each place on the way to it.
-use Rattle.std.proofs.Common.{◌≡◌, ℕ, suc, Bool, true, false, not, cond, ◌&&◌, List, [], ◌∷◌, Option, Some, None, refl, sym, ap, subst, ◌∙◌, ◌⊎◌, inl, inr, true≢false, option_map}
-use Rattle.std.specs.List.{cons_option}
+use Rattle.std.proofs.Common.{◌≡◌, ℕ, Bool, true, false, not, cond, ◌&&◌, List, [], ◌∷◌, Option, Some, None, refl, sym, ap, subst, ◌∙◌, ◌⊎◌, inl, inr, true≢false}
 use Rattle.std.proofs.lemmas.Bool.{and_parts, and_from}
 use Rattle.std.proofs.lemmas.Option.{same_Some}
 use Rattle.edit_syntax.proofs.Cases.{by_test}
 use Rattle.edit_syntax.proofs.Members.{Among, among_all}
-use Rattle.edit_tree.specs.Assertions.{Place, Step, index, at, same_step, same_place, Kind, Assertion, is_array, is_array_at, elements_at}
+use Rattle.edit_tree.specs.Assertions.{Place, Step, index, at, same_step, same_place, Kind, Assertion}
 use Rattle.edit_tree.specs.EditBytes.{is_within}
 use Rattle.edit_tree.specs.Meant.{staying}
-use Rattle.edit_tree.specs.Tree.{table, once, step_from, kind_at, view_of_kind, view_in}
+use Rattle.edit_tree.specs.Tree.{kind_at}
 use Rattle.edit_tree.proofs.Asserters.{Made, AreMade}
-use Rattle.edit_tree.proofs.Below.{step_from_is}
-use Rattle.edit_tree.proofs.HeadedPlaces.{inside_self, inside_more, inside_trans}
-use Rattle.edit_tree.proofs.MoreMembers.{steps}
+use Rattle.edit_tree.proofs.HeadedPlaces.{inside_trans}
 use Rattle.edit_tree.proofs.PairedPlaces.{owns, IsOpen}
 use Rattle.edit_tree.proofs.SamePlace.{not_root, same_place_is, same_place_self, same_step_is, same_step_self}
-use Rattle.edit_tree.proofs.ThinnedViews.{option_made}
 
 -- ---- places
 
@@ -91,78 +87,9 @@ among_kind (x ∷ xs) p a m same none = go (same_place x.place p) refl m none (a
         ap (λ z. same_place z p) same ∙ same_place_self p) ∙ t)
     go false t (inr m) e ih = ih m same e
 
--- ---- where all assertions stay
-
 -- all assertions of the place and of those below it stay
 abbrev pub AllStay : Place → List Assertion → Place → Type 0
 AllStay gone xs p = (a : Assertion) → Among a xs → is_within p a.place ≡ true → is_within gone a.by ≡ false
-
-module _ (gone : Place) where
-  pub same_kind : (xs : List Assertion) (p : Place) → AllStay gone xs p
-      → kind_at (staying gone xs) p ≡ kind_at xs p
-  same_kind [] p all = refl
-  same_kind (x ∷ xs) p all = go (is_within gone x.by) (same_place x.place p) refl refl
-      (same_kind xs p (λ a m. all a (inr m)))
-    where
-      go : (b c : Bool) → is_within gone x.by ≡ b → same_place x.place p ≡ c
-          → kind_at (staying gone xs) p ≡ kind_at xs p
-          → kind_at (cond (not b) (x ∷ staying gone xs) (staying gone xs)) p
-          ≡ cond c (Some x.kind) (kind_at xs p)
-      go true true e f ih =
-          let here = ap (λ z. is_within p z) (same_place_is x.place p f) ∙ inside_self p in
-          absurd (true≢false (sym e ∙ all x (inl refl) here))
-      go true false e f ih = ih
-      go false c e f ih = ap (λ o. cond (same_place x.place p) (Some x.kind) o) ih ∙
-          ap (λ b. cond b (Some x.kind) (kind_at xs p)) f
-
-  same_steps : (xs : List Assertion) (p : Place) → AllStay gone xs p → steps (staying gone xs) p ≡ steps xs p
-  same_steps [] p all = refl
-  same_steps (x ∷ xs) p all = go (is_within gone x.by) (step_from p x.place) refl refl
-      (same_steps xs p (λ a m. all a (inr m)))
-    where
-      go : (b : Bool) (o : Option Step) → is_within gone x.by ≡ b → step_from p x.place ≡ o
-          → steps (staying gone xs) p ≡ steps xs p
-          → steps (cond (not b) (x ∷ staying gone xs) (staying gone xs)) p ≡ cons_option o (steps xs p)
-      go true None e f ih = ih
-      go true (Some s) e f ih =
-          let low = ap (λ z. is_within p z) (step_from_is p x.place s f) ∙
-          inside_more p p (s ∷ []) (inside_self p) in
-          absurd (true≢false (sym e ∙ all x (inl refl) low))
-      go false o e f ih = ap (λ z. cons_option (step_from p x.place) z) ih ∙
-          ap (λ z. cons_option z (steps xs p)) f
-
-  pub same_elements : (xs : List Assertion) (p : Place)
-      → ((a : Assertion) → Among a xs → is_array_at p a ≡ true → is_within gone a.by ≡ false)
-      → elements_at (staying gone xs) p ≡ elements_at xs p
-  same_elements [] p all = refl
-  same_elements (x ∷ xs) p all = go (is_within gone x.by) (is_array_at p x) refl refl
-      (same_elements xs p (λ a m. all a (inr m)))
-    where
-      go : (b c : Bool) → is_within gone x.by ≡ b → is_array_at p x ≡ c
-          → elements_at (staying gone xs) p ≡ elements_at xs p
-          → elements_at (cond (not b) (x ∷ staying gone xs) (staying gone xs)) p
-          ≡ cond c (suc (elements_at xs p)) (elements_at xs p)
-      go true true e f ih = absurd (true≢false (sym e ∙ all x (inl refl) f))
-      go true false e f ih = ih
-      go false c e f ih =
-          ap (λ n. cond (is_array_at p x) (suc n) n) ih ∙
-          ap (λ b. cond b (suc (elements_at xs p)) (elements_at xs p)) f
-
-  array_stays : (xs : List Assertion) (p : Place) → AllStay gone xs p → (a : Assertion) → Among a xs
-      → is_array_at p a ≡ true
-      → is_within gone a.by ≡ false
-  array_stays xs p all a m f =
-      all a m (ap (λ z. is_within p z)
-      (same_place_is a.place p (and_parts (is_array a.kind) (same_place a.place p) f).1) ∙ inside_self p)
-
-  -- there the same stands
-  pub same_view : (xs : List Assertion) (p : Place) → AllStay gone xs p
-      → view_in (staying gone xs) p ≡ view_in xs p
-  same_view xs [] all = ap (λ ms. Some (table ms)) (ap once (same_steps xs [] all))
-  same_view xs (s ∷ ss) all =
-      option_made (s ∷ ss) (staying gone xs) xs (kind_at (staying gone xs) (s ∷ ss))
-      (ap once (same_steps xs (s ∷ ss) all)) (same_elements xs (s ∷ ss) (array_stays xs (s ∷ ss) all))
-      ∙ ap (option_map (view_of_kind xs (s ∷ ss))) (same_kind xs (s ∷ ss) all)
 
 -- ---- on the way
 

@@ -1,9 +1,9 @@
 -- The trees that edits mean, and when an edit is refused.
-use Rattle.std.specs.Prelude.{◌≡◌, ℕ, ◌-◌, Bool, true, false, not, nat_lt, ◌||◌, if◌then◌else◌, List, [], ◌∷◌, ◌++◌, map, length, Option, Some, None, is_some, option_map, option_and_then, slice_get, find}
+use Rattle.std.specs.Prelude.{◌≡◌, ℕ, suc, ◌-◌, Bool, true, false, not, nat_lt, ◌&&◌, ◌||◌, if◌then◌else◌, List, [], ◌∷◌, ◌++◌, map, length, Option, Some, None, option_map, option_and_then, slice_get, find}
 use Rattle.std.specs.List.{list_any, filter}
 use Rattle.edit_syntax.specs.Grammar.{Text}
 use Rattle.edit_tree.specs.Assertions.{Step, key, index, Place, at, same_bytes, same_step, same_place, Assertion, assertions}
-use Rattle.edit_tree.specs.Tree.{View, string, truth, static_array, inline_table, table, step_from, view_in, view_at}
+use Rattle.edit_tree.specs.Tree.{View, string, truth, static_array, table_array, inline_table, table, view_in, view_at}
 use Rattle.edit_tree.specs.Supported.{IsManifest}
 use Rattle.edit_tree.specs.NewItems.{NewValue, a_string, a_truth, a_list, NewItem, a_value, a_table}
 use Rattle.edit_tree.specs.EditBytes.{is_within, replaced_text, inserted_text}
@@ -88,21 +88,16 @@ pub record Inserted (place : Place) (name : List ℕ) (v : NewValue) (old new : 
 abbrev pub staying : Place → List Assertion → List Assertion
 staying gone made = filter (λ a. not (is_within gone a.by)) made
 
+-- Nothing asserts the second place any more, once all that names the first place or one below it is gone.
+abbrev pub Vanishes : Text → Place → Place → Type 0
+Vanishes form gone place = view_in (staying gone (assertions form)) place ≡ None
+
 -- where a place is once this one is gone: the later elements of an array move up
 abbrev pub moved : Place → Place → Place
 moved [] q = q
 moved (s ∷ gone) [] = []
 moved (index i ∷ []) (index j ∷ q) = index (if nat_lt i j then j - 1 else j) ∷ q
 moved (s ∷ gone) (t ∷ q) = t ∷ (if same_step s t then moved gone q else q)
-
--- an array that loses an element has one less
-abbrev pub shrunk : Place → Place → View → View
-shrunk gone q (static_array n) = static_array (if is_some (step_from q gone) then n - 1 else n)
-shrunk gone q v = v
-
--- The tree that is left, each place where it was: tables and arrays that nothing asserts any more vanish.
-abbrev pub tree_left : Place → List Assertion → Tree
-tree_left gone made q = option_map (shrunk gone q) (view_in (staying gone made) q)
 
 -- the same members, each once, whatever their order
 pub record SameMembers (ms ns : List Step) : Type 0 where
@@ -117,6 +112,19 @@ pub data SameButOrder : Option View → Option View → Type 0 where
   inline_tables : (ms ns : List Step) → SameMembers ms ns
       → SameButOrder (Some (inline_table ms)) (Some (inline_table ns))
 
+-- the first steps are the second ones and this one
+pub record LosesStep (t : Step) (ms ns : List Step) : Type 0 where
+  pub count : length ms ≡ suc (length ns)
+  pub members : (s : Step) → list_any (same_step s) ns ≡ (list_any (same_step s) ms && not (same_step t s))
+
+-- the second view is the first one without a part: a table has a member less, an array an element
+pub data Loses (t : Step) : Option View → Option View → Type 0 where
+  from_table : (ms ns : List Step) → LosesStep t ms ns → Loses t (Some (table ms)) (Some (table ns))
+  from_inline_table : (ms ns : List Step) → LosesStep t ms ns
+      → Loses t (Some (inline_table ms)) (Some (inline_table ns))
+  from_array : (n : ℕ) → Loses t (Some (static_array (suc n))) (Some (static_array n))
+  from_table_array : (n : ℕ) → Loses t (Some (table_array (suc n))) (Some (table_array n))
+
 -- its last step leads to a member
 abbrev pub is_member : Place → Bool
 is_member [] = false
@@ -124,11 +132,22 @@ is_member (key n ∷ []) = true
 is_member (index i ∷ []) = false
 is_member (s ∷ t ∷ ts) = is_member (t ∷ ts)
 
--- the tree of assertions without the place: nothing at a member and below it, all else where it moved to
-pub record Removed (gone : Place) (made : List Assertion) (new : Tree) : Type 0 where
+-- The old tree without the item at a place, and without the tables and arrays around it that vanish.
+pub record Removed (form : Text) (gone : Place) (old new : Tree) : Type 0 where
+  -- nothing stands at the place of a member that is gone, nor below it
   pub nothing_there : is_member gone ≡ true → (q : Place) → is_within gone q ≡ true → new q ≡ None
-  pub elsewhere : (q : Place)
-      → is_within gone q ≡ false → SameButOrder (tree_left gone made q) (new (moved gone q))
+  -- what is neither in the item nor around it is the same where it moved to, but for the order of members
+  pub beside : (q : Place) → is_within gone q ≡ false → is_within q gone ≡ false
+      → SameButOrder (old q) (new (moved gone q))
+  -- a table or array around the item is the same where its part that leads to the item stays
+  pub stays : (q : Place) (t : Step) (r : Place) → gone ≡ q ++ t ∷ r → (Vanishes form gone (at q t) → ⊥)
+      → SameButOrder (old q) (new q)
+  -- the innermost one that stays has lost that part
+  pub loses : (q : Place) (t : Step) (r : Place) → gone ≡ q ++ t ∷ r → (Vanishes form gone q → ⊥)
+      → Vanishes form gone (at q t) → Loses t (old q) (new q)
+  -- and nothing stands where one vanishes
+  pub vanishes : (q : Place) (t : Step) (r : Place) → gone ≡ q ++ t ∷ r → Vanishes form gone q
+      → new q ≡ None
 
 -- ---- when an edit is refused
 
@@ -136,20 +155,20 @@ pub record Removed (gone : Place) (made : List Assertion) (new : Tree) : Type 0 
 abbrev pub ReadsOtherwise : List ℕ → (Tree → Type 0) → Type 0
 ReadsOtherwise bytes Meant = (form : Text) → IsManifest bytes form → Meant (view_at form) → ⊥
 
--- whatever form the old bytes have, the new text reads otherwise
+-- the old text with another entry at the place is no document, or shows another tree than meant
 abbrev pub ReplaceFails : Place → NewItem → List ℕ → Type 0
 ReplaceFails place item old =
     (form : Text) → IsManifest old form
     → ReadsOtherwise (replaced_text place item form) (HasReplaced place item (view_at form))
 
--- the same of a member inserted
+-- the old text with a member inserted is no document, or shows another tree than meant
 abbrev pub InsertFails : Place → List ℕ → NewValue → List ℕ → Type 0
 InsertFails place name v old =
     (form : Text) → IsManifest old form
     → ReadsOtherwise (inserted_text place name v form) (Inserted place name v (view_at form))
 
--- the same of an item removed
+-- the old text without the item is no document, or shows another tree than meant
 abbrev pub RemoveFails : Place → List ℕ → Type 0
 RemoveFails gone old =
     (form : Text) → IsManifest old form
-    → ReadsOtherwise (removed_text gone form) (Removed gone (assertions form))
+    → ReadsOtherwise (removed_text gone form) (Removed form gone (view_at form))

@@ -139,7 +139,7 @@ module _ (o : Options) (now next : Kept) (xs : List Input) (cs : List (Vec Confi
       (seen (view_at one.form)) lines one.decided
 
   told-own : All (λ (t : Told). t.input ≡ length xs) told
-  told-own = warned-inputs (length xs) x.bytes.items told one.warned
+  told-own = warned-inputs o (length xs) x.bytes.items told one.warned
 
   outputs-own : All (λ (q : Output). output_path q ≡ path_of x) outputs
   outputs-own = written-paths (path_of x) x.bytes.items lines outputs one.writes

@@ -14,7 +14,7 @@ use Rattle.edit_version.specs.RustVersions.{Numbers}
 use Rattle.semver.specs.Parse.{Parts}
 use Rattle.edit_upgrade.specs.Drafts.{outputs_on}
 use Rattle.edit_upgrade.specs.Inputs.{output_path}
-use Rattle.edit_upgrade.specs.Lists.{IsWarningBy, IsWarningOn, Told, unread, unreadable_text, warned, warning_by}
+use Rattle.edit_upgrade.specs.Lists.{IsWarningBy, IsWarningOn, Told, kept_unread, unreadable_text, warned, warning_by}
 use Rattle.edit_upgrade.specs.Looks.{Kept, kept_basis}
 use Rattle.edit_upgrade.specs.Outputs.{AreOutputs, HasOutputs, changed, unchanged}
 use Rattle.edit_upgrade.specs.Records.{Seen, Source, seen, source_of, version_of}
@@ -86,23 +86,24 @@ warned-input i name (Some old) w h = sym (ap told-input h)
     told-input None = i
     told-input (Some t) = t.input
 
-by-source : (i : ℕ) (name : List ℕ) (o : Option Source) (version : Option (List ℕ)) (w : Told)
-    → warning_by i name o version ≡ Some w → w.input ≡ i
-by-source i name None version w h = sym (ap told-input h)
+by-source : (o : Options) (i : ℕ) (name : List ℕ) (r : EntryRecord) (source : Option Source) (w : Told)
+    → warning_by o i name r source ≡ Some w → w.input ≡ i
+by-source o i name r None w h = sym (ap told-input h)
   where
     told-input : Option Told → ℕ
     told-input None = i
     told-input (Some t) = t.input
-by-source i name (Some source) version w h = warned-input i name (option_and_then unread version) w h
+by-source o i name r (Some source) w h =
+    warned-input i name (option_and_then (kept_unread o r) (version_of r)) w h
 
-by-record : (i : ℕ) (name : List ℕ) (o : Option EntryRecord) (told : Option Told) (w : Told)
-    → IsWarningBy i name o told → told ≡ Some w → w.input ≡ i
-by-record i name None told w h q = sym (ap told-input (sym h.1 ∙ q))
+by-record : (o : Options) (i : ℕ) (name : List ℕ) (said : Option EntryRecord) (told : Option Told) (w : Told)
+    → IsWarningBy o i name said told → told ≡ Some w → w.input ≡ i
+by-record o i name None told w h q = sym (ap told-input (sym h.1 ∙ q))
   where
     told-input : Option Told → ℕ
     told-input None = i
     told-input (Some t) = t.input
-by-record i name (Some r) told w h q = by-source i name (source_of r) (version_of r) w (sym h ∙ q)
+by-record o i name (Some r) told w h q = by-source o i name r (source_of r) w (sym h ∙ q)
 
 cons-input : (i : ℕ) (told : Option Told) (ts : List Told) → ((w : Told) → told ≡ Some w → w.input ≡ i)
     → All (λ (t : Told). t.input ≡ i) ts
@@ -110,17 +111,17 @@ cons-input : (i : ℕ) (told : Option Told) (ts : List Told) → ((w : Told) →
 cons-input i None ts h g = g
 cons-input i (Some w) ts h g = All-cons (λ (t : Told). t.input ≡ i) w ts (h w refl) g
 
-warnings-input : (i : ℕ) (es : List found.Entry) (each : List (Option Told)) → AllZip (IsWarningOn i) es each
-    → All (λ (t : Told). t.input ≡ i) (filter_map (λ told. told) each)
-warnings-input i [] [] h = All-nil (λ (t : Told). t.input ≡ i)
-warnings-input i [] (t ∷ ts) h = absurd h
-warnings-input i (e ∷ es) [] h = absurd h
-warnings-input i (e ∷ es) (t ∷ ts) h =
-    cons-input i t (filter_map (λ told. told) ts) (λ w q. by-record i e.name e.said t w h.0 q)
-    (warnings-input i es ts h.1)
+warnings-input : (o : Options) (i : ℕ) (es : List found.Entry) (each : List (Option Told))
+    → AllZip (IsWarningOn o i) es each → All (λ (t : Told). t.input ≡ i) (filter_map (λ told. told) each)
+warnings-input o i [] [] h = All-nil (λ (t : Told). t.input ≡ i)
+warnings-input o i [] (t ∷ ts) h = absurd h
+warnings-input o i (e ∷ es) [] h = absurd h
+warnings-input o i (e ∷ es) (t ∷ ts) h =
+    cons-input i t (filter_map (λ told. told) ts) (λ w q. by-record o i e.name e.said t w h.0 q)
+    (warnings-input o i es ts h.1)
 
-pub warned-inputs : (i : ℕ) (bytes : List ℕ) (told : List Told) → HasWarnings i bytes told
+pub warned-inputs : (o : Options) (i : ℕ) (bytes : List ℕ) (told : List Told) → HasWarnings o i bytes told
     → All (λ (t : Told). t.input ≡ i) told
-warned-inputs i bytes told h =
+warned-inputs o i bytes told h =
     subst (λ (ts : List Told). All (λ (t : Told). t.input ≡ i) ts) (sym h.are.all)
-    (warnings-input i (entries (view_at h.form) []) h.are.each h.are.on)
+    (warnings-input o i (entries (view_at h.form) []) h.are.each h.are.on)

@@ -17,6 +17,7 @@ use Rattle.edit_upgrade.proofs.Steps.{names-more}
 use Rattle.edit_upgrade.specs.Lines.{line_of}
 use Rattle.edit_upgrade.specs.Lists.{AreNames, AreWarnings, IsWarningOn, Told, changed_name, git_name, is_git}
 use Rattle.edit_upgrade.specs.Rows.{Line}
+use Rattle.edit_upgrade.specs.declared.decision.options.Options.{Options}
 use Rattle.edit_report.specs.declared.row.Change.{Change}
 use Rattle.edit_report.specs.declared.row.Row.{Row}
 
@@ -94,18 +95,19 @@ git-none row h = rw h refl
 -- ---- warnings
 
 -- the warnings on an entry more
-pub warned-more : (i : ℕ) (es : List Entry) (ts new : List Told) (e : Entry) (told : Option Told)
-    → AreWarnings i es ts → IsWarningOn i e told
-    → new ≡ ts ++ cons_option told [] → AreWarnings i (es ++ e ∷ []) new
-warned-more i es ts new e told a w n = record {
+pub warned-more : (o : Options) (i : ℕ) (es : List Entry) (ts new : List Told) (e : Entry)
+    (told : Option Told)
+    → AreWarnings o i es ts → IsWarningOn o i e told
+    → new ≡ ts ++ cons_option told [] → AreWarnings o i (es ++ e ∷ []) new
+warned-more o i es ts new e told a w n = record {
   each = a.each ++ told ∷ [];
-  on = all_zipped_more (IsWarningOn i) es a.each e told a.on w;
+  on = all_zipped_more (IsWarningOn o i) es a.each e told a.on w;
   all = n ∙ ap (λ (l : List Told). l ++ cons_option told []) a.all
       ∙ sym (filter_map-append (λ (o : Option Told). o) a.each (told ∷ []));
 }
 
-pub warned-none : (i : ℕ) (ts : List Told) → ts ≡ [] → AreWarnings i [] ts
-warned-none i ts h = record { each = []; on = tt; all = h }
+pub warned-none : (o : Options) (i : ℕ) (ts : List Told) → ts ≡ [] → AreWarnings o i [] ts
+warned-none o i ts h = record { each = []; on = tt; all = h }
 
 -- a text among texts, as a set of them tells it
 pub text-any : {Y : Type 0} (name : List ℕ) (ks : List (String Y))

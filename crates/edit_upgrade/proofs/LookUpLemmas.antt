@@ -5,9 +5,8 @@ use Rattle.std.specs.Option.{option_or}
 use Rattle.std.specs.Str.{bytes_eq}
 use Rattle.std.proofs.lemmas.Bool.{cases_Bool, cases_lt}
 use Rattle.std.proofs.lemmas.List.Elements.{All-contains, All-contains_itself, All-head, Contains-append_right}
-use Rattle.edit_base.specs.Errors.{number_of}
 use Rattle.edit_base.specs.declared.errors.Error.{Error}
-use Rattle.edit_sources.specs.Index.{Outcomes, SameOutcomes, answer_of}
+use Rattle.edit_sources.specs.Index.{Outcomes, SameOutcomes, answer_of, lookup_error}
 use Rattle.edit_store.specs.Store.{raised}
 use Rattle.url.specs.Parts as url
 use Rattle.url.specs.Parts.{serialize}
@@ -262,4 +261,4 @@ pub refused-with : (first last : Outcomes) (address : url.Parts) (name : List �
     → IsRefusedAt last address name b c e → IsRefusedAt first address name a c e
 refused-with first last address name a b c e h l (inr device) = inr (device.0, later a b c 0 l device.1)
 refused-with first last address name a b c e h l (inl refusal) = inl
-    (refusal.0, (h address name (Err (number_of e))).0 refusal.1)
+    (refusal.0, (h address name (Err (lookup_error e))).0 refusal.1)

@@ -149,16 +149,17 @@ planned-refused configs bytes first old now b c es e a (inr stops) = inr (record
 })
 
 -- the warnings on the entries of a document are those of the manifest
-pub planned-warnings : (number : ℕ) (bytes : List ℕ) (d : Shown) (es : List found.Entry) (ts : List Told)
+pub planned-warnings : (o : Options) (number : ℕ) (bytes : List ℕ) (d : Shown) (es : List found.Entry)
+    (ts : List Told)
     → d.bytes ≡ bytes → (form : Text) × IsManifest d.bytes form
     → ((form : Text) → IsManifest d.bytes form → ShowsTree d form) → es ≡ entries (tree_of d) []
-    → AreWarnings number es ts → HasWarnings number bytes ts
-planned-warnings number bytes d es ts same f shows whole w =
+    → AreWarnings o number es ts → HasWarnings o number bytes ts
+planned-warnings o number bytes d es ts same f shows whole w =
     let tree : tree_of d ≡ view_at f.0 = λ i p. shows f.0 f.1 p i in
     record {
       form = f.0;
       manifest = subst (λ (x : List ℕ). IsManifest x f.0) same f.1;
-      are = subst (λ (xs : List found.Entry). AreWarnings number xs ts)
+      are = subst (λ (xs : List found.Entry). AreWarnings o number xs ts)
           (whole ∙ ap (λ (t : Tree). entries t []) tree) w;
     }
 

@@ -198,17 +198,23 @@ entry-kept configs e gives now next looks more pairs then_pairs kept step = by (
         let l = step.looked registry.0 registry.1 in
         let here = step-here (serialize l.0) e.name gives now next looks more pairs then_pairs kept l.2 in (
           step-kept (serialize l.0) e.name gives now next looks more pairs then_pairs kept l.2,
-          λ address name needs.
-              let p = for-pair configs e registry.0 l.0 (serialize address) name registry.1 l.1
-              (record { registry = address; needs = needs; at = refl }) in
-              subst (λ (x : List ℕ). IsSome (next x name)) (sym p.0)
-              (subst (λ (x : List ℕ). IsSome (next (serialize l.0) x)) (sym p.1) here),
+          record {
+            answered = λ address name needs.
+                let p = for-pair configs e registry.0 l.0 (serialize address) name registry.1 l.1
+                (record { registry = address; needs = needs; at = refl }) in
+                subst (λ (x : List ℕ). IsSome (next x name)) (sym p.0)
+                (subst (λ (x : List ℕ). IsSome (next (serialize l.0) x)) (sym p.1) here);
+            has = λ named q. let m = step.looked named q in (m.0, m.1);
+          },
         )
     by (inr other) =
         let i = step.idle other in (
           subst (λ (k : Kept). AreKept then_pairs k) (sym i.2)
               (subst (λ (q : Pairs). AreKept q now) (sym i.1) kept),
-          λ address name needs. absurd (not-both e needs.named needs.source other),
+          record {
+            answered = λ address name needs. absurd (not-both e needs.named needs.source other);
+            has = λ named q. absurd (not-both e named q other);
+          },
         )
 
 -- the same step, told with the outcomes that the index had

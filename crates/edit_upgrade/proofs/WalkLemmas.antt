@@ -72,15 +72,18 @@ stays-at : (configs : List Config) (now next : Kept) → Stays now next → (e :
     → (address : url.Parts) (name : List ℕ) → Needs configs e address name
     → next (serialize address) name ≡ now (serialize address) name
 stays-at configs now next stays e p address name needs = stays (serialize address) name
-    (p address name needs)
+    (p.answered address name needs)
 
 pub passed-stays : (configs : List Config) (now next : Kept) (es : List Seen) → Stays now next
     → All (IsPassed configs now) es
     → All (IsPassed configs next) es
 passed-stays configs now next es stays h =
     All-weaker (IsPassed configs now) (IsPassed configs next)
-    (λ e p address name needs. subst (λ (o : Option Answer). IsSome o)
-    (sym (stays-at configs now next stays e p address name needs)) (p address name needs)) es h
+    (λ e p. record {
+      answered = λ address name needs. subst (λ (o : Option Answer). IsSome o)
+          (sym (stays-at configs now next stays e p address name needs)) (p.answered address name needs);
+      has = p.has;
+    }) es h
 
 -- rows over the answers that are kept stay, where more are kept
 pub rows-stay : (i : ℕ) (o : Options) (rust : Option Numbers) (configs : List Config) (now next : Kept)

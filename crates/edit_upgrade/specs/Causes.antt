@@ -7,7 +7,7 @@ use Rattle.edit_tree.specs.Supported.{IsManifest}
 use Rattle.edit_tree.specs.Tree.{view_at}
 use Rattle.edit_base.specs.declared.errors.Error.{Error}
 use Rattle.edit_manifest.specs.Loaded.{IsBadManifest}
-use Rattle.edit_sources.specs.Configured.{HasNoUrl}
+use Rattle.edit_sources.specs.Configured.{HasAddress, HasNoUrl}
 use Rattle.edit_sources.specs.Index.{Outcomes}
 use Rattle.edit_sources.specs.declared.config.Config.{Config}
 use Rattle.url.specs.Parts as url
@@ -19,9 +19,11 @@ use Rattle.edit_upgrade.specs.Rows.{Needs}
 use Rattle.edit_metadata.specs.declared.input.Input.{Input}
 
 -- an entry at which a plan goes on: the answer to each look that it needs is kept
-abbrev pub IsPassed : List Config → Kept → Seen → Type 0
-IsPassed configs new e = (address : url.Parts) (name : List ℕ) → Needs configs e address name
-    → IsSome (new (serialize address) name)
+pub record IsPassed (configs : List Config) (new : Kept) (e : Seen) : Type 0 where
+  pub answered : (address : url.Parts) (name : List ℕ) → Needs configs e address name
+      → IsSome (new (serialize address) name)
+  pub has : (named : Option (List ℕ)) → e.source ≡ at_registry named
+      → (address : url.Parts) × HasAddress configs named address
 
 -- why an entry stops a plan: its registry has no address, or the look that it needs is refused and no answer
 -- was kept

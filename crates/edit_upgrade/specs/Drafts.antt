@@ -49,7 +49,7 @@ pub record IsPlanned (i : ℕ) (o : Options) (input : Input) (configs : List Con
   pub decided : AreDecided (kept_basis i o (option_map numbers_of input.rust_version) configs kept)
       (seen (view_at form)) lines
   pub writes : HasOutputs (path_of input) input.bytes.items lines outputs
-  pub warned : HasWarnings i input.bytes.items told
+  pub warned : HasWarnings o i input.bytes.items told
 
 -- a path of one of the inputs (own)
 pub record IsPathAmong (inputs : List Input) (path : List ℕ) : Type 0 where
@@ -94,7 +94,7 @@ pub record AddsInput (i : ℕ) (o : Options) (input : Input) (configs : List Con
   pub told : List Told
   pub walked : IsWalked i o input configs gives old new before.books after.books lines
   pub writes : HasOutputs (path_of input) input.bytes.items lines outputs
-  pub warned : HasWarnings i input.bytes.items told
+  pub warned : HasWarnings o i input.bytes.items told
   pub rows_are : map line_of after.rows.items ≡ map line_of before.rows.items ++ lines
   pub outputs_are : after.outputs.items ≡ before.outputs.items ++ outputs
   pub told_are : map warning_view after.warnings.items ≡ map warning_view before.warnings.items ++ told

@@ -1,18 +1,19 @@
 -- What a plan tells besides its rows.
-use Rattle.std.specs.Prelude.{◌≡◌, map, ℕ, List, ◌++◌, codes, Bool, true, false, if◌then◌else◌, Option, Some, None, String, is_ok, option_and_then, option_map, string_bytes, string_cmp}
+use Rattle.std.specs.Prelude.{◌≡◌, map, ℕ, List, ◌++◌, codes, Bool, true, false, Option, Some, None, String, is_some, option_and_then, option_map, string_bytes, string_cmp}
 use Rattle.std.specs.List.{AllZip, filter_map, list_any}
 use Rattle.std.specs.List.Sorted.{IsStrictlySortedBy}
 use Rattle.std.specs.Str.{bytes_eq}
 use Rattle.std.specs.declared.alloc.Global.{Global}
-use Rattle.semver.specs.Parse.{req_of}
 use Rattle.edit_record.specs.EntryRecords.{EntryRecord}
 use Rattle.edit_manifest.specs.Entries.{Entry}
-use Rattle.edit_upgrade.specs.Decision.{when}
+use Rattle.edit_upgrade.specs.Decision.{Case, Outcome, row_of, unread, when}
 use Rattle.edit_upgrade.specs.Lines.{line_of}
 use Rattle.edit_upgrade.specs.Records.{Source, source_of, version_of}
 use Rattle.edit_upgrade.specs.Rows.{Line}
+use Rattle.edit_upgrade.specs.Words.{is_excluded, requirement_for}
 use Rattle.edit_report.specs.declared.row.Reason.{Reason}
 use Rattle.edit_report.specs.declared.row.Reason.TheVariants as reason
+use Rattle.edit_upgrade.specs.declared.decision.options.Options.{Options}
 use Rattle.edit_upgrade.specs.declared.upgrade.Warning.{Warning}
 use Rattle.edit_upgrade.specs.declared.upgrade.UpgradePlan.{UpgradePlan}
 
@@ -56,35 +57,54 @@ ignored_text name text = codes "ignoring " ++ (name ++ (codes ", unsupported ent
 abbrev pub workspace_text : List ℕ → List ℕ
 workspace_text name = codes "ignoring " ++ (name ++ codes ", source is workspace")
 
--- what is told of an entry of this key whose requirement is not read
+-- what is told of an entry of this key that keeps its requirement because that is not read
 abbrev pub unreadable_text : List ℕ → List ℕ → List ℕ
 unreadable_text name old =
     codes "keeping " ++ (name ++ (codes ", unreadable requirement `" ++ (old ++ codes "`")))
 
--- a requirement, where it is not read
-abbrev pub unread : List ℕ → Option (List ℕ)
-unread old = if is_ok (req_of old) then None else Some old
+-- the entry keeps its text because that is not read
+abbrev pub is_unread : Outcome → Bool
+is_unread unread = true
+is_unread row = false
 
--- the warning on an entry of this key with this source and requirement: that its workspace has the source,
--- which only a verbose report tells, or that its requirement is not read
-abbrev pub warning_by : ℕ → List ℕ → Option Source → Option (List ℕ) → Option Told
-warning_by i name None version = Some (warned i true (workspace_text name))
-warning_by i name (Some source) version =
-    option_map (λ old. warned i false (unreadable_text name old)) (option_and_then unread version)
+-- what the decision for an entry of this record with this requirement rests on, where no version is told
+abbrev pub case_without_versions : Options → EntryRecord → List ℕ → Case
+case_without_versions o r old = record {
+  excluded = is_excluded o r.name;
+  renamed = is_some r.rename;
+  never_lower = o.never_lower;
+  selected = requirement_for o r.name;
+  old = old;
+  compatible = None;
+  latest = None;
+}
+
+-- the requirement of an entry of this record, where the decision keeps it because it is not read: the entry
+-- is not left out, and no requirement that words give is taken
+abbrev pub kept_unread : Options → EntryRecord → List ℕ → Option (List ℕ)
+kept_unread o r old = when (is_unread (row_of o (case_without_versions o r old))) (Some old)
+
+-- the warning on an entry of this key, record and source: that its workspace has the source, which only a
+-- verbose report tells, or that it keeps a requirement that is not read
+abbrev pub warning_by : Options → ℕ → List ℕ → EntryRecord → Option Source → Option Told
+warning_by o i key r None = Some (warned i true (workspace_text key))
+warning_by o i key r (Some source) =
+    option_map (λ old. warned i false (unreadable_text key old))
+    (option_and_then (kept_unread o r) (version_of r))
 
 -- the warning on an entry: where it has no record, one that tells why
-abbrev pub IsWarningBy : ℕ → List ℕ → Option EntryRecord → Option Told → Type 0
-IsWarningBy i name None told = (text : List ℕ) × (told ≡ Some (warned i false (ignored_text name text)))
-IsWarningBy i name (Some r) told = told ≡ warning_by i name (source_of r) (version_of r)
+abbrev pub IsWarningBy : Options → ℕ → List ℕ → Option EntryRecord → Option Told → Type 0
+IsWarningBy o i key None told = (text : List ℕ) × (told ≡ Some (warned i false (ignored_text key text)))
+IsWarningBy o i key (Some r) told = told ≡ warning_by o i key r (source_of r)
 
--- the same of an entry
-abbrev pub IsWarningOn : ℕ → Entry → Option Told → Type 0
-IsWarningOn i e told = IsWarningBy i e.name e.said told
+-- the warning on an entry, by its key and what it says
+abbrev pub IsWarningOn : Options → ℕ → Entry → Option Told → Type 0
+IsWarningOn o i e told = IsWarningBy o i e.name e.said told
 
 -- the warnings on entries, one on each or none, in their order
-pub record AreWarnings (i : ℕ) (es : List Entry) (ts : List Told) : Type 0 where
+pub record AreWarnings (o : Options) (i : ℕ) (es : List Entry) (ts : List Told) : Type 0 where
   pub each : List (Option Told)
-  pub on : AllZip (IsWarningOn i) es each
+  pub on : AllZip (IsWarningOn o i) es each
   pub all : ts ≡ filter_map (λ told. told) each
 
 -- the row's entry is one of a repository, without a requirement

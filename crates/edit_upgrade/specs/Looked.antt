@@ -1,10 +1,10 @@
 -- How looks are made, one after another.
-use Rattle.std.specs.Prelude.{◌≡◌, ◌≤◌, ◌⊎◌, ℕ, List, [], ◌∷◌, ◌++◌, Bool, true, false, ◌&&◌, if◌then◌else◌, Option, IsSome, Some, Ok, Err, is_some, string_bytes}
+use Rattle.std.specs.Prelude.{◌≡◌, ◌≤◌, ◌⊎◌, ℕ, List, [], ◌∷◌, ◌++◌, Bool, true, false, ◌&&◌, if◌then◌else◌, Option, IsSome, Some, Ok, is_some, string_bytes}
 use Rattle.std.specs.Str.{bytes_eq}
 use Rattle.edit_base.specs.Errors.{number_of}
 use Rattle.edit_base.specs.declared.errors.Error.{Error}
 use Rattle.edit_sources.specs.Configured.{HasAddress}
-use Rattle.edit_sources.specs.Index.{IsLookRefusal, Outcomes, SameOutcomes, answer_of}
+use Rattle.edit_sources.specs.Index.{IsGivenRefusal, Outcomes, SameOutcomes, answer_of}
 use Rattle.edit_store.specs.Store.{raised}
 use Rattle.edit_sources.specs.declared.config.Config.{Config}
 use Rattle.url.specs.Parts as url
@@ -31,7 +31,7 @@ pub record IsLook (address name : List ℕ) (gives : Outcomes) (old new : Kept) 
 -- why a look is refused: the index gives this refusal, or its device failed and the count of faults rose
 abbrev pub IsRefusedAt : Outcomes → url.Parts → List ℕ → ℕ → ℕ → Error → Type 0
 IsRefusedAt gives address name before now e =
-    (IsLookRefusal (number_of e) × gives address name (Err (number_of e)))
+    IsGivenRefusal gives address name e
     ⊎ ((number_of e ≡ 3) × raised before now)
 
 -- a look at this address for this name

@@ -16,6 +16,7 @@ use Rattle.edit_upgrade.specs.Outputs.{HasOutputs}
 use Rattle.edit_upgrade.specs.Records.{Seen, seen}
 use Rattle.edit_upgrade.specs.Rows.{Basis, IsRowBy, Line, Needs}
 use Rattle.edit_metadata.specs.declared.input.Input.{Input}
+use Rattle.edit_upgrade.specs.declared.decision.options.Options.{Options}
 use Rattle.edit_upgrade.specs.declared.upgrade.UpgradePlan.{UpgradePlan}
 
 -- what the rows of an input are decided by: the versions are those that the looks tell of
@@ -75,11 +76,11 @@ HasItsOutputs s input p =
     HasOutputs (path_of input) input.bytes.items (rows_of s.input p) (outputs_at (path_of input) p)
 
 -- the bytes are a manifest, and these are the warnings on its entries
-pub record HasWarnings (input : ℕ) (bytes : List ℕ) (told : List Told) : Type 0 where
+pub record HasWarnings (o : Options) (input : ℕ) (bytes : List ℕ) (told : List Told) : Type 0 where
   pub form : Text
   pub manifest : IsManifest bytes form
-  pub are : AreWarnings input (entries (view_at form) []) told
+  pub are : AreWarnings o input (entries (view_at form) []) told
 
 -- the warnings of an input are those on the entries of its manifest
 abbrev pub HasItsWarnings : Setting → Input → UpgradePlan → Type 0
-HasItsWarnings s input p = HasWarnings s.input input.bytes.items (warnings_of s.input p)
+HasItsWarnings s input p = HasWarnings s.options s.input input.bytes.items (warnings_of s.input p)

@@ -1,16 +1,19 @@
 //! What a plan tells besides its rows.
-ghost use Rattle.std.specs.Prelude.{◌≡◌, ℕ, List, false, IfErr, IfOk, map, option_and_then, option_copied, option_map, string_bytes};
+ghost use Rattle.std.specs.Prelude.{◌≡◌, ◌&&◌, ℕ, List, false, Option, Some, IfErr, IfOk, is_some, map, not, option_and_then, option_copied, option_map, string_bytes};
 ghost use Rattle.std.specs.BTreeSet.{contains_text};
 ghost use Rattle.std.specs.List.{list_any};
 ghost use Rattle.std.specs.Str.{bytes_eq};
 ghost use Rattle.edit_base.specs.Errors.{IsMemory};
 ghost use Rattle.edit_record.specs.RecordViews.{record_view};
 ghost use Rattle.edit_manifest.specs.EntryViews.{entry_view};
+ghost use Rattle.edit_upgrade.specs.Decision.{first_row, unless, when};
 ghost use Rattle.edit_upgrade.specs.Lines.{line_of};
-ghost use Rattle.edit_upgrade.specs.Lists.{AreNames, AreWarnings, IsWarningOn, changed_names, git_names, ignored_text, is_git, is_held_incompatible, is_held_pinned, unread, unreadable_text, warned, warning_by, warning_view, workspace_text};
-ghost use Rattle.edit_upgrade.specs.Records.{source_of, version_of};
+ghost use Rattle.edit_upgrade.specs.Lists.{AreNames, AreWarnings, IsWarningOn, changed_names, git_names, ignored_text, is_git, is_held_incompatible, is_held_pinned, is_unread, kept_unread, unreadable_text, warned, warning_by, warning_view, workspace_text};
+ghost use Rattle.edit_upgrade.specs.Records.{source_of};
 
-use crate::decision::requirement::read_pin;
+use crate::asked::{Asked, is_excluded, requirement_for};
+use crate::decision::options::Options;
+use crate::decision::requirement::{Pin, read_pin};
 use crate::names::{Names, add_name};
 use crate::upgrade::Warning;
 use edit_base::{CargoResult, Error};
@@ -121,30 +124,66 @@ fn workspace_text(alloc: Global, key: &str) -> Result<String, AllocError>
     format!(in alloc; "ignoring {key}, source is workspace")
 }
 
-/// What is told of a requirement that is not read.
+/// What is told of a requirement that stays because it is not read.
 fn unreadable_text(alloc: Global, key: &str, old: &str) -> Result<String, AllocError>
     ensures { IfOk result (λ s. string_bytes s ≡ unreadable_text key.now old.now) }
 {
     format!(in alloc; "keeping {key}, unreadable requirement `{old}`")
 }
 
-/// The warning on a requirement, where it is not read.
+/// Whether an entry keeps a requirement because it is not read: the entry is not left out, and the
+/// requirement that words give is not taken.
+fn stays_unread(options: &Options, excluded: bool, selected: Option<&str>, pin: Pin) -> bool
+    ensures { (far near : Option (List ℕ)) → result ≡ is_unread (first_row excluded
+        (unless (is_some (option_copied selected.entry) && pin.pinned && not options.now.pinned)
+        (option_copied selected.entry)) pin.readable far near) }
+{
+    if excluded || pin.readable {
+        return false;
+    }
+    match selected {
+        Some(_) => pin.pinned && !options.pinned,
+        None => true,
+    }
+}
+
+/// Whether an entry of this record keeps its requirement because that is not read.
+fn keeps_unread(
+    alloc: Global,
+    asked: Asked<'_>,
+    dependency: &Dependency,
+    old: &str,
+) -> CargoResult<bool>
+    ensures ok { IfOk result (λ b. when b (Some old.now)
+        ≡ kept_unread asked.entry.options.now (record_view dependency.now) old.now) }
+    ensures refused { IfErr result IsMemory }
+{
+    let name = dependency.name.as_str();
+    let pin = read_pin(alloc, dependency.rename.is_some(), old)?;
+    let excluded = is_excluded(asked, name);
+    let selected = requirement_for(asked, name);
+    Ok(stays_unread(asked.options, excluded, selected, pin))
+}
+
+/// The warning on an entry of this record, where it keeps its requirement because that is not read.
 fn requirement_warning(
     alloc: Global,
+    asked: Asked<'_>,
     input: usize,
     key: &str,
+    dependency: &Dependency,
     version: Option<&str>,
 ) -> CargoResult<Option<Warning>>
     ensures ok { IfOk result (λ o. option_map warning_view o
         ≡ option_map (λ old. warned input false (unreadable_text key.now old))
-        (option_and_then unread (option_map (λ s. s.now) version.entry))) }
+        (option_and_then (kept_unread asked.entry.options.now (record_view dependency.now))
+        (option_map (λ s. s.now) version.entry))) }
     ensures refused { IfErr result IsMemory }
 {
     let Some(old) = version else {
         return Ok(None);
     };
-    let pin = read_pin(alloc, false, old)?;
-    if pin.readable {
+    if !keeps_unread(alloc, asked, dependency, old)? {
         return Ok(None);
     }
     Ok(Some(Warning {
@@ -157,13 +196,14 @@ fn requirement_warning(
 /// The warning on an entry that has a record.
 fn record_warning(
     alloc: Global,
+    asked: Asked<'_>,
     input: usize,
     key: &str,
     dependency: &Dependency,
 ) -> CargoResult<Option<Warning>>
     ensures ok { IfOk result (λ o. option_map warning_view o
-        ≡ warning_by input key.now (source_of (record_view dependency.now)) (version_of
-        (record_view dependency.now))) }
+        ≡ warning_by asked.entry.options.now input key.now (record_view dependency.now)
+        (source_of (record_view dependency.now))) }
     ensures refused { IfErr result IsMemory }
 {
     let version = match &dependency.source {
@@ -178,7 +218,7 @@ fn record_warning(
             }));
         }
     };
-    requirement_warning(alloc, input, key, version)
+    requirement_warning(alloc, asked, input, key, dependency, version)
 }
 
 /// The text, where there is one.
@@ -192,14 +232,19 @@ fn text_of(text: Option<&String>) -> Option<&str>
 }
 
 /// The warning on an entry, where there is one.
-fn entry_warning(alloc: Global, input: usize, entry: &Entry) -> CargoResult<Option<Warning>>
-    ensures ok { IfOk result
-        (λ o. IsWarningOn input (entry_view entry.now) (option_map warning_view o)) }
+fn entry_warning(
+    alloc: Global,
+    asked: Asked<'_>,
+    input: usize,
+    entry: &Entry,
+) -> CargoResult<Option<Warning>>
+    ensures ok { IfOk result (λ o. IsWarningOn asked.entry.options.now input (entry_view entry.now)
+        (option_map warning_view o)) }
     ensures refused { IfErr result IsMemory }
 {
     let key = entry.key.as_str();
     match &entry.said {
-        Said::Read(dependency) => record_warning(alloc, input, key, dependency),
+        Said::Read(dependency) => record_warning(alloc, asked, input, key, dependency),
         Said::Unsupported(error) => Ok(Some(Warning {
             input,
             verbose: false,
@@ -211,16 +256,17 @@ fn entry_warning(alloc: Global, input: usize, entry: &Entry) -> CargoResult<Opti
 /// The warnings on entries, in their order.
 pub(crate) fn warnings_on(
     alloc: Global,
+    asked: Asked<'_>,
     input: usize,
     entries: &[Entry],
 ) -> CargoResult<Vec<Warning>>
-    ensures texts { IfOk result
-        (λ v. AreWarnings input (map entry_view entries.now) (map warning_view v.items)) }
+    ensures texts { IfOk result (λ v. AreWarnings asked.entry.options.now input (map entry_view entries.now)
+        (map warning_view v.items)) }
     ensures refused { IfErr result IsMemory }
 {
     let mut warnings = Vec::new(alloc);
     'entries: for entry in entries {
-        let told = entry_warning(alloc, input, entry)?;
+        let told = entry_warning(alloc, asked, input, entry)?;
         match told {
             Some(warning) => warnings.push(warning)?,
             None => {}

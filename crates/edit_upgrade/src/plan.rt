@@ -200,7 +200,7 @@ pub fn plan_upgrade<I: Index>(
     // the literals of the rows with a change, and no other byte
     ensures outputs { IfOk result (EachInput options.now inputs.now configs.now HasItsOutputs) }
     ensures outputs_in_order { IfOk result (OutputsInOrder inputs.now) }
-    // on each entry that has no record, takes all from its workspace, or has a requirement that is not read
+    // on each entry that has no record, takes all from its workspace, or keeps a requirement that is not read
     ensures warnings { IfOk result (EachInput options.now inputs.now configs.now HasItsWarnings) }
     ensures warnings_in_order { IfOk result (WarningsInOrder inputs.now) }
     // a compatible change leaves a requirement that is read and admits nothing that the old one did not

@@ -94,8 +94,8 @@ pub(crate) fn plan_input<I: Index>(
     ensures walked { IfOk result (λ p. IsWalked number asked.entry.options.now input.now configs.now
         (I.view (index_of index.old)).gives (kept_by index.old) (kept_by index.new)
         books.old books.new (map line_of p.rows.items)) }
-    ensures warnings { IfOk result (λ p. HasWarnings number input.now.bytes.items
-        (map warning_view p.warnings.items)) }
+    ensures warnings { IfOk result (λ p. HasWarnings asked.entry.options.now number
+        input.now.bytes.items (map warning_view p.warnings.items)) }
     ensures known { OnOk result (AddsNames asked.entry.options.now input.now.bytes.items
         (contains_text known.old) (contains_text known.new)) }
     ensures left { LeavesCache (IsNeededBy configs.now input.now.bytes.items)
@@ -107,7 +107,7 @@ pub(crate) fn plan_input<I: Index>(
     document.has_form();
     // from which folder a path is meant shows in no row
     let found = entries(alloc, "", document)?;
-    let warnings = warnings_on(alloc, number, &found)?;
+    let warnings = warnings_on(alloc, asked, number, &found)?;
     add_names(alloc, asked, &found, known)?;
     let entries = with_rows(alloc, found)?;
     let rows = plan_entries(alloc, number, asked, input, &entries, configs, books, index)?;

@@ -1,7 +1,6 @@
 //! The configuration files of a run that stand before and after those of the user.
 
 use crate::fetch_plan::environment::variables;
-use crate::options::value_of;
 use edit_base::CargoResult;
 use edit_base::paths::join;
 use edit_fetch::{addressless_sources, default_registry_text, sources_text, variables_text};
@@ -30,12 +29,12 @@ pub(super) fn write_configurations(
     Config::read(alloc, first.as_str(), &text)
 }
 
-/// The configurations of the current folder, and then those of each member of the workspace that the
-/// arguments of an upgrade name, each file once. What cannot be read is left out: the upgrade says so.
+/// The configurations of the current folder, and then those of each member of the workspace of which a file
+/// has the metadata, each configuration file once. What cannot be read is left out: the upgrade says so.
 pub(super) fn all_configs(
     rt: &HostRuntime,
     files: &mut HostStore<HostRuntime>,
-    upgrade: &[&str],
+    metadata: Option<&str>,
     current: &str,
     home: Option<&str>,
 ) -> CargoResult<Vec<Config>> {
@@ -46,7 +45,7 @@ pub(super) fn all_configs(
     if let Ok(configs) = cache.read_configs(alloc, files, own.as_str(), home) {
         add_configs(configs, &mut all)?;
     }
-    let Some(workspace) = workspace(rt, files, upgrade, current)? else {
+    let Some(workspace) = workspace(rt, files, metadata, current)? else {
         return Ok(all);
     };
     for package in &workspace.packages {
@@ -60,14 +59,14 @@ pub(super) fn all_configs(
     Ok(all)
 }
 
-/// The workspace that the arguments of an upgrade name, where it can be read.
+/// The workspace of which a file has the metadata, where it can be read.
 fn workspace(
     rt: &HostRuntime,
     files: &mut HostStore<HostRuntime>,
-    upgrade: &[&str],
+    metadata: Option<&str>,
     current: &str,
 ) -> CargoResult<Option<Workspace>> {
-    let Some(path) = value_of(upgrade, "--metadata-json") else {
+    let Some(path) = metadata else {
         return Ok(None);
     };
     let path = join(rt.alloc(), current, path)?;

@@ -14,30 +14,32 @@ const UNSENDABLE: &str =
 /// The address of each registry whose token stands in the environment, with that token. Of the definitions
 /// of a registry that of the environment counts, else the first of these configuration files. A token that
 /// no header can have is left out, with a warning.
-pub(super) fn registry_tokens(
+pub(super) fn registry_tokens<E: Write>(
     rt: &HostRuntime,
     environment: &Config,
     configs: &[Config],
+    err: &mut E,
 ) -> CargoResult<Vec<(String, String)>> {
     let mut tokens = Vec::new(rt.alloc());
     let mut warned = Vec::new(rt.alloc());
     let mut earlier: Vec<&Config> = Vec::new(rt.alloc());
-    add_tokens(rt, environment, &earlier, &mut warned, &mut tokens)?;
+    add_tokens(rt, environment, &earlier, &mut warned, &mut tokens, err)?;
     earlier.push(environment)?;
     for config in configs {
-        add_tokens(rt, config, &earlier, &mut warned, &mut tokens)?;
+        add_tokens(rt, config, &earlier, &mut warned, &mut tokens, err)?;
         earlier.push(config)?;
     }
     Ok(tokens)
 }
 
 /// Adds the tokens of the registries of a configuration that none of the earlier ones defines.
-fn add_tokens(
+fn add_tokens<E: Write>(
     rt: &HostRuntime,
     config: &Config,
     earlier: &[&Config],
     warned: &mut Vec<String>,
     tokens: &mut Vec<(String, String)>,
+    err: &mut E,
 ) -> CargoResult<()> {
     for (name, index) in &config.registries {
         let name = name.as_str();
@@ -45,7 +47,7 @@ fn add_tokens(
             continue;
         }
         if let Some(index) = index
-            && let Some(token) = registry_token(rt, name, index.as_str(), warned)?
+            && let Some(token) = registry_token(rt, name, index.as_str(), warned, err)?
         {
             tokens.push(token)?;
         }
@@ -62,16 +64,17 @@ fn has_registry(config: &Config, name: &str) -> bool {
 }
 
 /// The address of a registry and its token, where that stands in the environment.
-fn registry_token(
+fn registry_token<E: Write>(
     rt: &HostRuntime,
     name: &str,
     index: &str,
     warned: &mut Vec<String>,
+    err: &mut E,
 ) -> CargoResult<Option<(String, String)>> {
     let Some(key) = token_variable(rt.alloc(), name)? else {
         return Ok(None);
     };
-    let Some(token) = sendable_token(rt, key, warned)? else {
+    let Some(token) = sendable_token(rt, key, warned, err)? else {
         return Ok(None);
     };
     match registry_address(rt.alloc(), index)? {
@@ -82,17 +85,18 @@ fn registry_token(
 
 /// The token of a variable, where it is there, not empty, and a text that a header can have; of one that is
 /// not such a text a warning is printed, unless one was.
-fn sendable_token(
+fn sendable_token<E: Write>(
     rt: &HostRuntime,
     key: String,
     warned: &mut Vec<String>,
+    err: &mut E,
 ) -> CargoResult<Option<String>> {
     match env::var(rt, key.as_str()) {
         Ok(token) if token.is_empty() => Ok(None),
         Ok(token) if is_header_text(token.as_bytes()) => Ok(Some(token)),
         Ok(_) | Err(VarError::NotUnicode) => {
             if !warned.contains(&key) {
-                let _ = writeln!(rt.stderr(), "warning: {key} {UNSENDABLE}");
+                let _ = writeln!(err, "warning: {key} {UNSENDABLE}");
                 warned.push(key)?;
             }
             Ok(None)

@@ -2,10 +2,9 @@
 
 use edit_base::CargoResult;
 use edit_fetch::{AddresslessSource, addressless_sources, registry_address, stand_in_address};
-use edit_lookups::{Lookup, read_lookups, shown_address};
+use edit_lookups::{Lookup, push_escaped, read_lookups, shown_address};
 use edit_sources::Config;
 use std::alloc::AllocError;
-use std::fmt::Write;
 
 /// What is said of a source without a registry.
 const VENDORED: &str =
@@ -16,24 +15,6 @@ const VENDORED: &str =
 struct Unread<'a> {
     address: &'a str,
     names: Vec<&'a str>,
-}
-
-/// The names after `--exclude` among the arguments of an upgrade.
-fn excluded_names<'a>(rt: &HostRuntime, upgrade: &[&'a str]) -> CargoResult<Vec<&'a str>> {
-    let mut names = Vec::new(rt.alloc());
-    let mut before = "";
-    for argument in upgrade {
-        if *argument == "--" {
-            break;
-        }
-        if before == "--exclude" {
-            names.push(*argument)?;
-        } else if let Some(name) = argument.strip_prefix("--exclude=") {
-            names.push(name)?;
-        }
-        before = *argument;
-    }
-    Ok(names)
 }
 
 /// Whether entries of a registry can be had.
@@ -79,26 +60,13 @@ fn unread_registries<'a>(
     Ok(registries)
 }
 
-/// Adds a text, each control character escaped.
-fn push_shown(to: &mut String, text: &str) -> Result<(), AllocError> {
-    for c in text.chars() {
-        if c.is_control() {
-            let code = c as u32;
-            write!(to, "\\u{{{code:x}}}")?;
-        } else {
-            to.push(c)?;
-        }
-    }
-    Ok(())
-}
-
 /// Adds what defines something: its kind, its key, and the configuration file.
 fn push_definition(to: &mut String, kind: &str, key: &str, file: &str) -> Result<(), AllocError> {
     to.push_str(kind)?;
     to.push_str(" `")?;
-    push_shown(to, key)?;
+    push_escaped(to, key)?;
     to.push_str("` of ")?;
-    push_shown(to, file)
+    push_escaped(to, file)
 }
 
 /// Whether the text of a configuration is an address as lookups have it.
@@ -175,12 +143,12 @@ fn push_unread(
         if push_defined(rt, to, environment, configs, registry.address)? {
             to.push_str(", ")?;
         }
-        push_shown(to, shown.as_str())?;
+        push_escaped(to, shown.as_str())?;
     }
     let mut separator = ": ";
     for name in &registry.names {
         to.push_str(separator)?;
-        push_shown(to, name)?;
+        push_escaped(to, name)?;
         separator = ", ";
     }
     to.push_str(if addressless {
@@ -192,20 +160,19 @@ fn push_unread(
 }
 
 /// The error for the lookups of a text in registries of which no entry can be had; none where there are
-/// none, crates that the arguments exclude aside. Each registry has a line, with the configuration file
-/// that defines it; `environment` has the registries that variables define.
+/// none, excluded crates aside. Each registry has a line, with the configuration file that defines it;
+/// `environment` has the registries that variables define.
 pub(super) fn unread_error(
     rt: &HostRuntime,
     lookups: &str,
-    upgrade: &[&str],
+    excluded: &[&str],
     environment: &Config,
     configs: &[Config],
 ) -> CargoResult<Option<String>> {
     let Some(lookups) = read_lookups(rt.alloc(), lookups)? else {
         return Ok(None);
     };
-    let excluded = excluded_names(rt, upgrade)?;
-    let registries = unread_registries(rt, &lookups, &excluded)?;
+    let registries = unread_registries(rt, &lookups, excluded)?;
     if registries.is_empty() {
         return Ok(None);
     }

@@ -1,4 +1,4 @@
-//! The looks that an upgrade needs, told without an index.
+//! The lookups that an upgrade needs, found without an index.
 ghost use Rattle.std.specs.Prelude.{◌≡◌, ◌⊎◌, IfErr, IfOk, OnOk, length, string_bytes, true};
 ghost use Rattle.std.specs.Io.KnownBytes.{Appends};
 ghost use Rattle.edit_base.specs.Errors.{IsMemory};
@@ -6,7 +6,6 @@ ghost use Rattle.edit_program.specs.NoIndex.{no_view};
 ghost use Rattle.edit_sources.specs.Configured.{given};
 ghost use Rattle.edit_steps.specs.Workspaces.{HaveOwnPaths};
 ghost use Rattle.edit_store.specs.Store.{OnlyReads};
-ghost use Rattle.edit_upgrade.specs.Upgraded.{IsNeeded};
 ghost use Rattle.edit_steps.specs.Sources.{AreDocuments};
 ghost use Rattle.edit_program.specs.UpgradeCauses.{IsLooksCause};
 ghost use Rattle.edit_program.specs.Looking.{AreLinesOf, AreLooksShown};
@@ -26,7 +25,7 @@ use edit_upgrade::Options;
 use std::alloc::Global;
 use std::io;
 
-/// The lines of the looks that a plan for manifests needs, over an index that has no name.
+/// The lines of the lookups of a plan for manifests over an index that has no name, in the plan's order.
 fn lines_for(
     alloc: Global,
     options: &Options,
@@ -36,7 +35,7 @@ fn lines_for(
     requires paths { HaveOwnPaths target.now.inputs.items }
     requires each { length configs.now ≡ length target.now.inputs.items }
     requires documents { AreDocuments target.now.documents.items target.now.inputs.items }
-    ensures lines { IfOk result (λ text. AreLinesOf (IsNeeded target.now.inputs.items configs.now)
+    ensures lines { IfOk result (λ text. AreLinesOf options.now target.now.inputs.items configs.now
         (string_bytes text)) }
     ensures refused { IfErr result (λ e. IsMemory e
         ⊎ IsPlanCause options.now target.now.inputs.items configs.now no_view e) }
@@ -45,9 +44,9 @@ fn lines_for(
     looks_text(alloc, &plan.looks)
 }
 
-/// Prints a line for each look that an upgrade by these words needs: the address, the name, and the name's
-/// path in an index's layout, parted by tabs. No index is read, the one that the words name is not looked at,
-/// and nothing is written.
+/// Prints a line for each lookup that an upgrade by these arguments needs, in the order of its plan: the
+/// address, the name, and the name's path in an index's layout, parted by tabs. No index is read, not even one
+/// that is named, and nothing is written.
 pub fn looks<S: Store, O: io::Write>(
     alloc: Global,
     words: &UpgradeWords<'_>,
@@ -60,7 +59,7 @@ pub fn looks<S: Store, O: io::Write>(
     ensures done { OnOk result ((S.view files.old).tells ≡ true
         → AreLooksShown (Appends (O.contents out.old) (O.contents out.new)) words.now current.now
         (given cargo_home.entry) (S.view files.old).file_at) }
-    // and each refusal has its cause
+    // each error has its cause
     ensures why { IfErr result (λ r. IsLooksCause words.now current.now (given cargo_home.entry)
         (S.view files.old) (S.view files.new) r.error) }
 {

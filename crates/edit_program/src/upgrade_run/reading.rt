@@ -13,7 +13,7 @@ ghost use Rattle.edit_program.specs.Upgrading.{IsRead};
 use crate::upgrade_run::words::UpgradeWords;
 use edit_lock::Lock;
 use edit_steps::upgrade_read::{Sources, read_sources};
-use edit_steps::{RunResult, absolute, at_path};
+use edit_steps::{RunResult, absolute, at_file, at_path};
 use edit_store::Store;
 use std::alloc::Global;
 
@@ -41,7 +41,7 @@ fn read_lock_at<S: Store>(
     let bytes = match files.read(alloc, path.as_str()) {
         Ok(Some(bytes)) => bytes,
         Ok(None) => return Ok(Lock::empty(alloc)),
-        Err(error) => return Err(at_path(alloc, error, path.as_str())),
+        Err(error) => return Err(at_file(alloc, error, path.as_str(), files.reason(alloc))),
     };
     match Lock::read(alloc, &bytes) {
         Ok(lock) => Ok(lock),

@@ -3,14 +3,17 @@ ghost use Rattle.std.specs.Prelude.{◌≡◌, ◌⊎◌, IfErr, IfOk, OnErr, tr
 ghost use Rattle.std.specs.Io.KnownBytes.{Appends};
 ghost use Rattle.edit_sources.specs.Configured.{given};
 ghost use Rattle.edit_store.specs.Store.{SameFiles};
+ghost use Rattle.edit_program.specs.Run.{run_at};
 ghost use Rattle.edit_program.specs.UpgradeCauses.{IsUpgradeCause};
 ghost use Rattle.edit_program.specs.Upgrading.{IsBroken, IsUpgraded};
 
-use crate::upgrade_run::delivering::{deliver_explained, path_of};
+use crate::place::Place;
+use crate::upgrade_run::delivering::{delivery_task, has_outputs, path_of};
 use crate::upgrade_run::plan::plan_for;
 use crate::upgrade_run::reading::{Readings, read};
 use crate::upgrade_run::words::UpgradeWords;
-use edit_diagnostics::explain_upgrade;
+use crate::upgrade_told::deliver;
+use edit_diagnostics::{explain_delivery, explain_upgrade};
 use edit_steps::RunResult;
 use edit_steps::upgrade_read::Sources;
 use edit_store::Store;
@@ -23,8 +26,7 @@ use std::io;
 pub fn upgrade<S: Store, T: Store + Drop, O: io::Write, E: io::Write>(
     alloc: Global,
     words: &UpgradeWords<'_>,
-    current: &str,
-    cargo_home: Option<&str>,
+    place: &Place<'_>,
     files: &mut S,
     index_files: T,
     out: &mut O,
@@ -33,19 +35,24 @@ pub fn upgrade<S: Store, T: Store + Drop, O: io::Write, E: io::Write>(
     ensures tells { (S.view files.new).tells ≡ (S.view files.old).tells }
     ensures done { IfOk result (λ due. (S.view files.old).tells ≡ true
         → IsUpgraded due (Appends (O.contents out.old) (O.contents out.new))
-        (Appends (E.contents err.old) (E.contents err.new)) words.now current.now
-        (given cargo_home.entry) (T.view index_files) (S.view files.old) (S.view files.new)) }
-    // a refusal before the first write leaves each file as it was
+        (Appends (E.contents err.old) (E.contents err.new)) words.now
+        (run_at place.now.current.now (given place.now.cargo_home)
+        (T.view index_files) (S.view files.old) (S.view files.new))) }
+    // an error before the first write leaves each file as it was
     ensures refused { OnErr result ((S.view files.old).tells ≡ true
         → SameFiles (S.view files.old).file_at (S.view files.new).file_at
-        ⊎ IsBroken (Appends (O.contents out.old) (O.contents out.new)) words.now current.now
-        (given cargo_home.entry) (T.view index_files) (S.view files.old) (S.view files.new)) }
-    // and each refusal has its cause
-    ensures why { IfErr result (λ r. IsUpgradeCause words.now current.now (given cargo_home.entry)
-        (T.view index_files) (S.view files.old) (S.view files.new) r.error) }
+        ⊎ IsBroken (Appends (O.contents out.old) (O.contents out.new)) words.now
+        (run_at place.now.current.now (given place.now.cargo_home)
+        (T.view index_files) (S.view files.old) (S.view files.new))) }
+    // each error has its cause, with what that leaves of the files
+    ensures why { IfErr result (λ r. IsUpgradeCause (Appends (O.contents out.old) (O.contents out.new))
+        words.now
+        (run_at place.now.current.now (given place.now.cargo_home)
+        (T.view index_files) (S.view files.old) (S.view files.new)) r.error) }
 {
+    let current = place.current;
     let named = path_of(alloc, current, words.update_calls)?;
-    let readings = read(alloc, words, current, cargo_home, files)?;
+    let readings = read(alloc, words, current, place.cargo_home, files)?;
     let Readings { sources, lock } = readings;
     let Sources {
         target,
@@ -63,7 +70,9 @@ pub fn upgrade<S: Store, T: Store + Drop, O: io::Write, E: io::Write>(
     };
     let path = named.as_deref();
     let lock = lock.as_ref();
-    deliver_explained(
-        alloc, words, current, &target, &plan, path, lock, files, out, err,
-    )
+    let task = delivery_task(words, current, &target, &plan, path, lock);
+    match deliver(alloc, &task, files, out, err) {
+        Ok(()) => Ok(has_outputs(&plan)),
+        Err(error) => Err(explain_delivery(alloc, error, &plan)),
+    }
 }

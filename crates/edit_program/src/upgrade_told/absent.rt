@@ -4,58 +4,69 @@ ghost use Rattle.std.specs.Io.KnownBytes.{Appends};
 ghost use Rattle.std.specs.List.{join_by};
 ghost use Rattle.edit_base.specs.Errors.{IsMemory};
 ghost use Rattle.edit_base.specs.declared.errors.Error.TheVariants.{Output};
+ghost use Rattle.edit_metadata.specs.Reading.{holds};
+ghost use Rattle.edit_upgrade.specs.Names.{HasNames};
+ghost use Rattle.edit_upgrade.specs.UpdateCalls.{is_among};
 ghost use Rattle.edit_program.specs.Absent as spec;
 
 use edit_base::CargoResult;
 use edit_report::shell_note;
 use edit_upgrade::{Look, Options, UpgradePlan};
 use std::alloc::{AllocError, Global};
+use std::collections::BTreeSet;
 use std::io;
 
 /// How many names a note has.
 const MOST_NAMES: usize = 5;
 
-/// Whether a name is among these.
-fn is_among(names: &[String], name: &str) -> bool
-    ensures { result ≡ spec.is_among names.now name.now }
+/// The set of these names.
+fn set_of<'a>(alloc: Global, names: &'a [String]) -> Result<BTreeSet<&'a str>, AllocError>
+    ensures { IfOk result (λ s. HasNames s (map string_bytes names.now)) }
 {
-    names.iter().any(|other| other.as_str() == name)
+    let mut set = BTreeSet::new(alloc);
+    'names: for name in names {
+        set.insert(name.as_str())?;
+    }
+    Ok(set)
 }
 
-/// Whether the index has no entry for a crate that is not excluded.
-fn is_absent(exclude: &[String], look: &Look) -> bool
-    ensures { result ≡ spec.is_absent exclude.now look.now }
+/// Whether the index has no entry for a crate whose name is not excluded.
+fn is_absent(excluded: &BTreeSet<&str>, look: &Look) -> bool
+    ensures { result ≡ spec.is_absent (holds excluded.now) look.now }
 {
-    look.answer.is_none() && !is_among(exclude, look.name.as_str())
+    look.answer.is_none() && !excluded.contains(look.name.as_str())
 }
 
-/// Adds the name of such a crate.
+/// Adds the name of a crate, where the index has no entry for it and it is not excluded.
 fn push_absent(
     alloc: Global,
-    exclude: &[String],
+    excluded: &BTreeSet<&str>,
     look: &Look,
     names: &mut Vec<String>,
 ) -> Result<(), AllocError>
     ensures { OnOk result (map string_bytes names.new.items
-        ≡ map string_bytes names.old.items ++ spec.absent_at exclude.now look.now) }
+        ≡ map string_bytes names.old.items ++ spec.absent_at (holds excluded.now) look.now) }
 {
-    if is_absent(exclude, look) {
+    if is_absent(excluded, look) {
         names.push(String::from_str(alloc, look.name.as_str())?)?;
     }
     Ok(())
 }
 
-/// The names of such crates, in the order in which they were looked up.
+/// The names of the crates that are not excluded and for which the index has no entry, in the order in which
+/// they were looked up.
 fn absent_names(
     alloc: Global,
     exclude: &[String],
     looks: &[Look],
 ) -> Result<Vec<String>, AllocError>
-    ensures { IfOk result (λ v. map string_bytes v.items ≡ spec.absent exclude.now looks.now) }
+    ensures { IfOk result (λ v. map string_bytes v.items
+        ≡ spec.absent (is_among (map string_bytes exclude.now)) looks.now) }
 {
+    let excluded = set_of(alloc, exclude)?;
     let mut names = Vec::new(alloc);
     for look in looks {
-        push_absent(alloc, exclude, look, &mut names)?;
+        push_absent(alloc, &excluded, look, &mut names)?;
     }
     Ok(names)
 }

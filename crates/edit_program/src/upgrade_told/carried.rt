@@ -21,40 +21,9 @@ use edit_upgrade::{Options, UpgradePlan};
 use std::alloc::Global;
 use std::io;
 
-/// Writes outputs, prints the calls of `cargo update`, and writes the file of the calls. An error gives up
-/// every write that is ready.
-fn write_in_order<S: Store, E: io::Write>(
-    alloc: Global,
-    outputs: &[Output],
-    calls: &[Vec<String>],
-    file: &[Output],
-    files: &mut S,
-    err: &mut E,
-) -> RunResult<()>
-    requires outputs { HaveDistinctPaths outputs.now }
-    requires file { HaveDistinctPaths file.now }
-    ensures tells { (S.view files.new).tells ≡ (S.view files.old).tells }
-    ensures later { (S.view files.old).faults ≤ (S.view files.new).faults }
-    ensures written { OnOk result
-        (AreBothWritten outputs.now file.now (S.view files.old) (S.view files.new)) }
-    ensures text { OnOk result (Appends (E.contents err.old) (E.contents err.new)
-        (runs (calls_seen calls.now))) }
-    ensures stopped { OnErr result
-        (HaveStopped outputs.now file.now (S.view files.old) (S.view files.new)) }
-    ensures refused { IfErr result
-        (λ r. RefusesCall call.Write (S.view files.old) (S.view files.new) r.error
-        ⊎ (r.error ≡ Unwritten)) }
-{
-    write_outputs(alloc, outputs, files)?;
-    if let Err(error) = print_calls(alloc, calls, err) {
-        files.unstage(alloc);
-        return Err(Refusal::from(error));
-    }
-    write_outputs(alloc, file, files)
-}
-
 /// Writes outputs, prints the calls of `cargo update`, and writes the file of the calls. That file is made
-/// ready first, so that a folder in which it cannot be written leaves the outputs as they were.
+/// ready first, so that a folder in which it cannot be written leaves the outputs as they were. An error gives
+/// up every write that is ready.
 pub(crate) fn carry_out<S: Store, E: io::Write>(
     alloc: Global,
     outputs: &[Output],
@@ -78,7 +47,12 @@ pub(crate) fn carry_out<S: Store, E: io::Write>(
         ⊎ (r.error ≡ Unwritten)) }
 {
     stage_outputs(alloc, file, files)?;
-    write_in_order(alloc, outputs, calls, file, files, err)
+    write_outputs(alloc, outputs, files)?;
+    if let Err(error) = print_calls(alloc, calls, err) {
+        files.unstage(alloc);
+        return Err(Refusal::from(error));
+    }
+    write_outputs(alloc, file, files)
 }
 
 /// Refuses a plan whose words name what no entry has, else prints the notes on it.

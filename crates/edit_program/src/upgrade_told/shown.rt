@@ -9,7 +9,7 @@ ghost use Rattle.edit_program.specs.Shown.{diffs_if, messages_as};
 ghost use Rattle.edit_program.specs.Tables.{AreInOrder, tables};
 
 use crate::upgrade_told::reports::print_reports;
-use crate::upgrade_told::telling::Telling;
+use crate::upgrade_told::task::DeliveryTask;
 use edit_base::CargoResult;
 use edit_metadata::Input;
 use edit_report::Output;
@@ -61,35 +61,28 @@ fn print_diffs_if<O: io::Write>(
 /// Prints a plan: of each input its table and what is said of it, the plan as JSON, the changes of manifests.
 pub(crate) fn print_plan<O: io::Write, E: io::Write>(
     alloc: Global,
-    plan: &UpgradePlan,
-    inputs: &[Input],
-    options: &Options,
-    telling: &Telling<'_>,
+    task: &DeliveryTask<'_>,
     calls: &[Vec<String>],
     out: &mut O,
     err: &mut E,
 ) -> CargoResult<()>
-    requires rows { AreInOrder plan.now.rows.items }
-    requires warnings { AreWarningsInOrder plan.now.warnings.items }
+    requires rows { AreInOrder task.now.plan.now.rows.items }
+    requires warnings { AreWarningsInOrder task.now.plan.now.warnings.items }
     ensures shows { OnOk result (Appends (O.contents out.old) (O.contents out.new)
-        (tables telling.now.presentation.format options.now.verbosity plan.now.rows.items (length inputs.now)
-        ++ (messages_as telling.now.presentation.format plan.now inputs.now options.now (calls_seen calls.now)
-        ++ diffs_if telling.now.presentation.diff telling.now.current.now inputs.now
-        plan.now.outputs.items))) }
+        (tables task.now.presentation.format task.now.options.now.verbosity task.now.plan.now.rows.items
+        (length task.now.inputs.now)
+        ++ (messages_as task.now.presentation.format task.now.plan.now task.now.inputs.now
+        task.now.options.now (calls_seen calls.now)
+        ++ diffs_if task.now.presentation.diff task.now.root.now task.now.inputs.now
+        task.now.plan.now.outputs.items))) }
     ensures checks { OnOk result (Appends (E.contents err.old) (E.contents err.new)
-        (checks options.now.verbosity plan.now.warnings.items inputs.now (length inputs.now))) }
+        (checks task.now.options.now.verbosity task.now.plan.now.warnings.items task.now.inputs.now
+        (length task.now.inputs.now))) }
     ensures refused { IfErr result (λ e. IsMemory e ⊎ (e ≡ Unwritten)) }
 {
-    let presentation = telling.presentation;
-    let (format, diff) = (presentation.format, presentation.diff);
+    let (plan, inputs, options) = (task.plan, task.inputs, task.options);
+    let (format, diff) = (task.presentation.format, task.presentation.diff);
     print_reports(alloc, plan, inputs, options.verbosity, format, out, err)?;
     print_as(alloc, format, plan, inputs, options, calls, out)?;
-    print_diffs_if(
-        alloc,
-        diff,
-        telling.current,
-        inputs,
-        plan.outputs.as_slice(),
-        out,
-    )
+    print_diffs_if(alloc, diff, task.root, inputs, plan.outputs.as_slice(), out)
 }

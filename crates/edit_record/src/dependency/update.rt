@@ -13,7 +13,7 @@ ghost use Rattle.edit_tree.specs.Supported.{IsManifest};
 ghost use Rattle.edit_record.specs.EndViews.{ends_seen};
 ghost use Rattle.edit_record.specs.EntryUpdates.{is_slight, removal_of, removes, write_of, writes};
 ghost use Rattle.edit_record.specs.RecordViews.{record_view};
-ghost use Rattle.edit_record.specs.UpdatedTexts.{ChangeFails, Changed, OneFails, Updated, UpdateFails, changed_text};
+ghost use Rattle.edit_record.specs.UpdatedTexts.{ChangeFails, Changed, HasChanged, OneFails, Updated, UpdateFails, changed_text};
 
 use super::Dependency;
 use super::ends::End;
@@ -33,6 +33,9 @@ fn write_member(
     ensures bytes { IfOk result (λ _. (form : Text) → IsManifest document.old.bytes form
         → document.new.bytes ≡ changed_text (place_seen entry.now)
         (writes name.now (value_seen value.now)) form) }
+    ensures tree { IfOk result (λ _. (form : Text) → IsManifest document.old.bytes form
+        → HasChanged (place_seen entry.now) (writes name.now (value_seen value.now)) form
+        (tree_of document.old) (tree_of document.new)) }
     ensures refused { IfErr result (λ e. IsMemory e ⊎ ((e ≡ EditRefused) × ChangeFails
         (place_seen entry.now) (writes name.now (value_seen value.now)) document.old.bytes)) }
 {
@@ -56,6 +59,9 @@ fn remove_member(
 ) -> CargoResult<()>
     ensures bytes { IfOk result (λ _. (form : Text) → IsManifest document.old.bytes form
         → document.new.bytes ≡ changed_text (place_seen entry.now) (removes name.now) form) }
+    ensures tree { IfOk result (λ _. (form : Text) → IsManifest document.old.bytes form
+        → HasChanged (place_seen entry.now) (removes name.now) form (tree_of document.old)
+        (tree_of document.new)) }
     ensures refused { IfErr result (λ e. IsMemory e ⊎ ((e ≡ EditRefused)
         × ChangeFails (place_seen entry.now) (removes name.now) document.old.bytes)) }
 {
@@ -84,6 +90,7 @@ fn write_members(
         document.has_form();
         if let Some(value) = &end.value {
             write_member(alloc, document, entry, end.name, value)?;
+            document.has_form();
         }
     }
     Ok(())
@@ -105,6 +112,7 @@ fn remove_members(
         document.has_form();
         if end.value.is_none() {
             remove_member(alloc, document, entry, end.name)?;
+            document.has_form();
         }
     }
     Ok(())
@@ -126,7 +134,7 @@ fn is_replaced(document: &Document, place: &[Step], entry: Item<'_>) -> bool
 }
 
 impl Dependency {
-    /// The same in a document that may be left half done.
+    /// Makes an entry say what the record says, in a document that an error may leave half done.
     fn update_copy(
         &self,
         alloc: Global,
@@ -147,7 +155,9 @@ impl Dependency {
         };
         if is_replaced(document, entry, item) {
             let new = self.to_toml(alloc, crate_root)?;
-            return document.replace_entry(alloc, entry, &new);
+            document.replace_entry(alloc, entry, &new)?;
+            document.has_form();
+            return Ok(());
         }
         let ends = self.ends(alloc, crate_root, item)?;
         write_members(alloc, document, entry, ends.as_slice())?;

@@ -3,7 +3,7 @@ ghost use Rattle.std.specs.Prelude.{◌≡◌, ◌⊎◌, true, IfOk, IfErr, map
 ghost use Rattle.std.specs.List.{AllZip};
 ghost use Rattle.edit_base.specs.Errors.{IsMemory};
 ghost use Rattle.edit_sources.specs.Configured.{given};
-ghost use Rattle.edit_sources.specs.ConfigurationFiles.{IsReadOf, IsReadFrom, HasFailed, FileFails, PlaceFails, AreConfigs, ConfigsFail, file_in, files_in};
+ghost use Rattle.edit_sources.specs.ConfigurationFiles.{IsReadOf, IsReadFrom, IsConfigPath, HasFailed, FileFails, PlaceFails, AreConfigs, ConfigsFail, file_in, files_in};
 ghost use Rattle.edit_sources.specs.KeptConfigs.{AreKept};
 ghost use Rattle.edit_store.specs.Store.{OnlyReads, StoreView};
 
@@ -56,7 +56,8 @@ impl ConfigCache {
             → IsReadOf (file_in (S.view store.old).file_at place.now) found) }
         ensures refused { IfErr result (λ e. IsMemory e
             ⊎ (HasFailed (S.view store.old).faults (S.view store.new).faults e
-            ⊎ FileFails (S.view store.old).tells (file_in (S.view store.old).file_at place.now) e)) }
+            ⊎ FileFails (S.view store.old).tells (IsConfigPath place.now)
+            (file_in (S.view store.old).file_at place.now) e)) }
     {
         if let Some(found) = self.found.get(place) {
             let copy = copied(alloc, found.as_ref())?;

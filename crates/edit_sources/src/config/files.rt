@@ -4,7 +4,7 @@ ghost use Rattle.std.specs.Option.{option_to_list};
 ghost use Rattle.edit_base.specs.Errors.{IsMemory};
 ghost use Rattle.edit_base.specs.Paths.{texts};
 ghost use Rattle.edit_sources.specs.Configured.{given};
-ghost use Rattle.edit_sources.specs.ConfigurationFiles.{IsUpwards, IsSearched, IsReadOf, HasFailed, FileFails, standing, file_in};
+ghost use Rattle.edit_sources.specs.ConfigurationFiles.{IsUpwards, IsSearched, IsReadOf, HasFailed, FileFails, IsConfigPath, standing, file_in};
 ghost use Rattle.edit_store.specs.Store.{OnlyReads};
 
 use super::Config;
@@ -55,7 +55,8 @@ fn read_file<S: Store>(alloc: Global, store: &mut S, path: &str) -> CargoResult<
         → IsReadOf (standing (S.view store.old).file_at path.now) found) }
     ensures refused { IfErr result (λ e. IsMemory e
         ⊎ (HasFailed (S.view store.old).faults (S.view store.new).faults e
-        ⊎ FileFails (S.view store.old).tells (standing (S.view store.old).file_at path.now) e)) }
+        ⊎ FileFails (S.view store.old).tells (λ at. at ≡ path.now)
+        (standing (S.view store.old).file_at path.now) e)) }
 {
     let bytes = match store.read(alloc, path) {
         Ok(Some(bytes)) => bytes,
@@ -79,7 +80,8 @@ pub(super) fn config_in<S: Store>(
         → IsReadOf (file_in (S.view store.old).file_at place.now) found) }
     ensures refused { IfErr result (λ e. IsMemory e
         ⊎ (HasFailed (S.view store.old).faults (S.view store.new).faults e
-        ⊎ FileFails (S.view store.old).tells (file_in (S.view store.old).file_at place.now) e)) }
+        ⊎ FileFails (S.view store.old).tells (IsConfigPath place.now)
+        (file_in (S.view store.old).file_at place.now) e)) }
 {
     let path = match join(alloc, place, "config") {
         Ok(path) => path,

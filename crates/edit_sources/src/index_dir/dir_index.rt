@@ -1,6 +1,6 @@
 //! An index in a folder that has one folder for each registry.
-ghost use Rattle.std.specs.Prelude.{◌≡◌, Ok, IfErr, IfOk, string_bytes};
-ghost use Rattle.edit_sources.specs.DirIndex.{DirGives, NumbersLine, dir_view, folder_of, store_of};
+ghost use Rattle.std.specs.Prelude.{◌≡◌, Ok, IfOk, string_bytes};
+ghost use Rattle.edit_sources.specs.DirIndex.{DirGives, dir_view, folder_of, store_of};
 ghost use Rattle.edit_sources.specs.Index.{HasLookCause, SameOutcomes, answer_of};
 ghost use Rattle.edit_store.specs.Store.{OnlyReads};
 
@@ -42,9 +42,6 @@ impl<S: Store> Index for DirIndex<S> {
             (dir_view (folder_of self.new) (S.view (store_of self.new))) registry.now name.now result }
         // no file changes
         ensures reads { OnlyReads (S.view (store_of self.old)) (S.view (store_of self.new)) }
-        // a refusal 30 has the number of the first bad line
-        ensures line { IfErr result (NumbersLine (folder_of self.old) (S.view (store_of self.old))
-            registry.now name.now) }
     {
         let path = match entry_path(alloc, self.folder.as_str(), registry, name) {
             Ok(path) => path,

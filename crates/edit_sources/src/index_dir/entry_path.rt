@@ -2,6 +2,7 @@
 ghost use Rattle.std.specs.Prelude.{◌≡◌, ◌∷◌, ◌++◌, ◌⊎◌, true, IfErr, IfOk, OnOk, string_bytes};
 ghost use Rattle.edit_base.specs.Errors.{IsMemory, number_of};
 ghost use Rattle.edit_sources.specs.Folders.{HasBadName, entry_path};
+ghost use Rattle.edit_sources.specs.Index.{bad_name, lookup_error};
 ghost use Rattle.edit_sources.specs.LocalIndex.{below, ends_with_slash};
 ghost use Rattle.edit_sources.specs.Names.{is_crate_name};
 
@@ -21,6 +22,7 @@ pub(crate) fn entry_path(
     ensures path { IfOk result (λ p. string_bytes p ≡ entry_path folder.now registry.now name.now) }
     ensures named { OnOk result (is_crate_name name.now ≡ true) }
     ensures refused { IfErr result (λ e. IsMemory e ⊎ HasBadName name.now (number_of e)) }
+    ensures names { IfErr result (λ e. IsMemory e ⊎ (lookup_error e ≡ bad_name name.now)) }
 {
     let layout = layout_path(alloc, name)?;
     let registry = registry_folder(alloc, registry)?;

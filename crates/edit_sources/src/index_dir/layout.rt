@@ -2,18 +2,20 @@
 ghost use Rattle.std.specs.Prelude.{◌≡◌, [], ◌∷◌, ◌++◌, ◌<◌, ◌⊎◌, true, All, IfErr, IfOk, OnOk, string_bytes};
 ghost use Rattle.edit_base.specs.Errors.{IsMemory, number_of};
 ghost use Rattle.edit_sources.specs.Folders.{HasBadName};
+ghost use Rattle.edit_sources.specs.Index.{bad_name, lookup_error};
 ghost use Rattle.edit_sources.specs.Names.{folders, is_crate_name, layout};
 
 use crate::crate_name::is_crate_name;
 use edit_base::errors::{CargoResult, Error};
 use std::alloc::{AllocError, Global};
 
-/// The path of the file of a name below the folder of its index: refused with 29 for a name that no index may
+/// The path of the file of a name below the folder of its index; `BadCrateName` for a name that no index may
 /// have.
 pub fn layout_path(alloc: Global, name: &str) -> CargoResult<String>
     ensures path { IfOk result (λ p. string_bytes p ≡ layout name.now) }
     ensures named { OnOk result (is_crate_name name.now ≡ true) }
     ensures refused { IfErr result (λ e. IsMemory e ⊎ HasBadName name.now (number_of e)) }
+    ensures names { IfErr result (λ e. IsMemory e ⊎ (lookup_error e ≡ bad_name name.now)) }
 {
     if !is_crate_name(name) {
         return Err(Error::BadCrateName {

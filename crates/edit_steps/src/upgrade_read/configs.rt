@@ -7,6 +7,7 @@ ghost use Rattle.edit_sources.specs.Configured.{given};
 ghost use Rattle.edit_sources.specs.KeptConfigs.{AreKept};
 ghost use Rattle.edit_store.specs.Store.{OnlyReads, RefusesCall};
 ghost use Rattle.edit_steps.specs.Causes.{IsUnconfigured};
+ghost use Rattle.edit_steps.specs.Faults.{CountsFault};
 ghost use Rattle.edit_steps.specs.Named.{AreConfigured, AreGathered, IsUnreadFile, pair_of};
 
 use crate::RunResult;
@@ -64,6 +65,7 @@ fn read_all<S: Store>(
     ensures refused { IfErr result (λ e. RefusesCall call.Read (S.view files.old) (S.view files.new) e
         ⊎ ((S.view files.old).tells ≡ true → IsUnconfigured (S.view files.old).file_at
         (given cargo_home.entry) (pair_of named.now) inputs.now e)) }
+    ensures counted { IfErr result (λ e. CountsFault (S.view files.old) (S.view files.new) e) }
 {
     let mut cache = ConfigCache::new(alloc);
     let mut all = Vec::new(alloc);
@@ -99,6 +101,7 @@ pub(crate) fn read_configurations<S: Store>(
     ensures refused { IfErr result (λ r. RefusesCall call.Read (S.view files.old) (S.view files.new) r.error
         ⊎ ((S.view files.old).tells ≡ true → IsUnconfigured (S.view files.old).file_at
         (given cargo_home.entry) (pair_of named.now) inputs.now r.error)) }
+    ensures counted { IfErr result (λ r. CountsFault (S.view files.old) (S.view files.new) r.error) }
 {
     match read_all(alloc, named, inputs, cargo_home, files) {
         Ok(all) => Ok(all),

@@ -4,6 +4,7 @@ ghost use Rattle.edit_base.specs.declared.errors.DeviceCall.TheVariants as call;
 ghost use Rattle.edit_sources.specs.Configured.{given};
 ghost use Rattle.edit_store.specs.Store.{OnlyReads, RefusesCall};
 ghost use Rattle.edit_steps.specs.Causes.{HasNoIndex, IsIndexCause};
+ghost use Rattle.edit_steps.specs.Faults.{CountsFault};
 ghost use Rattle.edit_steps.specs.Sources.{IsIndexAt, IsIndexOf};
 
 use crate::{RunResult, absolute, at_file, at_path};
@@ -36,6 +37,7 @@ fn read_file<S: Store>(
     ensures refused { IfErr result (λ r. RefusesCall call.Read (S.view files.old) (S.view files.new) r.error
         ⊎ ((S.view files.old).tells ≡ true
         → IsIndexCause (S.view files.old).file_at current.now named.now r.error)) }
+    ensures counted { IfErr result (λ r. CountsFault (S.view files.old) (S.view files.new) r.error) }
 {
     let path = absolute(alloc, current, named)?;
     let lines = match files.read_stream(alloc, path.as_str()) {
@@ -64,6 +66,7 @@ pub(crate) fn read_index<S: Store>(
     ensures refused { IfErr result (λ r. RefusesCall call.Read (S.view files.old) (S.view files.new) r.error
         ⊎ ((S.view files.old).tells ≡ true
         → HasNoIndex (S.view files.old).file_at current.now (given file.entry) r.error)) }
+    ensures counted { IfErr result (λ r. CountsFault (S.view files.old) (S.view files.new) r.error) }
 {
     if let Some(named) = file {
         let index = read_file(alloc, named, current, files)?;

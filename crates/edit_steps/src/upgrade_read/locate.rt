@@ -4,6 +4,7 @@ ghost use Rattle.edit_base.specs.declared.errors.DeviceCall.TheVariants as call;
 ghost use Rattle.edit_store.specs.Store.{OnlyReads, RefusesCall};
 ghost use Rattle.edit_manifest.specs.Located.{HasNoManifest, IsManifestPath};
 ghost use Rattle.edit_sources.specs.Configured.{given};
+ghost use Rattle.edit_steps.specs.Faults.{CountsFault};
 
 use crate::{Refusal, RunResult, absolute, at_file};
 use edit_base::Error;
@@ -44,6 +45,7 @@ pub(crate) fn manifest_path<S: Store>(
     ensures refused { IfErr result (λ r. RefusesCall call.Kind (S.view files.old) (S.view files.new) r.error
         ⊎ ((S.view files.old).tells ≡ true
         → HasNoManifest (S.view files.old).file_at current.now r.error (given named.entry))) }
+    ensures counted { IfErr result (λ r. CountsFault (S.view files.old) (S.view files.new) r.error) }
 {
     match find(alloc, files, named, current) {
         Ok(path) => {

@@ -6,6 +6,7 @@ ghost use Rattle.edit_sources.specs.Configured.{given};
 ghost use Rattle.edit_store.specs.Store.{OnlyReads, RefusesCall};
 ghost use Rattle.edit_steps.specs.Asking.{asking_of};
 ghost use Rattle.edit_steps.specs.Causes.{LacksNamed};
+ghost use Rattle.edit_steps.specs.Faults.{CountsFault};
 ghost use Rattle.edit_steps.specs.Named.{ArePairRead, AreSaid, HasNoFile, IsNamedRead, IsUnreadFile, pair_of, path_and_bytes, seen};
 
 use crate::upgrade_read::asked::Asked;
@@ -43,6 +44,7 @@ fn read_file<S: Store>(
     ensures refused { IfErr result (λ r. RefusesCall call.Read (S.view files.old) (S.view files.new) r.error
         ⊎ ((S.view files.old).tells ≡ true
         → HasNoFile (S.view files.old).file_at current.now (given named.entry) r.error)) }
+    ensures counted { IfErr result (λ r. CountsFault (S.view files.old) (S.view files.new) r.error) }
 {
     let Some(named) = named else {
         return Ok(None);
@@ -68,6 +70,7 @@ pub(crate) fn read_named<S: Store>(
     ensures refused { IfErr result (λ r. RefusesCall call.Read (S.view files.old) (S.view files.new) r.error
         ⊎ ((S.view files.old).tells ≡ true
         → LacksNamed (S.view files.old).file_at current.now (asking_of asked.now) r.error)) }
+    ensures counted { IfErr result (λ r. CountsFault (S.view files.old) (S.view files.new) r.error) }
 {
     let first = read_file(alloc, asked.config, current, files)?;
     let last = read_file(alloc, asked.default_config, current, files)?;

@@ -4,6 +4,7 @@ ghost use Rattle.edit_sources.specs.Configured.{given};
 ghost use Rattle.edit_store.specs.Store.{OnlyReads};
 ghost use Rattle.edit_steps.specs.Asking.{asking_of};
 ghost use Rattle.edit_steps.specs.Causes.{IsReadCause};
+ghost use Rattle.edit_steps.specs.Faults.{CountsFault};
 ghost use Rattle.edit_steps.specs.Sources.{AreRead, MayBePlanned};
 
 use crate::RunResult;
@@ -43,6 +44,7 @@ pub fn read_sources<S: Store>(
     ensures planned { IfOk result MayBePlanned }
     ensures refused { IfErr result (λ r. IsReadCause current.now (given cargo_home.entry)
         (asking_of asked.now) (S.view files.old) (S.view files.new) r.error) }
+    ensures counted { IfErr result (λ r. CountsFault (S.view files.old) (S.view files.new) r.error) }
 {
     let target = read_target(alloc, asked, current, files)?;
     let named = read_named(alloc, asked, current, files)?;

@@ -1,5 +1,5 @@
 //! Rows of the manifests of a workspace where the device fails. The others are in
-//! `tools/checks/rows/metadata.py`.
+//! `tests/cases/upgrade/workspace_manifests.toml`.
 use crate::rows::{TILDES, rows_hold};
 use crate::stop::{kept, must, said};
 use edit_metadata::{Workspace, workspace_inputs};

@@ -1,5 +1,5 @@
 //! Rows of where a refusal arose that is not that of the first input. The others are in
-//! `tools/checks/rows/metadata.py`.
+//! `tests/cases/upgrade/error_places.toml`.
 use crate::rows::{TILDES, rows_hold};
 use crate::stop::{kept, push, text};
 use edit_base::Error;

@@ -1,4 +1,4 @@
-//! Rows of what an upgrade rests on. What is refused of it is in `tools/checks/rows/sources.py`.
+//! Rows of what an upgrade rests on. What is refused of it is in `tests/cases/upgrade/inputs_rejected.toml`.
 use super::workspaces::{quoted, rust_shown};
 use crate::rows::{TILDES, rows_hold};
 use crate::stop::{kept, must, told, unfolded};

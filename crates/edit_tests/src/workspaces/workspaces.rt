@@ -1,4 +1,5 @@
-//! Rows of workspaces that metadata tell of. What is none is in `tools/checks/rows/metadata.py`.
+//! Rows of workspaces that metadata tell of. What is none is in
+//! `tests/cases/upgrade/metadata_rejected.toml`.
 use crate::rows::{TILDES, rows_hold};
 use crate::stop::{kept, must, text, told};
 use edit_metadata::{Package, Workspace, manifest_from_pkgid};

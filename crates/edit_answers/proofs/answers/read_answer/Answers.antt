@@ -45,7 +45,8 @@ returns-in_default-split_once-3-clause-none c n a =
     let cut2 = cut-whole 9 _ _ _ c.in-Some-split_once.ensures.cases (lit< tt) in
     let cut3 = cut-whole 9 _ _ _ c.in-Some-split_once-2.ensures.cases (lit< tt) in
     no-redirects _ _ _ _ _ n a
-    (cut ∙ ap (λ t. c.in-Some.number.now ++ 9 ∷ t) (cut2 ∙ ap (λ t. c.in-Some-split_once.code.now ++ 9 ∷ t) cut3))
+    (cut ∙ ap (λ t. c.in-Some.number.now ++ 9 ∷ t)
+    (cut2 ∙ ap (λ t. c.in-Some-split_once.code.now ++ 9 ∷ t) cut3))
     (cut-first 9 _ _ _ c.in-Some.ensures.cases (lit< tt))
     (cut-first 9 _ _ _ c.in-Some-split_once.ensures.cases (lit< tt))
     (cut-first 9 _ _ _ c.in-Some-split_once-2.ensures.cases (lit< tt))

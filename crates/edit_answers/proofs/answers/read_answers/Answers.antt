@@ -23,7 +23,8 @@ loop-line-preserved-in-Some-read_answer c =
       search rules,
       c.put.ensures.count ∙ c.loop-line.invariant.1,
       one-said _ c.in-Some.line.now _ _ c.in-Some-read_answer.number c.in-Some-read_answer.answer
-          (first-line _ _ _ _ _ c.loop-line.invariant.3 cut none) says c.put.ensures.put c.loop-line.invariant.2,
+          (first-line _ _ _ _ _ c.loop-line.invariant.3 cut none) says c.put.ensures.put
+          c.loop-line.invariant.2,
       line-on _ _ _ _ _ _ c.loop-line.invariant.3 cut none c.put.ensures.count c.put.ensures.kept
           (says-one _ _ _ _ _ says (one-number _) c.put.ensures.count c.put.ensures.has),
     )

@@ -13,7 +13,9 @@ returns-then-not-is_empty c =
     let some : 0 < length (map entry_of c.args.entries.now) = grind (arith, nat_tests) in (
       λ holds. record {
         some = some;
-        all = All-map (λ (e : IndexEntry). IsSameName e.name c.args.name.now) entry_of c.args.entries.now (c.all_named.ensures.0 holds);
+        all = All-map (λ (e : IndexEntry). IsSameName e.name c.args.name.now) entry_of c.args.entries.now
+            (c.all_named.ensures.0 holds);
       },
-      λ named. c.all_named.ensures.1 (All-unmap (λ (e : IndexEntry). IsSameName e.name c.args.name.now) entry_of c.args.entries.now named.all),
+      λ named. c.all_named.ensures.1 (All-unmap (λ
+          (e : IndexEntry). IsSameName e.name c.args.name.now) entry_of c.args.entries.now named.all),
     )

@@ -21,6 +21,7 @@ returns-then-not-are_named c =
 pub returns-in-Err-IndexLine : goal.returns-in-Err-IndexLine
 returns-in-Err-IndexLine c =
     ⊎_elim (λ m. absurd (omega (arith, m)))
-    (λ r. subst (λ n. IsDamaged c.args.name.now c.args.body.now (BadLine n)) (sym (one-line c.in-Err-IndexLine.line r.0 r.1))
+    (λ r. subst (λ n. IsDamaged c.args.name.now c.args.body.now (BadLine n))
+    (sym (one-line c.in-Err-IndexLine.line r.0 r.1))
     (bad_line r.0 r.2))
     (rw c.in-Err-IndexLine.field-0-is at c.in-Err-IndexLine.ensures.refused)

@@ -19,4 +19,8 @@ returns-in-Some c = (
 )
 
 pub returns-in-None : goal.returns-in-None
-returns-in-None c = (λ t. absurd (false≢true t), λ new. absurd (c.in-None.ensures.none new.major new.minor new.says))
+returns-in-None c = (
+  λ t. absurd (false≢true t),
+  λ new. absurd
+      (c.in-None.ensures.none new.major new.minor new.says),
+)

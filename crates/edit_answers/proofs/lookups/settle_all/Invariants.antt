@@ -12,5 +12,6 @@ invariant-loop-i g l =
     (length l.outcomes.items ≡ l.i)
     × Changes (PutsOne l.places (map lookup_text l.lookups)) (PutsSome l.places (map lookup_text l.lookups))
     (g.S.Store.view l.fn.files) (g.S.Store.view l.files) (Ok l.outcomes.items)
-    × ((g.S.Store.view l.fn.files).tells ≡ true → AllFollow l.places (map lookup_text l.lookups) l.offline l.answers
+    × ((g.S.Store.view l.fn.files).tells ≡ true → AllFollow l.places
+    (map lookup_text l.lookups) l.offline l.answers
     (g.S.Store.view l.fn.files).file_at l.outcomes.items)

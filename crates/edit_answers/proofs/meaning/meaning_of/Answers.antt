@@ -11,8 +11,10 @@ returns-in_default c = subst (λ o. Means o (Failed Unanswered)) (sym c.in_defau
 
 pub returns-then-eq : goal.returns-then-eq
 returns-then-eq c = subst (λ o. Means o c.meaning_by.result) (sym c.in-Some.is)
-    (answered c.in-Some.answer c.meaning_by.result (eq-yes _ _ _ c.eq.ensures c.if-eq.true) c.meaning_by.ensures)
+    (answered c.in-Some.answer c.meaning_by.result
+    (eq-yes _ _ _ c.eq.ensures c.if-eq.true) c.meaning_by.ensures)
 
 pub returns : goal.returns
-returns c = subst (λ o. Means o (Failed (Curl c.in-Some.answer.exit c.in-Some.answer.message))) (sym c.in-Some.is)
+returns c = subst (λ o. Means o (Failed (Curl c.in-Some.answer.exit c.in-Some.answer.message)))
+    (sym c.in-Some.is)
     (failed c.in-Some.answer (eq-no _ _ _ c.eq.ensures c.if-eq.false))

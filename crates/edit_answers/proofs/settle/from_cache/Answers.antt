@@ -12,7 +12,8 @@ returns-in-Ok-Some-clause-told g c t =
     let l = lookup_text c.args.lookup.now in
     let files = (g.S.Store.view c.args.files.now).file_at in
     from-damage l.name (files (cached_path c.args.places.now.cache.now l)) _ _ c.in-Ok-Some.damage
-    (subst (λ q. HasDamage l.name (files q) (Some c.in-Ok-Some.damage)) (c.as_str.ensures.value ∙ c.in_ok-entry.ensures)
+    (subst (λ q. HasDamage l.name (files q) (Some c.in-Ok-Some.damage))
+    (c.as_str.ensures.value ∙ c.in_ok-entry.ensures)
     (rw c.in-Ok-Some.field-0-is at (c.in-Ok-Some.ensures.damage t)))
 
 pub returns-in-Ok-None-clause-changes : goal.returns-in-Ok-None-clause-changes

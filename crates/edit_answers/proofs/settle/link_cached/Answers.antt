@@ -12,4 +12,5 @@ returns-in-Ok-clause-changes g c =
 
 pub returns-in-Ok-clause-told : goal.returns-in-Ok-clause-told
 returns-in-Ok-clause-told g c t =
-    links-told _ _ _ _ _ _ _ _ _ c.in-Ok.ensures (c.as_str.ensures.value ∙ c.in_ok-entry.ensures) c.by_link.ensures t
+    links-told _ _ _ _ _ _ _ _ _ c.in-Ok.ensures (c.as_str.ensures.value
+    ∙ c.in_ok-entry.ensures) c.by_link.ensures t

@@ -20,7 +20,8 @@ returns-in-Ok-renew_validator-clause-changes g c =
     let p = c.args.places.now in
     let l = lookup_text c.args.lookup.now in
     let may = PutsIndexed p l in
-    as-ok (λ _. may) (Puts p l) may (Puts p l Fetched) _ _ _ c.in-Ok.outcome (λ t. indexed-puts p l c.in-Ok.outcome)
+    as-ok (λ _. may) (Puts p l) may (Puts p l Fetched) _ _ _ c.in-Ok.outcome
+    (λ t. indexed-puts p l c.in-Ok.outcome)
     (then may _ _ _ _ _ c.in-Ok.ensures.changes
     (weakened _ (λ _. may) _ may _ _ _ (λ t v q bytes x. absurd x) (λ q bytes x. absurd x)
     c.in-Ok-renew_validator.ensures))

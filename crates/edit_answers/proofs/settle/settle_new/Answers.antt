@@ -28,7 +28,8 @@ returns-in-Ok-None-clause-told g c =
     (λ o h t. unusable c.args.is_direct o
     (λ b. (rw c.in-Ok-None.field-0-is at (c.in-Ok-None.ensures.body t)) b.0
     (subst (λ q. files q ≡ Some b.0) (sym (c.as_str.ensures.value ∙ c.in_ok-body_path.ensures)) b.1) b.2)
-    (subst (λ x. FromCache l.name (Cached NotAnIndex) NotAnIndex x o) (reads.files (cached_path p.cache.now l))
+    (subst (λ x. FromCache l.name (Cached NotAnIndex) NotAnIndex x o)
+    (reads.files (cached_path p.cache.now l))
     (h (reads.tells ∙ t))))
     c.from_cache.ensures.told
 
@@ -42,7 +43,8 @@ returns-clause-told g c =
     let files = (g.S.Store.view c.args.files.now).file_at in
     let reads = c.read_body.ensures.reads in
     on-ok _ _ c.store_body.result
-    (λ o h t. subst (λ o. Settles p l c.args.number files (new_meaning c.args.is_direct) o) (sym (h (reads.tells ∙ t)))
+    (λ o h t. subst (λ o. Settles p l c.args.number files (new_meaning c.args.is_direct) o)
+    (sym (h (reads.tells ∙ t)))
     (fetched c.args.is_direct (
       c.in-Ok-Some.body.items,
       subst (λ q. files q ≡ Some c.in-Ok-Some.body.items) (c.as_str.ensures.value ∙ c.in_ok-body_path.ensures)

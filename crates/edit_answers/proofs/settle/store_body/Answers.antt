@@ -15,13 +15,15 @@ returns-in-Err-link_cached-clause-changes g c =
     let l = lookup_text c.args.lookup.now in
     let may = Puts p l Fetched in
     let path = c.as_str.ensures.value ∙ c.in_ok-entry.ensures in
-    let first = write-changes (λ _. may) may _ _ _ _ c.args.body.now _ c.in-Ok.ensures.tells c.in-Ok.ensures.written
+    let first = write-changes (λ _. may) may _ _ _ _ c.args.body.now _ c.in-Ok.ensures.tells
+    c.in-Ok.ensures.written
     c.in-Ok.ensures.others c.in-Ok.ensures.cause
     (λ t is v. keeps-write may _ _ _ _ c.in-Ok.ensures.others is
     (subst (λ q. may q c.args.body.now) (sym path) (entry c.args.body.now (inl refl) c.requires))) in
     as-err {T = Outcome} (λ _. may) (Puts p l) may may _ _ _ (λ _ _ h. h)
     (then may _ _ _ _ _ first
-    (as-err _ (λ _. may) (PutsIndexed p l) may _ _ _ (indexed-puts p l Fetched) c.in-Err-link_cached.ensures.changes))
+    (as-err _ (λ _. may) (PutsIndexed p l) may _ _ _
+    (indexed-puts p l Fetched) c.in-Err-link_cached.ensures.changes))
 
 pub returns-in-Ok-store_direct-clause-changes :
     goal.returns-in-Ok-store_direct-clause-changes
@@ -30,11 +32,14 @@ returns-in-Ok-store_direct-clause-changes g c =
     let l = lookup_text c.args.lookup.now in
     let may = Puts p l (stored c.args.is_direct) in
     let path = c.as_str.ensures.value ∙ c.in_ok-entry.ensures in
-    let first = write-changes (λ _. may) may _ _ _ _ c.args.body.now _ c.in-Ok.ensures.tells c.in-Ok.ensures.written
+    let first = write-changes (λ _. may) may _ _ _ _ c.args.body.now _ c.in-Ok.ensures.tells
+    c.in-Ok.ensures.written
     c.in-Ok.ensures.others c.in-Ok.ensures.cause
     (λ t is v. keeps-write may _ _ _ _ c.in-Ok.ensures.others is
-    (subst (λ q. may q c.args.body.now) (sym path) (entry c.args.body.now (is-stored c.args.is_direct) c.requires))) in
-    let second = as-ok (λ _. PutsIndexed p l) (λ _. may) (PutsIndexed p l) may _ _ _ c.in-Ok-link_cached.outcome
+    (subst (λ q. may q c.args.body.now) (sym path)
+    (entry c.args.body.now (is-stored c.args.is_direct) c.requires))) in
+    let second = as-ok (λ _. PutsIndexed p l) (λ _. may)
+    (PutsIndexed p l) may _ _ _ c.in-Ok-link_cached.outcome
     (λ t. indexed-puts p l (stored c.args.is_direct)) c.in-Ok-link_cached.ensures.changes in
     let third = weakened _ (λ _. may) _ may _ _ _
     (λ t v q bytes. direct-puts p l c.args.is_direct c.args.body.now _ q bytes c.requires
@@ -56,11 +61,13 @@ returns-clause-changes g c =
     let l = lookup_text c.args.lookup.now in
     let may = Puts p l Fetched in
     let path = c.as_str.ensures.value ∙ c.in_ok-entry.ensures in
-    let first = write-changes (λ _. may) may _ _ _ _ c.args.body.now _ c.in-Ok.ensures.tells c.in-Ok.ensures.written
+    let first = write-changes (λ _. may) may _ _ _ _ c.args.body.now _ c.in-Ok.ensures.tells
+    c.in-Ok.ensures.written
     c.in-Ok.ensures.others c.in-Ok.ensures.cause
     (λ t is v. keeps-write may _ _ _ _ c.in-Ok.ensures.others is
     (subst (λ q. may q c.args.body.now) (sym path) (entry c.args.body.now (inl refl) c.requires))) in
-    let second = as-ok (λ _. PutsIndexed p l) (λ _. may) (PutsIndexed p l) may _ _ _ c.in-Ok-link_cached.outcome
+    let second = as-ok (λ _. PutsIndexed p l) (λ _. may)
+    (PutsIndexed p l) may _ _ _ c.in-Ok-link_cached.outcome
     (λ t. indexed-puts p l Fetched) c.in-Ok-link_cached.ensures.changes in
     as-err {T = Outcome} (λ _. may) (Puts p l) may may _ _ _ (λ _ _ h. h)
     (then may _ _ _ _ _ first (then may _ _ _ _ _ second

@@ -25,15 +25,26 @@ returns-in-Some g c =
     let ls = map lookup_text c.deref.result.now in
     let say : (g.S.Store.view c.args.files.now).tells ≡ true
     → SaysLookups (text_of (files (p.room.now ++ 47 ∷ codes "lookups"))) ls
-    = λ t. subst (λ xs. SaysLookups (text_of (files (p.room.now ++ 47 ∷ codes "lookups"))) (map lookup_text xs))
+    = λ t. subst (λ xs. SaysLookups (text_of (files (p.room.now ++ 47 ∷ codes "lookups")))
+    (map lookup_text xs))
     (sym c.deref.ensures.value)
     (subst (λ text. SaysLookups text (map lookup_text c.in-Some.lookups.items))
     (c.as_str.ensures.value ∙ c.in-Ok.ensures.text t)
     (rw c.in-Some.is at c.in_ok-lookups.ensures)) in
     after-reads {T = Report} (λ _. may) may _ _ _ _ c.read_from_room.ensures.reads
     (weakened-told (λ _. PutsSome p ls) (λ _. may) (PutsSome p ls) may _ _ _
-    (λ t v path bytes h. record { lookups = ls; say = say (sym c.read_from_room.ensures.reads.tells ∙ t); puts = h })
-    (λ t path bytes h. record { lookups = ls; say = say (sym c.read_from_room.ensures.reads.tells ∙ t); puts = h })
+    (λ t v path bytes h. record {
+      lookups = ls;
+      say = say
+          (sym c.read_from_room.ensures.reads.tells ∙ t);
+      puts = h;
+    })
+    (λ t path bytes h. record {
+      lookups = ls;
+      say = say
+          (sym c.read_from_room.ensures.reads.tells ∙ t);
+      puts = h;
+    })
     c.store_lookups.ensures)
 
 pub returns-in_err-unreadable-in-None : goal.returns-in_err-unreadable-in-None
@@ -45,4 +56,5 @@ returns-in_err-unreadable-in-None g c =
 pub returns : goal.returns
 returns g c =
     let may = PutsOf c.args.places.now (g.S.Store.view c.args.files.now).file_at in
-    only-reads {T = Report} (λ _. may) may _ _ c.in_ok-unreadable-in-None.field-0 c.read_from_room.ensures.reads
+    only-reads {T = Report} (λ _. may) may _ _ c.in_ok-unreadable-in-None.field-0
+    c.read_from_room.ensures.reads

@@ -21,7 +21,8 @@ pub returns-in-Err-settle_all : goal.returns-in-Err-settle_all
 returns-in-Err-settle_all g c =
     let may = PutsSome c.args.places.now (map lookup_text c.args.lookups.now) in
     after-reads {T = Report} (λ _. may) may _ _ _ _ c.read_from_room.ensures.reads
-    (as-err {T = Vec Outcome Global} _ (λ _. may) may may _ _ _ (λ _ _ h. h) c.in-Err-settle_all.ensures.changes)
+    (as-err {T = Vec Outcome Global} _ (λ _. may) may may _ _ _
+    (λ _ _ h. h) c.in-Err-settle_all.ensures.changes)
 
 pub returns-in_err-report_of : goal.returns-in_err-report_of
 returns-in_err-report_of g c =
@@ -29,7 +30,8 @@ returns-in_err-report_of g c =
     let ls = map lookup_text c.args.lookups.now in
     let may = PutsSome p ls in
     after-reads {T = Report} (λ _. may) may _ _ _ _ c.read_from_room.ensures.reads
-    (ok-refused {U = Vec Outcome Global} (λ v. PutsOne p ls v.items) (λ _. may) may _ _ c.in-Ok-settle_all.outcomes _
+    (ok-refused {U = Vec Outcome Global} (λ v. PutsOne p ls v.items)
+    (λ _. may) may _ _ c.in-Ok-settle_all.outcomes _
     (settled-all p ls c.in-Ok-settle_all.outcomes.items) c.from_residual-in_err-report_of.ensures.1
     c.in-Ok-settle_all.ensures.changes)
 
@@ -39,6 +41,7 @@ returns g c =
     let ls = map lookup_text c.args.lookups.now in
     let may = PutsSome p ls in
     after-reads {T = Report} (λ _. may) may _ _ _ _ c.read_from_room.ensures.reads
-    (as-ok {T = Vec Outcome Global} (λ v. PutsOne p ls v.items) (λ _. may) may may _ _ c.in-Ok-settle_all.outcomes
+    (as-ok {T = Vec Outcome Global} (λ v. PutsOne p ls v.items)
+    (λ _. may) may may _ _ c.in-Ok-settle_all.outcomes
     c.in_ok-report_of.field-0 (λ t. settled-all p ls c.in-Ok-settle_all.outcomes.items)
     c.in-Ok-settle_all.ensures.changes)

@@ -15,8 +15,11 @@ returns-else-is_empty-clause-valid c =
     }
 
 pub returns-else-is_empty-clause-first : goal.returns-else-is_empty-clause-first
-returns-else-is_empty-clause-first c =
-    (c.in-Some.field-0-1.now, sym c.in-Ok.ensures.cases.0 ∙ cut-whole 10 _ _ _ c.in-Some.ensures.cases (lit< tt))
+returns-else-is_empty-clause-first c = (
+  c.in-Some.field-0-1.now,
+  sym c.in-Ok.ensures.cases.0
+      ∙ cut-whole 10 _ _ _ c.in-Some.ensures.cases (lit< tt),
+)
 
 pub returns-in-None-clause-none : goal.returns-in-None-clause-none
 returns-in-None-clause-none c etag rest u plain e =

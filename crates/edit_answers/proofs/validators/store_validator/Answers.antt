@@ -7,7 +7,12 @@ pub returns : goal.returns
 returns g c =
     let may = PutsValidator c.args.entry.now c.args.body.now in
     after-reads (λ _. may) may _ _ _ _
-    (record { tells = c.read.ensures.tells; files = c.read.ensures.files; later = c.read.ensures.cause.later })
+    (record {
+      tells = c.read.ensures.tells;
+      files = c.read.ensures.files;
+      later =
+          c.read.ensures.cause.later;
+    })
     (write-changes (λ _. may) may _ _ _ _ _ _ c.write.ensures.tells c.write.ensures.written
     c.write.ensures.others c.write.ensures.cause
     (λ t is v. keeps-write may _ _ _ _ c.write.ensures.others is (

@@ -8,6 +8,7 @@ pub returns : goal.returns
 returns c =
     IfOk-weaker c.calls_of.result _ _
     (λ v seen calls texts are.
-    seen ∙ ap (λ (ls : List (Bor (List ℕ))). calls_behind [] (map (λ line. line.now) ls)) c.deref.ensures.value
+    seen ∙ ap (λ (ls : List (Bor (List ℕ))). calls_behind []
+    (map (λ line. line.now) ls)) c.deref.ensures.value
     ∙ ap (calls_behind []) (c.in_ok-lines.ensures ∙ are) ∙ all-calls calls texts)
     c.calls_of.ensures

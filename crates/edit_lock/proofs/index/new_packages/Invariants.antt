@@ -7,4 +7,5 @@ use Rattle.edit_lock.proofs.index.new_packages.Given as goal
 
 abbrev pub invariant-packages : goal.invariant-packages
 invariant-packages l = pairs_seen l.gained.items
-    ≡ map pair_of (filter (λ p. not (contains_text l.had (spec_of p))) (map package_seen (take l.package-index l.packages)))
+    ≡ map pair_of (filter (λ p. not (contains_text l.had (spec_of p)))
+    (map package_seen (take l.package-index l.packages)))

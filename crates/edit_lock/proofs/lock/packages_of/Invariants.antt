@@ -6,4 +6,5 @@ use Rattle.edit_lock.proofs.lock.packages_of.Given as goal
 
 abbrev pub invariant-values : goal.invariant-values
 invariant-values l = packages_of (items_view l.values)
-    ≡ option_map (λ rest. map package_seen l.packages.items ++ rest) (packages_of (items_view (drop l.value-index l.values)))
+    ≡ option_map (λ rest. map package_seen l.packages.items ++ rest)
+    (packages_of (items_view (drop l.value-index l.values)))

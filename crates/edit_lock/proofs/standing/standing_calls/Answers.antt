@@ -20,4 +20,5 @@ returns-clause-right c =
     standing_calls (changes_seen c.in_ok-index.index) c.args.offline (calls_seen cs)) all
     ∙ ap (λ (seen : Changes). standing_calls seen c.args.offline given) c.in_ok-index.ensures in
     All-same (IsRight now) (calls_seen c.calls.standing.items)
-    (standing_calls (changes before now) c.args.offline given) made (calls-right before now c.args.offline given)
+    (standing_calls (changes before now) c.args.offline given) made
+    (calls-right before now c.args.offline given)

@@ -5,11 +5,10 @@ use Rattle.edit_base.specs.Errors.{IsMemory}
 use Rattle.edit_tree.specs.Assertions.{Place}
 use Rattle.edit_document.specs.Items.{place_seen}
 use Rattle.edit_tree.specs.Shown.{tree_of}
-use Rattle.edit_tree.specs.Tree.{view_at}
 use Rattle.edit_manifest.specs.Places.{places_seen}
 use Rattle.edit_manifest.specs.Removals.{AreInTurn, AreStrings, OneStays, Without, none}
 use Rattle.edit_manifest.proofs.ItemSteps.{left_map, split_map, taken_map}
-use Rattle.edit_manifest.proofs.Withouts.{one_stays, string_inner, strings_along, strings_left, without_more}
+use Rattle.edit_manifest.proofs.Withouts.{one_stays, shown_removed, string_inner, strings_left, without_more}
 use Rattle.edit_manifest.proofs.features.without.Goals as goal
 
 pub places-init : goal.places-init
@@ -68,12 +67,16 @@ places-preserved c =
     let turns = subst AreInTurn split c.places.invariant.apart in
     let form = c.has_form.ensures.some in
     let shows = c.has_form.ensures.shows form.0 form.1 in
+    let again = c.has_form-in-places.ensures.some in
+    let shown = c.has_form-in-places.ensures.shows again.0 again.1 in
     let done = c.in_ok-remove.ensures {u = tt} in
+    let removed = done.tree form.0 form.1 in
     record {
       without = subst (λ ps. Without ps c.args.document.now.bytes c.remove.new.self.bytes) (sym taken)
-          (without_more front place form.0 _ _ _ c.places.invariant.without form.1
-          (done.bytes form.0 form.1));
-      strings = strings_left form.0 place rest (tree_of c.remove.new.self) (done.tree form.0 form.1) turns.0
-          (strings_along (tree_of c.places.left) (view_at form.0) rest shows strings.1);
+          (without_more front place form.0 again.0 _ _ _ c.places.invariant.without form.1
+          (done.bytes form.0 form.1) again.1
+          (shown_removed form.0 again.0 place c.places.left c.remove.new.self shows shown removed));
+      strings = strings_left form.0 place rest (tree_of c.places.left) (tree_of c.remove.new.self) removed
+          turns.0 strings.1;
       apart = turns.1;
     }

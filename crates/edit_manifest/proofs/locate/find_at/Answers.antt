@@ -1,6 +1,7 @@
-use Rattle.std.proofs.Common.{⊎_elim, inl, inr}
+use Rattle.std.proofs.Common.{⊎_elim, inl, inr, subst}
 use Rattle.std.proofs.lemmas.Result.{IfErr-weaker, IfOk-weaker}
 use Rattle.edit_base.specs.declared.errors.DeviceCall.TheVariants as call
+use Rattle.edit_manifest.specs.Located.{NamesFolder}
 use Rattle.edit_manifest.proofs.Faults.{fault_later}
 use Rattle.edit_manifest.proofs.PassedWords.{none_found, path_named, path_nearest}
 use Rattle.edit_manifest.proofs.locate.find_at.Goals as goal
@@ -32,3 +33,14 @@ returns-in-Ok-Folder-clause-refused g c =
     c.kind.ensures.tells c.kind.ensures.files stands none))
     refused)
     c.search.ensures.refused
+
+pub returns-in-Ok-Folder-clause-only : goal.returns-in-Ok-Folder-clause-only
+returns-in-Ok-Folder-clause-only g c =
+    IfErr-weaker c.search.result _ _
+    (λ e only. ⊎_elim
+    (λ fault. inl (fault_later call.Kind (g.S.Store.view c.args.store.now).faults
+    (g.S.Store.view c.kind.new.self).faults (g.S.Store.view c.search.new.store).faults e
+    c.kind.ensures.cause.later fault))
+    (λ named. inr (inr (subst (λ text. NamesFolder text e) c.as_str-in-Ok-Folder.ensures.value named)))
+    only)
+    c.search.ensures.only

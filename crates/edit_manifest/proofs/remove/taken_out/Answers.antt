@@ -3,7 +3,7 @@ use Rattle.std.proofs.lemmas.Result.{err_from_is_err_and}
 use Rattle.std.specs.Prelude.{string_bytes}
 use Rattle.edit_base.specs.declared.errors.Error.TheVariants.{EditRefused}
 use Rattle.edit_base.specs.Errors.{IsMemory}
-use Rattle.edit_tree.specs.Assertions.{at, key, assertions}
+use Rattle.edit_tree.specs.Assertions.{at, key}
 use Rattle.edit_document.specs.Items.{place_seen}
 use Rattle.edit_tree.specs.Meant.{Removed, RemoveFails}
 use Rattle.edit_tree.specs.Shown.{tree_of}
@@ -29,7 +29,8 @@ returns-in_err-remove-clause-refused c =
     let form = c.has_form.ensures.some in
     let same = c.in_ok-left.ensures.same in
     let why : IsNotTakenOut path c.args.name.now old c.in_err-remove.field-0.0 =
-    entry_kept path c.args.name.now old form.0 r p table entry form.1 c.in_err-remove.field-0.0
+    entry_kept path c.args.name.now old form.0 r p table entry form.1
+    (c.has_form.ensures.shows form.0 form.1) c.in_err-remove.field-0.0
     (sym c.in_default.ensures) stands
     (subst (λ d. IsMemory c.in_err-remove.field-0.0 ⊎ ((c.in_err-remove.field-0.0 ≡ EditRefused)
     × RemoveFails p d.bytes))
@@ -57,11 +58,14 @@ returns-in_err-remove_bare-clause-refused c =
     let same = c.in_ok-left.ensures.same in
     let reads = subst (λ d. IsManifest d.bytes form.0) (sym same) form.1 in
     let again = c.has_form-2.ensures.some in
+    let removed = subst (λ d. Removed form.0 p (tree_of d) (tree_of c.remove.new.self)) same
+    (c.in_ok-remove.ensures.tree form.0 reads) in
     let why : IsNotTakenOut path c.args.name.now old c.in_err-remove_bare.field-0.0 =
-    table_kept path c.args.name.now old form.0 r p table entry form.1 c.remove.new.self again.0
+    table_kept path c.args.name.now old form.0 r p table entry form.1
+    (c.has_form.ensures.shows form.0 form.1) c.remove.new.self again.0
     c.in_err-remove_bare.field-0.0
     (sym c.in_default.ensures) stands (c.in_ok-remove.ensures.bytes form.0 reads) again.1
-    (c.has_form-2.ensures.shows again.0 again.1) c.in_err-remove_bare.ensures.refused in
+    (c.has_form-2.ensures.shows again.0 again.1) removed c.in_err-remove_bare.ensures.refused in
     let stop = c.from_residual-in_err-remove_bare in
     let e = err_from_is_err_and stop.result stop.ensures.1 in
     rw (e.1, e.2) why
@@ -85,9 +89,12 @@ returns-clause-text c =
     let same = c.in_ok-left.ensures.same in
     let reads = subst (λ d. IsManifest d.bytes form.0) (sym same) form.1 in
     let again = c.has_form-2.ensures.some in
-    taken_out path c.args.name.now old form.0 r p table entry form.1 c.remove.new.self _ again.0
+    let removed = subst (λ d. Removed form.0 p (tree_of d) (tree_of c.remove.new.self)) same
+    (c.in_ok-remove.ensures.tree form.0 reads) in
+    taken_out path c.args.name.now old form.0 r p table entry form.1
+    (c.has_form.ensures.shows form.0 form.1) c.remove.new.self _ again.0
     (sym c.in_default.ensures) stands (c.in_ok-remove.ensures.bytes form.0 reads) again.1
-    (c.has_form-2.ensures.shows again.0 again.1) c.in_ok-remove_bare.ensures.without
+    (c.has_form-2.ensures.shows again.0 again.1) removed c.in_ok-remove_bare.ensures.without
 
 pub returns-clause-gone : goal.returns-clause-gone
 returns-clause-gone c =
@@ -102,8 +109,8 @@ returns-clause-gone c =
     let form = c.has_form.ensures.some in
     let same = c.in_ok-left.ensures.same in
     let reads = subst (λ d. IsManifest d.bytes form.0) (sym same) form.1 in
-    let removed = subst (λ q. Removed q (assertions form.0) (tree_of c.remove.new.self)) entry
+    let removed = subst (λ q. Removed form.0 q (tree_of c.in_ok-left.left) (tree_of c.remove.new.self)) entry
     (c.in_ok-remove.ensures.tree form.0 reads) in
     ap (λ q. tree_of c.remove_bare.new.document (at q (key name))) (sym table)
     ∙ c.in_ok-remove_bare.ensures.gone path name table
-    (member_gone r name form.0 (tree_of c.remove.new.self) removed)
+    (member_gone r name form.0 (tree_of c.in_ok-left.left) (tree_of c.remove.new.self) removed)

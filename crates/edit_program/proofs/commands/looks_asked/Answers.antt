@@ -8,6 +8,7 @@ returns-in_err-looks-clause-why g c =
       asked = c.in-Ok.words;
       asks = c.in-Ok.ensures.asks;
       cause = c.in_err-looks.ensures.why;
+      unchanged = c.looks.ensures.reads.files;
     }))
 
 pub returns-in_err-looks-clause-kept : goal.returns-in_err-looks-clause-kept
@@ -23,5 +24,6 @@ returns-clause-done g c other t = (
     asked = c.in-Ok.words;
     asks = c.in-Ok.ensures.asks;
     looked = c.in_ok-looks.ensures.done t;
+    unchanged = c.looks.ensures.reads.files;
   },
 )

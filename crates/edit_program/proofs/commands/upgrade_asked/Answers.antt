@@ -7,7 +7,7 @@ use Rattle.edit_program.proofs.commands.upgrade_asked.Goals as goal
 
 pub returns-in_err-due-clause-refused : goal.returns-in_err-due-clause-refused
 returns-in_err-due-clause-refused g c = on_refusal c.from_residual.result _ (λ t.
-    broken_for (rows_of (found_of c.args.matches.now)) _ c.args.current.now _ _ _ _ c.in-Ok.words
+    broken_for (rows_of (found_of c.args.matches.now)) _ _ c.in-Ok.words
     c.in-Ok.ensures.asks (c.in_err-due.ensures.refused t))
 
 pub returns-in_err-due-clause-why : goal.returns-in_err-due-clause-why
@@ -32,7 +32,7 @@ returns-clause-answered g c two =
 
 pub returns-clause-checked : goal.returns-clause-checked
 returns-clause-checked g c one t =
-    dry_upgrade c.in_ok-due.due _ _ c.in-Ok.words _ _ _ _ _
+    dry_upgrade c.in_ok-due.due _ _ c.in-Ok.words _
     (c.in-Ok.ensures.asks.options.dry_run
     ∙ dry_after (rows_of (found_of c.args.matches.now)) c.in_ok-due.due _ c.status_after.ensures one)
     (c.in_ok-due.ensures.done t)

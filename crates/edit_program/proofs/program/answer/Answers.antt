@@ -48,8 +48,7 @@ returns-in-Some-subcommand-clause-ended g c =
     let entered = entered_by (app_of c.in_ok-command.command) words c.in-Ok.matches met.matches.now
     met.name.now c.in_ok-command.ensures.app c.in_ok-command.ensures.simple c.in-Ok.ensures.matches
     (c.in-Ok.ensures.kinds c.in_ok-command.ensures.free) met.ensures.name met.ensures.rows in
-    command_ended words met.name.now (rows_of (found_of met.matches.now)) _ _ c.args.current.now
-    _ _ _ _ c.subcommand_asked.result _ entered c.subcommand_asked.ensures.status
+    command_ended words met.name.now (rows_of (found_of met.matches.now)) _ _ _ c.subcommand_asked.result _ entered c.subcommand_asked.ensures.status
     c.subcommand_asked.ensures.checked c.subcommand_asked.ensures.done
 
 pub returns-in-Some-subcommand-clause-refused : goal.returns-in-Some-subcommand-clause-refused
@@ -59,8 +58,7 @@ returns-in-Some-subcommand-clause-refused g c =
     let entered = entered_by (app_of c.in_ok-command.command) words c.in-Ok.matches met.matches.now
     met.name.now c.in_ok-command.ensures.app c.in_ok-command.ensures.simple c.in-Ok.ensures.matches
     (c.in-Ok.ensures.kinds c.in_ok-command.ensures.free) met.ensures.name met.ensures.rows in
-    command_refused words met.name.now (rows_of (found_of met.matches.now)) _ _ c.args.current.now
-    _ _ _ _ c.subcommand_asked.result _ entered c.subcommand_asked.ensures.refused
+    command_refused words met.name.now (rows_of (found_of met.matches.now)) _ _ _ c.subcommand_asked.result _ entered c.subcommand_asked.ensures.refused
 
 pub returns-in-Some-subcommand-clause-why : goal.returns-in-Some-subcommand-clause-why
 returns-in-Some-subcommand-clause-why g c =
@@ -69,8 +67,7 @@ returns-in-Some-subcommand-clause-why g c =
     let entered = entered_by (app_of c.in_ok-command.command) words c.in-Ok.matches met.matches.now
     met.name.now c.in_ok-command.ensures.app c.in_ok-command.ensures.simple c.in-Ok.ensures.matches
     (c.in-Ok.ensures.kinds c.in_ok-command.ensures.free) met.ensures.name met.ensures.rows in
-    command_why words met.name.now (rows_of (found_of met.matches.now)) c.args.current.now _ _ _ _
-    c.subcommand_asked.result entered c.subcommand_asked.ensures.why
+    command_why words met.name.now (rows_of (found_of met.matches.now)) _ _ c.subcommand_asked.result entered c.subcommand_asked.ensures.why
 
 pub returns-in-None-clause-fault : goal.returns-in-None-clause-fault
 returns-in-None-clause-fault g c two = inr (inl (none_by (app_of c.in_ok-command.command)

@@ -15,7 +15,7 @@ use Rattle.edit_set_version.specs.Chosen.{missing}
 use Rattle.edit_set_version.specs.Crates.{IsReadOf, bumps_seen, project_seen}
 use Rattle.edit_set_version.specs.Follows.{AreVersions}
 use Rattle.edit_set_version.specs.PlanLines.{lines, lines_of, manifests, shared_lines}
-use Rattle.edit_set_version.specs.PlanRefused.{HasBadInputBy, IsCauseOf, IsClear, IsInputClearBy}
+use Rattle.edit_set_version.specs.PlanRefused.{HasBadInputBy, IsBehindLiterals, IsCauseOf, IsClear, IsInputClearBy}
 use Rattle.edit_set_version.specs.PlanRefused.IsCauseOf.{memory as of_memory, no_manifest as of_input, no_package as of_package, project as of_project}
 use Rattle.edit_set_version.specs.Planned.{HasFollowed, HasOutputsBy, HasSetOutputs, told_lines}
 use Rattle.edit_set_version.specs.Projects.{EachInput, HasProject}
@@ -35,7 +35,7 @@ returns-in_err-manifests-clause-refused c =
     c.from_residual-in_err-manifests.ensures.1 in
     rw (r.1, r.2) (elim c.in_err-manifests.ensures.refused [
       | inl none ↦ of_memory none
-      | inr why ↦ of_input why.0 why.1 why.2
+      | inr why ↦ of_input c.in_ok-check_names.ensures.found why.0 why.1 why.2
     ])
 
 pub returns-in_err-versions-clause-refused : goal.returns-in_err-versions-clause-refused
@@ -45,7 +45,7 @@ returns-in_err-versions-clause-refused c =
     let p = project_seen c.in_ok-project.project in
     rw (r.1, r.2) (elim c.in_err-versions.ensures.refused [
       | inl none ↦ of_memory none
-      | inr why ↦ of_project p c.in_ok-project.ensures.ok why
+      | inr why ↦ of_project c.in_ok-check_names.ensures.found p c.in_ok-project.ensures.ok why
     ])
 
 pub plan_with-requires-clause-apart : goal.plan_with-requires-clause-apart
@@ -122,9 +122,14 @@ returns-clause-refused c =
     let p = project_seen c.in_ok-project.project in
     let bs = bumps_seen c.in_ok-versions.versions.bumps.items in
     where_err c.plan_with.result
-    (λ (e : Error). IsMemory e ⊎ (HasUnfollowed bs (manifests p) e ⊎ HasBadInputBy bs is e))
+    (λ (e : Error). IsMemory e ⊎ (IsBehindLiterals bs is e
+    × (HasUnfollowed bs (manifests p) e ⊎ HasBadInputBy bs is e)))
     (IsCauseOf t a w is)
-    (λ e why. cause_given t a w is p bs e c.in_ok-project.ensures.ok c.in_ok-versions.ensures.bumps why)
+    (λ e why. cause_given t a w is p bs e c.in_ok-check_names.ensures.found c.in_ok-project.ensures.ok
+    (record {
+      excluded = c.in_ok-versions.ensures.excluded;
+      versions = c.in_ok-versions.ensures.bumpable;
+    }) c.in_ok-versions.ensures.bumps why)
     c.plan_with.ensures.refused
 
 pub returns-clause-clear : goal.returns-clause-clear

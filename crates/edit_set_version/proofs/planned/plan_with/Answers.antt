@@ -6,22 +6,34 @@ use Rattle.edit_set_version.specs.Apart.{AreApart}
 use Rattle.edit_set_version.specs.Crates.{bumps_seen, project_seen}
 use Rattle.edit_set_version.specs.Numbers.{TellsFirst}
 use Rattle.edit_set_version.specs.PlanLines.{manifests}
-use Rattle.edit_set_version.specs.PlanRefused.{HasBadInputBy, IsInputClearBy}
+use Rattle.edit_set_version.specs.PlanRefused.{HasBadInputBy, HasLiteral, IsInputClearBy}
 use Rattle.edit_set_version.specs.ToldLines.{HasUnfollowed}
 use Rattle.edit_set_version.specs.Written.{TellsShared, shared_seen}
 use Rattle.edit_set_version.specs.declared.crates.Bump.{Bump as Bumping}
 use Rattle.edit_set_version.proofs.PlanLemmas.{lines_for, seen_copied, set_for}
 use Rattle.edit_set_version.proofs.planned.plan_with.Goals as goal
 
+pub check_literals-requires-clause-numbers : goal.check_literals-requires-clause-numbers
+check_literals-requires-clause-numbers c =
+    subst (λ (bs : List Bumping). TellsFirst (bumps_seen bs) c.in_ok-numbers.numbers)
+    (c.deref.ensures.value ∙ sym c.deref-2.ensures.value) c.in_ok-numbers.ensures.ok
+
+pub check_literals-requires-clause-apart : goal.check_literals-requires-clause-apart
+check_literals-requires-clause-apart c =
+    subst (λ (bs : List Bumping). AreApart (bumps_seen bs)) (sym c.deref-2.ensures.value) c.requires.apart
+
+pub check_literals-requires-clause-read : goal.check_literals-requires-clause-read
+check_literals-requires-clause-read c = c.requires.read
+
 pub plan_lines-requires-clause-numbers : goal.plan_lines-requires-clause-numbers
 plan_lines-requires-clause-numbers c =
     subst (λ (bs : List Bumping). TellsFirst (bumps_seen bs) c.in_ok-numbers.numbers)
-    (c.deref.ensures.value ∙ sym c.deref-2.ensures.value) c.in_ok-numbers.ensures.ok
+    (c.deref.ensures.value ∙ sym c.deref-3.ensures.value) c.in_ok-numbers.ensures.ok
 
 pub outputs_of-requires-clause-numbers : goal.outputs_of-requires-clause-numbers
 outputs_of-requires-clause-numbers c =
     subst (λ (bs : List Bumping). TellsFirst (bumps_seen bs) c.in_ok-numbers.numbers)
-    (c.deref.ensures.value ∙ sym c.deref-3.ensures.value) c.in_ok-numbers.ensures.ok
+    (c.deref.ensures.value ∙ sym c.deref-2.ensures.value) c.in_ok-numbers.ensures.ok
 
 pub returns-in_err-numbers-clause-refused : goal.returns-in_err-numbers-clause-refused
 returns-in_err-numbers-clause-refused c =
@@ -30,7 +42,21 @@ returns-in_err-numbers-clause-refused c =
 
 pub plan_lines-requires-clause-apart : goal.plan_lines-requires-clause-apart
 plan_lines-requires-clause-apart c =
-    subst (λ (bs : List Bumping). AreApart (bumps_seen bs)) (sym c.deref-2.ensures.value) c.requires.apart
+    subst (λ (bs : List Bumping). AreApart (bumps_seen bs)) (sym c.deref-3.ensures.value) c.requires.apart
+
+pub returns-in_err-check_literals-clause-refused : goal.returns-in_err-check_literals-clause-refused
+returns-in_err-check_literals-clause-refused c =
+    let r = err_from_is_err_and c.from_residual-in_err-check_literals.result
+    c.from_residual-in_err-check_literals.ensures.1 in
+    let e = c.in_err-check_literals.field-0.0 in
+    rw (r.1, r.2) (elim c.in_err-check_literals.ensures.refused [
+      | inl none ↦ inl none
+      | inr why ↦ inr (
+        inl why.0,
+        inr (subst (λ (bs : List Bumping). HasBadInputBy (bumps_seen bs) c.args.inputs.now e)
+            c.deref-2.ensures.value why.1),
+      )
+    ])
 
 pub returns-in_err-lines-clause-refused : goal.returns-in_err-lines-clause-refused
 returns-in_err-lines-clause-refused c =
@@ -40,13 +66,16 @@ returns-in_err-lines-clause-refused c =
     let e = c.in_err-lines.field-0.0 in
     rw (r.1, r.2) (elim c.in_err-lines.ensures.refused [
       | inl none ↦ inl none
-      | inr why ↦ inr (inl (subst (λ (bs : List Bumping). HasUnfollowed (bumps_seen bs) all e)
-          c.deref-2.ensures.value why))
+      | inr why ↦ inr (
+        inr (subst (λ (bs : List Bumping). All (HasLiteral (bumps_seen bs)) c.args.inputs.now)
+            c.deref-2.ensures.value c.in_ok-check_literals.ensures.literals),
+        inl (subst (λ (bs : List Bumping). HasUnfollowed (bumps_seen bs) all e) c.deref-3.ensures.value why),
+      )
     ])
 
 pub outputs_of-requires-clause-apart : goal.outputs_of-requires-clause-apart
 outputs_of-requires-clause-apart c =
-    subst (λ (bs : List Bumping). AreApart (bumps_seen bs)) (sym c.deref-3.ensures.value) c.requires.apart
+    subst (λ (bs : List Bumping). AreApart (bumps_seen bs)) (sym c.deref-2.ensures.value) c.requires.apart
 
 pub outputs_of-requires-clause-read : goal.outputs_of-requires-clause-read
 outputs_of-requires-clause-read c = c.requires.read
@@ -69,8 +98,12 @@ returns-in_err-outputs-clause-refused c =
     let e = c.in_err-outputs.field-0.0 in
     rw (r.1, r.2) (elim c.in_err-outputs.ensures.refused [
       | inl none ↦ inl none
-      | inr why ↦ inr (inr (subst (λ (bs : List Bumping). HasBadInputBy (bumps_seen bs) c.args.inputs.now e)
-          c.deref-3.ensures.value why))
+      | inr why ↦ inr (
+        inr (subst (λ (bs : List Bumping). All (HasLiteral (bumps_seen bs)) c.args.inputs.now)
+            c.deref-2.ensures.value c.in_ok-check_literals.ensures.literals),
+        inr (subst (λ (bs : List Bumping). HasBadInputBy (bumps_seen bs) c.args.inputs.now e)
+            c.deref-2.ensures.value why),
+      )
     ])
 
 pub returns-clause-outputs : goal.returns-clause-outputs
@@ -80,8 +113,8 @@ returns-clause-outputs c =
     let seen = seen_copied c.as_ref-next.result ∙ ap (option_map parts_of) c.as_ref-next.ensures.value in
     set_for is os c.as_str.result.now (project_seen c.args.project.now).path
     (shared_seen c.as_ref-next.result) (option_map parts_of c.args.versions.now.next)
-    (bumps_seen c.deref-3.result.now) (bumps_seen c.args.versions.now.bumps.items)
-    c.as_str.ensures.value seen (ap bumps_seen c.deref-3.ensures.value) c.in_ok-outputs.ensures.outputs
+    (bumps_seen c.deref-2.result.now) (bumps_seen c.args.versions.now.bumps.items)
+    c.as_str.ensures.value seen (ap bumps_seen c.deref-2.ensures.value) c.in_ok-outputs.ensures.outputs
 
 pub returns-clause-in_order : goal.returns-clause-in_order
 returns-clause-in_order c = c.in_ok-outputs.ensures.in_order
@@ -93,10 +126,10 @@ returns-clause-lines c =
     let next = seen_copied c.as_ref-next.result ∙ ap (option_map parts_of) c.as_ref-next.ensures.value in
     c.in_ok-lines.ensures.ok ∙ lines_for p (shared_seen c.as_ref-old.result)
     (option_map parts_of c.args.versions.now.current) (shared_seen c.as_ref-next.result)
-    (option_map parts_of c.args.versions.now.next) (bumps_seen c.deref-2.result.now)
-    (bumps_seen c.args.versions.now.bumps.items) old next (ap bumps_seen c.deref-2.ensures.value)
+    (option_map parts_of c.args.versions.now.next) (bumps_seen c.deref-3.result.now)
+    (bumps_seen c.args.versions.now.bumps.items) old next (ap bumps_seen c.deref-3.ensures.value)
 
 pub returns-clause-clear : goal.returns-clause-clear
 returns-clause-clear c =
     subst (λ (bs : List Bumping). All (IsInputClearBy (bumps_seen bs)) c.args.inputs.now)
-    c.deref-3.ensures.value c.in_ok-outputs.ensures.clear
+    c.deref-2.ensures.value c.in_ok-outputs.ensures.clear

@@ -1,4 +1,4 @@
-use Rattle.std.proofs.Common.{◌≡◌, ◌∙◌, None, List, ap, inl, inr, option_map, subst, sym}
+use Rattle.std.proofs.Common.{◌≡◌, ◌∙◌, None, List, [], ap, inl, inr, option_map, subst, sym}
 use Rattle.std.specs.List.{filter_map}
 use Rattle.std.specs.Prelude.{All, Contains, if◌then◌else◌, option_and_then}
 use Rattle.std.proofs.lemmas.Result.{err_from_is_err_and}
@@ -32,7 +32,9 @@ returns-in_err-next-clause-refused c =
     = seen_copied c.as_ref.result ∙ ap (option_map parts_of) c.as_ref.ensures.value ∙ is in
     let why = c.in_err-next.ensures.refused in
     let r = err_from_is_err_and c.from_residual-in_err-next.result c.from_residual-in_err-next.ensures.1 in
-    rw (r.1, r.2) (inr (version (record {
+    let none : held_back a p.members ≡ []
+    = ap (λ cs. held_back a (members_of cs)) (sym c.deref.ensures.value) ∙ c.in_ok-choice.ensures.excluded in
+    rw (r.1, r.2) (inr (version none (record {
       current = why.0;
       among = current_among a p why.0 (sym seen ∙ why.1);
       refused = why.2;
@@ -47,9 +49,11 @@ returns-in_err-bumps-clause-refused c =
     ∙ ap (λ cs. chosen a (members_of cs)) c.deref.ensures.value in
     let r = err_from_is_err_and c.from_residual-in_err-bumps.result
     c.from_residual-in_err-bumps.ensures.1 in
+    let kept : held_back a p.members ≡ []
+    = ap (λ cs. held_back a (members_of cs)) (sym c.deref.ensures.value) ∙ c.in_ok-choice.ensures.excluded in
     rw (r.1, r.2) (elim c.in_err-bumps.ensures.refused [
       | inl none ↦ inl none
-      | inr why ↦ inr (version (record {
+      | inr why ↦ inr (version kept (record {
         current = why.0.version;
         among = member_current a p why.0
             (subst (λ (ms : List Member). Contains ms why.0) these why.1);

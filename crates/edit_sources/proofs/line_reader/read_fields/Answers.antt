@@ -5,7 +5,7 @@ use Rattle.json.specs.Json.{members, value, parse_map}
 use Rattle.json.proofs.Grammar.{value-begin_object}
 use Rattle.serde_json.specs.Data.{object}
 use Rattle.serde_json.specs.Read.{of_json, converted}
-use Rattle.edit_sources.proofs.JsonGrammarLemmas.{converted-object, whole_read}
+use Rattle.edit_json.proofs.GrammarLemmas.{converted-object, whole_read}
 use Rattle.edit_sources.proofs.line_reader.read_fields.Goals as goal
 
 pub returns-in-None : goal.returns-in-None

@@ -7,7 +7,7 @@ use Rattle.serde_json.specs.Data.{Data, string, boolean, null}
 use Rattle.serde_json.specs.Find.{as_str}
 use Rattle.serde_json.specs.Read.{of_json, converted}
 use Rattle.edit_sources.specs.IndexLines.{yanked_of, rust_version_of}
-use Rattle.edit_sources.proofs.PutMemberLemmas.{at_key, off_key, not_key}
+use Rattle.edit_json.proofs.PutMemberLemmas.{at_key, off_key, not_key}
 use Rattle.edit_sources.proofs.line_reader.read_member.Goals as goal
 
 pub returns-then-eq-clause-value : goal.returns-then-eq-clause-value
@@ -15,7 +15,7 @@ returns-then-eq-clause-value c =
     let d = string c.in_ok-text.text.now in
     let key : c.args.key.now ≡ codes "name" = (bytes_eq-Decides c.args.key.now (codes "name")).0 (sym c.eq.ensures ∙ c.if-eq.true) in (
       d,
-      c.in_ok-text.ensures.value,
+      c.in_ok-text.ensures.value 126,
       λ ms says. record {
         name = ap (option_and_then as_str) (at_key (codes "name") c.args.key.now d ms key);
         version = ap (option_and_then as_str) (off_key (codes "vers") (codes "name") c.args.key.now d ms key refl) ∙ says.version;
@@ -29,7 +29,7 @@ returns-then-eq-2-clause-value c =
     let d = string c.in_ok-text-2.text.now in
     let key : c.args.key.now ≡ codes "vers" = (bytes_eq-Decides c.args.key.now (codes "vers")).0 (sym c.eq-2.ensures ∙ c.if-eq-2.true) in (
       d,
-      c.in_ok-text-2.ensures.value,
+      c.in_ok-text-2.ensures.value 126,
       λ ms says. record {
         name = ap (option_and_then as_str) (off_key (codes "name") (codes "vers") c.args.key.now d ms key refl) ∙ says.name;
         version = ap (option_and_then as_str) (at_key (codes "vers") c.args.key.now d ms key);
@@ -43,7 +43,7 @@ returns-then-eq-3-clause-value c =
     let d = boolean c.in_ok-truth.truth in
     let key : c.args.key.now ≡ codes "yanked" = (bytes_eq-Decides c.args.key.now (codes "yanked")).0 (sym c.eq-3.ensures ∙ c.if-eq-3.true) in (
       d,
-      c.in_ok-truth.ensures.value,
+      c.in_ok-truth.ensures.value 126,
       λ ms says. record {
         name = ap (option_and_then as_str) (off_key (codes "name") (codes "yanked") c.args.key.now d ms key refl) ∙ says.name;
         version = ap (option_and_then as_str) (off_key (codes "vers") (codes "yanked") c.args.key.now d ms key refl) ∙ says.version;
@@ -59,7 +59,7 @@ rust (Some s) A x = (string s.now, x, refl)
 pub returns-then-eq-4-clause-value : goal.returns-then-eq-4-clause-value
 returns-then-eq-4-clause-value c =
     let key : c.args.key.now ≡ codes "rust_version" = (bytes_eq-Decides c.args.key.now (codes "rust_version")).0 (sym c.eq-4.ensures ∙ c.if-eq-4.true) in
-    let t = rust c.in_ok-text-3.text (λ d. converted of_json (value 126 c.args.reader.now) ≡ Some (d, c.read_optional_text.new.reader)) c.in_ok-text-3.ensures.value in
+    let t = rust c.in_ok-text-3.text (λ d. converted of_json (value 126 c.args.reader.now) ≡ Some (d, c.read_optional_text.new.reader)) (c.in_ok-text-3.ensures.value 126) in
     let d = t.0 in (
       d,
       t.1,

@@ -12,7 +12,8 @@ use Rattle.edit_upgrade.proofs.lists.warnings_on.Goals as goal
 use Rattle.edit_upgrade.proofs.lists.warnings_on.Goals.{in-Some+in_ok-push-in-Some, in-None}
 
 pub entries-init : goal.entries-init
-entries-init c = warned-none c.args.input (map warning_view c.new-warnings.result.items)
+entries-init c =
+    warned-none c.args.asked.options.now c.args.input (map warning_view c.new-warnings.result.items)
     (ap (map warning_view) c.new-warnings.ensures.items)
 
 pub entries-preserved : goal.entries-preserved
@@ -33,8 +34,8 @@ entries-preserved c =
           ap (λ v. map warning_view v.items) w.warnings-is ∙ sym (append-nil old)
           ∙ sym (ap (λ (o : Option Warning). old ++ cons_option (option_map warning_view o) []) w.in-None.is)
     ] in
-    subst (λ (es : List Entry). AreWarnings c.args.input es (map warning_view c.match-told.warnings.items))
-    (sym more)
-    (warned-more c.args.input front old (map warning_view c.match-told.warnings.items)
-    (entry_view c.entry-item.result) told
+    subst (λ (es : List Entry). AreWarnings c.args.asked.options.now c.args.input es
+    (map warning_view c.match-told.warnings.items)) (sym more)
+    (warned-more c.args.asked.options.now c.args.input front old
+    (map warning_view c.match-told.warnings.items) (entry_view c.entry-item.result) told
     c.entries.invariant c.in_ok-told.ensures.ok new)

@@ -5,4 +5,5 @@ use Rattle.edit_upgrade.proofs.lists.warnings_on.Given as goal
 
 abbrev pub invariant-entries : goal.invariant-entries
 invariant-entries l =
-    AreWarnings l.input (map entry_view (take l.entry-index l.entries)) (map warning_view l.warnings.items)
+    AreWarnings l.asked.options.now l.input (map entry_view (take l.entry-index l.entries))
+    (map warning_view l.warnings.items)

@@ -36,7 +36,7 @@ returns-clause-shown g c =
 
 pub returns-clause-warnings : goal.returns-clause-warnings
 returns-clause-warnings g c =
-    planned-warnings c.args.number c.args.input.now.bytes.items c.args.document.now
+    planned-warnings c.args.asked.options.now c.args.number c.args.input.now.bytes.items c.args.document.now
     (map entry_view c.deref.result.now)
     (map warning_view c.in_ok-warnings.warnings.items) c.requires.document c.has_form.ensures.some
     c.has_form.ensures.shows

@@ -12,7 +12,7 @@ pub loses_part-requires-clause-part : goal.loses_part-requires-clause-part
 loses_part-requires-clause-part c =
     let f = c.has_form.ensures.some in
     let inn = c.kept_steps-kept.ensures f.0 f.1 in
-    first_stands c.args.self.now c.args.other.now f.0 (c.has_form.ensures.shows f.0 f.1) f.1.document.no_clash
+    first_stands c.args.self.now c.args.other.now f.0 (c.has_form.ensures.shows f.0 f.1)
     c.is_tree.ensures.below c.is_tree-2.ensures.below c.args.place.now c.kept_steps-kept.result
     c.index-place-kept.result c.index-place-kept.is c.requires.stands inn c.front.result.now c.front.ensures
     c.in-Some.number (c.in-Some.ensures {u = tt}).1.1
@@ -21,7 +21,7 @@ pub returns-in_default : goal.returns-in_default
 returns-in_default c form manifest =
     let inn = c.kept_steps-kept.ensures form manifest in
     nowhere c.args.self.now c.args.other.now form
-    (c.has_form.ensures.shows form manifest) manifest.document.no_clash
+    (c.has_form.ensures.shows form manifest)
     c.is_tree.ensures.below c.is_tree-2.ensures.below c.args.place.now c.kept_steps-kept.result
     c.requires.stands inn
     c.front.result.now c.front.ensures (c.in_default.ensures {u = tt})
@@ -31,9 +31,8 @@ returns c form manifest =
     let inn = c.kept_steps-kept.ensures form manifest in
     let f = c.in-Some.ensures {u = tt} in
     first_there c.args.self.now c.args.other.now form
-    (c.has_form.ensures.shows form manifest) manifest.document.no_clash
+    (c.has_form.ensures.shows form manifest)
     c.is_tree.ensures.below c.is_tree-2.ensures.below c.args.place.now c.kept_steps-kept.result
     c.index-place-kept.result c.index-place-kept.is c.requires.stands inn c.front.result.now c.front.ensures
-    c.in-Some.number c.in-Some.there f.0 f.1.1 f.2.1 c.stands.ensures c.is_whole.ensures.parts
-    c.loses_part.result
+    c.in-Some.number c.in-Some.there f.0 f.1.1 f.2.1 c.loses_part.result
     c.loses_part.ensures

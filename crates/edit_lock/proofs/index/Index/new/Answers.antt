@@ -13,7 +13,8 @@ pub returns : goal.returns
 returns c =
     let before = packages_seen c.args.before.now in
     let now = packages_seen c.args.now.now in
-    let index = changes_seen (record { had = c.in_ok-had.had; has = c.in_ok-has.has; gained = c.in_ok-gained-2.gained }) in
+    let index = changes_seen (record
+    { had = c.in_ok-had.had; has = c.in_ok-has.has; gained = c.in_ok-gained-2.gained }) in
     let had : (q : List ℕ) → contains_text c.in_ok-had.had q ≡ locks before q
     = λ q. c.in_ok-had.ensures q
     ∙ ap (λ (xs : List LockedPackage). locks (map package_seen xs) q) c.deref.ensures.value in

@@ -18,7 +18,7 @@ returns-in_err-plan-clause-why g c =
     (plan_cause c.args.words.now c.args.current.now (g.S.Store.view c.args.files.now)
     (g.S.Store.view c.read_workspace.new.files)
     (workspace_said c.in_ok-read.read.workspace) c.in_ok-read.read.inputs.items c.in_err-plan.field-0.0.error
-    c.in_ok-read.ensures.workspace c.in_err-plan.ensures.refused)
+    c.in_ok-read.ensures.reads.files c.in_ok-read.ensures.workspace c.in_err-plan.ensures.refused)
 
 pub write_outputs-requires : goal.write_outputs-requires
 write_outputs-requires g c =
@@ -32,7 +32,7 @@ returns-in_err-print_plan-clause-why g c =
     c.from_residual-in_err-print_plan.ensures.1
     (stream_cause c.args.words.now c.args.current.now (g.S.Store.view c.args.files.now)
     (g.S.Store.view c.read_workspace.new.files) c.in_err-print_plan.field-0.0
-    c.in_err-print_plan.ensures.refused)
+    c.in_ok-read.ensures.reads.files c.in_err-print_plan.ensures.refused)
 
 pub returns-clause-done : goal.returns-clause-done
 returns-clause-done g c =

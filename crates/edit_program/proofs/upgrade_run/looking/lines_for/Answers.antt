@@ -11,7 +11,8 @@ pub returns-clause-lines : goal.returns-clause-lines
 returns-clause-lines c =
     IfOk-weaker c.looks_text.result _ _
     (λ text is. record {
-      looks = c.in_ok-plan.plan.looks.items;
+      plan = c.in_ok-plan.plan;
+      planned = c.in_ok-plan.ensures.planned;
       needed = looks_needed c.args.options.now c.args.target.now.inputs.items c.args.configs.now
           c.in_ok-plan.plan c.in_ok-plan.ensures.planned;
       is = is;

@@ -5,7 +5,6 @@ use Rattle.edit_base.specs.Errors.{IsMemory}
 use Rattle.edit_program.specs.NoIndex.{no_view}
 use Rattle.edit_sources.specs.Configured.{given}
 use Rattle.edit_steps.proofs.Refusals.{refusal_has}
-use Rattle.edit_upgrade.specs.Upgraded.{IsNeeded}
 use Rattle.edit_steps.specs.Causes.{IsReadCause}
 use Rattle.edit_steps.specs.Sources.{AreRead}
 use Rattle.edit_program.specs.UpgradeCauses.{IsLooksCause}
@@ -61,7 +60,8 @@ returns-clause-done g c = λ t.
       text = string_bytes c.in-Ok.lines;
       read = subst (λ a. AreRead old.file_at current home a s) c.asked_for_looks.ensures
           (c.in_ok-sources.ensures.read t);
-      lines = subst (λ cs. AreLinesOf (IsNeeded s.target.inputs.items cs) (string_bytes c.in-Ok.lines))
+      lines = subst (λ cs. AreLinesOf c.args.words.now.options s.target.inputs.items cs
+          (string_bytes c.in-Ok.lines))
           c.deref.ensures.value c.in-Ok.ensures.lines;
       shows = subst (Appends (g.O.Write.contents c.args.out.now)
           (g.O.Write.contents c.shell_write_stdout.new.out)) c.as_str.ensures.value

@@ -1,47 +1,58 @@
-use Rattle.std.proofs.Common.{◌≡◌, ◌∙◌, inl, option_map, subst, sym, true}
-use Rattle.std.proofs.lemmas.Result.{IfErr-weaker, IfOk-weaker, on_err_weaker}
+use Rattle.std.proofs.Common.{◌≡◌, ◌∙◌, ap, inl, option_map, subst, sym, true}
 use Rattle.std.specs.Prelude.{◌⊎◌}
 use Rattle.std.specs.Io.KnownBytes.{Appends}
 use Rattle.edit_base.specs.Errors.{IsMemory}
 use Rattle.edit_sources.specs.Configured.{given}
 use Rattle.edit_steps.proofs.Refusals.{refusal_has}
-use Rattle.edit_steps.specs.Causes.{IsReadCause}
-use Rattle.edit_steps.specs.Sources.{AreRead}
+use Rattle.edit_report.specs.Applied.{HaveDistinctPaths}
+use Rattle.edit_store.specs.Store.{SameFiles}
+use Rattle.edit_program.specs.Delivered.{IsCutShort}
+use Rattle.edit_program.specs.Delivery.{Delivery}
+use Rattle.edit_program.specs.Run.{run_at}
+use Rattle.edit_program.specs.Said.{AreWarningsInOrder}
+use Rattle.edit_program.specs.Tables.{AreInOrder}
+use Rattle.edit_program.specs.TellingCauses.{IsDeliveryCause}
 use Rattle.edit_program.specs.UpgradeCauses.{IsUpgradeCause}
 use Rattle.edit_program.specs.Planned.{IsPlanCause, IsPlanned, index_view}
 use Rattle.edit_lock.specs.Views.{packages_seen}
 use Rattle.edit_program.specs.LockRead.{IsLockRead}
 use Rattle.edit_program.specs.Upgrading.{IsPathOf, IsRead}
 use Rattle.edit_program.proofs.OrderLemmas.{rows_in_order, warnings_in_order}
-use Rattle.edit_program.proofs.UpgradeLemmas.{broken, plan_cause, lock_cause, plan_paths, same_lock, stop_cause, upgraded}
+use Rattle.edit_program.proofs.UpgradeLemmas.{answered, broken, plan_cause, lock_cause, plan_paths, same_lock, stop_cause, upgraded}
 use Rattle.edit_program.proofs.upgrade_run.upgrading.upgrade.Goals as goal
 
 pub returns-in_err-readings-clause-why : goal.returns-in_err-readings-clause-why
 returns-in_err-readings-clause-why g c =
     let words = c.args.words.now in
-    let current = c.args.current.now in
-    let home = given c.args.cargo_home in
+    let current = c.args.place.now.current.now in
+    let home = given c.args.place.now.cargo_home in
     let local = g.T.Store.view c.args.index_files in
     let old = g.S.Store.view c.args.files.now in
     let mid = g.S.Store.view c.read.new.files in
     let e = c.in_err-readings.field-0.0 in
+    let out = g.O.Write.contents c.args.out.now in
     refusal_has c.from_residual-in_err-readings.result e
-    (λ error. IsUpgradeCause words current home local old mid error) c.from_residual-in_err-readings.ensures.1
-    (lock_cause words current home local old mid e.error c.in_err-readings.ensures.refused)
+    (λ error. IsUpgradeCause (Appends out out) words (run_at current home local old mid) error)
+    c.from_residual-in_err-readings.ensures.1
+    (lock_cause (Appends out out) words current home local old mid e.error c.read.ensures.store.files
+    c.in_err-readings.ensures.refused)
 
 pub returns-in-Err-clause-why : goal.returns-in-Err-clause-why
 returns-in-Err-clause-why g c =
     let words = c.args.words.now in
-    let current = c.args.current.now in
-    let home = given c.args.cargo_home in
+    let current = c.args.place.now.current.now in
+    let home = given c.args.place.now.cargo_home in
     let local = g.T.Store.view c.args.index_files in
     let old = g.S.Store.view c.args.files.now in
     let mid = g.S.Store.view c.explain_upgrade.new.files in
     let s = c.in_ok-readings.readings.sources in
     let read : old.tells ≡ true → IsRead words current home old.file_at s =
     c.in_ok-readings.ensures.read in
-    subst (λ e. IsUpgradeCause words current home local old mid e) (sym c.explain_upgrade.ensures.same)
-    (plan_cause words current home local old mid s c.in-Err.error read
+    let out = g.O.Write.contents c.args.out.now in
+    subst (λ e. IsUpgradeCause (Appends out out) words (run_at current home local old mid) e)
+    (sym c.explain_upgrade.ensures.same)
+    (plan_cause (Appends out out) words current home local old mid s c.in-Err.error
+    (λ path. c.explain_upgrade.ensures.reads.files path ∙ c.in_ok-readings.ensures.store.files path) read
     (subst (λ cs. IsMemory c.in-Err.error
     ⊎ IsPlanCause words.options s.target.inputs.items cs (index_view s.index local) c.in-Err.error)
     c.deref.ensures.value c.in-Err.ensures.refused))
@@ -53,36 +64,39 @@ pub returns-in-Err-clause-refused : goal.returns-in-Err-clause-refused
 returns-in-Err-clause-refused g c =
     λ t. inl (λ path. c.explain_upgrade.ensures.reads.files path ∙ c.in_ok-readings.ensures.store.files path)
 
-pub deliver_explained-requires-clause-outputs : goal.deliver_explained-requires-clause-outputs
-deliver_explained-requires-clause-outputs g c =
+pub deliver-requires-clause-outputs : goal.deliver-requires-clause-outputs
+deliver-requires-clause-outputs g c =
     let words = c.args.words.now in
     let s = c.in_ok-readings.readings.sources in
     let local = g.T.Store.view c.args.index_files in
-    plan_paths words s local c.in-Ok.plan c.in_ok-readings.ensures.planned.paths
+    subst (λ p. HaveDistinctPaths p.outputs.items) (sym (ap (λ (d : Delivery). d.plan) c.delivery_task-task.ensures))
+    (plan_paths words s local c.in-Ok.plan c.in_ok-readings.ensures.planned.paths
     (subst (λ cs. IsPlanned words.options s.target.inputs.items cs (index_view s.index local) c.in-Ok.plan)
-    c.deref.ensures.value c.in-Ok.ensures.planned)
+    c.deref.ensures.value c.in-Ok.ensures.planned))
 
-pub deliver_explained-requires-clause-rows : goal.deliver_explained-requires-clause-rows
-deliver_explained-requires-clause-rows g c =
-    rows_in_order c.in_ok-readings.readings.sources.target.inputs.items c.in-Ok.plan
-    c.in-Ok.ensures.planned.is.rows_in_order
+pub deliver-requires-clause-rows : goal.deliver-requires-clause-rows
+deliver-requires-clause-rows g c =
+    subst (λ p. AreInOrder p.rows.items) (sym (ap (λ (d : Delivery). d.plan) c.delivery_task-task.ensures))
+    (rows_in_order c.in_ok-readings.readings.sources.target.inputs.items c.in-Ok.plan
+    c.in-Ok.ensures.planned.is.rows_in_order)
 
-pub deliver_explained-requires-clause-warnings : goal.deliver_explained-requires-clause-warnings
-deliver_explained-requires-clause-warnings g c =
-    warnings_in_order c.in_ok-readings.readings.sources.target.inputs.items c.in-Ok.plan
-    c.in-Ok.ensures.planned.is.warnings_in_order
+pub deliver-requires-clause-warnings : goal.deliver-requires-clause-warnings
+deliver-requires-clause-warnings g c =
+    subst (λ p. AreWarningsInOrder p.warnings.items) (sym (ap (λ (d : Delivery). d.plan) c.delivery_task-task.ensures))
+    (warnings_in_order c.in_ok-readings.readings.sources.target.inputs.items c.in-Ok.plan
+    c.in-Ok.ensures.planned.is.warnings_in_order)
 
-pub returns-clause-done : goal.returns-clause-done
-returns-clause-done g c =
+pub returns-in-Ok-deliver-clause-done : goal.returns-in-Ok-deliver-clause-done
+returns-in-Ok-deliver-clause-done g c =
     let words = c.args.words.now in
-    let current = c.args.current.now in
-    let home = given c.args.cargo_home in
+    let current = c.args.place.now.current.now in
+    let home = given c.args.place.now.cargo_home in
     let local = g.T.Store.view c.args.index_files in
     let old = g.S.Store.view c.args.files.now in
     let mid = g.S.Store.view c.read.new.files in
-    let new = g.S.Store.view c.deliver_explained.new.files in
-    let Shows = Appends (g.O.Write.contents c.args.out.now) (g.O.Write.contents c.deliver_explained.new.out) in
-    let Says = Appends (g.E.Write.contents c.args.err.now) (g.E.Write.contents c.deliver_explained.new.err) in
+    let new = g.S.Store.view c.deliver.new.files in
+    let Shows = Appends (g.O.Write.contents c.args.out.now) (g.O.Write.contents c.deliver.new.out) in
+    let Says = Appends (g.E.Write.contents c.args.err.now) (g.E.Write.contents c.deliver.new.err) in
     let s = c.in_ok-readings.readings.sources in
     let plan = c.in-Ok.plan in
     let path = given c.as_deref-path.result in
@@ -97,21 +111,21 @@ returns-clause-done g c =
     λ t. subst (IsLockRead old.file_at current (given words.lock_file))
     (sym (same_lock c.as_ref-lock.result c.in_ok-readings.readings.lock c.as_ref-lock.ensures.value))
     (c.in_ok-readings.ensures.locked t) in
-    IfOk-weaker c.deliver_explained.result _ _
-    (λ due. upgraded due Shows Says words current home local old mid new s plan path lock
-    c.in_ok-readings.ensures.store read planned at locked)
-    c.deliver_explained.ensures.done
+    upgraded c.has_outputs.result Shows Says words current home local old mid new s plan path lock
+    c.in_ok-readings.ensures.store read planned at locked
+    (answered c.has_outputs.result Shows Says mid new _ _ c.delivery_task-task.ensures c.has_outputs.ensures
+    c.in-Ok-deliver.ensures.done c.in-Ok-deliver.ensures.said)
 
 pub returns-clause-refused : goal.returns-clause-refused
 returns-clause-refused g c =
     let words = c.args.words.now in
-    let current = c.args.current.now in
-    let home = given c.args.cargo_home in
+    let current = c.args.place.now.current.now in
+    let home = given c.args.place.now.cargo_home in
     let local = g.T.Store.view c.args.index_files in
     let old = g.S.Store.view c.args.files.now in
     let mid = g.S.Store.view c.read.new.files in
-    let new = g.S.Store.view c.deliver_explained.new.files in
-    let Shows = Appends (g.O.Write.contents c.args.out.now) (g.O.Write.contents c.deliver_explained.new.out) in
+    let new = g.S.Store.view c.deliver.new.files in
+    let Shows = Appends (g.O.Write.contents c.args.out.now) (g.O.Write.contents c.deliver.new.out) in
     let s = c.in_ok-readings.readings.sources in
     let plan = c.in-Ok.plan in
     let path = given c.as_deref-path.result in
@@ -126,20 +140,21 @@ returns-clause-refused g c =
     λ t. subst (IsLockRead old.file_at current (given words.lock_file))
     (sym (same_lock c.as_ref-lock.result c.in_ok-readings.readings.lock c.as_ref-lock.ensures.value))
     (c.in_ok-readings.ensures.locked t) in
-    on_err_weaker c.deliver_explained.result
-    (λ h. broken Shows words current home local old mid new s plan path lock c.in_ok-readings.ensures.store
-    read planned at locked h)
-    c.deliver_explained.ensures.stopped
+    broken Shows words current home local old mid new s plan path lock c.in_ok-readings.ensures.store
+    read planned at locked
+    (subst (λ d. SameFiles mid.file_at new.file_at ⊎ IsCutShort Shows d mid new) c.delivery_task-task.ensures
+    c.in-Err-deliver.ensures.stopped)
 
 pub returns-clause-why : goal.returns-clause-why
 returns-clause-why g c =
     let words = c.args.words.now in
-    let current = c.args.current.now in
-    let home = given c.args.cargo_home in
+    let current = c.args.place.now.current.now in
+    let home = given c.args.place.now.cargo_home in
     let local = g.T.Store.view c.args.index_files in
     let old = g.S.Store.view c.args.files.now in
     let mid = g.S.Store.view c.read.new.files in
-    let new = g.S.Store.view c.deliver_explained.new.files in
+    let new = g.S.Store.view c.deliver.new.files in
+    let Shows = Appends (g.O.Write.contents c.args.out.now) (g.O.Write.contents c.deliver.new.out) in
     let s = c.in_ok-readings.readings.sources in
     let plan = c.in-Ok.plan in
     let path = given c.as_deref-path.result in
@@ -154,7 +169,8 @@ returns-clause-why g c =
     λ t. subst (IsLockRead old.file_at current (given words.lock_file))
     (sym (same_lock c.as_ref-lock.result c.in_ok-readings.readings.lock c.as_ref-lock.ensures.value))
     (c.in_ok-readings.ensures.locked t) in
-    IfErr-weaker c.deliver_explained.result _ _
-    (λ r. stop_cause words current home local old mid new s plan path lock r.error
-    c.in_ok-readings.ensures.store read planned at locked)
-    c.deliver_explained.ensures.cause
+    subst (λ e. IsUpgradeCause Shows words (run_at current home local old new) e) (sym c.explain_delivery.ensures)
+    (stop_cause Shows words current home local old mid new s plan path lock c.in-Err-deliver.error.error
+    c.in_ok-readings.ensures.store read planned at locked
+    (subst (λ d. IsDeliveryCause Shows d mid new c.in-Err-deliver.error.error) c.delivery_task-task.ensures
+    c.in-Err-deliver.ensures.cause))

@@ -9,7 +9,7 @@ use Rattle.edit_record.specs.EndViews.{ends_seen}
 use Rattle.edit_record.specs.EntryUpdates.{removal_of, replaced_by, write_of}
 use Rattle.edit_record.specs.RecordViews.{record_view}
 use Rattle.edit_record.specs.UpdatedTexts.{BecomingFails, Changed, HasBecome, OneFails}
-use Rattle.edit_record.proofs.Updates.{is_entry, item_changed, item_other, stops_before, stops_behind, then_others}
+use Rattle.edit_record.proofs.Updates.{is_entry, item_changed, item_other, reads_replaced, stops_before, stops_behind, then_others}
 use Rattle.edit_record.proofs.dependency.Dependency.update_copy.Goals as goal
 
 pub replace_entry-requires-clause-one : goal.replace_entry-requires-clause-one
@@ -22,23 +22,28 @@ replace_entry-requires-clause-entry c =
     (record_view c.args.self.now))
 
 pub returns-then-is_replaced-clause-text : goal.returns-then-is_replaced-clause-text
-returns-then-is_replaced-clause-text c =
-    IfOk-weaker c.replace_entry.result _ _
-    (λ x h. λ form is.
+returns-then-is_replaced-clause-text c form is =
     let place = place_seen c.args.entry.now in
+    let old = c.args.document.now in
+    let new = c.replace_entry.new.self in
+    let again = c.has_form-then-is_replaced.ensures.some in
+    let bytes = c.in_ok-replace_entry.ensures.bytes form is in
     let becomes = item_other c.args.document.now form place c.args.crate_root.now
     (record_view c.args.self.now) _ _ (c.has_form.ensures.shows form is) c.in-Some.ensures.2
     (c.is_replaced.ensures form is) c.if-is_replaced.true in
-    subst (λ u. HasBecome place u form c.args.document.now.bytes c.replace_entry.new.self.bytes)
-    (sym becomes)
-    (subst (λ i. HasBecome place (replaced_by i) form c.args.document.now.bytes
-    c.replace_entry.new.self.bytes) c.in_ok-new.ensures.item (h form is)))
-    c.replace_entry.ensures.bytes
+    subst (λ u. HasBecome place u form old.bytes new.bytes) (sym becomes)
+    (subst (λ i. HasBecome place (replaced_by i) form old.bytes new.bytes) c.in_ok-new.ensures.item (
+      bytes,
+      reads_replaced place _ form again.0 old new (c.has_form.ensures.shows form is) again.1
+          (c.has_form-then-is_replaced.ensures.shows again.0 again.1) bytes c.in_ok-replace_entry.ensures.tree,
+    ))
 
-pub returns-then-is_replaced-clause-refused : goal.returns-then-is_replaced-clause-refused
-returns-then-is_replaced-clause-refused c =
-    IfErr-weaker c.replace_entry.result _ _
-    (λ e h. elim h [
+pub returns-in_err-replace_entry-clause-refused : goal.returns-in_err-replace_entry-clause-refused
+returns-in_err-replace_entry-clause-refused c =
+    let stop = c.from_residual-in_err-replace_entry in
+    let p = err_from_is_err_and stop.result stop.ensures.1 in
+    rw (p.1, p.2)
+    (elim c.in_err-replace_entry.ensures.refused [
       | inl memory ↦ inl memory
       | inr p ↦ inr (
         p.0,
@@ -50,7 +55,7 @@ returns-then-is_replaced-clause-refused c =
             subst (λ u. BecomingFails place u c.args.document.now.bytes) (sym becomes)
             (subst (λ i. ReplaceFails place i c.args.document.now.bytes) c.in_ok-new.ensures.item p.1),
       )
-    ]) c.replace_entry.ensures.refused
+    ])
 
 pub returns-in_err-write_members-clause-refused : goal.returns-in_err-write_members-clause-refused
 returns-in_err-write_members-clause-refused c =

@@ -2,7 +2,7 @@ use Rattle.std.proofs.Common.{ap, not, ◌∙◌}
 use Rattle.std.proofs.lemmas.Result.{err_from_is_err_and}
 use Rattle.edit_document.specs.Items.{place_seen}
 use Rattle.edit_record.specs.EntryUpdates.{removal_of, removes}
-use Rattle.edit_record.proofs.Updates.{is_kept, is_removed, none_asked, one_made, one_refused}
+use Rattle.edit_record.proofs.Updates.{is_kept, is_removed, none_asked, one_made, one_refused, reads_changed}
 use Rattle.edit_record.proofs.dependency.update.remove_members.Goals as goal
 use Rattle.edit_record.proofs.dependency.update.remove_members.Goals.{then-is_none+in_ok-remove_member, else-is_none}
 
@@ -26,7 +26,12 @@ ends-preserved c =
           (one_made removal_of (place_seen c.args.entry.now) c.args.ends.now c.ends.end-index end
           c.ends-test.true c.end-item.is (removes end.name.now)
           c.args.document.now.bytes c.ends.document.bytes w.remove_member.new.document.bytes asked
-          c.ends.invariant c.has_form.ensures.some w.in_ok-remove_member.ensures.bytes)
+          c.ends.invariant c.has_form.ensures.some w.in_ok-remove_member.ensures.bytes
+          (λ form is. reads_changed (place_seen c.args.entry.now) (removes end.name.now)
+          form w.has_form-then-is_none.ensures.some.0 c.ends.document w.remove_member.new.document
+          (c.has_form.ensures.shows form is) w.has_form-then-is_none.ensures.some.1
+          (w.has_form-then-is_none.ensures.shows w.has_form-then-is_none.ensures.some.0 w.has_form-then-is_none.ensures.some.1)
+          (w.in_ok-remove_member.ensures.bytes form is) (w.in_ok-remove_member.ensures.tree form is)))
       | else-is_none w ↦
           let asked = is_kept end.name.now end.value (c.is_none.ensures ∙ ap not w.if-is_none.false) in
           rw w.document-is

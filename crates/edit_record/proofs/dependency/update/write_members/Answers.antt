@@ -5,7 +5,7 @@ use Rattle.edit_document.specs.Items.{place_seen}
 use Rattle.edit_document.specs.NewItemViews.{value_seen}
 use Rattle.edit_document.specs.declared.new_item.NewValue.{NewValue as WrittenValue}
 use Rattle.edit_record.specs.EntryUpdates.{write_of, writes}
-use Rattle.edit_record.proofs.Updates.{none_asked, one_made, one_refused}
+use Rattle.edit_record.proofs.Updates.{none_asked, one_made, one_refused, reads_changed}
 use Rattle.edit_record.proofs.dependency.update.write_members.Goals as goal
 use Rattle.edit_record.proofs.dependency.update.write_members.Goals.{in-Some+in_ok-write_member, in_default}
 
@@ -31,7 +31,12 @@ ends-preserved c =
           (one_made write_of (place_seen c.args.entry.now) c.args.ends.now c.ends.end-index c.end-item.result
           c.ends-test.true c.end-item.is (writes name (value_seen w.in-Some.value))
           c.args.document.now.bytes c.ends.document.bytes w.write_member.new.document.bytes asked
-          c.ends.invariant c.has_form.ensures.some w.in_ok-write_member.ensures.bytes)
+          c.ends.invariant c.has_form.ensures.some w.in_ok-write_member.ensures.bytes
+          (λ form is. reads_changed (place_seen c.args.entry.now) (writes name (value_seen w.in-Some.value))
+          form w.has_form-in-Some.ensures.some.0 c.ends.document w.write_member.new.document
+          (c.has_form.ensures.shows form is) w.has_form-in-Some.ensures.some.1
+          (w.has_form-in-Some.ensures.shows w.has_form-in-Some.ensures.some.0 w.has_form-in-Some.ensures.some.1)
+          (w.in_ok-write_member.ensures.bytes form is) (w.in_ok-write_member.ensures.tree form is)))
       | in_default w ↦
           let asked = ap (λ (o : Option WrittenValue). option_map (writes name) (option_map value_seen o))
           w.in_default.is in

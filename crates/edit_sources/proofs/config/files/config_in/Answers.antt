@@ -23,6 +23,7 @@ returns-clause-refused g c =
     (λ failed. inl (failed_later _ _ _ _ c.read_file.ensures.store.later failed))
     (λ fails. inr (record {
       file = fails.file;
+      at = inr (fails.at ∙ second);
       stands = λ tells. sym
           (file_in-second (g.S.Store.view c.args.store.now).file_at
           (g.S.Store.view c.read_file.new.store).file_at c.args.place.now c.as_str.result.now

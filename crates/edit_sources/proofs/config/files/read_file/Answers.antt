@@ -1,4 +1,4 @@
-use Rattle.std.proofs.Common.{◌≡◌, ℕ, List, true, Some, option_map, Vec, Global, ◌∙◌, subst, inl, inr, ⊎_elim, sym, ap}
+use Rattle.std.proofs.Common.{◌≡◌, refl, ℕ, List, true, Some, option_map, Vec, Global, ◌∙◌, subst, inl, inr, ⊎_elim, sym, ap}
 use Rattle.edit_sources.specs.Configuration.{SaysNothing}
 use Rattle.edit_sources.specs.ConfigurationFiles.{standing}
 use Rattle.edit_sources.proofs.config.files.read_file.Goals as goal
@@ -13,6 +13,7 @@ returns-clause-refused g c =
     ap (option_map (λ (v : Vec ℕ Global). v.items)) c.in-Ok-Some.field-0-is) in
     ⊎_elim (λ memory. inl memory) (λ refused. inr (inr (record {
       file = file;
+      at = refl;
       stands = stands;
       unread = record { named = refused.0; nothing = subst SaysNothing c.deref.ensures.value refused.1 };
     }))) c.in-Err-read.ensures.refused

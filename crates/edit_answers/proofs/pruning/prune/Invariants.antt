@@ -1,0 +1,19 @@
+use Rattle.std.proofs.Common.{◌≡◌, ◌≤◌, true}
+use Rattle.std.specs.Prelude.{filter}
+use Rattle.edit_store.specs.Store.{raised}
+use Rattle.edit_answers.specs.Aging.{staying}
+use Rattle.edit_answers.proofs.PruneLemmas.{stays_at}
+use Rattle.edit_answers.proofs.pruning.prune.Given as goal
+
+-- the files that are to stay do so, and where the device did not fail, the others of the first ones went
+abbrev pub invariant-loop-i : goal.invariant-loop-i
+invariant-loop-i g l =
+    let old = g.S.AgingStore.aging l.fn.cache in
+    let now = g.S.AgingStore.aging l.cache in
+    record {
+      tells : now.tells ≡ old.tells;
+      later : old.faults ≤ now.faults;
+      stays : old.tells ≡ true → staying old.files now.files ≡ staying old.files old.files;
+      gone : old.tells ≡ true → (raised old.faults now.faults → ⊥)
+          → now.files ≡ filter (stays_at old.files l.i) old.files;
+    }

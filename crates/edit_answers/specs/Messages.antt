@@ -1,0 +1,108 @@
+-- What is said of entries that were not had (own).
+use Rattle.std.specs.Prelude.{◌≡◌, ℕ, List, [], ◌∷◌, ◌++◌, Option, Some, None, Bool, codes, length, option_map, string_bytes}
+use Rattle.std.specs.Fmt.{decimal}
+use Rattle.std.specs.List.{flat_map}
+use Rattle.edit_lookups.specs.Cached.{cached_path}
+use Rattle.edit_lookups.specs.Escaped.{escaped}
+use Rattle.edit_lookups.specs.Lookups.{lookup_text}
+use Rattle.edit_lookups.specs.Shown.{shown_address}
+use Rattle.edit_lookups.specs.declared.lookups.Lookup.{Lookup}
+use Rattle.edit_answers.specs.Groups.{AreGroups, GroupText, missed}
+use Rattle.edit_answers.specs.declared.bodies.Damage.{Damage}
+use Rattle.edit_answers.specs.declared.bodies.Damage.TheVariants.{BadLine, NotWhole}
+use Rattle.edit_answers.specs.declared.groups.Standing.{Standing}
+use Rattle.edit_answers.specs.declared.groups.Standing.TheVariants.{Cached, Left, Missing}
+use Rattle.edit_answers.specs.declared.meaning.Outcome.{Outcome}
+use Rattle.edit_answers.specs.declared.meaning.Outcome.TheVariants.{Damaged}
+use Rattle.edit_answers.specs.declared.messages.Report.{Report}
+
+-- the address of a registry as messages show it
+abbrev pub shown_text : List ℕ → List ℕ
+shown_text address = escaped (shown_address address)
+
+-- names, parted by commas
+abbrev pub names_text : List (List ℕ) → List ℕ
+names_text [] = []
+names_text (name ∷ rest) = escaped name ++ flat_map (λ n. codes ", " ++ escaped n) rest
+
+-- which index entries of a registry could not be fetched, and why
+unfoldable pub unfetched_text : List ℕ → List ℕ → List ℕ → List ℕ
+unfetched_text count shown reason =
+    count ++ (codes " index entries of " ++ (shown ++ (codes " could not be fetched ("
+    ++ (reason ++ codes ")"))))
+
+-- what a warning says of a group whose cached entries serve
+unfoldable pub cached_text : GroupText → List ℕ
+cached_text g = unfetched_text (decimal (length g.names)) (shown_text g.address) g.reason
+
+-- the warning of a group whose cached entries serve
+abbrev pub cached_line : GroupText → List ℕ
+cached_line g =
+    codes "warning: " ++ (cached_text g ++ (codes ": the cached ones are used ("
+    ++ (names_text g.names ++ codes ")\n")))
+
+-- what a warning says of a group whose crates stay as they are
+abbrev pub left_text : GroupText → List ℕ
+left_text g =
+    codes "no index entries of " ++ (shown_text g.address ++ (codes " are cached for "
+    ++ (names_text g.names ++ (codes " (" ++ (g.reason ++ codes ")")))))
+
+-- the warning of a group whose crates stay as they are
+abbrev pub left_line : GroupText → List ℕ
+left_line g = codes "warning: " ++ (left_text g ++ codes ": these crates stay as they are\n")
+
+-- the line of a group without which an upgrade cannot go on
+abbrev pub missing_line : GroupText → List ℕ
+missing_line g =
+    codes "\n  " ++ (shown_text g.address ++ (codes ": " ++ (names_text g.names
+    ++ (codes " (" ++ (g.reason ++ codes ")")))))
+
+-- the line of a group whose lookups have a standing
+abbrev pub line_of : Standing → GroupText → List ℕ
+line_of Cached g = cached_line g
+line_of Left g = left_line g
+line_of Missing g = missing_line g
+
+-- the warning of a damaged file in the cache
+abbrev pub damage_text : List ℕ → Damage → List ℕ
+damage_text path (BadLine line) =
+    let place = escaped path ++ (codes ":" ++ decimal line) in
+    codes "warning: the cached index entry "
+    ++ ((place ++ codes " is no index line, so the file is not used") ++ codes ": remove it\n")
+damage_text path NotWhole =
+    codes "warning: the cached index entry "
+    ++ (escaped path ++ codes " is not whole, so the file is not used: remove it\n")
+
+-- the warning of an outcome whose cached entry, at a path, is damaged; empty for any other
+abbrev pub damage_by : List ℕ → Outcome → List ℕ
+damage_by path (Damaged damage failure) = damage_text path damage
+damage_by path _ = []
+
+-- the warning of a lookup whose cached entry is damaged; empty for any other
+abbrev pub damage_line : List ℕ → Lookup × Outcome → List ℕ
+damage_line cache p = damage_by (cached_path cache (lookup_text p.0)) p.1
+
+-- the first line of the error for missing entries
+abbrev pub error_head : List ℕ
+error_head =
+    codes "index entries are neither had nor cached; leave the crates out by `--exclude`, "
+    ++ codes "or as they are by `--offline`:"
+
+-- the error of the groups without which an upgrade cannot go on; none where there are none
+abbrev pub error_text : List GroupText → Option (List ℕ)
+error_text [] = None
+error_text (g ∷ rest) = Some (error_head ++ flat_map (line_of Missing) (g ∷ rest))
+
+-- what is said of lookups with these outcomes
+pub record IsReport (cache : List ℕ) (is_offline : Bool) (pairs : List (Lookup × Outcome)) (r : Report)
+    : Type 0 where
+  pub cached : List GroupText
+  pub left : List GroupText
+  pub missing : List GroupText
+  pub are_cached : AreGroups (missed Cached is_offline pairs) cached
+  pub are_left : AreGroups (missed Left is_offline pairs) left
+  pub are_missing : AreGroups (missed Missing is_offline pairs) missing
+  pub warnings : string_bytes r.warnings
+      ≡ (flat_map (damage_line cache) pairs ++ flat_map (line_of Cached) cached)
+      ++ flat_map (line_of Left) left
+  pub error : option_map string_bytes r.error ≡ error_text missing

@@ -1,0 +1,90 @@
+//! Caches that say when their files were last written.
+ghost use Rattle.std.specs.Prelude.{◌≡◌, IfOk, filter, map, not};
+ghost use Rattle.edit_answers.specs.Aging.{AgingView, Lists, Removes, aged_text, is_same, memory_aging};
+
+use edit_base::CargoResult;
+use std::alloc::{AllocError, Global};
+
+/// A file of a cache, or the folder of a run in it, and for how many whole days nothing was written to it.
+#[derive(Debug, Drop)]
+pub struct Aged {
+    pub path: String,
+    pub is_run: bool,
+    pub days: u64,
+}
+
+/// A cache that says when its files were last written. Its member `aging` is what contracts see of it.
+pub trait AgingStore {
+    ghost aging: { Self → AgingView };
+
+    /// The files of the cache, and the folders of runs.
+    fn list(&mut self, alloc: Global) -> CargoResult<Vec<Aged>>
+        ensures { Lists (aging self.old) (aging self.new) result };
+
+    /// Removes a file, or the folder of a run with all that is in it.
+    fn remove(&mut self, alloc: Global, aged: &Aged) -> CargoResult<()>
+        ensures { Removes (aged_text aged.now) (aging self.old) (aging self.new) result };
+}
+
+/// A cache in memory.
+#[derive(Debug, Drop)]
+pub struct MemoryCache {
+    pub files: Vec<Aged>,
+}
+
+/// Whether a file is this one, by its path and its kind.
+fn is_same(a: &Aged, b: &Aged) -> bool
+    ensures { result ≡ is_same (aged_text a.now) (aged_text b.now) }
+{
+    a.path.as_str() == b.path.as_str() && if a.is_run { b.is_run } else { !b.is_run }
+}
+
+/// A second one of a file.
+fn copy_of(alloc: Global, aged: &Aged) -> Result<Aged, AllocError>
+    ensures { IfOk result (λ a. aged_text a ≡ aged_text aged.now) }
+{
+    Ok(Aged {
+        path: String::from_str(alloc, aged.path.as_str())?,
+        is_run: aged.is_run,
+        days: aged.days,
+    })
+}
+
+/// These files without this one.
+fn without(alloc: Global, files: &[Aged], aged: &Aged) -> Result<Vec<Aged>, AllocError>
+    ensures { IfOk result (λ v. map aged_text v.items
+        ≡ filter (λ b. not (is_same (aged_text aged.now) b)) (map aged_text files.now)) }
+{
+    let mut left = Vec::new(alloc);
+    'files: for file in files {
+        if !is_same(aged, file) {
+            left.push(copy_of(alloc, file)?)?;
+        }
+    }
+    Ok(left)
+}
+
+/// These files.
+fn copies_of(alloc: Global, files: &[Aged]) -> Result<Vec<Aged>, AllocError>
+    ensures { IfOk result (λ v. map aged_text v.items ≡ map aged_text files.now) }
+{
+    let mut copies = Vec::new(alloc);
+    'files: for file in files {
+        copies.push(copy_of(alloc, file)?)?;
+    }
+    Ok(copies)
+}
+
+impl AgingStore for MemoryCache {
+    ghost aging = { memory_aging };
+
+    fn list(&mut self, alloc: Global) -> CargoResult<Vec<Aged>> {
+        Ok(copies_of(alloc, &self.files)?)
+    }
+
+    fn remove(&mut self, alloc: Global, aged: &Aged) -> CargoResult<()> {
+        let left = without(alloc, &self.files, aged)?;
+        self.files = left;
+        Ok(())
+    }
+}

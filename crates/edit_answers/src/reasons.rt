@@ -1,0 +1,89 @@
+//! Why entries were not had, as messages say it.
+ghost use Rattle.std.specs.Prelude.{◌≡◌, ◌++◌, ℕ, List, IfOk, MatchOption, codes, string_bytes};
+ghost use Rattle.edit_answers.specs.Reasons.{IsFileOf, IsReason, bad_line_text, curl_text, status_text};
+ghost use Rattle.edit_lookups.specs.Escaped.{escaped};
+ghost use Rattle.edit_lookups.specs.Lookups.{lookup_text};
+
+use crate::local::{local_folder, local_path};
+use crate::meaning::Failure;
+use edit_lookups::{Lookup, push_escaped};
+use std::alloc::{AllocError, Global};
+
+/// A text, each control character as its number.
+pub(crate) fn escaped(alloc: Global, text: &str) -> Result<String, AllocError>
+    ensures { IfOk result (λ s. string_bytes s ≡ escaped text.now) }
+{
+    let mut shown = String::new(alloc);
+    push_escaped(&mut shown, text)?;
+    Ok(shown)
+}
+
+/// The file of an entry in a registry on this machine; empty where its address names no folder.
+fn file_of(alloc: Global, lookup: &Lookup) -> Result<String, AllocError>
+    ensures { IfOk result (λ s. IsFileOf (lookup_text lookup.now) (string_bytes s)) }
+{
+    match local_folder(alloc, lookup.address)? {
+        Some(folder) => local_path(alloc, folder.as_str(), lookup.path),
+        None => Ok(String::new(alloc)),
+    }
+}
+
+/// What is said of a transfer that failed: curl's message, and its exit code.
+fn curl_text(alloc: Global, exit: &str, message: &str) -> Result<String, AllocError>
+    ensures { IfOk result (λ s. string_bytes s ≡ curl_text exit.now message.now) }
+{
+    let message = if message.is_empty() {
+        "curl failed"
+    } else {
+        message
+    };
+    let message = escaped(alloc, message)?;
+    let exit = escaped(alloc, exit)?;
+    format!(in alloc; "{message}, curl: {exit}")
+}
+
+/// What is said of an answer with a status.
+fn status_text(alloc: Global, code: &str) -> Result<String, AllocError>
+    ensures { IfOk result (λ s. string_bytes s ≡ status_text code.now) }
+{
+    if code == "401" || code == "403" {
+        return format!(in alloc;
+            "status {code}: it wants a token, `CARGO_REGISTRIES_<NAME>_TOKEN`"
+        );
+    }
+    let code = escaped(alloc, code)?;
+    format!(in alloc; "status {code}")
+}
+
+/// What is said of a line that is no line of an index.
+fn bad_line_text(alloc: Global, line: usize, path: &str) -> Result<String, AllocError>
+    ensures { IfOk result (λ s. string_bytes s ≡ bad_line_text line path.now) }
+{
+    let path = escaped(alloc, path)?;
+    format!(in alloc; "invalid index line {line} of {path}")
+}
+
+/// Why an entry was not had.
+pub(crate) fn reason_of(
+    alloc: Global,
+    lookup: &Lookup,
+    failure: Failure,
+) -> Result<String, AllocError>
+    ensures { IfOk result (λ s. IsReason (lookup_text lookup.now) failure.entry (string_bytes s)) }
+{
+    match failure {
+        Failure::Offline => String::from_str(alloc, "nothing is fetched offline"),
+        Failure::NotFetchable => {
+            String::from_str(alloc, "only sparse registries and folders can be read")
+        }
+        Failure::Unanswered => String::from_str(alloc, "curl gave no answer"),
+        Failure::Curl(exit, message) => curl_text(alloc, exit, message),
+        Failure::Status(code) => status_text(alloc, code),
+        Failure::NotAnIndex => String::from_str(alloc, "what came is no index file of the crate"),
+        Failure::NoFolder => String::from_str(alloc, "there is no such folder"),
+        Failure::BadLine(line) => {
+            let path = file_of(alloc, lookup)?;
+            bad_line_text(alloc, line, path.as_str())
+        }
+    }
+}

@@ -1,0 +1,80 @@
+//! The arguments of `fetch-plan` and `fetch-store`.
+
+use crate::parsing::{parse_words, print_parse_error};
+use clap::ArgMatches;
+use edit_base::CargoResult;
+use std::io::Write;
+
+/// The arguments of a subcommand around `curl`.
+#[derive(Clone, Copy, Debug)]
+pub(crate) struct FetchArguments<'a> {
+    /// The folder of the cache.
+    pub cache: &'a str,
+    /// The folder that the transfers of this run use.
+    pub room: &'a str,
+    /// Whether nothing is to be fetched.
+    pub offline: bool,
+    /// The arguments of the upgrade whose index entries are fetched.
+    pub upgrade: &'a [&'a str],
+}
+
+/// The argument after the first one with a name.
+fn value_of<'a>(options: &[&'a str], name: &str) -> Option<&'a str> {
+    let place = options.iter().position(|option| *option == name)?;
+    let value = options.get(place + 1)?;
+    Some(*value)
+}
+
+/// Reads options up to `--`; none where an option is unknown, has no value or is missing.
+pub(crate) fn read_arguments<'a>(arguments: &'a [&'a str]) -> Option<FetchArguments<'a>> {
+    let end = arguments.iter().position(|argument| *argument == "--")?;
+    let options = arguments.get(..end)?;
+    let upgrade = arguments.get(end + 1..)?;
+    let cache = value_of(options, "--cache")?;
+    let room = value_of(options, "--room")?;
+    let offline = options.iter().any(|option| *option == "--offline");
+    let count = if offline { 5 } else { 4 };
+    if options.len() != count {
+        return None;
+    }
+    Some(FetchArguments {
+        cache,
+        room,
+        offline,
+        upgrade,
+    })
+}
+
+/// Prints the usage of a subcommand around `curl`, and answers the status of a usage error.
+pub(crate) fn print_usage<E: Write>(name: &str, err: &mut E) -> u8 {
+    let _ = writeln!(
+        err,
+        "Usage: cargo-edit {name} --cache DIR --room DIR [--offline] -- UPGRADE-ARGUMENTS.."
+    );
+    2
+}
+
+/// The arguments of an upgrade as `clap` reads them, or the status after what it says in their place. The
+/// first of the words is `upgrade`.
+pub(crate) fn upgrade_matches<'a, E: Write>(
+    rt: &HostRuntime,
+    words: &'a [&'a str],
+    err: &mut E,
+) -> CargoResult<Result<ArgMatches<'a>, u8>> {
+    match parse_words(rt.alloc(), words) {
+        Ok(matches) => Ok(Ok(matches)),
+        Err(error) => Ok(Err(print_parse_error(&error, &mut rt.stdout(), err)?)),
+    }
+}
+
+/// The names of crates that are not upgraded; none where the arguments name none.
+pub(crate) fn excluded_names<'m, 'a>(matches: &'m ArgMatches<'a>) -> Option<&'m [&'a str]> {
+    let (_, upgrade) = matches.subcommand()?;
+    upgrade.get_strs("exclude")
+}
+
+/// The file with the metadata of the workspace, where one is named.
+pub(crate) fn metadata_file<'a>(matches: &ArgMatches<'a>) -> Option<&'a str> {
+    let (_, upgrade) = matches.subcommand()?;
+    upgrade.get_str("metadata-json")
+}

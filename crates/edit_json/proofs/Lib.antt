@@ -1,0 +1,3 @@
+pub mod GrammarLemmas
+pub mod MemberLoop
+pub mod PutMemberLemmas

@@ -1,0 +1,119 @@
+use Rattle.std.proofs.Common.{◌≡◌, ◌-◌, ◌<◌, ◌⊎◌, inl, inr, [], ◌∷◌, ℕ, List, length, Option, Some, None, sym, refl, ap, ◌∙◌, arith}
+use Rattle.std.specs.Prelude.{IfSome, ⊤}
+use Rattle.std.specs.Fmt.{decimal, digits}
+use Rattle.json.specs.Token.{Token}
+use Rattle.json.specs.Json.{parse_map, after_end_array, read_key, items, members, value}
+use Rattle.json.proofs.Grammar.{value_is, value-begin_array, value-begin_object}
+use Rattle.serde_json.specs.Data.{Num, unsigned, null, boolean, number, string, array, object, put, item, no_items, no_members}
+use Rattle.serde_json.specs.Read.{of_json, of_items, converted, number_of}
+use Rattle.serde_json.proofs.Numbers.{number_of-decimal}
+use Rattle.edit_json.proofs.GrammarLemmas.{converted-array, converted-object, item_read, items_over, none_before}
+use Rattle.edit_json.proofs.MemberLoop.{begin, member-more, over}
+use Rattle.edit_json.proofs.skip.+skip_value.Goals as goal
+
+both : {A B C : Type 0} (f : B → C) (g : A → B) (o : Option (A × List Token)) → parse_map f (parse_map g o) ≡ parse_map (λ a. f (g a)) o
+both f g None = refl
+both f g (Some p) = refl
+
+lift : {A : Type 0} {P Q : A → Type 0} (r : Option A) → ((a : A) → P a → Q a) → IfSome r P → IfSome r Q
+lift None f x = x
+lift (Some a) f x = f a x
+
+pub skip_value-returns-in-Some-String-clause-value : goal.skip_value-returns-in-Some-String-clause-value
+skip_value-returns-in-Some-String-clause-value t c =
+    let is : c.args.reader.now ≡ Token.string c.in-Some-String._text.now ∷ c.next.new.self = grind arith in
+    (string c.in-Some-String._text.now, ap (converted of_json) (ap (value c.args.depth) is ∙ value_is c.args.depth _))
+
+pub skip_value-returns-in-Some-Bool-clause-value : goal.skip_value-returns-in-Some-Bool-clause-value
+skip_value-returns-in-Some-Bool-clause-value t c =
+    let is : c.args.reader.now ≡ Token.boolean c.in-Some-Bool._b ∷ c.next.new.self = grind arith in
+    (boolean c.in-Some-Bool._b, ap (converted of_json) (ap (value c.args.depth) is ∙ value_is c.args.depth _))
+
+pub skip_value-returns-in-Some-Null-clause-value : goal.skip_value-returns-in-Some-Null-clause-value
+skip_value-returns-in-Some-Null-clause-value t c =
+    let is : c.args.reader.now ≡ Token.null ∷ c.next.new.self = grind arith in
+    (null, ap (converted of_json) (ap (value c.args.depth) is ∙ value_is c.args.depth _))
+
+one : decimal 1 ≡ 49 ∷ []
+unfolding digits
+one = refl
+
+two : decimal 2 ≡ 50 ∷ []
+unfolding digits
+two = refl
+
+plain_number : (s : List ℕ) → (s ≡ 49 ∷ []) ⊎ (s ≡ 50 ∷ []) → (n : Num) × (number_of s ≡ Some n)
+plain_number s (inl e) = (unsigned 1, ap number_of (e ∙ sym one) ∙ number_of-decimal 1 (omega arith))
+plain_number s (inr e) = (unsigned 2, ap number_of (e ∙ sym two) ∙ number_of-decimal 2 (omega arith))
+
+pub skip_value-returns-then-is_small_number-clause-value : goal.skip_value-returns-then-is_small_number-clause-value
+skip_value-returns-then-is_small_number-clause-value t c =
+    let is : c.args.reader.now ≡ Token.number c.in-Some-Number.text.now ∷ c.next.new.self = grind arith in
+    let plain = plain_number c.in-Some-Number.text.now (c.is_small_number.ensures c.if-is_small_number.true) in
+    (number plain.0, ap (converted of_json) (ap (value c.args.depth) is ∙ value_is c.args.depth _) ∙ rw plain.1)
+
+pub skip_value-returns-else-depth-eq0-clause-value : goal.skip_value-returns-else-depth-eq0-clause-value
+skip_value-returns-else-depth-eq0-clause-value t c =
+    let opened : c.args.reader.now ≡ Token.begin_array ∷ c.next.new.self = grind arith in
+    lift c.skip_items.result (λ _ q. (
+      array q.0,
+      ap (converted of_json) (ap (value c.args.depth) opened ∙ value-begin_array c.args.depth c.next.new.self (omega arith))
+          ∙ converted-array (items (value (c.args.depth - 1)) (length c.next.new.self) c.next.new.self) ∙ ap (parse_map array) q.1,
+    )) c.skip_items.ensures.value
+
+pub skip_value-returns-else-depth-eq0-2-clause-value : goal.skip_value-returns-else-depth-eq0-2-clause-value
+skip_value-returns-else-depth-eq0-2-clause-value t c =
+    let opened : c.args.reader.now ≡ Token.begin_object ∷ c.next.new.self = grind arith in
+    lift c.skip_members.result (λ _ q. (
+      object q.0,
+      ap (converted of_json) (ap (value c.args.depth) opened ∙ value-begin_object c.args.depth c.next.new.self (omega arith))
+          ∙ converted-object (members (value (c.args.depth - 1)) (length c.next.new.self) c.next.new.self) ∙ ap (parse_map object) q.1,
+    )) c.skip_members.ensures.value
+
+pub skip_items-loop-reader-init : goal.skip_items-loop-reader-init
+skip_items-loop-reader-init t c =
+    let all = converted of_items (items (value c.args.depth) (length c.args.reader.now) c.args.reader.now) in
+    (length c.args.reader.now, omega arith, (λ a. a), none_before all, omega arith)
+
+pub skip_items-loop-reader-preserved : goal.skip_items-loop-reader-preserved
+skip_items-loop-reader-preserved t c =
+    let p = value c.args.depth in
+    let l = c.loop-reader in
+    let n = l.invariant.0 in
+    let f = l.invariant.2 in
+    let going : (after_end_array l.reader ≡ None) × (c.take_end_array.new.self ≡ l.reader) = grind arith in
+    let done = c.in_ok-skip_value.ensures in
+    let r = c.skip_value.new.reader in
+    let d = done.value.0 in
+    let less : length r < length l.reader = rw (← going.1) done.shorter in
+    let turn = item_read p n l.reader r d (omega (arith, l.invariant.1)) going.0 (rw (← going.1) done.value.1) in
+    (n - 1, omega (arith, l.invariant.1), (λ x. f (item d x)), l.invariant.3 ∙ ap (parse_map f) turn ∙ both f (item d) _, omega (arith, l.invariant.4))
+
+pub skip_items-returns-clause-value : goal.skip_items-returns-clause-value
+skip_items-returns-clause-value t c =
+    let p = value c.args.depth in
+    let l = c.loop-reader in
+    let n = l.invariant.0 in
+    let f = l.invariant.2 in
+    let r = c.take_end_array.new.self in
+    (f no_items, l.invariant.3 ∙ ap (parse_map f) (items_over p n l.reader r l.invariant.1 (grind arith)))
+
+pub skip_members-loop-reader-init : goal.skip_members-loop-reader-init
+skip_members-loop-reader-init t c = begin c.args.depth (λ ms. ⊤) c.args.reader.now tt
+
+pub skip_members-loop-reader-preserved : goal.skip_members-loop-reader-preserved
+skip_members-loop-reader-preserved t c =
+    let l = c.loop-reader in
+    let k = c.in-Some.field-0.now in
+    let s = c.next_key.new.self in
+    let named : read_key l.reader ≡ Some (Some k, s) = grind arith in
+    let done = c.in_ok-skip_value.ensures in
+    member-more c.args.depth (λ ms. ⊤) c.args.reader.now l.reader s c.skip_value.new.reader k done.value.0 (λ ms. ⊤)
+    l.invariant named done.value.1 done.shorter (λ ms shows. tt)
+
+pub skip_members-returns-clause-value : goal.skip_members-returns-clause-value
+skip_members-returns-clause-value t c =
+    let l = c.loop-reader in
+    let ended : read_key l.reader ≡ Some (None, c.next_key.new.self) = grind arith in
+    let all = over c.args.depth (λ ms. ⊤) c.args.reader.now l.reader c.next_key.new.self l.invariant ended in
+    (all.0, all.1)

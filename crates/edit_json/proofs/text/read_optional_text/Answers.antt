@@ -1,0 +1,16 @@
+use Rattle.std.proofs.Common.{◌≡◌, ◌∷◌, ap, ◌∙◌, arith}
+use Rattle.json.specs.Token.{Token}
+use Rattle.json.specs.Json.{value}
+use Rattle.json.proofs.Grammar.{value_is}
+use Rattle.serde_json.specs.Read.{of_json, converted}
+use Rattle.edit_json.proofs.text.read_optional_text.Goals as goal
+
+pub returns-in-Some-String-clause-value : goal.returns-in-Some-String-clause-value
+returns-in-Some-String-clause-value c = λ depth.
+    let is : c.args.reader.now ≡ Token.string c.in-Some-String.text.now ∷ c.next.new.self = grind arith in
+    ap (converted of_json) (ap (value depth) is ∙ value_is depth _)
+
+pub returns-in-Some-Null-clause-value : goal.returns-in-Some-Null-clause-value
+returns-in-Some-Null-clause-value c = λ depth.
+    let is : c.args.reader.now ≡ Token.null ∷ c.next.new.self = grind arith in
+    ap (converted of_json) (ap (value depth) is ∙ value_is depth _)

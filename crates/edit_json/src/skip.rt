@@ -1,0 +1,72 @@
+//! Skips JSON values, token by token.
+ghost use Rattle.std.specs.Prelude.{◌≡◌, ◌<◌, ◌⊎◌, codes, true, length, IfSome};
+ghost use Rattle.serde_json.specs.Data.{Data, Items, Members};
+ghost use Rattle.edit_json.specs.Reads.{ReadsItems, ReadsMembers, ReadsValue};
+
+use json::{Reader, Token};
+
+/// Whether a number is `1` or `2`, the only ones that registries write (as the member `v`).
+fn is_small_number(text: &str) -> bool
+    ensures { result ≡ true → (text.now ≡ codes "1") ⊎ (text.now ≡ codes "2") }
+{
+    text == "1" || text == "2"
+}
+
+/// Skips a value; none where it is malformed, nested too deeply, or has a number other than `1` and `2`.
+#[cycle(skip_value)]
+#[inline(always)]
+pub fn skip_value(reader: &mut Reader<'_>, depth: usize) -> Option<()>
+    ensures shorter { IfSome result (λ _. length reader.new < length reader.old) }
+    ensures value { IfSome result
+        (λ _. (d : Data) × ReadsValue depth reader.old d reader.new) }
+{
+    match reader.next() {
+        Some(Token::String(_text)) => Some(()),
+        Some(Token::Bool(_b)) => Some(()),
+        Some(Token::Null) => Some(()),
+        Some(Token::Number(text)) => if is_small_number(text) {
+            Some(())
+        } else {
+            None
+        },
+        Some(Token::BeginArray) => {
+            if depth == 0 {
+                return None;
+            }
+            skip_items(reader, depth - 1)
+        }
+        Some(Token::BeginObject) => {
+            if depth == 0 {
+                return None;
+            }
+            skip_members(reader, depth - 1)
+        }
+        _ => None,
+    }
+}
+
+/// Skips the elements of an array and its closing bracket, as `skip_value` does.
+#[cycle(skip_value)]
+#[inline(never)]
+fn skip_items(reader: &mut Reader<'_>, depth: usize) -> Option<()>
+    ensures shorter { IfSome result (λ _. length reader.new < length reader.old) }
+    ensures value { IfSome result (λ _. (ds : Items) × ReadsItems depth reader.old ds reader.new) }
+{
+    while !reader.take_end_array() {
+        skip_value(reader, depth)?;
+    }
+    Some(())
+}
+
+/// Skips the members of an object and its closing brace, as `skip_value` does.
+#[cycle(skip_value)]
+#[inline(never)]
+fn skip_members(reader: &mut Reader<'_>, depth: usize) -> Option<()>
+    ensures shorter { IfSome result (λ _. length reader.new < length reader.old) }
+    ensures value { IfSome result (λ _. (ms : Members) × ReadsMembers depth reader.old ms reader.new) }
+{
+    while let Some(_) = reader.next_key().ok()? {
+        skip_value(reader, depth)?;
+    }
+    Some(())
+}

@@ -1,0 +1,156 @@
+//! A workspace made of the texts that were read of its metadata.
+ghost use Rattle.std.specs.Prelude.{◌≡◌, ℕ, List, map, option_and_then, option_map, string_bytes, IfErr, IfOk, IfSome};
+ghost use Rattle.std.specs.List.{AllZip};
+ghost use Rattle.edit_base.specs.Errors.{IsMemory};
+ghost use Rattle.edit_metadata.specs.Metadata.{AreMetadata, SaysPackage, SaysWorkspace, is_listed};
+ghost use Rattle.edit_metadata.specs.Reading.{holds};
+ghost use Rattle.edit_metadata.specs.Texts.{ShowsPackage, ShowsWorkspace};
+ghost use Rattle.edit_metadata.specs.Workspaces.{package_said, workspace_said};
+ghost use Rattle.edit_version.specs.RustVersions.{numbers_of, rust_of};
+ghost use Rattle.serde_json.specs.Data.{Data};
+
+use crate::members::is_absolute;
+use crate::package_texts::PackageTexts;
+use crate::workspace::{Package, Workspace};
+use crate::workspace_texts::{WorkspaceTexts, read_metadata};
+use edit_base::CargoResult;
+use edit_version::{RustVersion, read_rust_version, read_version};
+use json::Scratch;
+use std::alloc::{AllocError, Global};
+use std::collections::BTreeSet;
+
+/// The set of these ids.
+fn id_set<'a>(alloc: Global, ids: &[&'a str]) -> Result<BTreeSet<&'a str>, AllocError>
+    ensures { IfOk result (λ s. (id : List ℕ) → holds s id ≡ is_listed (map (λ t. t.now) ids.now) id) }
+{
+    let mut set = BTreeSet::new(alloc);
+    'ids: for id in ids {
+        let _ = set.insert(*id)?;
+    }
+    Ok(set)
+}
+
+/// A copy of a text that need not be there.
+fn copy_text(alloc: Global, text: Option<&str>) -> Result<Option<String>, AllocError>
+    ensures { IfOk result (λ t. option_map string_bytes t ≡ option_map (λ s. s.now) text.entry) }
+{
+    match text {
+        Some(text) => Ok(Some(String::from_str(alloc, text)?)),
+        None => Ok(None),
+    }
+}
+
+/// The Rust version that a text names; none where there is no text, and where it names none.
+fn rust_version_of(alloc: Global, text: Option<&str>) -> CargoResult<Option<RustVersion>>
+    ensures ok { IfOk result (λ v. option_map numbers_of v
+        ≡ option_and_then rust_of (option_map (λ s. s.now) text.entry)) }
+    ensures refused { IfErr result IsMemory }
+{
+    match text {
+        Some(text) => read_rust_version(alloc, text),
+        None => Ok(None),
+    }
+}
+
+/// The package of these texts; none where one is missing or is not what it should be.
+fn package_of(
+    alloc: Global,
+    ids: &BTreeSet<&str>,
+    texts: &PackageTexts<'_>,
+) -> CargoResult<Option<Package>>
+    ensures ok { IfOk result (λ o. IfSome o (λ p. (d : Data) → ShowsPackage d texts.now
+        → SaysPackage (holds ids.now) d (package_said p))) }
+    ensures refused { IfErr result IsMemory }
+{
+    let Some(name) = texts.name else {
+        return Ok(None);
+    };
+    let Some(id) = texts.id else {
+        return Ok(None);
+    };
+    let Some(manifest_path) = texts.manifest_path else {
+        return Ok(None);
+    };
+    if !is_absolute(manifest_path) {
+        return Ok(None);
+    }
+    let Some(version) = texts.version else {
+        return Ok(None);
+    };
+    let Some(version) = read_version(alloc, version)? else {
+        return Ok(None);
+    };
+    let rust_version = rust_version_of(alloc, texts.rust_version)?;
+    Ok(Some(Package {
+        name: String::from_str(alloc, name)?,
+        id: String::from_str(alloc, id)?,
+        manifest_path: String::from_str(alloc, manifest_path)?,
+        version,
+        source: copy_text(alloc, texts.source)?,
+        rust_version,
+        member: ids.contains(id),
+    }))
+}
+
+/// The packages of these texts, in order; none where one of them says none.
+fn packages_of(
+    alloc: Global,
+    ids: &BTreeSet<&str>,
+    texts: &[PackageTexts<'_>],
+) -> CargoResult<Option<Vec<Package>>>
+    ensures ok { IfOk result (λ o. IfSome o (λ v. (ds : List Data) → AllZip ShowsPackage ds texts.now
+        → AllZip (SaysPackage (holds ids.now)) ds (map package_said v.items))) }
+    ensures refused { IfErr result IsMemory }
+{
+    let mut packages = Vec::with_capacity(alloc, texts.len())?;
+    'texts: for package in texts {
+        match package_of(alloc, ids, package)? {
+            Some(package) => packages.push(package)?,
+            None => return Ok(None),
+        }
+    }
+    Ok(Some(packages))
+}
+
+/// The workspace of these texts; none where one is missing or is not what it should be.
+fn workspace_of(alloc: Global, texts: &WorkspaceTexts<'_>) -> CargoResult<Option<Workspace>>
+    ensures ok { IfOk result (λ o. IfSome o (λ w. (d : Data) → ShowsWorkspace d texts.now
+        → SaysWorkspace d (workspace_said w))) }
+    ensures refused { IfErr result IsMemory }
+{
+    let Some(root) = texts.root else {
+        return Ok(None);
+    };
+    if !is_absolute(root) {
+        return Ok(None);
+    }
+    let Some(ids) = &texts.ids else {
+        return Ok(None);
+    };
+    let Some(packages) = &texts.packages else {
+        return Ok(None);
+    };
+    let ids = id_set(alloc, ids.as_slice())?;
+    let Some(packages) = packages_of(alloc, &ids, packages.as_slice())? else {
+        return Ok(None);
+    };
+    Ok(Some(Workspace {
+        root: String::from_str(alloc, root)?,
+        packages,
+    }))
+}
+
+/// The workspace of metadata that are read without a tree; none where the reader that makes one has to decide.
+pub(crate) fn read_without_tree(alloc: Global, json: &[u8]) -> CargoResult<Option<Workspace>>
+    ensures ok { IfOk result (λ o. IfSome o (λ w. AreMetadata json.now (workspace_said w))) }
+    ensures refused { IfErr result IsMemory }
+{
+    let Ok(text) = simdutf8::compat::from_utf8(json) else {
+        return Ok(None);
+    };
+    let mut scratch = Scratch::new(alloc);
+    let Some(texts) = read_metadata(alloc, text, &mut scratch)? else {
+        return Ok(None);
+    };
+    workspace_of(alloc, &texts)
+}

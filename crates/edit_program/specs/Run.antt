@@ -1,0 +1,22 @@
+-- A run of the program as contracts see it.
+use Rattle.std.specs.Prelude.{ℕ, List, Option}
+use Rattle.edit_store.specs.Store.{StoreView}
+
+-- a run: the folder that relative paths start from, the folder whose configuration counts last, the files of
+-- the index, and the other files before and behind the run
+pub record Run : Type 0 where
+  pub current : List ℕ
+  pub home : Option (List ℕ)
+  pub index_files : StoreView
+  pub old : StoreView
+  pub new : StoreView
+
+-- the run with these parts
+abbrev pub run_at : List ℕ → Option (List ℕ) → StoreView → StoreView → StoreView → Run
+run_at current home index_files old new = record {
+  current = current;
+  home = home;
+  index_files = index_files;
+  old = old;
+  new = new;
+}

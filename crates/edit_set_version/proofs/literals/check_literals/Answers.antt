@@ -1,0 +1,54 @@
+use Rattle.std.proofs.Common.{◌≡◌, All, arith, inl, inr, rules, subst, take}
+use Rattle.std.proofs.Math.Seq.{take-length}
+use Rattle.std.proofs.lemmas.List.Elements.{All-more, All-nil}
+use Rattle.std.proofs.lemmas.Result.{err_from_is_err_and}
+use Rattle.std.proofs.lemmas.Slice.Zip.{AllZip-long}
+use Rattle.edit_set_version.specs.Crates.{IsReadOf, bumps_seen}
+use Rattle.edit_set_version.specs.PlanRefused.{HasLiteral}
+use Rattle.edit_set_version.proofs.ChoiceLemmas.{element_among}
+use Rattle.edit_set_version.proofs.ProjectRoot.{read_beside}
+use Rattle.edit_set_version.proofs.literals.check_literals.Goals as goal
+
+pub inputs-init : goal.inputs-init
+inputs-init c = All-nil (HasLiteral (bumps_seen c.args.writing.now.bumps.now))
+
+pub bounds-manifests-i : goal.bounds-manifests-i
+bounds-manifests-i c =
+    let long = AllZip-long IsReadOf c.args.inputs.now c.args.manifests.now c.requires.read in
+    omega (arith, long, c.inputs-test.true)
+
+pub check_literal-requires-clause-read : goal.check_literal-requires-clause-read
+check_literal-requires-clause-read c =
+    let there = read_beside c.index-inputs-i.result c.index-manifests-i.result c.args.inputs.now
+    c.args.manifests.now c.inputs.i c.requires.read c.inputs-test.true c.index-inputs-i.is
+    c.index-manifests-i.is in
+    there.1
+
+pub returns-in_err-check_literal-clause-refused : goal.returns-in_err-check_literal-clause-refused
+returns-in_err-check_literal-clause-refused c =
+    let p = err_from_is_err_and c.from_residual.result c.from_residual.ensures.1 in
+    rw (p.1, p.2) (elim c.in_err-check_literal.ensures.refused [
+      | inl none ↦ inl none
+      | inr why ↦ inr (
+        why.0,
+        record {
+          input = c.index-inputs-i.result;
+          among = element_among c.args.inputs.now c.inputs.i c.index-inputs-i.result c.inputs-test.true
+              c.index-inputs-i.is;
+          stands = why.1;
+        },
+      )
+    ])
+
+pub inputs-preserved : goal.inputs-preserved
+inputs-preserved c =
+    let bs = bumps_seen c.args.writing.now.bumps.now in
+    All-more (HasLiteral bs) c.args.inputs.now c.inputs.i c.index-inputs-i.result c.inputs-test.true
+    c.inputs.invariant (subst (HasLiteral bs) c.index-inputs-i.is c.in_ok-check_literal.ensures.literal)
+
+pub returns-clause-literals : goal.returns-clause-literals
+returns-clause-literals c =
+    let bs = bumps_seen c.args.writing.now.bumps.now in
+    let all : take c.inputs.i c.args.inputs.now ≡ c.args.inputs.now
+    = search (rules, take-length c.args.inputs.now, c.inputs-test.false, c.inputs.auto) in
+    subst (All (HasLiteral bs)) all c.inputs.invariant

@@ -1,0 +1,55 @@
+//! Whether the versions that a plan writes have literals in their manifests.
+ghost use Rattle.std.specs.Prelude.{◌≡◌, ◌⊎◌, All, IfErr, OnOk};
+ghost use Rattle.std.specs.List.{AllZip};
+ghost use Rattle.edit_base.specs.Errors.{IsMemory};
+ghost use Rattle.edit_base.specs.declared.errors.Error.TheVariants.{NoVersionPlace};
+ghost use Rattle.edit_set_version.specs.Apart.{AreApart};
+ghost use Rattle.edit_set_version.specs.Crates.{IsReadOf, bumps_seen};
+ghost use Rattle.edit_set_version.specs.Numbers.{TellsFirst};
+ghost use Rattle.edit_set_version.specs.PlanRefused.{HasBadInputBy, HasLiteral, StandsAgainstInput};
+
+use crate::outputs::{Writing, push_own};
+use edit_base::CargoResult;
+use edit_manifest::Manifest;
+use edit_metadata::Input;
+use std::alloc::Global;
+
+/// Refuses an input with 13 where a bumped version is to be written into it and no literal stands there.
+fn check_literal(
+    alloc: Global,
+    writing: &Writing<'_, '_>,
+    input: &Input,
+    manifest: &Manifest,
+) -> CargoResult<()>
+    requires numbers { TellsFirst (bumps_seen writing.now.bumps.now) writing.now.numbers.now }
+    requires apart { AreApart (bumps_seen writing.now.bumps.now) }
+    requires read { IsReadOf input.now manifest.now }
+    ensures literal { OnOk result (HasLiteral (bumps_seen writing.now.bumps.now) input.now) }
+    ensures refused { IfErr result (λ e. IsMemory e ⊎ ((e ≡ NoVersionPlace)
+        × StandsAgainstInput (bumps_seen writing.now.bumps.now) input.now e)) }
+{
+    let path = input.path.as_str();
+    let mut edits = Vec::new(alloc);
+    push_own(alloc, writing, path, &manifest.document, &mut edits)?;
+    Ok(())
+}
+
+/// Refuses inputs with 13 where a bumped version is to be written into one and no literal stands there.
+pub(crate) fn check_literals(
+    alloc: Global,
+    writing: &Writing<'_, '_>,
+    inputs: &[Input],
+    manifests: &[Manifest],
+) -> CargoResult<()>
+    requires numbers { TellsFirst (bumps_seen writing.now.bumps.now) writing.now.numbers.now }
+    requires apart { AreApart (bumps_seen writing.now.bumps.now) }
+    requires read { AllZip IsReadOf inputs.now manifests.now }
+    ensures literals { OnOk result (All (HasLiteral (bumps_seen writing.now.bumps.now)) inputs.now) }
+    ensures refused { IfErr result (λ e. IsMemory e ⊎ ((e ≡ NoVersionPlace)
+        × HasBadInputBy (bumps_seen writing.now.bumps.now) inputs.now e)) }
+{
+    'inputs: for i in 0..inputs.len() {
+        check_literal(alloc, writing, &inputs[i], &manifests[i])?;
+    }
+    Ok(())
+}

@@ -1,0 +1,8 @@
+use Rattle.edit_sources.proofs.SameLookups.{same_lookups}
+use Rattle.edit_sources.proofs.local_index.LocalIndexIndex.look.Goals as goal
+
+pub returns-in-Err-read-clause-same : goal.returns-in-Err-read-clause-same
+returns-in-Err-read-clause-same g c = same_lookups _ _ c.read.ensures.tells c.read.ensures.files
+
+pub returns-clause-same : goal.returns-clause-same
+returns-clause-same g c = same_lookups _ _ c.read.ensures.tells c.read.ensures.files

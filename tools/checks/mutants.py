@@ -1,0 +1,139 @@
+"""Tests the parts of tools/wrong_bodies that need no prover: tools/edits.py, tools/source.py, tools/mutant_files.py."""
+import collections
+import os
+import sys
+import tempfile
+import unittest
+
+sys.dont_write_bytecode = True
+sys.path.insert(0, os.path.join(os.path.dirname(os.path.abspath(__file__)), ".."))
+from edits import Edit, Said, Unusable, judged  # noqa: E402
+from mutant_files import chosen, without_mutants  # noqa: E402
+from source import Source  # noqa: E402
+
+Crate = collections.namedtuple("Crate", "name folder")
+FILES = {
+    "src/lib.rt": "mod read;\npub mod tree;\n\n/// Counts.\npub fn count(n: u8) -> u8\n    ensures { result ≡ n }\n"
+                  "{\n    n\n}\n",
+    "src/tree.rt": "pub struct Tree {\n    n: u8,\n}\n",
+    "src/read.rt": "use crate::tree::Tree;\n\nimpl Tree {\n    fn depth(&self) -> u8 {\n        self.depth()\n    }\n\n"
+                   "    #[cycle(walk)]\n    fn down(&self) -> u8 {\n        self.up()\n    }\n\n"
+                   "    #[cycle(walk)]\n    fn up(&self) -> u8 {\n        self.down()\n    }\n}\n",
+    "proofs/count/Answers.antt": "use Rattle.a.proofs.count.Goals as goal\n\nhelper : (n : ℕ) → n ≡ n\nhelper n = refl\n\n"
+                                 "pub loop-1-preserved : goal.loop-1-preserved\nloop-1-preserved c =\n    helper c.n\n\n"
+                                 "pub returns-in_ok : goal.returns-in_ok\nreturns-in_ok c =\n    refl\n",
+}
+COUNT = "file: src/lib.rt\nold:     n\nnew:     0\n"
+ENDED = "only=1 holes=0"
+OPEN = "fn a::count: no proof: expected answers in ./proofs/count/Answers.antt; `search` did not prove `returns`"
+AT_LOOP = "./proofs/count/Answers.antt:8:5: error: this `refl` lands at 0"
+AT_RETURN = "./proofs/count/Answers.antt:12:5: error: this `refl` lands at 0"
+GONE = "./proofs/count/Answers.antt:8:5: error: `c.n`\n  is not in scope"
+
+
+class Mutants(unittest.TestCase):
+    def setUp(self):
+        room = tempfile.TemporaryDirectory()
+        self.addCleanup(room.cleanup)
+        self.addCleanup(os.chdir, os.getcwd())
+        os.chdir(room.name)
+        self.folder = os.path.join(room.name, "crates", "a")
+        for path, text in FILES.items():
+            self.write(path, text)
+
+    def write(self, path, text):
+        path = os.path.join(self.folder, path)
+        os.makedirs(os.path.dirname(path), exist_ok=True)
+        with open(path, "w", encoding="utf-8") as file:
+            file.write(text)
+        return path
+
+    def edit(self, text):
+        return Edit(self.write("wrong-bodies/one.edit", text), Source(self.folder))
+
+    def verdict(self, said, edit=COUNT, changed=()):
+        edit = self.edit(edit)
+        return judged(edit, Said("\n".join([*said, ENDED]), "a", self.folder), edit.members | set(changed))
+
+    def refuses(self, text, why):
+        with self.assertRaisesRegex(Unusable, why):
+            self.edit(text)
+
+    def test_an_edit_is_read(self):
+        edit = self.edit(COUNT + "differs: n = 1, where the result is 0\n")
+        self.assertEqual(edit.pairs, [("src/lib.rt", "    n", "    0")])
+        self.assertEqual(edit.differs, "n = 1, where the result is 0")
+        self.assertEqual(edit.functions, {"count"})
+        self.assertIn("{\n    0\n}", edit.over({})["src/lib.rt"])
+        self.assertIsNone(self.edit(COUNT).differs)
+
+    def test_an_edit_that_cannot_be_tried(self):
+        self.refuses("file: src/lib.rt\n", "no 'old:' and 'new:' pair")
+        self.refuses("file: src/lib.rt\nnew: 0\n", "stands before any")
+        self.refuses("file: src/none.rt\nold: n\nnew: 0\n", "there is no file")
+        self.refuses("file: src/lib.rt\nold: u8\nnew: u16\n", "2 times, and not once")
+        self.refuses("file: src/lib.rt\nold: lost\nnew: 0\n", "0 times, and not once")
+        self.refuses("file: src/lib.rt\nold: result ≡ n\nnew: result ≡ 0\n", "lies in no function's body")
+        self.refuses(COUNT + "differs:\n", "names no input")
+        self.refuses(COUNT + "differs: 1\ndiffers: 2\n", "more than one")
+
+    def test_a_cycle_in_an_impl_of_another_module(self):
+        alone = self.edit("file: src/read.rt\nold: self.depth()\nnew: 0\n")
+        self.assertEqual(alone.members, {"tree::Tree::depth", "tree::Tree::+depth"})
+        cycle = self.edit("file: src/read.rt\nold: self.up()\nnew: 0\n")
+        self.assertEqual(cycle.functions, {"tree::Tree::down"})
+        self.assertLessEqual(
+            {"tree::Tree::down", "tree::Tree::up", "tree::Tree::+walk", "tree::+walk", "read::+walk"}, cycle.members)
+        said = Said("fn a::tree::Tree::+walk: no proof: `search` did not prove `returns`\n" + ENDED, "a", self.folder)
+        self.assertEqual(judged(cycle, said, cycle.members)[0], "refused")
+
+    def test_a_goal_that_the_search_leaves_open_refuses(self):
+        self.assertEqual(self.verdict([OPEN]), ("refused", "`search` did not prove `returns`"))
+
+    def test_a_term_that_broke(self):
+        self.assertEqual(self.verdict([AT_RETURN])[0], "refused")
+        verdict, why = self.verdict([AT_LOOP])
+        self.assertEqual(verdict, "failed")
+        self.assertIn("a term at loop-1-preserved broke", why)
+        self.assertEqual(self.verdict(["./proofs/count/Answers.antt:4:5: error: this `refl` lands at 0"])[0], "failed")
+        verdict, why = self.verdict([AT_LOOP], COUNT + "differs: n = 1\n")
+        self.assertEqual(verdict, "refused")
+        self.assertIn("differs at n = 1", why)
+        self.assertEqual(self.verdict([AT_LOOP, AT_RETURN])[0], "refused")
+        self.assertEqual(self.verdict(["./proofs/count/Invariants.antt:3:5: error: no"])[0], "failed")
+
+    def test_what_does_not_count(self):
+        differs = COUNT + "differs: n = 1\n"
+        self.assertIn("a proof names what it took away", self.verdict([GONE], differs)[1])
+        self.assertEqual(self.verdict([OPEN, GONE], differs)[0], "failed")
+        self.assertIn("touches", self.verdict([OPEN, OPEN.replace("count", "other")])[1])
+        self.assertEqual(self.verdict(["fn a::count: no holes"]), ("failed", "count is proved"))
+        self.assertEqual(self.verdict(["fn a::count: the borrow checker says no"])[0], "failed")
+        edit = self.edit(COUNT)
+        said = Said("src/lib.rt:8:5: error: this is no text", "a", self.folder)
+        self.assertIn("does not reach the prover", judged(edit, said, edit.members)[1])
+
+    def test_a_function_that_waits_is_tried_again(self):
+        waits = "fn a::count: no proof; it calls `a::tree::size`, which is not proved"
+        size = "fn a::tree::size: no proof: `search` did not prove `returns`"
+        self.assertEqual(self.verdict([waits, size], changed={"tree::size"}), ("again", {"tree::size"}))
+
+    def test_a_crate_without_mutants_fails(self):
+        crate = Crate("a", self.folder)
+        bare = lambda kind, words=(): without_mutants([crate], chosen([crate], words, kind), kind)
+        self.assertEqual(bare("wrong-bodies"), ["a"])
+        self.assertEqual(bare("more-wrong-bodies"), [])
+        os.makedirs(os.path.join(self.folder, "more-wrong-bodies"))
+        self.assertEqual(bare("more-wrong-bodies"), ["a"])
+        edit = self.write("wrong-bodies/one.edit", COUNT)
+        self.assertEqual(bare("wrong-bodies"), [])
+        self.assertEqual(bare("wrong-bodies", [edit]), [])
+        os.remove(edit)
+        self.assertEqual(bare("wrong-bodies", ["a"]), ["a"])
+        self.write("src/lib.rt", FILES["src/lib.rt"].replace("pub fn", "fn"))
+        os.rmdir(os.path.dirname(edit))
+        self.assertEqual(bare("wrong-bodies"), [])
+
+
+if __name__ == "__main__":
+    unittest.main()

@@ -1,0 +1,52 @@
+"""The files of mutants: which there are, which are to be tried, and which crates should have some and have none."""
+import glob
+import os
+import re
+import sys
+
+from source import Source, texts
+
+
+def listed(crate, kind):
+    """The edits in a crate's folder of this kind; what else lies there is a failure."""
+    folder = os.path.join(crate.folder, kind)
+    names = sorted(os.listdir(folder)) if os.path.isdir(folder) else []
+    odd = [name for name in names if not name.endswith((".edit", ".md"))]
+    if odd:
+        sys.exit("wrong_bodies: %s/%s is no edit" % (folder, odd[0]))
+    return [os.path.join(folder, name) for name in names if name.endswith(".edit")]
+
+
+def chosen(crates, words, kind):
+    """The edits that are to be tried, by the names of their crates."""
+    lost = {os.path.dirname(it) for it in glob.glob("crates/*/" + kind)} - {"crates/" + it.name for it in crates}
+    if lost:
+        sys.exit("wrong_bodies: crates.txt does not name %s, which has mutants" % sorted(lost)[0])
+    found = {crate.name: listed(crate, kind) for crate in crates}
+    if not words:
+        return found
+    wanted = {}
+    for word in words:
+        folder = os.path.dirname(os.path.dirname(os.path.abspath(word)))
+        crate = next((it.name for it in crates if it.name == word or word.endswith(".edit") and it.folder == folder), None)
+        if crate is None or word.endswith(".edit") and not os.path.isfile(word):
+            sys.exit("wrong_bodies: crates.txt names no crate %s, and it is no edit of one" % word)
+        wanted.setdefault(crate, []).extend([os.path.abspath(word)] if word.endswith(".edit") else found[crate])
+    return {crate: list(dict.fromkeys(files)) for crate, files in wanted.items()}
+
+
+def without_mutants(crates, wanted, kind):
+    """The crates among those that are wanted that have no edit of this kind and should have one: a folder of this kind
+    stands there, or, of the kind that the gate tries, a public function has an `ensures`."""
+    return [
+        crate.name for crate in crates if crate.name in wanted and not wanted[crate.name]
+        and (os.path.isdir(os.path.join(crate.folder, kind)) or kind == "wrong-bodies" and has_contracts(crate.folder))]
+
+
+def has_contracts(folder):
+    """Whether a public function of a crate has an `ensures`."""
+    source = Source(folder)
+    return any(
+        re.search(r"\bpub\s+(?:const\s+)?fn\b", it.head) and "ensures" in it.head
+        for path, text in texts(os.path.join(folder, "src"), ".rt")
+        for it in source.functions(os.path.relpath(path, folder), text))
