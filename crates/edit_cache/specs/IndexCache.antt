@@ -61,8 +61,8 @@ pub record Fetches {I T : Type 0} (seen now : IndexView) (address : Parts) (name
 abbrev pub ranking_at : {I : Type 0} → IndexCache I → List ℕ → List ℕ → Option Ranked
 ranking_at cache address name = option_and_then (λ kept. kept.ranked) (told_at cache address name)
 
--- a call that sees to it that an answer and its ranking are kept: it looks up as `Fetches` does, and an answer
--- that it adds is one that the index gave, also where memory runs out (own)
+-- a call that sees to it that an answer and its ranking are kept: it looks up as `Fetches` does, and an
+-- answer that it adds is one that the index gave, also where memory runs out (own)
 pub record Ranks {I T : Type 0} (seen now : IndexView) (address : Parts) (name : List ℕ)
     (old new : IndexCache I) (result : Result T Error) : Type 0 where
   pub ranked : OnOk result (IfSome (kept_at new (serialize address) name)

@@ -130,8 +130,8 @@ impl<I: Index> IndexCache<I> {
         self.keep(alloc, registry.as_str(), name, answer)
     }
 
-    /// The entries of a name; none where the index has no such name. It is `fetch` and then `shown`: an error is
-    /// not kept, so a later call makes the lookup again. The contract of `fetch` says what the cache holds
+    /// The entries of a name; none where the index has no such name. It is `fetch` and then `shown`: an error
+    /// is not kept, so a later call makes the lookup again. The contract of `fetch` says what the cache holds
     /// afterwards; of this call, whose result lies in the cache, tests show it.
     pub fn krate(
         &mut self,
@@ -189,8 +189,8 @@ impl<I: Index> IndexCache<I> {
 
     /// Sees to it that an answer for a name and its ranking are kept, which `shown_ranking` tells.
     ///
-    /// Its errors are those of `fetch`. Want of memory while the entries are ranked leaves them without a ranking,
-    /// and a later call ranks them.
+    /// Its errors are those of `fetch`. Want of memory while the entries are ranked leaves them without a
+    /// ranking, and a later call ranks them.
     pub fn rank(&mut self, alloc: Global, registry: &Url, name: &str) -> CargoResult<()>
         ensures { Ranks (I.view (index_of self.old)) (I.view
             (index_of self.new)) registry.now name.now self.old self.new result }
@@ -240,9 +240,9 @@ impl<I: Index> IndexCache<I> {
     }
 
     /// The ranking of the entries of a name; none where the index has no such name. It is `rank` and then
-    /// `shown_ranking`: an error of the lookup is not kept, and want of memory while the entries are ranked leaves
-    /// them in the cache without a ranking, so that a later call makes no lookup. Tests show this, as the
-    /// result lies in the cache.
+    /// `shown_ranking`: an error of the lookup is not kept, and want of memory while the entries are ranked
+    /// leaves them in the cache without a ranking, so that a later call makes no lookup. Tests show this, as
+    /// the result lies in the cache.
     pub fn ranked(
         &mut self,
         alloc: Global,

@@ -1,5 +1,5 @@
-//! JSON read token by token, without making a tree: what a crate that reads the members of an object needs beside
-//! `json::Reader`.
+//! JSON read token by token, without making a tree: what a crate that reads the members of an object needs
+//! beside `json::Reader`.
 #![tactic(auto)]
 
 pub mod skip;

@@ -140,7 +140,8 @@ fn workspace_of(alloc: Global, texts: &WorkspaceTexts<'_>) -> CargoResult<Option
     }))
 }
 
-/// The workspace of metadata that are read without a tree; none where the reader that makes one has to decide.
+/// The workspace of metadata that are read without a tree; none where the reader that makes one has to
+/// decide.
 pub(crate) fn read_without_tree(alloc: Global, json: &[u8]) -> CargoResult<Option<Workspace>>
     ensures ok { IfOk result (λ o. IfSome o (λ w. AreMetadata json.now (workspace_said w))) }
     ensures refused { IfErr result IsMemory }

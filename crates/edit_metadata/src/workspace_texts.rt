@@ -1,7 +1,7 @@
 //! The output of `cargo metadata`, read token by token, without making a tree of its members.
 //!
-//! What this reader does not take is left to the reader that makes a tree, which alone decides whether the metadata
-//! are malformed.
+//! What this reader does not take is left to the reader that makes a tree, which alone decides whether the
+//! metadata are malformed.
 ghost use Rattle.std.specs.Prelude.{◌≡◌, ◌<◌, Some, length, IfOk, IfSome};
 ghost use Rattle.edit_json.specs.Reads.{ReadsMembers, ReadsValue};
 ghost use Rattle.edit_metadata.specs.Texts.{ShowsWorkspace};

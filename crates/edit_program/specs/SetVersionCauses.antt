@@ -25,15 +25,15 @@ abbrev pub IsWrong : SetVersionWords → List ℕ → Files → Error → Type 0
 IsWrong words current files e =
     HasNoWorkspace files current words.metadata_json.now e ⊎ HasNoPlan words current files e
 
--- why nothing is written: memory ran out, the device failed in a read and the count of faults rose, the stream
--- did not take what is printed, or something is wrong with the files
+-- why nothing is written: memory ran out, the device failed in a read and the count of faults rose, the
+-- stream did not take what is printed, or something is wrong with the files
 abbrev pub IsUnset : SetVersionWords → List ℕ → StoreView → StoreView → Error → Type 0
 IsUnset words current old new e =
     RefusesCall call.Read old new e
     ⊎ ((e ≡ Unwritten) ⊎ (old.tells ≡ true → IsWrong words current old.file_at e))
 
--- why `set-version` ends with an error: memory or the device failed in a write, or nothing is written and each
--- file is as it was
+-- why `set-version` ends with an error: memory or the device failed in a write, or nothing is written and
+-- each file is as it was
 abbrev pub IsSetVersionCause : SetVersionWords → List ℕ → StoreView → StoreView → Error → Type 0
 IsSetVersionCause words current old new e =
     RefusesCall call.Write old new e ⊎ (SameFiles old.file_at new.file_at × IsUnset words current old new e)

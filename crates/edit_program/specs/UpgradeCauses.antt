@@ -35,8 +35,8 @@ IsUnplanned words current home local files e =
     ⊎ (IsWrong files current home (asking words) e
     ⊎ HasNoPlan words.options (λ s. index_view s.index local) (asking words) current home files e)
 
--- what is wrong with what the arguments name: there is no plan, and each file is as it was; or the plan is not
--- carried out
+-- what is wrong with what the arguments name: there is no plan, and each file is as it was; or the plan is
+-- not carried out
 abbrev pub IsUnfit : (List ℕ → Type 0) → UpgradeWords → Run → Error → Type 0
 IsUnfit Shows words run e =
     (SameFiles run.old.file_at run.new.file_at
@@ -44,8 +44,8 @@ IsUnfit Shows words run e =
     ⊎ IsPlannedTo (λ d. IsStopped Shows d run.old run.new e) words run.current run.home run.index_files
     run.old.file_at
 
--- why an upgrade ends with an error: memory ran out; the device failed in a read, and each file is as it was; it
--- failed in a write; a stream did not take what is printed; or what the arguments name is unfit
+-- why an upgrade ends with an error: memory ran out; the device failed in a read, and each file is as it was;
+-- it failed in a write; a stream did not take what is printed; or what the arguments name is unfit
 abbrev pub IsUpgradeCause : (List ℕ → Type 0) → UpgradeWords → Run → Error → Type 0
 IsUpgradeCause Shows words run e =
     IsMemory e
@@ -60,8 +60,8 @@ IsUnfitForLooks words current home files e =
     IsWrong files current home (asking_for_looks words) e
     ⊎ HasNoPlan words.options (λ s. no_view) (asking_for_looks words) current home files e
 
--- why lookups are not printed: memory or the device failed, the stream did not take them, or what the arguments
--- name is unfit
+-- why lookups are not printed: memory or the device failed, the stream did not take them, or what the
+-- arguments name is unfit
 abbrev pub IsLooksCause : UpgradeWords → List ℕ → Option (List ℕ) → StoreView → StoreView → Error → Type 0
 IsLooksCause words current home old new e =
     IsFailure old new e

@@ -100,14 +100,14 @@ fn answer_given<S: Store, T: Store + Drop, O: io::Write, E: io::Write>(
     answer(alloc, words.as_slice(), place, files, index_files, out, err)
 }
 
-/// Runs the arguments, which begin with the subcommand, and answers the status: 0 done; 1 an error, whose text
-/// is printed on `err` behind `Error: `, with its place in a second line where it is known (of `add` and
-/// `rm`, whatever follows, that cargo has them by itself), or, with `--check`, that something would change;
-/// 2 a fault of the command line, also an empty path. An option that may stand without its value then says
-/// yes. `current` is the absolute folder that relative paths start from. Manifests, configurations,
-/// metadata, the index file and the lock file are read, and manifests and the file of the calls written,
-/// through `files`; `cargo_home` is the folder whose configuration counts last. `index_files` has the index
-/// that is looked in where no index file is named, and is taken over.
+/// Runs the arguments, which begin with the subcommand, and answers the status: 0 done; 1 an error, whose
+/// text is printed on `err` behind `Error: `, with its place in a second line where it is known (of `add` and
+/// `rm`, whatever follows, that cargo has them by itself), or, with `--check`, that something would change; 2
+/// a fault of the command line, also an empty path. An option that may stand without its value then says yes.
+/// `current` is the absolute folder that relative paths start from. Manifests, configurations, metadata, the
+/// index file and the lock file are read, and manifests and the file of the calls written, through `files`;
+/// `cargo_home` is the folder whose configuration counts last. `index_files` has the index that is looked in
+/// where no index file is named, and is taken over.
 pub fn run<S: Store, T: Store + Drop, O: io::Write, E: io::Write>(
     alloc: Global,
     words: &[&str],

@@ -1,5 +1,5 @@
-//! Tests of the program, by `run` of `edit_program`: its statuses, and runs in which files, an index or streams
-//! fail. What the built program can show stands in tests/cases.
+//! Tests of the program, by `run` of `edit_program`: its statuses, and runs in which files, an index or
+//! streams fail. What the built program can show stands in tests/cases.
 //!
 //! They stand apart from those of the libraries, which need not wait until the program is proved.
 #![tactic(auto)]

@@ -49,15 +49,16 @@ pub record ReadsChanged (entry : Place) (c : Change) (form : Text) : Type 0 wher
   pub reads : IsManifest (changed_text entry c form) after
   pub shows : HasChanged entry c form (view_at form) (view_at after)
 
--- One edit after the other leads from a text to another one, through documents that show the trees after these
--- edits (own).
+-- One edit after the other leads from a text to another one, through documents that show the trees after
+-- these edits (own).
 abbrev pub Changed : Place → List Change → List ℕ → List ℕ → Type 0
 Changed entry [] old new = new ≡ old
 Changed entry (c ∷ cs) old new =
     (form : Text) × IsManifest old form × ReadsChanged entry c form
     × Changed entry cs (changed_text entry c form) new
 
--- the text with another entry is a document, which shows that entry at its place, and all else as it was (own)
+-- the text with another entry is a document, which shows that entry at its place, and all else as it was
+-- (own)
 pub record ReadsReplaced (entry : Place) (item : NewItem) (form : Text) : Type 0 where
   pub after : Text
   pub reads : IsManifest (replaced_text entry item form) after

@@ -19,7 +19,7 @@ use Rattle.edit_set_version.specs.SetVersioned.{Bump, Following, Project, follow
 abbrev pub listed : List Member → List ℕ
 listed ms = join_by (λ name. name) (codes ", ") (map (λ m. m.name) ms)
 
--- names that no member has are told, each once
+-- the error names each name that no member has, once
 abbrev pub IsMissing : List (List ℕ) → Error → Type 0
 IsMissing names (error.PackagesMissing told) =
     (told.kind ≡ kind.Package) × (names ≢ []) × (map string_bytes told.names.items ≡ names)

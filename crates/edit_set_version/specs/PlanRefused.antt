@@ -61,8 +61,8 @@ abbrev pub IsBehindLiterals : List Bump → List Input → Error → Type 0
 IsBehindLiterals bs inputs e = (e ≡ NoVersionPlace) ⊎ All (HasLiteral bs) inputs
 
 -- Why a plan is refused: memory ran out, or the first of these stands, each where none before it does: a name
--- that no member has, an input that is no manifest, an excluded member that shares a bumped version, a version
--- that the target refuses, a bumped version without a literal, and a requirement that cannot rise.
+-- that no member has, an input that is no manifest, an excluded member that shares a bumped version, a
+-- version that the target refuses, a bumped version without a literal, and a requirement that cannot rise.
 pub data IsCauseOf
     (t : Target) (a : Asked) (w : WorkspaceSaid) (inputs : List Input) (e : Error) : Type 0 where
   memory : IsMemory e → IsCauseOf t a w inputs e

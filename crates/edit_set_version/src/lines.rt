@@ -37,7 +37,7 @@ pub(crate) fn updating(alloc: Global, name: &str, old: &str, new: &str) -> Resul
     Ok((action, text))
 }
 
-/// What is told of a crate's version beside the two versions.
+/// What a line says of a version, beside the old and the new one.
 fn note_of(inherited: bool) -> &'static str
     ensures { result.now ≡ note_if inherited }
 {

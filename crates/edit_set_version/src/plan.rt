@@ -20,7 +20,7 @@ pub struct Selection {
 pub struct SetVersionPlan {
     /// The new bytes of the manifests that change, in the order of the inputs.
     pub outputs: Vec<Output>,
-    /// What is told: an action and a text.
+    /// The lines of the report: an action and a text.
     pub lines: Vec<(String, String)>,
     /// Whether there are lines.
     pub changed: bool,

@@ -133,10 +133,10 @@ fn plan_with(
 ///
 /// The inputs are those that `workspace_inputs` gives. Who gets a new version is what the selection asks for;
 /// each of them gets the version that the target makes of its own; and in each input a requirement with a
-/// path to one of them follows it. Nothing is planned where one of these stands, and the first is the error: a
-/// name that no member has (39), an input that is no manifest (2, 1), an excluded member that shares the version
-/// of the workspace with a chosen one (40), a version that the target refuses (41, 16 to 19), a version with no
-/// place to write it (13), or a requirement that cannot follow (14, 15).
+/// path to one of them follows it. Nothing is planned where one of these stands, and the first is the error:
+/// a name that no member has (39), an input that is no manifest (2, 1), an excluded member that shares the
+/// version of the workspace with a chosen one (40), a version that the target refuses (41, 16 to 19), a
+/// version with no place to write it (13), or a requirement that cannot follow (14, 15).
 pub fn plan_set_version(
     alloc: Global,
     target: &TargetVersion,

@@ -17,7 +17,8 @@ abbrev pub answer_of : Option IndexKrate → Option (List IndexEntry)
 answer_of krate = option_map entries_of krate
 
 -- an error as a lookup gives it: a scheme that the index does not serve, an address that names no folder, a
--- name that no index may have, the number of a line that says no entry, or any other error by its number (own)
+-- name that no index may have, the number of a line that says no entry, or any other error by its number
+-- (own)
 pub data LookupError : Type 0 where
   bad_scheme : List ℕ → LookupError
   bad_address : List ℕ → LookupError

@@ -88,8 +88,8 @@ pub record HasBadLine (store : StoreView) (address : Parts) (name : List ℕ) (l
   pub stands : StandsIn store path bytes
   pub bad : IsBadLine (lines_of bytes) line
 
--- what a lookup gives: no file, the entries of its lines, an error of the path, or the number of the first bad
--- line (own)
+-- what a lookup gives: no file, the entries of its lines, an error of the path, or the number of the first
+-- bad line (own)
 abbrev pub LocalGives : StoreView → Parts → List ℕ → Outcome → Type 0
 LocalGives store address name (Ok None) = HasNoFile store address name
 LocalGives store address name (Ok (Some entries)) = HasEntries store address name entries

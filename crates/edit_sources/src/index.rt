@@ -41,14 +41,14 @@ pub(crate) fn copied(alloc: Global, entries: &[IndexVersion]) -> CargoResult<Vec
 
 /// Where entries are looked up.
 pub trait Index {
-    /// What a lookup of a name at an address may give (entries, none, or an error with what it names), and how
-    /// often the device below has failed.
+    /// What a lookup of a name at an address may give (entries, none, or an error with what it names), and
+    /// how often the device below has failed.
     ghost view: { Self → IndexView };
 
     /// The entries of a name; none where the index has no such name.
     ///
-    /// `Scheme`, `IndexPath`, `BadCrateName` and `IndexLine` come from the address, the name and what stands in
-    /// the index; `Device` where the device below fails.
+    /// `Scheme`, `IndexPath`, `BadCrateName` and `IndexLine` come from the address, the name and what stands
+    /// in the index; `Device` where the device below fails.
     fn look(&mut self, alloc: Global, registry: &Url, name: &str) -> CargoResult<Option<IndexKrate>>
         ensures same { SameOutcomes (view self.old).gives (view self.new).gives }
         ensures given { IfOk result (λ k. (view self.old).gives registry.now name.now (Ok (answer_of k))) }

@@ -179,7 +179,7 @@ fn rowless(alloc: Global, draft: Draft, missing: Vec<String>) -> UpgradePlan
     }
 }
 
-/// The plan that a draft has, with what is told of its rows.
+/// The plan that a draft has, with the warnings about its rows.
 pub(crate) fn finished(
     alloc: Global,
     draft: Draft,

@@ -101,14 +101,14 @@ pub(crate) fn git_crates(alloc: Global, rows: &[Row]) -> Result<Vec<String>, All
     Ok(names)
 }
 
-/// What is told of an entry that has no record, for the reason that this text tells.
+/// The warning about an entry that has no record, with this reason.
 fn ignored_with(alloc: Global, key: &str, why: &str) -> Result<String, AllocError>
     ensures { IfOk result (λ s. string_bytes s ≡ ignored_text key.now why.now) }
 {
     format!(in alloc; "ignoring {key}, unsupported entry: {why}")
 }
 
-/// What is told of an entry that has no record.
+/// The warning about an entry that has no record, with the text of its error.
 fn ignored_text(alloc: Global, key: &str, error: &Error) -> Result<String, AllocError>
     ensures { IfOk result (λ s. (text : List ℕ) × (string_bytes s ≡ ignored_text key.now text)) }
 {
@@ -117,14 +117,14 @@ fn ignored_text(alloc: Global, key: &str, error: &Error) -> Result<String, Alloc
     Ok(text)
 }
 
-/// What is told of an entry that takes all from its workspace.
+/// The warning about an entry that takes everything from its workspace.
 fn workspace_text(alloc: Global, key: &str) -> Result<String, AllocError>
     ensures { IfOk result (λ s. string_bytes s ≡ workspace_text key.now) }
 {
     format!(in alloc; "ignoring {key}, source is workspace")
 }
 
-/// What is told of a requirement that stays because it is not read.
+/// The warning about a requirement that stays because it cannot be read.
 fn unreadable_text(alloc: Global, key: &str, old: &str) -> Result<String, AllocError>
     ensures { IfOk result (λ s. string_bytes s ≡ unreadable_text key.now old.now) }
 {

@@ -207,7 +207,7 @@ pub fn plan_upgrade<I: Index>(
     ensures narrowing { IfOk result (λ p. All Narrows (map line_of p.rows.items)) }
     // a change admits the version that it was made for
     ensures reach { IfOk result (λ p. All Reaches (map line_of p.rows.items)) }
-    // where a compatible version is told, a latest one is, and is not less
+    // where there is a compatible version, there is a latest one, and it is not less
     ensures latest { IfOk result (λ p. All LatestIsNotLess (map line_of p.rows.items)) }
     // with the option, no change to a latest or compatible version lowers the floor of a requirement
     ensures never_lower { IfOk result (NeverLowers options.now) }

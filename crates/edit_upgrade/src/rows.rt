@@ -43,7 +43,7 @@ pub(crate) struct Job<'a> {
 }
 
 /// The greatest version that a requirement admits, and the latest: pre-releases are among those where the
-/// requirement has a `-`. None where no version is told.
+/// requirement has a `-`. None where the index has no version.
 fn version_pair<'a>(
     ranked: Option<&'a Ranked>,
     old: &Requirement<'_>,
@@ -148,7 +148,7 @@ fn row_over(
     })
 }
 
-/// The row of an entry with a requirement, over the ranking of what the index told of its name.
+/// The row of an entry with a requirement, over the ranking of the index entries of its name.
 fn row_with(
     alloc: Global,
     job: Job<'_>,
@@ -201,7 +201,7 @@ fn dash_row(alloc: Global, job: Job<'_>, entry: &Entry) -> CargoResult<Row>
     })
 }
 
-/// The row of an entry, over the ranking of what the index told of its name.
+/// The row of an entry, over the ranking of the index entries of its name.
 pub(crate) fn row_for(
     alloc: Global,
     job: Job<'_>,

@@ -44,8 +44,8 @@ fn diff_root<'a>(workspace: Option<&'a Workspace>, current: &'a str) -> &'a str
     }
 }
 
-/// The delivery of a plan for manifests as the arguments ask for it, with this path for the file of the calls,
-/// which are right against the lock file where there is one.
+/// The delivery of a plan for manifests as the arguments ask for it, with this path for the file of the
+/// calls, which are right against the lock file where there is one.
 pub(crate) fn delivery_task<'a>(
     words: &'a UpgradeWords<'_>,
     current: &'a str,

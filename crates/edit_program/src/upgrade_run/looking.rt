@@ -45,8 +45,8 @@ fn lines_for(
 }
 
 /// Prints a line for each lookup that an upgrade by these arguments needs, in the order of its plan: the
-/// address, the name, and the name's path in an index's layout, parted by tabs. No index is read, not even one
-/// that is named, and nothing is written.
+/// address, the name, and the name's path in an index's layout, parted by tabs. No index is read, not even
+/// one that is named, and nothing is written.
 pub fn looks<S: Store, O: io::Write>(
     alloc: Global,
     words: &UpgradeWords<'_>,

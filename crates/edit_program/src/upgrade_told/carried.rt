@@ -22,8 +22,8 @@ use std::alloc::Global;
 use std::io;
 
 /// Writes outputs, prints the calls of `cargo update`, and writes the file of the calls. That file is made
-/// ready first, so that a folder in which it cannot be written leaves the outputs as they were. An error gives
-/// up every write that is ready.
+/// ready first, so that a folder in which it cannot be written leaves the outputs as they were. An error
+/// gives up every write that is ready.
 pub(crate) fn carry_out<S: Store, E: io::Write>(
     alloc: Global,
     outputs: &[Output],
