@@ -1,106 +1,32 @@
-//! `cargo-edit` as a library: each public name, from the crate that proves it.
+//! `cargo-edit` as a library: each public name, from the crate that proves it. At the root are the names that the
+//! library of cargo-edit 0.13.14 has there; the modules have all.
 #![tactic(auto)]
 
-pub use edit_base::CargoResult;
-pub use edit_base::CliError;
-pub use edit_base::CliResult;
-pub use edit_base::DeviceCall;
-pub use edit_base::Error;
-pub use edit_base::MergedCommand;
-pub use edit_base::MissingKind;
-pub use edit_base::MissingNames;
-pub use edit_base::errors;
-pub use edit_base::paths;
+pub mod dependency;
+pub mod document;
+pub mod index;
+pub mod manifest;
+pub mod registry;
+pub mod report;
+pub mod set_version;
+pub mod store;
+pub mod upgrade;
+pub mod version;
+pub mod workspace;
+
+pub use edit_base::{
+    CargoResult, CliError, CliResult, DeviceCall, Error, MergedCommand, MissingKind, MissingNames,
+    errors, paths,
+};
 pub use edit_cache::IndexCache;
-pub use edit_cache::Ranked;
-pub use edit_document::Document;
-pub use edit_document::Item;
-pub use edit_document::Keys;
-pub use edit_document::NewItem;
-pub use edit_document::NewValue;
-pub use edit_document::Place;
-pub use edit_document::Step;
-pub use edit_document::copied_place;
-pub use edit_document::member_place;
-pub use edit_manifest::DepKind;
-pub use edit_manifest::DepTable;
-pub use edit_manifest::LocalManifest;
-pub use edit_manifest::Manifest;
-pub use edit_manifest::dependency_tables;
-pub use edit_manifest::entries::Entry;
-pub use edit_manifest::entries::Said;
-pub use edit_manifest::entries::entries;
-pub use edit_manifest::find;
-pub use edit_manifest::get_dep_version;
-pub use edit_manifest::set_dep_version;
-pub use edit_metadata::Input;
-pub use edit_metadata::Package;
-pub use edit_metadata::Workspace;
+pub use edit_manifest::{LocalManifest, Manifest, find, get_dep_version, set_dep_version};
 pub use edit_metadata::manifest_from_pkgid;
-pub use edit_metadata::workspace_inputs;
-pub use edit_record::Candidate;
-pub use edit_record::CrateSpec;
-pub use edit_record::Dependency;
-pub use edit_record::GitSource;
-pub use edit_record::IndexVersion;
-pub use edit_record::PathSource;
-pub use edit_record::RegistrySource;
-pub use edit_record::RustVersion;
-pub use edit_record::Source;
-pub use edit_record::VersionExt;
-pub use edit_record::WorkspaceSource;
-pub use edit_record::admits;
-pub use edit_record::allows_prerelease;
-pub use edit_record::cut;
-pub use edit_record::dependency_on;
-pub use edit_record::find_compatible_version;
-pub use edit_record::find_latest_version;
-pub use edit_record::is_for;
-pub use edit_record::is_wanted;
-pub use edit_record::read_candidate;
-pub use edit_record::read_requirement;
-pub use edit_record::upgrade_requirement;
-pub use edit_report::Change;
-pub use edit_report::Output;
-pub use edit_report::Reason;
-pub use edit_report::Row;
-pub use edit_report::apply;
-pub use edit_report::name_text;
-pub use edit_report::reason_text;
-pub use edit_report::shell;
-pub use edit_report::shell_note;
-pub use edit_report::shell_print;
-pub use edit_report::shell_status;
-pub use edit_report::shell_warn;
-pub use edit_report::shell_write_stderr;
-pub use edit_report::shell_write_stdout;
-pub use edit_report::shown;
-pub use edit_report::table_text;
-pub use edit_set_version::BumpLevel;
-pub use edit_set_version::Selection;
-pub use edit_set_version::SetVersionPlan;
-pub use edit_set_version::TargetVersion;
-pub use edit_set_version::plan_set_version;
-pub use edit_set_version::set_version;
-pub use edit_sources::Config;
-pub use edit_sources::ConfigSource;
-pub use edit_sources::FileIndex;
-pub use edit_sources::Index;
+pub use edit_record::{
+    CrateSpec, Dependency, GitSource, PathSource, RegistrySource, RustVersion, Source, VersionExt,
+    WorkspaceSource, find_compatible_version, find_latest_version, upgrade_requirement,
+};
+pub use edit_report::{
+    shell_note, shell_print, shell_status, shell_warn, shell_write_stderr, shell_write_stdout,
+};
 pub use edit_sources::IndexKrate;
-pub use edit_sources::LocalIndex;
-pub use edit_sources::config::read_configs;
 pub use edit_sources::registry::registry_url;
-pub use edit_sources::registry::resolve;
-pub use edit_store::FaultStore;
-pub use edit_store::HostStore;
-pub use edit_store::Kind;
-pub use edit_store::MemoryStore;
-pub use edit_store::Store;
-pub use edit_upgrade::Look;
-pub use edit_upgrade::Options;
-pub use edit_upgrade::UpgradePlan;
-pub use edit_upgrade::Warning;
-pub use edit_upgrade::plan_documents;
-pub use edit_upgrade::plan_upgrade;
-pub use edit_upgrade::update::update_calls;
-pub use edit_upgrade::upgrade;

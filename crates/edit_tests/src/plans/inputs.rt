@@ -2,7 +2,8 @@
 ghost use Rattle.std.specs.Prelude.{◌≡◌, string_bytes};
 
 use crate::stop::{kept, must, same, text};
-use cargo_edit::{Input, Options, UpgradePlan, plan_upgrade};
+use cargo_edit::upgrade::{Options, UpgradePlan, plan_upgrade};
+use cargo_edit::workspace::Input;
 use edit_cache::IndexCache;
 use edit_sources::FileIndex;
 use std::alloc::Global;

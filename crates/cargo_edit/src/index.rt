@@ -1,0 +1,5 @@
+//! Index entries of crates: where they are read, and a cache of them.
+
+pub use edit_cache::{IndexCache, Ranked};
+pub use edit_sources::index_dir::DirIndex;
+pub use edit_sources::{FileIndex, Index, IndexKrate, LocalIndex, is_crate_name};

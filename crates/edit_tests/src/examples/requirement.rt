@@ -1,0 +1,23 @@
+//! A requirement raised to a version.
+use crate::stop::{must, same};
+use cargo_edit::{CargoResult, upgrade_requirement};
+use semver::Version;
+use std::alloc::Global;
+
+/// The requirement raised to a version, in its own form; as it was where it need not be raised.
+fn raised(alloc: Global, requirement: &str, version: &Version) -> CargoResult<String> {
+    match upgrade_requirement(alloc, requirement, version)? {
+        Some(text) => Ok(text),
+        None => Ok(String::from_str(alloc, requirement)?),
+    }
+}
+
+#[test]
+fn a_requirement_keeps_its_form(rt: HostRuntime) {
+    let alloc = rt.alloc();
+    let version = Version::parse(alloc, "1.4.2").expect(&rt, "a version");
+    let tilde = must(&rt, raised(alloc, "~1.0", &version));
+    same(&rt, "~1.0", tilde.as_str(), "~1.4");
+    let caret = must(&rt, raised(alloc, "1", &version));
+    same(&rt, "1", caret.as_str(), "1");
+}
