@@ -108,7 +108,7 @@ impl Document {
     }
 
     /// How many members or elements a node has.
-    pub(crate) fn member_count(&self, number: usize) -> usize
+    pub fn member_count(&self, number: usize) -> usize
         requires { number < length self.now.nodes }
         ensures { result ≡ count_in (view_numbered self.now number) }
     {
@@ -125,7 +125,7 @@ impl Document {
     }
 
     /// How many names of members a node has.
-    pub(crate) fn name_count(&self, number: usize) -> usize
+    pub fn name_count(&self, number: usize) -> usize
         requires { number < length self.now.nodes }
         ensures { result ≡ length (names_in (view_numbered self.now number)) }
     {
@@ -143,7 +143,7 @@ impl Document {
     }
 
     /// The name of a member of a node.
-    pub(crate) fn member_name(&self, number: usize, index: usize) -> Option<&str>
+    pub fn member_name(&self, number: usize, index: usize) -> Option<&str>
         requires { number < length self.now.nodes }
         ensures { option_map (λ s. s.now) result
             ≡ slice_get (names_in (view_numbered self.now number)) index }
@@ -162,7 +162,7 @@ impl Document {
     }
 
     /// The number of a member of a node.
-    pub(crate) fn member(&self, number: usize, key: &str) -> Option<usize>
+    pub fn member(&self, number: usize, key: &str) -> Option<usize>
         requires { number < length self.now.nodes }
         ensures { Numbers self.now (at (place_numbered self.now number) (key_step key.now)) result }
     {
@@ -171,7 +171,7 @@ impl Document {
     }
 
     /// A node stands at its place.
-    pub(crate) fn stands(&self, number: usize)
+    pub fn stands(&self, number: usize)
         requires { number < length self.now.nodes }
         ensures { tree_of self.now (place_numbered self.now number) ≡ Some (view_numbered self.now number) }
     {
@@ -179,7 +179,7 @@ impl Document {
     }
 
     /// The number of an element of a node.
-    pub(crate) fn element(&self, number: usize, index: usize) -> Option<usize>
+    pub fn element(&self, number: usize, index: usize) -> Option<usize>
         requires { number < length self.now.nodes }
         ensures { Numbers self.now (at (place_numbered self.now number) (index_step index)) result }
     {
@@ -188,7 +188,7 @@ impl Document {
     }
 
     /// Nothing stands below a place where nothing stands, and the root stands first.
-    pub(crate) fn is_tree(&self)
+    pub fn is_tree(&self)
         ensures root { (0 < length self.now.nodes) × (place_numbered self.now 0 ≡ []) }
         ensures below { (place more : Place) → tree_of self.now place ≡ None
             → tree_of self.now (place ++ more) ≡ None }
@@ -197,7 +197,7 @@ impl Document {
     }
 
     /// The number of the node of a place.
-    pub(crate) fn number(&self, place: &[Step]) -> Option<usize>
+    pub fn number(&self, place: &[Step]) -> Option<usize>
         ensures { Numbers self.now (place_seen place.now) result }
     {
         self.is_tree();
@@ -222,7 +222,7 @@ impl Document {
     }
 
     /// Where the value of a place is written, from its first byte to its end, or `None` where no value is.
-    pub(crate) fn value_range(&self, place: &[Step]) -> Option<(usize, usize)>
+    pub fn value_range(&self, place: &[Step]) -> Option<(usize, usize)>
         ensures { (form : Text) → IsManifest self.now.bytes form
             → HasRange form (place_seen place.now) result }
     {

@@ -1,37 +1,17 @@
-//! The lossless manifest document: its tree, its items, and edits that keep every other byte.
+//! The lossless manifest document: its tree, its items, and literals written in the place of its values. Other edits
+//! are in `edit_changes`.
 #![tactic(auto)]
 
-mod beside;
-mod beside_unordered;
-mod changed;
-mod compare;
+mod content;
 pub mod document;
-mod edited;
 mod entry_part;
-mod grown;
-mod inline;
-mod inner;
-mod insert;
-mod inside;
 pub mod item;
-mod kept;
 mod literal;
-mod locate;
-mod members;
 pub mod new_item;
-mod new_shown;
 mod one_statement;
 mod pieces;
 pub mod place;
-mod remove;
-mod remove_text;
-mod removed;
 mod replace;
-mod replace_entry;
-mod set_value;
-mod spots;
-mod unordered;
-mod way;
 
 pub use document::Document;
 pub use edit_base::{

@@ -69,7 +69,7 @@ impl NewItem {
 }
 
 /// Appends what stands behind the key of an entry: ` = ` and the entry as a value, or `.workspace = true`.
-pub(crate) fn push_entry(out: &mut String, item: &NewItem) -> Result<(), AllocError>
+pub fn push_entry(out: &mut String, item: &NewItem) -> Result<(), AllocError>
     ensures { OnOk result (string_bytes out.new
         ≡ string_bytes out.old ++ new_entry (item_seen item.now) []) }
 {
@@ -92,7 +92,7 @@ fn push_item(out: &mut String, item: &NewItem) -> Result<(), AllocError>
 }
 
 /// Appends the literal of a value.
-pub(crate) fn push_value(out: &mut String, value: &NewValue) -> Result<(), AllocError>
+pub fn push_value(out: &mut String, value: &NewValue) -> Result<(), AllocError>
     ensures { OnOk result (string_bytes out.new
         ≡ string_bytes out.old ++ value_text (new_value (value_seen value.now)) []) }
 {
@@ -146,7 +146,7 @@ pub(crate) fn push_pair(out: &mut String, member: &(String, NewValue)) -> Result
 }
 
 /// Appends a name, ` = ` and a literal.
-pub(crate) fn push_member(out: &mut String, name: &str, value: &NewValue) -> Result<(), AllocError>
+pub fn push_member(out: &mut String, name: &str, value: &NewValue) -> Result<(), AllocError>
     ensures { OnOk result (string_bytes out.new
         ≡ string_bytes out.old ++ new_pair name.now (value_seen value.now) []) }
 {

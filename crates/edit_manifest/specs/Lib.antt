@@ -1,12 +1,9 @@
 pub mod DepTables
-pub mod Features
 pub mod Finding
 pub mod Kinds
 pub mod Loaded
 pub mod Located
 pub mod Places
-pub mod Removals
-pub mod RemovedEntries
 pub mod Tables
 pub mod Versions
 pub mod Entries

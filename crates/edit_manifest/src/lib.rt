@@ -3,14 +3,12 @@
 
 pub mod dep_table;
 pub mod entries;
-mod features;
 pub mod local_manifest;
 pub mod locate;
 pub mod manifest;
-mod remove;
 pub mod tables;
 pub mod versions;
-mod ways;
+pub mod ways;
 
 pub use dep_table::{DepKind, DepTable};
 pub use edit_base::{

@@ -11,7 +11,7 @@ use edit_document::{Document, Item, Place, Step};
 use std::alloc::{AllocError, Global};
 
 /// The place of the members of these names, one below the other, from the root.
-pub(crate) fn place_of(alloc: Global, names: &[&str]) -> Result<Place, AllocError>
+pub fn place_of(alloc: Global, names: &[&str]) -> Result<Place, AllocError>
     ensures ok { IfOk result (λ p. place_seen p.items ≡ keyed (texts names.now)) }
 {
     let mut place = Vec::with_capacity(alloc, names.len())?;
@@ -23,7 +23,7 @@ pub(crate) fn place_of(alloc: Global, names: &[&str]) -> Result<Place, AllocErro
 }
 
 /// The member of an item, where there is one. It takes no memory.
-pub(crate) fn item_below<'a>(
+pub fn item_below<'a>(
     document: &'a Document,
     item: Option<Item<'a>>,
     name: &str,

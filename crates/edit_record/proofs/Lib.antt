@@ -9,6 +9,3 @@ pub mod RelativeAgain
 mod NewMembers
 mod MembersRead
 pub mod RoundTrip
-mod UpdateFacts
-pub mod EachOnce
-pub mod Updates

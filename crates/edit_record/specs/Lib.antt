@@ -7,6 +7,3 @@ pub mod Finding
 pub mod RelativePaths
 pub mod NewEntries
 pub mod ReadsAgain
-pub mod EntryUpdates
-pub mod UpdatedTexts
-pub mod EndViews

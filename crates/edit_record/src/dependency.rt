@@ -7,20 +7,21 @@ ghost use Rattle.edit_record.specs.Records.{IsBare, version_of};
 
 mod conversions;
 mod copies;
-mod ends;
 mod members;
 mod read;
 mod sources;
 mod texts;
-mod update;
 mod write;
 
-use copies::{copied_lists, copied_pair, joined};
+pub use copies::joined;
+use copies::{copied_lists, copied_pair};
 use edit_base::errors::CargoResult;
+pub use members::features_at;
 use sources::copied_source;
 pub use sources::{GitSource, PathSource, RegistrySource, Source, WorkspaceSource};
 use std::alloc::Global;
 use std::collections::BTreeMap;
+pub use write::path_field;
 
 /// What an entry of a dependency table says.
 #[derive(Debug, PartialEq, Eq, PartialOrd, Ord, Hash, Drop)]

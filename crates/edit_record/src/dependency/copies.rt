@@ -63,7 +63,7 @@ pub(crate) fn copied_lists(
 }
 
 /// The first list, where there is one, and then the second.
-pub(crate) fn joined(
+pub fn joined(
     old: Option<Vec<String>>,
     mut new: Vec<String>,
 ) -> Result<Vec<String>, AllocError>

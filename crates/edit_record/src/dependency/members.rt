@@ -142,7 +142,7 @@ fn feature_texts(alloc: Global, dep: &str, item: Item<'_>) -> CargoResult<Vec<St
 }
 
 /// The texts of `features`, where it is there: it must be an array of strings.
-pub(crate) fn features_at(
+pub fn features_at(
     alloc: Global,
     dep: &str,
     table: Item<'_>,

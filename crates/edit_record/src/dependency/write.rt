@@ -24,7 +24,7 @@ fn slashed(alloc: Global, text: &str) -> Result<String, AllocError>
 }
 
 /// A path as it is written: as seen from the root, with slashes alone.
-pub(crate) fn path_field(alloc: Global, root: &str, path: &str) -> CargoResult<String>
+pub fn path_field(alloc: Global, root: &str, path: &str) -> CargoResult<String>
     ensures text { IfOk result (λ s. string_bytes s ≡ path_field root.now path.now) }
     ensures refused { IfErr result IsMemory }
 {

@@ -1,0 +1,3 @@
+-- A value set at a place
+pub mod NewValues
+pub mod SetValues

@@ -1,0 +1,167 @@
+//! Edits of a document beyond the literals of its values.
+ghost use Rattle.std.specs.Prelude.{◌≡◌, ◌⊎◌, ◌≤◌, ◌+◌, ℕ, List, [], None, IfOk, IfErr, length, true};
+ghost use Rattle.edit_base.specs.Errors.{IsMemory};
+ghost use Rattle.edit_base.specs.declared.errors.Error.TheVariants.{EditRefused};
+ghost use Rattle.edit_syntax.specs.Grammar.{Text};
+ghost use Rattle.edit_tree.specs.Assertions.{Place, at, key as key_step};
+ghost use Rattle.edit_tree.specs.EditBytes.{inserted_text, replaced_text, set_text};
+ghost use Rattle.edit_tree.specs.Meant.{HasReplaced, HasSet, InsertFails, Inserted, RemoveFails, Removed, ReplaceFails};
+ghost use Rattle.edit_tree.specs.NewItems.{NewItem as Entry, NewValue as Value};
+ghost use Rattle.edit_tree.specs.RemovedBytes.{removed_text};
+ghost use Rattle.edit_tree.specs.Shown.{tree_of};
+ghost use Rattle.edit_tree.specs.Supported.{IsManifest};
+ghost use Rattle.edit_tree.specs.Tree.{is_value_at};
+ghost use Rattle.edit_document.specs.Items.{place_seen};
+ghost use Rattle.edit_document.specs.NewItemViews.{HasRoom, item_seen, value_seen};
+ghost use Rattle.edit_tree.specs.EditBytes.{is_one_statement};
+ghost use Rattle.edit_tree.specs.NewItems.{IsEntry};
+
+use crate::edited::{take_inserted, take_removed, take_replaced};
+use crate::set_value::with_value;
+use edit_base::errors::CargoResult;
+use edit_document::{Document, NewItem, NewValue, Step};
+use edit_rewrite::{with_entry, with_member, without};
+use std::alloc::Global;
+
+/// Edits of a document that change what stands at a place, and leave every other byte. Each reads the new
+/// text and compares what it shows with what is meant; an edit whose text would not read as meant is
+/// `EditRefused`, and the document is as it was.
+pub trait DocumentExt {
+    /// The place is free.
+    ghost can_insert: { Self → Place → List ℕ → Type 0 };
+
+    /// An item stands at the place, which is not the root.
+    ghost can_remove: { Self → Place → Type 0 };
+
+    /// One statement alone names the place, it has room for the entry, and the entry can be written there.
+    ghost can_replace: { Self → Place → Entry → Type 0 };
+
+    /// A value stands at the place, and has room for the new one.
+    ghost can_set: { Self → Place → Value → Type 0 };
+
+    /// Adds a member to the table at a place, which has none of this name; every other byte stays. It is
+    /// refused, but for want of memory, only where the new text would not read as meant. After a refusal the
+    /// document is as it was.
+    fn insert(
+        &mut self,
+        alloc: Global,
+        place: &[Step],
+        key: &str,
+        value: &NewValue,
+    ) -> CargoResult<()>
+        requires { can_insert self.old (place_seen place.now) key.now };
+
+    /// Removes the item at a place, which is not the root. After a refusal the document is as it was.
+    fn remove(&mut self, alloc: Global, place: &[Step]) -> CargoResult<()>
+        requires { can_remove self.old (place_seen place.now) };
+
+    /// Replaces the entry at a place that one pair names and no header: behind the part of the pair's key
+    /// that names the place, all up to the value's end gives way to ` = ` and the entry, or to
+    /// `.workspace = true` for a dotted one. After a refusal the document is as it was.
+    fn replace_entry(
+        &mut self,
+        alloc: Global,
+        place: &[Step],
+        item: &NewItem,
+    ) -> CargoResult<()>
+        requires { can_replace self.old (place_seen place.now) (item_seen item.now) };
+
+    /// Writes the literal of another value in the place of a value, and nothing else; what stood inside the
+    /// old value goes with it. It is refused for want of memory alone, and then the document is as it was.
+    fn set_value(&mut self, alloc: Global, place: &[Step], value: &NewValue) -> CargoResult<()>
+        requires { can_set self.old (place_seen place.now) (value_seen value.now) };
+}
+
+impl DocumentExt for Document {
+    ghost can_insert = { λ document place key. tree_of document (at place (key_step key)) ≡ None };
+
+    ghost can_remove = { λ document place. (place ≡ [] → ⊥) × (tree_of document place ≡ None → ⊥) };
+
+    ghost can_replace = { λ document place entry.
+        ((form : Text) → IsManifest document.bytes form → is_one_statement form place ≡ true)
+        × (length place ≤ 70) × IsEntry entry };
+
+    ghost can_set = { λ document place value.
+        ((form : Text) → IsManifest document.bytes form → is_value_at form place ≡ true)
+        × HasRoom place value };
+
+    fn insert(
+        &mut self,
+        alloc: Global,
+        place: &[Step],
+        key: &str,
+        value: &NewValue,
+    ) -> CargoResult<()>
+        requires absent { tree_of self.old (at (place_seen place.now) (key_step key.now)) ≡ None }
+        ensures bytes { IfOk result (λ _. (form : Text) → IsManifest self.old.bytes form
+            → self.new.bytes ≡ inserted_text (place_seen place.now) key.now (value_seen value.now) form) }
+        ensures tree { IfOk result (λ _. Inserted (place_seen place.now) key.now (value_seen value.now)
+            (tree_of self.old) (tree_of self.new)) }
+        ensures pieces { IfOk result (λ _. length self.new.pieces ≤ length self.old.pieces + 2) }
+        ensures err { IfErr result (λ _. self.new ≡ self.old) }
+        ensures refused { IfErr result (λ e. IsMemory e ⊎ ((e ≡ EditRefused)
+            × InsertFails (place_seen place.now) key.now (value_seen value.now) self.old.bytes)) }
+    {
+        let text = with_member(self, alloc, place, key, value)?;
+        take_inserted(self, alloc, text.as_str(), place, key, value)
+    }
+
+    fn remove(&mut self, alloc: Global, place: &[Step]) -> CargoResult<()>
+        requires inner { place_seen place.now ≡ [] → ⊥ }
+        requires item { tree_of self.old (place_seen place.now) ≡ None → ⊥ }
+        // Statements go with their lines, and elements and members with a comma.
+        ensures bytes { IfOk result (λ _. (form : Text) → IsManifest self.old.bytes form
+            → self.new.bytes ≡ removed_text (place_seen place.now) form) }
+        // All else shows what it did, but for the tables and arrays around the item that vanish with it.
+        ensures tree { IfOk result (λ _. (form : Text) → IsManifest self.old.bytes form
+            → Removed form (place_seen place.now) (tree_of self.old) (tree_of self.new)) }
+        ensures err { IfErr result (λ _. self.new ≡ self.old) }
+        // Where memory does not run out, the text without the item reads otherwise than that.
+        ensures refused { IfErr result (λ e. IsMemory e ⊎ ((e ≡ EditRefused)
+            × RemoveFails (place_seen place.now) self.old.bytes)) }
+    {
+        let text = without(self, alloc, place)?;
+        take_removed(self, alloc, text.as_str(), place)
+    }
+
+    fn replace_entry(
+        &mut self,
+        alloc: Global,
+        place: &[Step],
+        item: &NewItem,
+    ) -> CargoResult<()>
+        requires one { (form : Text) → IsManifest self.old.bytes form
+            → is_one_statement form (place_seen place.now) ≡ true }
+        requires room { length place.now ≤ 70 }
+        requires entry { IsEntry (item_seen item.now) }
+        ensures bytes { IfOk result (λ _. (form : Text) → IsManifest self.old.bytes form
+            → self.new.bytes ≡ replaced_text (place_seen place.now) (item_seen item.now) form) }
+        ensures tree { IfOk result (λ _. HasReplaced (place_seen place.now) (item_seen item.now)
+            (tree_of self.old) (tree_of self.new)) }
+        ensures pieces { IfOk result (λ _. length self.new.pieces ≤ length self.old.pieces + 2) }
+        ensures err { IfErr result (λ _. self.new ≡ self.old) }
+        ensures refused { IfErr result (λ e. IsMemory e ⊎ ((e ≡ EditRefused)
+            × ReplaceFails (place_seen place.now) (item_seen item.now) self.old.bytes)) }
+    {
+        let text = with_entry(self, alloc, place, item)?;
+        take_replaced(self, alloc, text.as_str(), place, item)
+    }
+
+    fn set_value(&mut self, alloc: Global, place: &[Step], value: &NewValue) -> CargoResult<()>
+        requires is_value { (form : Text) → IsManifest self.old.bytes form
+            → is_value_at form (place_seen place.now) ≡ true }
+        requires room { HasRoom (place_seen place.now) (value_seen value.now) }
+        ensures bytes { IfOk result (λ _. (form : Text) → IsManifest self.old.bytes form
+            → self.new.bytes ≡ set_text (place_seen place.now) (value_seen value.now) form) }
+        ensures tree { IfOk result (λ _.
+            HasSet (place_seen place.now) (value_seen value.now) (tree_of self.old) (tree_of self.new)) }
+        ensures pieces { IfOk result (λ _. length self.new.pieces ≤ length self.old.pieces + 2) }
+        ensures err { IfErr result (λ _. self.new ≡ self.old) }
+        ensures refused { IfErr result IsMemory }
+    {
+        self.has_form();
+        let text = with_value(self, alloc, place, value)?;
+        *self = Document::read(alloc, text.as_str())?;
+        Ok(())
+    }
+}

@@ -1,0 +1,125 @@
+//! The document of an edit's text: it is taken where it reads as the edit means it.
+ghost use Rattle.std.specs.Prelude.{◌≡◌, ◌⊎◌, [], None, IfOk, IfErr, length, ◌≤◌, ◌+◌};
+ghost use Rattle.edit_base.specs.Errors.{IsMemory};
+ghost use Rattle.edit_base.specs.declared.errors.Error.TheVariants.{EditRefused};
+ghost use Rattle.edit_syntax.specs.Grammar.{Text};
+ghost use Rattle.edit_tree.specs.Assertions.{at, key as key_step};
+ghost use Rattle.edit_tree.specs.EditBytes.{inserted_text, replaced_text};
+ghost use Rattle.edit_document.specs.Items.{place_seen};
+ghost use Rattle.edit_tree.specs.Meant.{Inserted, InsertFails, HasReplaced, ReplaceFails, Removed, RemoveFails};
+ghost use Rattle.edit_document.specs.NewItemViews.{value_seen, item_seen};
+ghost use Rattle.edit_tree.specs.RemovedBytes.{removed_text};
+ghost use Rattle.edit_tree.specs.Shown.{tree_of, ShowsTree};
+ghost use Rattle.edit_tree.specs.Supported.{IsManifest};
+
+use edit_compare::{has_grown, has_lost, has_replaced};
+use edit_document::{Document, NewItem, NewValue, Step};
+use edit_base::errors::{CargoResult, Error};
+use std::alloc::Global;
+
+/// Reads the text that an edit leaves. Where it is no document, the edit is refused.
+pub(crate) fn read_edited(alloc: Global, text: &str) -> CargoResult<Document>
+    ensures bytes { IfOk result (λ d. d.bytes ≡ text.now) }
+    ensures shows { IfOk result (λ d. (form : Text) → IsManifest text.now form → ShowsTree d form) }
+    ensures pieces { IfOk result (λ d. length d.pieces ≤ 1) }
+    ensures refused { IfErr result (λ e. IsMemory e
+        ⊎ ((e ≡ EditRefused) × ((form : Text) → IsManifest text.now form → ⊥))) }
+{
+    match Document::read(alloc, text) {
+        Ok(new) => {
+            new.has_form();
+            Ok(new)
+        }
+        Err(Error::NotToml { at: _ }) => Err(Error::EditRefused),
+        Err(error) => Err(error),
+    }
+}
+
+/// Takes the text of this document with a member inserted, where it reads as that is meant. After a
+/// refusal the document is as it was.
+pub(crate) fn take_inserted(
+    document: &mut Document,
+    alloc: Global,
+    text: &str,
+    place: &[Step],
+    key: &str,
+    value: &NewValue,
+) -> CargoResult<()>
+    requires written { (form : Text) → IsManifest document.old.bytes form
+        → text.now ≡ inserted_text (place_seen place.now) key.now (value_seen value.now) form }
+    requires absent { tree_of document.old (at (place_seen place.now) (key_step key.now)) ≡ None }
+    ensures bytes { IfOk result (λ _. (form : Text) → IsManifest document.old.bytes form
+        → document.new.bytes ≡ inserted_text (place_seen place.now) key.now (value_seen value.now) form) }
+    ensures tree { IfOk result (λ _. Inserted (place_seen place.now) key.now (value_seen value.now)
+        (tree_of document.old) (tree_of document.new)) }
+    ensures pieces { IfOk result (λ _. length document.new.pieces ≤ length document.old.pieces + 2) }
+    ensures err { IfErr result (λ _. document.new ≡ document.old) }
+    ensures refused { IfErr result (λ e. IsMemory e ⊎ ((e ≡ EditRefused)
+        × InsertFails (place_seen place.now) key.now (value_seen value.now) document.old.bytes)) }
+{
+    document.has_form();
+    let new = read_edited(alloc, text)?;
+    if !has_grown(document, &new, place, key, value) {
+        return Err(Error::EditRefused);
+    }
+    *document = new;
+    Ok(())
+}
+
+/// Takes the text of this document with another entry at a place, where it reads as that is meant. After
+/// a refusal the document is as it was.
+pub(crate) fn take_replaced(
+    document: &mut Document,
+    alloc: Global,
+    text: &str,
+    place: &[Step],
+    item: &NewItem,
+) -> CargoResult<()>
+    requires written { (form : Text) → IsManifest document.old.bytes form
+        → text.now ≡ replaced_text (place_seen place.now) (item_seen item.now) form }
+    ensures bytes { IfOk result (λ _. (form : Text) → IsManifest document.old.bytes form
+        → document.new.bytes ≡ replaced_text (place_seen place.now) (item_seen item.now) form) }
+    ensures tree { IfOk result (λ _. HasReplaced (place_seen place.now) (item_seen item.now)
+        (tree_of document.old) (tree_of document.new)) }
+    ensures pieces { IfOk result (λ _. length document.new.pieces ≤ length document.old.pieces + 2) }
+    ensures err { IfErr result (λ _. document.new ≡ document.old) }
+    ensures refused { IfErr result (λ e. IsMemory e ⊎ ((e ≡ EditRefused)
+        × ReplaceFails (place_seen place.now) (item_seen item.now) document.old.bytes)) }
+{
+    document.has_form();
+    let new = read_edited(alloc, text)?;
+    if !has_replaced(document, &new, place, item) {
+        return Err(Error::EditRefused);
+    }
+    *document = new;
+    Ok(())
+}
+
+/// Takes the text of this document without the item at a place, where it reads as that is meant. After a
+/// refusal the document is as it was.
+pub(crate) fn take_removed(
+    document: &mut Document,
+    alloc: Global,
+    text: &str,
+    place: &[Step],
+) -> CargoResult<()>
+    requires written { (form : Text) → IsManifest document.old.bytes form
+        → text.now ≡ removed_text (place_seen place.now) form }
+    requires inner { place_seen place.now ≡ [] → ⊥ }
+    requires stands { tree_of document.old (place_seen place.now) ≡ None → ⊥ }
+    ensures bytes { IfOk result (λ _. (form : Text) → IsManifest document.old.bytes form
+        → document.new.bytes ≡ removed_text (place_seen place.now) form) }
+    ensures tree { IfOk result (λ _. (form : Text) → IsManifest document.old.bytes form
+        → Removed form (place_seen place.now) (tree_of document.old) (tree_of document.new)) }
+    ensures err { IfErr result (λ _. document.new ≡ document.old) }
+    ensures refused { IfErr result (λ e. IsMemory e ⊎ ((e ≡ EditRefused)
+        × RemoveFails (place_seen place.now) document.old.bytes)) }
+{
+    document.has_form();
+    let new = read_edited(alloc, text)?;
+    if !has_lost(document, &new, place) {
+        return Err(Error::EditRefused);
+    }
+    *document = new;
+    Ok(())
+}

@@ -1,0 +1,53 @@
+//! Other values in the place of values.
+ghost use Rattle.std.specs.Prelude.{◌≡◌, [], ◌∷◌, ◌++◌, IfOk, IfErr, true, drop, string_bytes, take, length, ◌≤◌, ◌+◌};
+ghost use Rattle.edit_base.specs.Errors.{IsMemory};
+ghost use Rattle.edit_syntax.specs.Grammar.{Text, value as value_text};
+ghost use Rattle.edit_tree.specs.EditBytes.{set_text};
+ghost use Rattle.edit_document.specs.Items.{place_seen};
+ghost use Rattle.edit_tree.specs.Meant.{HasSet};
+ghost use Rattle.edit_tree.specs.NewItems.{new_value};
+ghost use Rattle.edit_document.specs.NewItemViews.{value_seen, HasRoom};
+ghost use Rattle.edit_tree.specs.Shown.{tree_of};
+ghost use Rattle.edit_document.specs.Splices.{AreInOrder};
+ghost use Rattle.edit_tree.specs.Supported.{IsManifest};
+ghost use Rattle.edit_tree.specs.Tree.{is_value_at};
+
+use edit_document::{Document, NewValue, Step};
+use edit_document::new_item::push_value;
+use edit_base::errors::CargoResult;
+use std::alloc::Global;
+
+/// The text with the literal of a value in the place of a range.
+fn with_range(
+    alloc: Global,
+    text: &str,
+    start: usize,
+    end: usize,
+    value: &NewValue,
+) -> CargoResult<String>
+    requires { AreInOrder text.now 0 ((start, end, []) ∷ []) }
+    ensures text { IfOk result (λ s. string_bytes s
+        ≡ take start text.now ++ (value_text (new_value (value_seen value.now)) [] ++ drop end text.now)) }
+    ensures refused { IfErr result IsMemory }
+{
+    let mut out = String::with_capacity(alloc, text.len())?;
+    out.push_str(&text[..start])?;
+    push_value(&mut out, value)?;
+    out.push_str(&text[end..])?;
+    Ok(out)
+}
+
+/// The document's text with the literal of another value in the place of a value.
+pub(crate) fn with_value(document: &Document, alloc: Global, place: &[Step], value: &NewValue) -> CargoResult<String>
+    requires { (form : Text) → IsManifest document.now.bytes form
+        → is_value_at form (place_seen place.now) ≡ true }
+    ensures bytes { IfOk result (λ s. (form : Text) → IsManifest document.now.bytes form
+        → string_bytes s ≡ set_text (place_seen place.now) (value_seen value.now) form) }
+    ensures refused { IfErr result IsMemory }
+{
+    document.has_form();
+    match document.value_range(place) {
+        Some((start, end)) => with_range(alloc, document.as_str(), start, end, value),
+        None => unreachable!(),
+    }
+}

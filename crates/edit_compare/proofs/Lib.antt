@@ -1,0 +1,19 @@
+-- Two documents compared
+pub mod PartNumbers
+pub mod Besides
+pub mod BesideWalk
+pub mod GrownNames
+pub mod GrownTrees
+pub mod ApartViews
+pub mod ReplacedEntries
+pub mod UnorderedViews
+pub mod UnorderedNodes
+-- What is left when an item is removed
+pub mod KeptParts
+pub mod KeptSteps
+pub mod LostParts
+pub mod LeftAround
+pub mod RemovedTrees
+pub mod LosesViews
+pub mod LosesParts
+pub mod HasLost

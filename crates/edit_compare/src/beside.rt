@@ -1,0 +1,166 @@
+//! Whether two documents show the same but at one place and below it.
+ghost use Rattle.std.specs.Prelude.{◌≡◌, ◌<◌, ℕ, true, [], ◌∷◌, Some, None, length};
+ghost use Rattle.std.specs.Bool.{Decides};
+ghost use Rattle.edit_tree.specs.Assertions.{Step as StepSeen, at};
+ghost use Rattle.edit_document.specs.Compared.{SameBeside, SamePart, SamePartsBut, FindsBeside, tree_below, nth_part};
+ghost use Rattle.edit_document.specs.Items.{place_numbered, view_numbered, place_seen, step_seen, count_in, Numbers};
+ghost use Rattle.edit_tree.specs.Shown.{tree_of};
+
+use crate::compare::{part, same_below, same_view};
+use edit_document::{Document, Step};
+
+/// The number of what stands one step below a node.
+pub(crate) fn step_down(document: &Document, number: usize, step: &Step) -> Option<usize>
+    requires { number < length document.now.nodes }
+    ensures { Numbers document.now (at (place_numbered document.now number) (step_seen step.now)) result }
+{
+    match step {
+        Step::Key(key) => document.member(number, key.as_str()),
+        Step::Index(index) => document.element(number, *index),
+    }
+}
+
+/// Whether a step leads to the member or the element of a number.
+pub(crate) fn leads(document: &Document, number: usize, index: usize, step: &Step) -> bool
+    requires { number < length document.now.nodes }
+    ensures { Decides result
+        (nth_part (view_numbered document.now number) index ≡ Some (step_seen step.now)) }
+{
+    document.is_whole(number);
+    match document.member_name(number, index) {
+        Some(name) => match step {
+            Step::Key(key) => name == key.as_str(),
+            Step::Index(_) => false,
+        },
+        None => match step {
+            Step::Key(_) => false,
+            Step::Index(element) => { *element == index && part(document, number, index).is_some() }
+        },
+    }
+}
+
+/// The number of what stands in another document where the step to a part of this one leads to.
+pub(crate) fn counterpart(
+    document: &Document,
+    number: usize,
+    index: usize,
+    other: &Document,
+    there: usize,
+) -> Option<usize>
+    requires here { number < length document.now.nodes }
+    requires there { there < length other.now.nodes }
+    ensures { (step : StepSeen) → nth_part (view_numbered document.now number) index ≡ Some step
+        → Numbers other.now (at (place_numbered other.now there) step) result }
+{
+    document.is_whole(number);
+    match document.member_name(number, index) {
+        Some(name) => other.member(there, name),
+        None => other.element(there, index),
+    }
+}
+
+/// Whether the same stands at a part as where its step leads to from a node of another document.
+fn same_part(document: &Document, number: usize, index: usize, other: &Document, there: usize) -> bool
+    requires here { number < length document.now.nodes }
+    requires there { there < length other.now.nodes }
+    ensures { Decides result (SamePart document.now number other.now there index) }
+{
+    document.is_whole(number);
+    let Some(part) = part(document, number, index) else {
+        return true;
+    };
+    let Some(other_part) = counterpart(document, number, index, other, there) else {
+        return false;
+    };
+    same_below(document, part, other, other_part, 81)
+}
+
+/// Whether the same stands at each part of a node as where its step leads to from another.
+pub(crate) fn same_parts(document: &Document, number: usize, other: &Document, there: usize) -> bool
+    requires here { number < length document.now.nodes }
+    requires there { there < length other.now.nodes }
+    ensures { Decides result ((index : ℕ) → SamePart document.now number other.now there index) }
+{
+    document.is_whole(number);
+    let count = document.member_count(number);
+    'parts: for index in 0..count {
+        if !same_part(document, number, index, other, there) {
+            return false;
+        }
+    }
+    true
+}
+
+/// Whether the same stands at each part of a node but one as where its step leads to from another.
+pub(crate) fn same_parts_but(
+    document: &Document,
+    number: usize,
+    other: &Document,
+    there: usize,
+    step: &Step,
+) -> bool
+    requires here { number < length document.now.nodes }
+    requires there { there < length other.now.nodes }
+    ensures { Decides result (SamePartsBut (step_seen step.now) document.now number other.now there) }
+{
+    let count = document.member_count(number);
+    'parts: for index in 0..count {
+        if !leads(document, number, index, step) && !same_part(document, number, index, other, there) {
+            return false;
+        }
+    }
+    true
+}
+
+/// Whether two nodes and what stands below them show the same but at one step below them.
+pub(crate) fn same_around(
+    document: &Document,
+    number: usize,
+    other: &Document,
+    there: usize,
+    step: &Step,
+) -> bool
+    requires here { number < length document.now.nodes }
+    requires there { there < length other.now.nodes }
+    ensures same { Decides result (SameBeside (step_seen step.now ∷ [])
+        (tree_below document.now (place_numbered document.now number))
+        (tree_below other.now (place_numbered other.now there))) }
+    ensures lacks { result ≡ true
+        → tree_of document.now (at (place_numbered document.now number) (step_seen step.now)) ≡ None
+        → tree_of other.now (at (place_numbered other.now there) (step_seen step.now)) ≡ None }
+{
+    document.is_tree();
+    other.is_tree();
+    document.is_whole(number);
+    other.is_whole(there);
+    document.stands(number);
+    other.stands(there);
+    if !same_view(document, number, other, there) {
+        return false;
+    }
+    same_parts_but(document, number, other, there, step)
+}
+
+/// The numbers of a place in two documents that show the same but at this place and below it.
+pub(crate) fn beside(document: &Document, other: &Document, place: &[Step]) -> Option<(usize, usize)>
+    ensures { FindsBeside (place_seen place.now) document.now other.now result }
+{
+    document.is_tree();
+    other.is_tree();
+    let mut number = 0;
+    let mut there = 0;
+    'steps: for step in place {
+        if !same_around(document, number, other, there, step) {
+            return None;
+        }
+        let Some(other_next) = step_down(other, there, step) else {
+            return None;
+        };
+        let Some(next) = step_down(document, number, step) else {
+            return None;
+        };
+        number = next;
+        there = other_next;
+    }
+    Some((number, there))
+}

@@ -1,0 +1,107 @@
+//! Whether two documents show the same but at one place and below it, and but for the order of members.
+ghost use Rattle.std.specs.Prelude.{◌≡◌, ◌<◌, true, [], ◌∷◌, None, length};
+ghost use Rattle.std.specs.Bool.{Decides};
+ghost use Rattle.edit_tree.specs.Assertions.{at};
+ghost use Rattle.edit_document.specs.Compared.{tree_below};
+ghost use Rattle.edit_document.specs.Items.{place_numbered, place_seen, step_seen};
+ghost use Rattle.edit_document.specs.Lost.{UnorderedPart, UnorderedPartsBut, SameButOrderBeside, FindsUnordered};
+ghost use Rattle.edit_tree.specs.Shown.{tree_of};
+
+use crate::beside::{counterpart, leads, step_down};
+use crate::compare::part;
+use crate::unordered::{same_but_order, same_unordered};
+use edit_document::{Document, Step};
+
+/// Whether the same stands at a part as where its step leads to from a node of another document, but for
+/// the order of members.
+fn unordered_part(document: &Document, number: usize, index: usize, other: &Document, there: usize) -> bool
+    requires here { number < length document.now.nodes }
+    requires there { there < length other.now.nodes }
+    ensures { Decides result (UnorderedPart document.now number other.now there index) }
+{
+    document.is_whole(number);
+    let Some(part) = part(document, number, index) else {
+        return true;
+    };
+    let Some(other_part) = counterpart(document, number, index, other, there) else {
+        return false;
+    };
+    same_unordered(document, part, other, other_part, 81)
+}
+
+/// Whether the same stands at each part of a node but one as where its step leads to from another, but
+/// for the order of members.
+fn unordered_parts_but(
+    document: &Document,
+    number: usize,
+    other: &Document,
+    there: usize,
+    step: &Step,
+) -> bool
+    requires here { number < length document.now.nodes }
+    requires there { there < length other.now.nodes }
+    ensures { Decides result (UnorderedPartsBut (step_seen step.now) document.now number other.now there) }
+{
+    let count = document.member_count(number);
+    'parts: for index in 0..count {
+        if !leads(document, number, index, step)
+            && !unordered_part(document, number, index, other, there)
+        {
+            return false;
+        }
+    }
+    true
+}
+
+/// Whether two nodes and what stands below them show the same but at one step below them, and but for
+/// the order of members.
+fn unordered_around(document: &Document, number: usize, other: &Document, there: usize, step: &Step) -> bool
+    requires here { number < length document.now.nodes }
+    requires there { there < length other.now.nodes }
+    ensures same { Decides result (SameButOrderBeside (step_seen step.now ∷ [])
+        (tree_below document.now (place_numbered document.now number))
+        (tree_below other.now (place_numbered other.now there))) }
+    ensures lacks { result ≡ true
+        → tree_of document.now (at (place_numbered document.now number) (step_seen step.now)) ≡ None
+        → tree_of other.now (at (place_numbered other.now there) (step_seen step.now)) ≡ None }
+{
+    document.is_tree();
+    other.is_tree();
+    document.is_whole(number);
+    other.is_whole(there);
+    document.stands(number);
+    other.stands(there);
+    if !same_but_order(document, number, other, there) {
+        return false;
+    }
+    unordered_parts_but(document, number, other, there, step)
+}
+
+/// The numbers of a place in two documents that show the same but at this place and below it, and but
+/// for the order of members.
+pub(crate) fn beside_unordered(
+    document: &Document,
+    other: &Document,
+    place: &[Step],
+) -> Option<(usize, usize)>
+    ensures { FindsUnordered (place_seen place.now) document.now other.now result }
+{
+    document.is_tree();
+    other.is_tree();
+    let mut number = 0;
+    let mut there = 0;
+    'steps: for step in place {
+        if !unordered_around(document, number, other, there, step) {
+            return None;
+        }
+        let Some(other_next) = step_down(other, there, step) else {
+            return None;
+        };
+        let Some(next) = step_down(document, number, step) else {
+            return None;
+        };
+        number = next;
+        there = other_next;
+    }
+    Some((number, there))
+}

@@ -1,0 +1,105 @@
+//! Whether a document shows another with a new entry at one of its places.
+ghost use Rattle.std.specs.Prelude.{◌≡◌, ◌<◌, Some, length, slice_get, string_bytes};
+ghost use Rattle.std.specs.Bool.{Decides};
+ghost use Rattle.edit_tree.specs.Assertions.{at, key as key_step};
+ghost use Rattle.edit_document.specs.Compared.{AreApart, ShowsValue, ShowsMembers, ShowsItem};
+ghost use Rattle.edit_document.specs.Items.{place_numbered, view_numbered, names_in, place_seen};
+ghost use Rattle.edit_tree.specs.Meant.{above, is_inline_table, HasReplaced};
+ghost use Rattle.edit_document.specs.NewItemViews.{value_seen, pairs_seen, item_seen};
+ghost use Rattle.edit_tree.specs.Shown.{tree_of};
+
+use crate::beside::beside;
+use crate::compare::same_word;
+use crate::new_shown::shows_value;
+use edit_document::{Document, NewItem, NewValue, Step};
+
+/// Whether a member of a node has a name and shows a new value.
+fn shows_member(document: &Document, number: usize, index: usize, member: &(String, NewValue)) -> bool
+    requires { number < length document.now.nodes }
+    ensures { Decides result
+        ((slice_get (names_in (view_numbered document.now number)) index ≡ Some (string_bytes member.now.0))
+        × ShowsValue document.now (at (place_numbered document.now number)
+        (key_step (string_bytes member.now.0)))
+        (value_seen member.now.1)) }
+{
+    let name = member.0.as_str();
+    if !same_word(document.member_name(number, index), Some(name)) {
+        return false;
+    }
+    match document.member(number, name) {
+        Some(found) => shows_value(document, found, &member.1),
+        None => false,
+    }
+}
+
+/// For proofs: no two members of a node have the same name. It does nothing.
+pub(crate) fn is_apart(document: &Document, number: usize)
+    requires { number < length document.now.nodes }
+    ensures { AreApart (view_numbered document.now number) }
+{
+    document.has_form();
+    let _number = number;
+}
+
+/// Whether a node shows a table of new values, an inline one or one by dotted keys.
+fn shows_members(document: &Document, number: usize, members: &[(String, NewValue)], is_inline: bool) -> bool
+    requires { number < length document.now.nodes }
+    ensures { Decides result (ShowsMembers document.now (place_numbered document.now number) is_inline
+        (pairs_seen members.now)) }
+{
+    document.is_tree();
+    document.is_whole(number);
+    document.stands(number);
+    is_apart(document, number);
+    let kind = if is_inline { 8 } else { 9 };
+    if document.kind(number) != kind {
+        return false;
+    }
+    if document.name_count(number) != members.len() {
+        return false;
+    }
+    'members: for (index, member) in members.iter().enumerate() {
+        if !shows_member(document, number, index, member) {
+            return false;
+        }
+    }
+    true
+}
+
+/// Whether a node shows a new entry, which stands inside an inline table or not.
+fn shows_item(document: &Document, number: usize, item: &NewItem, inside: bool) -> bool
+    requires { number < length document.now.nodes }
+    ensures { Decides result
+        (ShowsItem document.now (place_numbered document.now number) inside (item_seen item.now)) }
+{
+    match item {
+        NewItem::Value(value) => shows_value(document, number, value),
+        NewItem::Inline { members, dotted } => {
+            let is_inline = inside || !*dotted;
+            shows_members(document, number, members.as_slice(), is_inline)
+        }
+    }
+}
+
+/// Whether an inline table stands one step above a place.
+fn is_inline_above(document: &Document, place: &[Step]) -> bool
+    ensures { result ≡ is_inline_table (tree_of document.now (above (place_seen place.now))) }
+{
+    let upper = &place[..place.len().saturating_sub(1)];
+    match document.number(upper) {
+        Some(number) => document.kind(number) == 8,
+        None => false,
+    }
+}
+
+/// Whether another document shows this one with a new entry at a place.
+pub fn has_replaced(document: &Document, other: &Document, place: &[Step], item: &NewItem) -> bool
+    ensures { Decides result (HasReplaced (place_seen place.now) (item_seen item.now)
+        (tree_of document.now) (tree_of other.now)) }
+{
+    let inside = is_inline_above(document, place);
+    match beside(document, other, place) {
+        Some((_number, there)) => shows_item(other, there, item, inside),
+        None => false,
+    }
+}

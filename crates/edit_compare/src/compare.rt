@@ -1,0 +1,116 @@
+//! Whether two documents show the same at a place and below it.
+ghost use Rattle.std.specs.Prelude.{◌≡◌, ◌<◌, ◌≤◌, ◌+◌, length, option_map};
+ghost use Rattle.std.specs.Bool.{Decides};
+ghost use Rattle.edit_document.specs.Compared.{IsWhole, NumbersPart, SameBelow, kind_of, word_of};
+ghost use Rattle.edit_document.specs.Items.{place_numbered, view_numbered, names_in};
+
+use edit_document::Document;
+use edit_tree::nodes::{Content, cut, words_in};
+
+/// Whether two words are the same, or neither is there.
+pub(crate) fn same_word(word: Option<&str>, other: Option<&str>) -> bool
+    ensures { Decides result (option_map (λ s. s.now) word.entry ≡ option_map (λ s. s.now) other.entry) }
+{
+    match word {
+        None => other.is_none(),
+        Some(said) => match other {
+            None => false,
+            Some(other_said) => said == other_said,
+        },
+    }
+}
+
+/// The number of a member or an element, in the order of first assertions.
+pub(crate) fn part(document: &Document, number: usize, index: usize) -> Option<usize>
+    requires { number < length document.now.nodes }
+    ensures { NumbersPart document.now number index result }
+{
+    document.is_whole(number);
+    match document.member_name(number, index) {
+        Some(name) => document.member(number, name),
+        None => document.element(number, index),
+    }
+}
+
+/// Whether the members of two nodes have the same names in the same order.
+fn same_names(document: &Document, number: usize, other: &Document, there: usize) -> bool
+    requires here { number < length document.now.nodes }
+    requires there { there < length other.now.nodes }
+    ensures { Decides result
+        (names_in (view_numbered document.now number) ≡ names_in (view_numbered other.now there)) }
+{
+    let count = document.name_count(number);
+    if count != other.name_count(there) {
+        return false;
+    }
+    'names: for index in 0..count {
+        if !same_word(
+            document.member_name(number, index),
+            other.member_name(there, index),
+        ) {
+            return false;
+        }
+    }
+    true
+}
+
+/// Whether two nodes show the same.
+pub(crate) fn same_view(document: &Document, number: usize, other: &Document, there: usize) -> bool
+    requires here { number < length document.now.nodes }
+    requires there { there < length other.now.nodes }
+    ensures { Decides result (view_numbered document.now number ≡ view_numbered other.now there) }
+{
+    document.is_whole(number);
+    other.is_whole(there);
+    if document.kind(number) != other.kind(there) {
+        return false;
+    }
+    if document.member_count(number) != other.member_count(there) {
+        return false;
+    }
+    if !same_word(document.word(number), other.word(there)) {
+        return false;
+    }
+    same_names(document, number, other, there)
+}
+
+/// Whether the same stands at two nodes and below them.
+pub(crate) fn same_below(
+    document: &Document,
+    number: usize,
+    other: &Document,
+    there: usize,
+    depth: usize,
+) -> bool
+    requires here { number < length document.now.nodes }
+    requires there { there < length other.now.nodes }
+    requires depth { 81 ≤ length (place_numbered document.now number) + depth }
+    ensures { Decides result (SameBelow document.now (place_numbered document.now number)
+        other.now (place_numbered other.now there)) }
+{
+    document.is_tree();
+    other.is_tree();
+    document.is_whole(number);
+    other.is_whole(there);
+    document.stands(number);
+    other.stands(there);
+    if depth == 0 {
+        unreachable!()
+    }
+    if !same_view(document, number, other, there) {
+        return false;
+    }
+    let count = document.member_count(number);
+    'parts: for index in 0..count {
+        let Some(part) = part(document, number, index) else {
+            return false;
+        };
+        let Some(other_part) = part(other, there, index) else {
+            return false;
+        };
+        if !same_below(document, part, other, other_part, depth - 1) {
+            return false;
+        }
+    }
+    true
+}

@@ -1,0 +1,120 @@
+//! Whether a document shows another with a member more in one of its tables.
+ghost use Rattle.std.specs.Prelude.{◌≡◌, ◌<◌, ℕ, [], None, Some, length, slice_get, MatchOption};
+ghost use Rattle.std.specs.Bool.{Decides};
+ghost use Rattle.edit_tree.specs.Assertions.{at, key as key_step};
+ghost use Rattle.edit_document.specs.Compared.{tree_below};
+ghost use Rattle.edit_document.specs.Items.{place_numbered, view_numbered, names_in, place_seen};
+ghost use Rattle.edit_tree.specs.Meant.{Grown, Inserted};
+ghost use Rattle.edit_document.specs.NewItemViews.{value_seen};
+ghost use Rattle.edit_tree.specs.Shown.{tree_of};
+
+use crate::beside::{beside, same_parts};
+use crate::compare::same_word;
+use crate::new_shown::shows_value;
+use edit_document::{Document, NewValue, Step};
+
+/// How many members a node has before the one of a name.
+fn name_index(document: &Document, number: usize, key: &str) -> Option<usize>
+    requires { number < length document.now.nodes }
+    ensures { MatchOption result
+        ((i : ℕ) → slice_get (names_in (view_numbered document.now number)) i ≡ Some key.now → ⊥)
+        (λ k. (slice_get (names_in (view_numbered document.now number)) k ≡ Some key.now)
+        × ((i : ℕ) → i < k → slice_get (names_in (view_numbered document.now number)) i ≡ Some key.now
+        → ⊥)) }
+{
+    let count = document.name_count(number);
+    'names: for index in 0..count {
+        if same_word(document.member_name(number, index), Some(key)) {
+            return Some(index);
+        }
+    }
+    None
+}
+
+/// Whether a table of another document has one member more than this one, of a name that this one lacks.
+fn grown_names(document: &Document, number: usize, other: &Document, there: usize, key: &str) -> bool
+    requires here { number < length document.now.nodes }
+    requires there { there < length other.now.nodes }
+    requires absent { tree_of document.now (at (place_numbered document.now number) (key_step key.now)) ≡ None }
+    ensures { Decides result (Grown (key_step key.now) (Some (view_numbered document.now number))
+        (Some (view_numbered other.now there))) }
+{
+    document.is_whole(number);
+    other.is_whole(there);
+    let kind = document.kind(number);
+    if kind < 8 {
+        return false;
+    }
+    if kind != other.kind(there) {
+        return false;
+    }
+    let Some(added) = name_index(other, there, key) else {
+        return false;
+    };
+    let count = document.name_count(number);
+    if other.name_count(there).saturating_sub(1) != count {
+        return false;
+    }
+    'names: for index in 0..count {
+        let moved = if index < added { index } else { index + 1 };
+        if !same_word(
+            document.member_name(number, index),
+            other.member_name(there, moved),
+        ) {
+            return false;
+        }
+    }
+    true
+}
+
+/// Whether a node of another document shows this table with a member more.
+fn grown_here(
+    document: &Document,
+    number: usize,
+    other: &Document,
+    there: usize,
+    key: &str,
+    value: &NewValue,
+) -> bool
+    requires here { number < length document.now.nodes }
+    requires there { there < length other.now.nodes }
+    requires absent { tree_of document.now (at (place_numbered document.now number) (key_step key.now)) ≡ None }
+    ensures { Decides result (Inserted [] key.now (value_seen value.now)
+        (tree_below document.now (place_numbered document.now number))
+        (tree_below other.now (place_numbered other.now there))) }
+{
+    document.is_tree();
+    other.is_tree();
+    document.is_whole(number);
+    other.is_whole(there);
+    document.stands(number);
+    other.stands(there);
+    let Some(added) = other.member(there, key) else {
+        return false;
+    };
+    if !shows_value(other, added, value) {
+        return false;
+    }
+    if !grown_names(document, number, other, there, key) {
+        return false;
+    }
+    same_parts(document, number, other, there)
+}
+
+/// Whether another document shows this one with a member more in the table at a place.
+pub fn has_grown(
+    document: &Document,
+    other: &Document,
+    place: &[Step],
+    key: &str,
+    value: &NewValue,
+) -> bool
+    requires absent { tree_of document.now (at (place_seen place.now) (key_step key.now)) ≡ None }
+    ensures { Decides result (Inserted (place_seen place.now) key.now (value_seen value.now)
+        (tree_of document.now) (tree_of other.now)) }
+{
+    match beside(document, other, place) {
+        Some((number, there)) => grown_here(document, number, other, there, key, value),
+        None => false,
+    }
+}

@@ -1,0 +1,212 @@
+//! Whether a document shows another without an item.
+ghost use Rattle.std.specs.Prelude.{◌≡◌, ◌<◌, ◌≤◌, [], None, Some, length, take};
+ghost use Rattle.std.specs.Bool.{Decides};
+ghost use Rattle.edit_syntax.specs.Grammar.{Text};
+ghost use Rattle.edit_tree.specs.Assertions.{Step as StepSeen, at, key as key_step};
+ghost use Rattle.edit_document.specs.Compared.{nth_part, tree_below};
+ghost use Rattle.edit_document.specs.Items.{place_numbered, view_numbered, place_seen, step_seen, Numbers};
+ghost use Rattle.edit_document.specs.Lost.{HasNamesBut, MovedPart, MovedParts, LosesPart, moved_place};
+ghost use Rattle.edit_document.specs.Lost as lost;
+ghost use Rattle.edit_tree.specs.Meant.{Loses, Removed};
+ghost use Rattle.edit_tree.specs.Shown.{tree_of};
+ghost use Rattle.edit_tree.specs.Supported.{IsManifest};
+
+use crate::beside::{leads, step_down};
+use crate::beside_unordered::beside_unordered;
+use crate::compare::part;
+use crate::kept::kept_steps;
+use crate::unordered::{has_names_of, same_unordered};
+use edit_document::{Document, Step};
+
+/// The number of an element where a part is lost: those behind a lost element move up.
+fn moved_index(step: &Step, index: usize) -> usize
+    ensures { result ≡ lost.moved_index (step_seen step.now) index }
+{
+    match step {
+        Step::Key(_) => index,
+        Step::Index(gone) => { if *gone < index { index - 1 } else { index } }
+    }
+}
+
+/// The first steps of a place.
+fn front(place: &[Step], count: usize) -> &[Step]
+    requires { count ≤ length place.now }
+    ensures { result.now ≡ take count place.now }
+{
+    &place[..count]
+}
+
+/// Whether a step leads to the member of a name.
+fn is_key(step: &Step, name: &str) -> bool
+    ensures { Decides result (key_step name.now ≡ step_seen step.now) }
+{
+    match step {
+        Step::Key(key) => name == key.as_str(),
+        Step::Index(_) => false,
+    }
+}
+
+/// The number of what stands in another document, which has lost a part, where a part of this one moved.
+fn moved_counterpart(
+    document: &Document,
+    number: usize,
+    index: usize,
+    other: &Document,
+    there: usize,
+    step: &Step,
+) -> Option<usize>
+    requires here { number < length document.now.nodes }
+    requires there { there < length other.now.nodes }
+    ensures { (s : StepSeen) → nth_part (view_numbered document.now number) index ≡ Some s
+        → Numbers other.now (moved_place (step_seen step.now) (place_numbered other.now there) s) result }
+{
+    document.is_whole(number);
+    match document.member_name(number, index) {
+        Some(name) => other.member(there, name),
+        None => other.element(there, moved_index(step, index)),
+    }
+}
+
+/// Whether the same stands at a part as where it moved to in another document, but for the order of
+/// members.
+fn moved_part(
+    document: &Document,
+    number: usize,
+    index: usize,
+    other: &Document,
+    there: usize,
+    step: &Step,
+) -> bool
+    requires here { number < length document.now.nodes }
+    requires there { there < length other.now.nodes }
+    ensures { Decides result (MovedPart (step_seen step.now) document.now number other.now there index) }
+{
+    document.is_whole(number);
+    let Some(part) = part(document, number, index) else {
+        return true;
+    };
+    let Some(other_part) = moved_counterpart(document, number, index, other, there, step) else {
+        return false;
+    };
+    same_unordered(document, part, other, other_part, 81)
+}
+
+/// Whether the same stands at each part of a node but one as where it moved to in another document, but
+/// for the order of members.
+fn moved_parts(document: &Document, number: usize, other: &Document, there: usize, step: &Step) -> bool
+    requires here { number < length document.now.nodes }
+    requires there { there < length other.now.nodes }
+    ensures { Decides result (MovedParts (step_seen step.now) document.now number other.now there) }
+{
+    let count = document.member_count(number);
+    'parts: for index in 0..count {
+        if !leads(document, number, index, step)
+            && !moved_part(document, number, index, other, there, step)
+        {
+            return false;
+        }
+    }
+    true
+}
+
+/// Whether each name of a member of a node but one is one of another node's members too.
+fn has_names_but(document: &Document, number: usize, other: &Document, there: usize, step: &Step) -> bool
+    requires here { number < length document.now.nodes }
+    requires there { there < length other.now.nodes }
+    ensures { Decides result (HasNamesBut (step_seen step.now) document.now number other.now there) }
+{
+    let count = document.name_count(number);
+    'names: for index in 0..count {
+        let Some(name) = document.member_name(number, index) else {
+            return true;
+        };
+        if !is_key(step, name) && other.member(there, name).is_none() {
+            return false;
+        }
+    }
+    true
+}
+
+/// Whether nothing stands one step below a node.
+fn lacks(document: &Document, number: usize, step: &Step) -> bool
+    requires { number < length document.now.nodes }
+    ensures { Decides result
+        (tree_of document.now (at (place_numbered document.now number) (step_seen step.now)) ≡ None) }
+{
+    match step_down(document, number, step) {
+        Some(_) => false,
+        None => true,
+    }
+}
+
+/// Whether a node of another document shows what this one shows without a part.
+fn loses_view(document: &Document, number: usize, other: &Document, there: usize, step: &Step) -> bool
+    requires here { number < length document.now.nodes }
+    requires there { there < length other.now.nodes }
+    requires part { tree_of document.now (at (place_numbered document.now number) (step_seen step.now)) ≡ None
+        → ⊥ }
+    ensures { Decides result (Loses (step_seen step.now) (Some (view_numbered document.now number))
+        (Some (view_numbered other.now there))) }
+{
+    document.is_whole(number);
+    other.is_whole(there);
+    let kind = document.kind(number);
+    if kind != other.kind(there) {
+        return false;
+    }
+    let rest = other.member_count(there);
+    if document.member_count(number).saturating_sub(1) != rest {
+        return false;
+    }
+    if kind < 8 {
+        return true;
+    }
+    if !has_names_but(document, number, other, there, step) {
+        return false;
+    }
+    if !has_names_of(other, there, document, number) {
+        return false;
+    }
+    lacks(other, there, step)
+}
+
+/// Whether a node of another document and what stands below it show this node without a part.
+fn loses_part(document: &Document, number: usize, other: &Document, there: usize, step: &Step) -> bool
+    requires here { number < length document.now.nodes }
+    requires there { there < length other.now.nodes }
+    requires part { tree_of document.now (at (place_numbered document.now number) (step_seen step.now)) ≡ None
+        → ⊥ }
+    ensures { Decides result (LosesPart (step_seen step.now)
+        (tree_below document.now (place_numbered document.now number))
+        (tree_below other.now (place_numbered other.now there))) }
+{
+    document.is_tree();
+    other.is_tree();
+    document.is_whole(number);
+    other.is_whole(there);
+    document.stands(number);
+    other.stands(there);
+    if !loses_view(document, number, other, there, step) {
+        return false;
+    }
+    moved_parts(document, number, other, there, step)
+}
+
+/// Whether another document shows this one without the item at a place.
+pub fn has_lost(document: &Document, other: &Document, place: &[Step]) -> bool
+    requires inner { place_seen place.now ≡ [] → ⊥ }
+    requires stands { tree_of document.now (place_seen place.now) ≡ None → ⊥ }
+    ensures { (form : Text) → IsManifest document.now.bytes form
+        → Decides result (Removed form (place_seen place.now) (tree_of document.now) (tree_of other.now)) }
+{
+    document.has_form();
+    document.is_tree();
+    other.is_tree();
+    let kept = kept_steps(document, place);
+    let Some((number, there)) = beside_unordered(document, other, front(place, kept)) else {
+        return false;
+    };
+    document.is_whole(number);
+    document.stands(number);
+    loses_part(document, number, other, there, &place[kept])
+}

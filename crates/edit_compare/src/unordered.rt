@@ -1,0 +1,94 @@
+//! Whether two documents show the same at a place and below it, but for the order of members.
+ghost use Rattle.std.specs.Prelude.{◌≡◌, ◌<◌, ◌≤◌, ◌+◌, ℕ, Some, None, length};
+ghost use Rattle.std.specs.Bool.{Decides};
+ghost use Rattle.edit_document.specs.Compared.{HasNamesOf, SameButOrderBelow};
+ghost use Rattle.edit_document.specs.Items.{place_numbered, view_numbered};
+ghost use Rattle.edit_tree.specs.Meant.{SameButOrder};
+
+use crate::beside::counterpart;
+use crate::compare::{part, same_view};
+use edit_document::Document;
+
+/// Whether each name of a member of a node is one of another node's members too.
+pub(crate) fn has_names_of(document: &Document, number: usize, other: &Document, there: usize) -> bool
+    requires here { number < length document.now.nodes }
+    requires there { there < length other.now.nodes }
+    ensures { Decides result (HasNamesOf document.now number other.now there) }
+{
+    let count = document.name_count(number);
+    'names: for index in 0..count {
+        let Some(name) = document.member_name(number, index) else {
+            return true;
+        };
+        if other.member(there, name).is_none() {
+            return false;
+        }
+    }
+    true
+}
+
+/// Whether two nodes show the same, but for the order of members.
+pub(crate) fn same_but_order(document: &Document, number: usize, other: &Document, there: usize) -> bool
+    requires here { number < length document.now.nodes }
+    requires there { there < length other.now.nodes }
+    ensures { Decides result (SameButOrder (Some (view_numbered document.now number))
+        (Some (view_numbered other.now there))) }
+{
+    document.is_whole(number);
+    other.is_whole(there);
+    let kind = document.kind(number);
+    if kind < 8 {
+        return same_view(document, number, other, there);
+    }
+    if kind != other.kind(there) {
+        return false;
+    }
+    if document.member_count(number) != other.member_count(there) {
+        return false;
+    }
+    if !has_names_of(document, number, other, there) {
+        return false;
+    }
+    has_names_of(other, there, document, number)
+}
+
+/// Whether the same stands at two nodes and below them, but for the order of members.
+pub(crate) fn same_unordered(
+    document: &Document,
+    number: usize,
+    other: &Document,
+    there: usize,
+    depth: usize,
+) -> bool
+    requires here { number < length document.now.nodes }
+    requires there { there < length other.now.nodes }
+    requires depth { 81 ≤ length (place_numbered document.now number) + depth }
+    ensures { Decides result (SameButOrderBelow document.now (place_numbered document.now number)
+        other.now (place_numbered other.now there)) }
+{
+    document.is_tree();
+    other.is_tree();
+    document.is_whole(number);
+    other.is_whole(there);
+    document.stands(number);
+    other.stands(there);
+    if depth == 0 {
+        unreachable!()
+    }
+    if !same_but_order(document, number, other, there) {
+        return false;
+    }
+    let count = document.member_count(number);
+    'parts: for index in 0..count {
+        let Some(part) = part(document, number, index) else {
+            return false;
+        };
+        let Some(other_part) = counterpart(document, number, index, other, there) else {
+            return false;
+        };
+        if !same_unordered(document, part, other, other_part, depth - 1) {
+            return false;
+        }
+    }
+    true
+}

@@ -1,7 +1,0 @@
-use Rattle.std.proofs.Common.{ℕ, ◌<◌}
-use Rattle.edit_document.specs.Compared.{SamePart}
-use Rattle.edit_document.proofs.document.Document.same_parts.Given as goal
-
--- the parts so far are the same
-abbrev pub invariant-parts : goal.invariant-parts
-invariant-parts l = (i : ℕ) → i < l.index → SamePart l.self l.number l.other l.there i

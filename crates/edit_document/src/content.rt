@@ -1,0 +1,80 @@
+//! What a node of a document is, by its number.
+ghost use Rattle.std.specs.Prelude.{◌≡◌, ◌<◌, [], length, option_map};
+ghost use Rattle.edit_syntax.specs.Grammar.{Text};
+ghost use Rattle.edit_document.specs.Compared.{IsWhole, kind_of, word_of};
+ghost use Rattle.edit_document.specs.Items.{place_numbered, view_numbered};
+ghost use Rattle.edit_document.specs.Lost.{is_named};
+ghost use Rattle.edit_tree.specs.Supported.{IsManifest};
+ghost use Rattle.edit_tree.specs.Taking as taking;
+
+use crate::document::Document;
+use edit_tree::nodes::{Content, Taken, cut, words_in};
+
+/// Whether a place is taken by a value, or by a header of its own.
+fn is_own(taken: Taken) -> bool
+    ensures { result ≡ taking.is_own taken }
+{
+    matches!(taken, Taken::Value | Taken::Header | Taken::Element)
+}
+
+impl Document {
+    /// What kind of thing a node shows, as a number.
+    pub fn kind(&self, number: usize) -> u8
+        requires { number < length self.now.nodes }
+        ensures { result ≡ kind_of (view_numbered self.now number) }
+    {
+        let node = &self.nodes[number];
+        match &node.content {
+            Content::Text(_) => 0,
+            Content::Truth(truth) => { if *truth { 2 } else { 1 } }
+            Content::Integer(_) => 3,
+            Content::Float(_) => 4,
+            Content::DateTime(_) => 5,
+            Content::Array => 6,
+            Content::Tables => 7,
+            Content::Inline => 8,
+            Content::Table => 9,
+        }
+    }
+
+    /// What a string says, or how a number, a date or a time is written.
+    pub fn word(&self, number: usize) -> Option<&str>
+        requires { number < length self.now.nodes }
+        ensures { option_map (λ s. s.now) result ≡ word_of (view_numbered self.now number) }
+    {
+        let node = &self.nodes[number];
+        match &node.content {
+            Content::Text(words) => Some(words_in(self.text.as_str(), words)),
+            Content::Integer(span) => Some(cut(self.text.as_str(), *span)),
+            Content::Float(span) => Some(cut(self.text.as_str(), *span)),
+            Content::DateTime(span) => Some(cut(self.text.as_str(), *span)),
+            Content::Truth(_)
+            | Content::Array
+            | Content::Tables
+            | Content::Inline
+            | Content::Table => None,
+        }
+    }
+
+    /// For proofs: members and elements stand below a node, and nothing else; it has at most 80 steps from
+    /// the root. It does nothing.
+    pub fn is_whole(&self, number: usize)
+        requires { number < length self.now.nodes }
+        ensures { IsWhole self.now number }
+    {
+        let _text = self.text.as_str();
+        let _node = &self.nodes[number];
+    }
+
+    /// Whether the place of a node is asserted by what names it.
+    pub fn is_named(&self, number: usize) -> bool
+        requires here { number < length self.now.nodes }
+        requires inner { place_numbered self.now number ≡ [] → ⊥ }
+        ensures { (form : Text) → IsManifest self.now.bytes form
+            → result ≡ is_named form (place_numbered self.now number) }
+    {
+        let _text = self.text.as_str();
+        let node = &self.nodes[number];
+        is_own(node.taken)
+    }
+}

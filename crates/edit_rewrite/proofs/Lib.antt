@@ -1,0 +1,44 @@
+-- What statements assert, and the spots that stand for it
+pub mod MemberTurns
+-- A value set at a place
+pub mod SetBytes
+-- Two documents compared
+pub mod GrownInline
+-- Where statements stand
+pub mod Ways
+pub mod KeyWays
+pub mod WayCounts
+pub mod TakenStatements
+pub mod StatedLines
+-- A member more in lines
+pub mod SpotTexts
+pub mod StatementSpots
+pub mod InsertedLines
+pub mod InsertedTexts
+pub mod EntryChoices
+-- An entry replaced
+pub mod EntryParts
+pub mod EntryCuts
+pub mod ToldPairs
+pub mod NamedMembers
+pub mod LineEntries
+pub mod InnerPairs
+pub mod ClosestPairs
+pub mod ClosestTables
+pub mod ValueAssertions
+pub mod ValueSpots
+pub mod InlineRows
+pub mod InnerTurns
+pub mod InnerRows
+-- Inside an array or an inline table
+pub mod SlotLaws
+pub mod SlotEnds
+pub mod SlotTurns
+pub mod SlotKeys
+pub mod SlotSteps
+-- An item removed
+pub mod LeftLines
+pub mod LeftTexts
+pub mod AroundValues
+-- Worked examples
+pub mod InlineSpots

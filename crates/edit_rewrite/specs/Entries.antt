@@ -1,0 +1,156 @@
+-- How the statements of a text stand to a place that is looked for.
+use Rattle.std.specs.Prelude.{◌≡◌, ◌≤◌, ℕ, ◌+◌, ◌-◌, Bool, true, false, not, ◌==◌, nat_lt, if◌then◌else◌, List, [], ◌∷◌, length, slice_get, slice_index, slice_set, take, Option, Some, None, option_map}
+use Rattle.edit_syntax.specs.Characters.{equals, right_bracket}
+use Rattle.edit_syntax.specs.Strings.{◌·◌, Key, key}
+use Rattle.edit_syntax.specs.Grammar.{value, Statement, pair, header, element_header}
+use Rattle.edit_rewrite.specs.declared.way.Way.{Way}
+use Rattle.edit_rewrite.specs.declared.way.Way.TheVariants.{On, Below, Off}
+use Rattle.edit_rewrite.specs.declared.locate.Entry.{Entry}
+use Rattle.edit_syntax.specs.declared.read.marks.Mark.{Mark}
+use Rattle.edit_syntax.specs.declared.read.marks.MarkKind.{MarkKind}
+use Rattle.edit_syntax.specs.declared.read.marks.MarkKind.TheVariants as kinds
+use Rattle.edit_tree.specs.Assertions.{Step, key as name_step, index, Place, at, same_step, Assertion, elements_at, resolved}
+use Rattle.edit_tree.specs.Statements.{Stated, Named, parts, front_parts, behind_part}
+use Rattle.edit_tree.specs.EditBytes.{is_pair, is_own}
+use Rattle.edit_tree.specs.RemovedBytes.{is_gone}
+use Rattle.edit_tree.specs.WalkState.{SaysAt}
+
+-- ---- ways
+
+-- the way of a place behind so many steps: on the way to what is looked for, below it, or off the way
+abbrev pub way_on : ℕ → Place → Place → Way
+way_on done [] [] = On done
+way_on done (s ∷ ss) [] = On done
+way_on done [] (t ∷ ts) = Below
+way_on done (s ∷ ss) (t ∷ ts) = if same_step s t then way_on (done + 1) ss ts else Off
+
+-- the way of a place from the root
+abbrev pub way : Place → Place → Way
+way target place = way_on 0 target place
+
+-- the way behind a step, where this one comes next on the way
+abbrev pub gone_on : ℕ → Option Step → Step → Way
+gone_on done None step = Below
+gone_on done (Some s) step = if same_step s step then On (done + 1) else Off
+
+-- the way with a step more
+abbrev pub next_way : Place → Way → Step → Way
+next_way target (On done) step = gone_on done (slice_get target done) step
+next_way target Below step = Below
+next_way target Off step = Off
+
+-- it has come to the place of so many steps
+abbrev pub is_at : ℕ → Way → Bool
+is_at total (On done) = done == total
+is_at total _ = false
+
+-- it has come to the place of so many steps, or below it
+abbrev pub has_come : ℕ → Way → Bool
+has_come total (On done) = done == total
+has_come total Below = true
+has_come total Off = false
+
+-- how many elements there are so far, with a number for each count of steps on the way
+abbrev pub count_on : List ℕ → Way → ℕ
+count_on counts (On done) = slice_index counts done
+count_on counts _ = 0
+
+-- the way on to the last element, where there is one
+abbrev pub resolved_way : Place → List ℕ → Way → Way
+resolved_way target counts w =
+    if nat_lt 0 (count_on counts w) then next_way target w (index (count_on counts w - 1)) else w
+
+-- the counts with an element more on the way
+abbrev pub counted : Way → List ℕ → List ℕ
+counted (On done) counts = slice_set counts done (slice_index counts done + 1)
+counted _ counts = counts
+
+-- the counts are those of the arrays of tables on the way
+abbrev pub Counts : Place → List Assertion → List ℕ → Type 0
+Counts target earlier counts =
+    (d : ℕ) → d ≤ length target → slice_index counts d ≡ elements_at earlier (take d target)
+
+-- ---- keys
+
+-- the mark of a part of a key
+abbrev pub is_part : MarkKind → Bool
+is_part kinds.BarePart = true
+is_part kinds.BasicPart = true
+is_part kinds.LiteralPart = true
+is_part _ = false
+
+-- the mark of a part of a key comes first
+abbrev pub begins_part : List Mark → Bool
+begins_part [] = false
+begins_part (m ∷ ms) = is_part m.kind
+
+-- the kind of the first mark that is none of a part of a key
+abbrev pub head_of : List Mark → Option MarkKind
+head_of [] = None
+head_of (m ∷ ms) = if is_part m.kind then head_of ms else Some m.kind
+
+-- where the first mark begins
+abbrev pub first_from : List Mark → ℕ
+first_from [] = 0
+first_from (m ∷ ms) = m.from
+
+-- the marks begin with those of these parts of a key, and no part's mark follows
+abbrev pub AreParts : List ℕ → List Named → List Mark → Type 0
+AreParts bytes [] ms = begins_part ms ≡ false
+AreParts bytes (n ∷ ns) [] = ⊥
+AreParts bytes (n ∷ ns) (m ∷ ms) =
+    (is_part m.kind ≡ true) × SaysAt bytes m n.0 × (m.to ≡ length n.1) × AreParts bytes ns ms
+
+-- the counts lead on as the places do
+abbrev pub Follows : Place → List ℕ → (Place → Place) → Type 0
+Follows target counts resolve =
+    (p : Place) → way target (resolve p) ≡ resolved_way target counts (way target p)
+
+-- where the parts of a key lead to, from a table on
+abbrev pub led : (Place → Place) → Place → List Named → Place
+led resolve table [] = table
+led resolve table (n ∷ []) = at table (name_step n.0)
+led resolve table (n ∷ m ∷ ns) = led resolve (resolve (at table (name_step n.0))) (m ∷ ns)
+
+-- the way behind a key, and the spot behind the part of it, but the last, that names the place
+abbrev pub GoesAlong : Place → (Place → Place) → Place → List Named → Way × Option ℕ → Type 0
+GoesAlong target resolve table ns r =
+    (r.0 ≡ way target (led resolve table ns))
+    × (r.1 ≡ option_map length (behind_part resolve target table (front_parts ns)))
+
+-- ---- statements
+
+-- the key of a statement, and the text behind it
+abbrev pub key_of : Stated → Key × List ℕ
+key_of s = of_statement s.statement
+  where
+    of_statement : Statement → Key × List ℕ
+    of_statement (pair k a b v) = (k, a · equals ∷ (b · value v s.behind))
+    of_statement (header a k b) = (k, b · right_bracket ∷ s.behind)
+    of_statement (element_header a k b) = (k, b · right_bracket ∷ (right_bracket ∷ s.behind))
+
+-- the table that its key begins in
+abbrev pub begins_in : Stated → Place
+begins_in s = if is_pair s.statement then s.prefix else []
+
+-- where a part of its key leads to
+abbrev pub leads_to : Stated → Place → Place
+leads_to s place = if is_pair s.statement then place else resolved s.earlier place
+
+-- the text behind the part of its key, but the last, that names a place
+abbrev pub front_of : Place → Stated → Option (List ℕ)
+front_of place s =
+    behind_part (leads_to s) place (begins_in s) (front_parts (parts (key_of s).0 (key_of s).1))
+
+-- how a statement stands to a place
+abbrev pub entry_of : Place → Stated → Entry
+entry_of place s = record {
+  is_own = is_own place s;
+  is_within = is_gone place s;
+  is_header = not (is_pair s.statement);
+  front = option_map length (front_of place s);
+  line = length s.line;
+  key = length (key (key_of s).0 (key_of s).1);
+  after = length s.after;
+  next = length s.next;
+}

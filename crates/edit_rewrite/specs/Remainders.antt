@@ -1,0 +1,20 @@
+-- What is left of an array or an inline table, as far as it was read.
+use Rattle.std.specs.Prelude.{◌≡◌, ℕ, ◌-◌, List, [], ◌++◌, length, take, drop}
+use Rattle.edit_syntax.specs.ReadingSteps.{past_blanks}
+use Rattle.edit_rewrite.specs.declared.inside.Remainder.{Remainder}
+
+-- what stands before an end of a text
+abbrev pub before_end : List ℕ → List ℕ → List ℕ
+before_end from to = take (length from - length to) from
+
+-- one goes: the gaps behind its comma and before it
+pub record Leaves (old new : Remainder) (after stop next : List ℕ) : Type 0 where
+  pub firm : new.firm.items ≡ old.firm.items
+  pub with_comma : new.with_comma.items ≡ old.with_comma.items ++ before_end (past_blanks (drop 1 stop)) next
+  pub without_comma : new.without_comma.items ≡ old.without_comma.items ++ before_end after stop
+
+-- one stays: its bytes, and the comma with the gap behind it
+pub record Keeps (old new : Remainder) (rest stop next : List ℕ) : Type 0 where
+  pub firm : new.firm.items ≡ (old.firm.items ++ old.with_comma.items) ++ before_end rest stop
+  pub with_comma : new.with_comma.items ≡ before_end stop next
+  pub without_comma : new.without_comma.items ≡ []

@@ -1,0 +1,52 @@
+-- How the statements before one leave a place that is looked for.
+use Rattle.std.specs.Prelude.{◌≡◌, ℕ, suc, Bool, true, false, List, length, Option, Some}
+use Rattle.edit_syntax.specs.declared.read.marks.Mark.{Mark}
+use Rattle.edit_syntax.specs.declared.read.marks.MarkKind.{MarkKind}
+use Rattle.edit_syntax.specs.declared.read.marks.MarkKind.TheVariants as kinds
+use Rattle.edit_syntax.specs.Strings.{key as key_text}
+use Rattle.edit_syntax.specs.Grammar.{Statement, header, element_header}
+use Rattle.edit_rewrite.specs.declared.locate.Standing.{Standing}
+use Rattle.edit_rewrite.specs.declared.locate.Spots.{Spots}
+use Rattle.edit_tree.specs.Assertions.{Place, Assertion}
+use Rattle.edit_tree.specs.Statements.{Stated, parts}
+use Rattle.edit_rewrite.specs.Entries.{way, Counts, head_of, AreParts, key_of}
+
+-- behind these assertions and under this header
+pub record StandsTo (target : Place) (earlier : List Assertion) (prefix : Place)
+    (standing : Standing) : Type 0 where
+  pub under : standing.prefix ≡ way target prefix
+  pub size : length standing.counts.items ≡ suc (length target)
+  pub counts : Counts target earlier standing.counts.items
+
+-- a header of a table
+abbrev pub is_table_header : Statement → Bool
+is_table_header (header a k b) = true
+is_table_header _ = false
+
+-- a header of an element
+abbrev pub is_element_header : Statement → Bool
+is_element_header (element_header a k b) = true
+is_element_header _ = false
+
+-- the mark of a header of a table stands behind the key
+abbrev pub heads_table : Option MarkKind → Bool
+heads_table (Some kinds.Header) = true
+heads_table _ = false
+
+-- that of a header of an element does
+abbrev pub heads_element : Option MarkKind → Bool
+heads_element (Some kinds.ElementHeader) = true
+heads_element _ = false
+
+-- the mark behind the key tells what statement it is
+abbrev pub HeadIs : Statement → Option MarkKind → Type 0
+HeadIs s head = (heads_table head ≡ is_table_header s) × (heads_element head ≡ is_element_header s)
+
+-- the marks and the spots are those of the statement
+pub record IsTaken (bytes : List ℕ) (marks : List Mark) (s : Stated) (spots : Spots) : Type 0 where
+  pub parts_marked : AreParts bytes (parts (key_of s).0 (key_of s).1) marks
+  pub head : HeadIs s.statement (head_of marks)
+  pub line : spots.line ≡ length s.line
+  pub key : spots.key ≡ length (key_text (key_of s).0 (key_of s).1)
+  pub after : spots.after ≡ length s.after
+  pub next : spots.next ≡ length s.next

@@ -1,0 +1,164 @@
+//! A member more in an inline table.
+ghost use Rattle.std.specs.Prelude.{◌≡◌, ◌≤◌, ℕ, List, [], ◌++◌, ◌∷◌, MatchResult, MatchOption, IfOk, IfErr, None, Some, codes, drop, length, string_bytes};
+ghost use Rattle.edit_base.specs.Errors.{IsMemory};
+ghost use Rattle.edit_syntax.specs.Characters.{right_brace};
+ghost use Rattle.edit_syntax.specs.Grammar.{Between, inline, Members, no_members, Text};
+ghost use Rattle.edit_tree.specs.EditBytes.{Splice, put_before, with_splice, behind_last, inline_grown, in_inline, inserted_text};
+ghost use Rattle.edit_document.specs.Items.{place_seen};
+ghost use Rattle.edit_tree.specs.NewItems.{NewValue as Meant, new_pair};
+ghost use Rattle.edit_document.specs.Ranges.{HasTable};
+ghost use Rattle.edit_tree.specs.SlotTexts.{TableAt};
+ghost use Rattle.edit_rewrite.specs.Spots.{IsSpot};
+ghost use Rattle.edit_tree.specs.Supported.{IsManifest};
+
+use crate::inside::{begins, behind_one, past_slot};
+use crate::spots::{with_swap, with_text};
+use edit_document::{Document, Step};
+use edit_base::errors::CargoResult;
+use edit_syntax::read::gaps::past_gap;
+use edit_syntax::read::steps::past_blanks;
+use std::alloc::Global;
+
+/// What follows the value of the last member of the inline table at the front of `table`, an end of `text`,
+/// or its closing brace where it has none.
+fn past_last<'a>(alloc: Global, text: &str, table: &'a [u8]) -> CargoResult<&'a [u8]>
+    ensures { (g : List Between) (ms : Members) (after : List ℕ) → TableAt text.now table.now g ms after
+        → MatchResult result (λ r. r.now ≡ behind_last ms (right_brace ∷ after)) IsMemory }
+{
+    let mut rest = past_gap(behind_one(table));
+    let mut last = rest;
+    'members: for index in 0..text.len() {
+        if begins(rest, b'}') {
+            return Ok(last);
+        }
+        let (_, after) = past_slot(alloc, text, rest, true, index, &[])?;
+        let stop = past_gap(after);
+        if !begins(stop, b',') {
+            return Ok(after);
+        }
+        rest = past_gap(behind_one(stop));
+        last = after;
+    }
+    Ok(last)
+}
+
+/// The text with a member before a spot, behind `lead`.
+pub(crate) fn with_lead(
+    alloc: Global,
+    text: &str,
+    spot: usize,
+    lead: &str,
+    member: &str,
+) -> CargoResult<String>
+    ensures text { (rest : List ℕ) → IsSpot text.now rest → spot ≡ length rest
+        → IfOk result (λ s. string_bytes s
+        ≡ with_splice text.now (put_before rest (lead.now ++ member.now))) }
+    ensures refused { IfErr result IsMemory }
+{
+    let mut now = String::from_str(alloc, lead)?;
+    now.push_str(member)?;
+    with_text(alloc, text, spot, now.as_str())
+}
+
+/// The text with a member between two spots, and a space on each side.
+fn with_alone(
+    alloc: Global,
+    text: &str,
+    from: usize,
+    to: usize,
+    member: &str,
+) -> CargoResult<String>
+    ensures text { (s t : List ℕ) → IsSpot text.now s → IsSpot text.now t → from ≡ length s → to ≡ length t
+        → IfOk result (λ r. string_bytes r ≡ with_splice text.now
+        (record { from = s; to = t; now = codes " " ++ (member.now ++ codes " ") })) }
+    ensures refused { IfErr result IsMemory }
+{
+    let mut now = String::from_str(alloc, " ")?;
+    now.push_str(member)?;
+    now.push_str(" ")?;
+    with_swap(alloc, text, from, to, now.as_str())
+}
+
+/// The text with a member in the inline table at the front of `table`, which has none: only white space
+/// between the braces gives way to it.
+fn with_first_member(alloc: Global, text: &str, table: &[u8], member: &str) -> CargoResult<String>
+    ensures text { (g : List Between) (after : List ℕ) (s : Splice)
+        → TableAt text.now table.now g no_members after
+        → inline_grown member.now (inline g no_members) after ≡ Some s
+        → IfOk result (λ t. string_bytes t ≡ with_splice text.now s) }
+    ensures refused { IfErr result IsMemory }
+{
+    let inner = behind_one(table);
+    let close = past_blanks(inner);
+    if begins(close, b'}') {
+        with_alone(alloc, text, inner.len(), close.len(), member)
+    } else {
+        with_lead(alloc, text, inner.len(), " ", member)
+    }
+}
+
+/// The text with a member more in the inline table at the front of `table`, an end of the text: behind the
+/// last one's value and a comma, or between the braces.
+pub(crate) fn with_member_in(
+    alloc: Global,
+    text: &str,
+    table: &[u8],
+    member: &str,
+) -> CargoResult<String>
+    ensures { (g : List Between) (ms : Members) (after : List ℕ) (s : Splice)
+        → TableAt text.now table.now g ms after → inline_grown member.now (inline g ms) after ≡ Some s
+        → MatchResult result (λ t. string_bytes t ≡ with_splice text.now s) IsMemory }
+{
+    if begins(past_gap(behind_one(table)), b'}') {
+        return with_first_member(alloc, text, table, member);
+    }
+    let last = past_last(alloc, text, table)?;
+    with_lead(alloc, text, last.len(), ", ", member)
+}
+
+/// What stands from a position on.
+pub(crate) fn from_start(s: &[u8], start: usize) -> &[u8]
+    requires { start ≤ length s.now }
+    ensures { result.now ≡ drop start s.now }
+{
+    &s[start..]
+}
+
+/// Where the inline table of a place begins, or `None` where none is written there.
+pub(crate) fn table_start(document: &Document, place: &[Step]) -> Option<usize>
+    ensures { (form : Text) → IsManifest document.now.bytes form
+        → HasTable form (place_seen place.now) result }
+{
+    document.has_form();
+    let (start, _) = document.value_range(place)?;
+    let item = document.item(place)?;
+    if item.is_inline_table() {
+        Some(start)
+    } else {
+        None
+    }
+}
+
+/// The document's text with a member more in the inline table at a place, or `None` where none is written
+/// there.
+pub(crate) fn with_inline_member(
+    document: &Document,
+    alloc: Global,
+    place: &[Step],
+    pair: &str,
+) -> CargoResult<Option<String>>
+    ensures text { (form : Text) (name : List ℕ) (v : Meant) → IsManifest document.now.bytes form
+        → pair.now ≡ new_pair name v [] → IfOk result (λ o. MatchOption o
+        (in_inline (place_seen place.now) pair.now form ≡ None)
+        (λ t. string_bytes t ≡ inserted_text (place_seen place.now) name v form)) }
+    ensures refused { IfErr result IsMemory }
+{
+    document.has_form();
+    let Some(start) = table_start(document, place) else {
+        return Ok(None);
+    };
+    let text = document.as_str();
+    let table = from_start(text.as_bytes(), start);
+    let grown = with_member_in(alloc, text, table, pair)?;
+    Ok(Some(grown))
+}

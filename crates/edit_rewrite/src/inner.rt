@@ -1,0 +1,143 @@
+//! Members of inline tables whose keys go on behind a place.
+ghost use Rattle.std.specs.Prelude.{◌≡◌, ℕ, true, List, ◌++◌, ◌∷◌, Some, MatchResult, IfOk, IfErr, codes, length, option_map, string_bytes};
+ghost use Rattle.edit_base.specs.Errors.{IsMemory};
+ghost use Rattle.edit_syntax.specs.Characters.{right_brace};
+ghost use Rattle.edit_syntax.specs.Grammar.{Between, gap, Members, Text};
+ghost use Rattle.edit_tree.specs.Assertions.{Place};
+ghost use Rattle.edit_tree.specs.EditBytes.{put_before, last_made, with_splice, front_to, dotted_pair};
+ghost use Rattle.edit_rewrite.specs.Entries as entries_seen;
+ghost use Rattle.edit_rewrite.specs.Inner as inner_seen;
+ghost use Rattle.edit_document.specs.Items.{place_seen};
+ghost use Rattle.edit_tree.specs.Slots.{Slot};
+ghost use Rattle.edit_tree.specs.SlotTexts.{StandsAt, TableAt};
+ghost use Rattle.edit_tree.specs.Statements.{Paired, paired_members, inner_pairs};
+ghost use Rattle.edit_tree.specs.Supported.{IsManifest};
+
+use crate::inline::{from_start, table_start, with_lead};
+use crate::inside::{begins, behind_one};
+use crate::way::{Way, along};
+use edit_document::{Document, Step};
+use edit_base::errors::CargoResult;
+use edit_syntax::read::gaps::past_gap;
+use edit_syntax::read::steps::{past_name, past_value};
+use edit_tree::cut::between;
+use std::alloc::Global;
+
+/// A member of an inline table whose key goes on behind a place. The spots from its key, behind the part that
+/// names the place, and behind its value are told by how many bytes follow.
+#[derive(Clone, Copy)]
+pub(crate) struct Inner {
+    pub(crate) from: usize,
+    pub(crate) front: usize,
+    pub(crate) behind: usize,
+}
+
+/// A member that begins here, whose key goes on behind a place at a spot, and what follows its value.
+fn inner_from(s: &[u8], front: Option<usize>, behind: &[u8]) -> Option<Inner>
+    ensures { result ≡ option_map
+        (λ n. record { from = length s.now; front = n; behind = length behind.now }) front }
+{
+    match front {
+        Some(front) => Some(Inner {
+            from: s.len(),
+            front,
+            behind: behind.len(),
+        }),
+        None => None,
+    }
+}
+
+/// The member at the front of `s`, an end of the text, where its key goes on behind a place, and what follows
+/// its value.
+fn inner_at<'a>(
+    alloc: Global,
+    text: &str,
+    place: &[Step],
+    table: Way,
+    s: &'a [u8],
+) -> CargoResult<(Option<Inner>, &'a [u8])>
+    ensures { (above : Place) (it : Slot) (c : List Between) (rest : List ℕ)
+        → StandsAt text.now s.now true it c rest → table ≡ entries_seen.way (place_seen place.now) above
+        → MatchResult result (λ r. (r.0 ≡ inner_seen.inner_in (place_seen place.now) above it (gap c rest))
+        × (r.1.now ≡ gap c rest)) IsMemory }
+{
+    let mut marks = Vec::new(alloc);
+    let value = past_name(&mut marks, s)?;
+    let (_, front) = along(alloc, text, place, marks.as_slice(), table, &[])?;
+    let rest = past_value(alloc, value)?;
+    Ok((inner_from(s, front, rest), rest))
+}
+
+/// The last member, of the inline table at the front of `table`, an end of the text, whose key goes on behind
+/// a place.
+pub(crate) fn last_inner(
+    alloc: Global,
+    text: &str,
+    place: &[Step],
+    start: Way,
+    table: &[u8],
+) -> CargoResult<Option<Inner>>
+    ensures { (above : Place) (g : List Between) (ms : Members) (after : List ℕ)
+        → TableAt text.now table.now g ms after → start ≡ entries_seen.way (place_seen place.now) above
+        → MatchResult result (λ o. o ≡ last_made (inner_seen.inner_of (place_seen place.now))
+        (paired_members above ms (right_brace ∷ after))) IsMemory }
+{
+    let mut rest = past_gap(behind_one(table));
+    let mut last = None;
+    'members: for index in 0..text.len() {
+        if begins(rest, b'}') {
+            return Ok(last);
+        }
+        let (here, after) = inner_at(alloc, text, place, start, rest)?;
+        last = here.or(last);
+        let stop = past_gap(after);
+        if !begins(stop, b',') {
+            return Ok(last);
+        }
+        rest = past_gap(behind_one(stop));
+    }
+    Ok(last)
+}
+
+/// The text with a member more behind one whose key goes on behind the place.
+pub(crate) fn with_inner(alloc: Global, text: &str, inner: Inner, pair: &str) -> CargoResult<String>
+    ensures text { (place : Place) (p : Paired) (spot : List ℕ) → inner_seen.HasInner text.now p spot
+        → front_to place p ≡ Some spot → inner_seen.inner_of place p ≡ Some inner
+        → IfOk result (λ t. string_bytes t
+        ≡ with_splice text.now (put_before p.behind (codes ", " ++ dotted_pair p spot pair.now))) }
+    ensures refused { IfErr result IsMemory }
+{
+    let mut member = String::from_str(alloc, between(text, inner.from, inner.front))?;
+    member.push_str(".")?;
+    member.push_str(pair)?;
+    with_lead(alloc, text, inner.behind, ", ", member.as_str())
+}
+
+/// The closest inline table above a place: how many steps lead to it, and where it begins.
+fn table_above(document: &Document, place: &[Step]) -> Option<(usize, usize)>
+    ensures { (form : Text) → IsManifest document.now.bytes form
+        → inner_seen.IsClosest form (place_seen place.now) result }
+{
+    let mut found = None;
+    'ends: for end in 0..place.len() {
+        if let Some(start) = table_start(document, &place[..end]) {
+            found = Some((end, start));
+        }
+    }
+    found
+}
+
+/// The last pair, of the inline tables of the text, whose key goes on behind a place.
+pub(crate) fn last_inner_of(document: &Document, alloc: Global, place: &[Step]) -> CargoResult<Option<Inner>>
+    ensures found { (form : Text) → IsManifest document.now.bytes form → IfOk result
+        (λ o. o ≡ last_made (inner_seen.inner_of (place_seen place.now)) (inner_pairs form)) }
+    ensures refused { IfErr result IsMemory }
+{
+    document.has_form();
+    let Some((steps, start)) = table_above(document, place) else {
+        return Ok(None);
+    };
+    let text = document.as_str();
+    let table = from_start(text.as_bytes(), start);
+    last_inner(alloc, text, place, Way::On(steps), table)
+}

@@ -1,0 +1,279 @@
+//! Edits inside a value: the bytes of an array or an inline table without some of its elements or members.
+ghost use Rattle.std.specs.Prelude.{◌≡◌, ℕ, List, Bool, true, false, if◌then◌else◌, ◌==◌, ◌-◌, ◌≤◌, ◌++◌, ◌∷◌, [], MatchResult, IfOk, IfErr, OnOk, take, drop, length, map};
+ghost use Rattle.edit_base.specs.Errors.{IsMemory};
+ghost use Rattle.edit_syntax.specs.Grammar.{Between, gap, Value, value as value_text, IsValue};
+ghost use Rattle.edit_syntax.specs.Depth.{depth};
+ghost use Rattle.edit_syntax.specs.Marks.{key_marks};
+ghost use Rattle.edit_syntax.specs.Reading as reading;
+ghost use Rattle.edit_syntax.specs.Steps.{ends_item};
+ghost use Rattle.edit_tree.specs.Assertions.{Place, key as name_step, index as index_step, same_step, same_place};
+ghost use Rattle.edit_tree.specs.EditBytes.{is_within};
+ghost use Rattle.edit_tree.specs.RemovedBytes.{value_left};
+ghost use Rattle.edit_document.specs.Items.{place_seen, step_seen};
+ghost use Rattle.edit_tree.specs.Slots.{Slot, slot, IsSlot, Slots, slots, closing, goes, enclosed_left, IsEnclosed, IsContainer};
+ghost use Rattle.edit_tree.specs.SlotTexts.{AreSaid, StandsAt};
+ghost use Rattle.edit_rewrite.specs.Remainders.{Leaves, Keeps};
+ghost use Rattle.edit_tree.specs.WalkState.{SaysAt};
+
+use crate::remove_text::without;
+use edit_document::Step;
+use edit_base::errors::CargoResult;
+use edit_syntax::read::Mark;
+use edit_syntax::read::gaps::past_gap;
+use edit_syntax::read::steps::{past_blanks, past_name, past_value};
+use edit_tree::nodes::words_in;
+use edit_tree::words::words_of;
+use std::alloc::{AllocError, Global};
+
+/// Whether a byte comes first.
+pub(crate) fn begins(s: &[u8], b: u8) -> bool
+    ensures { result ≡ (reading.first s.now == b) }
+{
+    s.first().copied().unwrap_or(0) == b
+}
+
+/// What follows the first byte.
+pub(crate) fn behind_one(s: &[u8]) -> &[u8]
+    ensures { result.now ≡ drop 1 s.now }
+{
+    match s {
+        [_, rest @ ..] => rest,
+        [] => s,
+    }
+}
+
+/// What stands before a text's end.
+pub(crate) fn before<'a>(from: &'a [u8], to: &[u8]) -> &'a [u8]
+    ensures { result.now ≡ take (length from.now - length to.now) from.now }
+{
+    let len = from.len().saturating_sub(to.len());
+    &from[..len]
+}
+
+/// What is left of an array or an inline table, as far as its elements or members were read: the bytes up to
+/// the last one that stays, and two ways to go on behind it. Where one more stays, or a comma stands behind
+/// the last one, the comma behind it stays; else it goes.
+#[derive(Drop)]
+struct Remainder {
+    firm: Vec<u8>,
+    with_comma: Vec<u8>,
+    without_comma: Vec<u8>,
+}
+
+impl Remainder {
+    /// What stands before the first element or member.
+    fn new(alloc: Global, opening: &[u8]) -> Result<Remainder, AllocError>
+        ensures firm { IfOk result (λ r. r.firm.items ≡ opening.now) }
+        ensures rest { IfOk result (λ r. (r.with_comma.items ≡ []) × (r.without_comma.items ≡ [])) }
+    {
+        let mut firm = Vec::new(alloc);
+        firm.extend_from_slice(opening)?;
+        Ok(Remainder {
+            firm,
+            with_comma: Vec::new(alloc),
+            without_comma: Vec::new(alloc),
+        })
+    }
+
+    /// An element or a member stays, with the comma behind it if need be.
+    fn keep(&mut self, item: &[u8], comma: &[u8]) -> Result<(), AllocError>
+        ensures firm { OnOk result (self.new.firm.items
+            ≡ (self.old.firm.items ++ self.old.with_comma.items) ++ item.now) }
+        ensures rest { OnOk result ((self.new.with_comma.items ≡ comma.now)
+            × (self.new.without_comma.items ≡ [])) }
+    {
+        self.firm.extend_from_slice(self.with_comma.as_slice())?;
+        self.firm.extend_from_slice(item)?;
+        self.with_comma.clear();
+        self.with_comma.extend_from_slice(comma)?;
+        self.without_comma.clear();
+        Ok(())
+    }
+
+    /// One goes: what it leaves behind its comma, and what before the comma.
+    fn leave(&mut self, behind: &[u8], gap: &[u8]) -> Result<(), AllocError>
+        ensures firm { OnOk result (self.new.firm.items ≡ self.old.firm.items) }
+        ensures rest { OnOk result ((self.new.with_comma.items ≡ self.old.with_comma.items ++ behind.now)
+            × (self.new.without_comma.items ≡ self.old.without_comma.items ++ gap.now)) }
+    {
+        self.with_comma.extend_from_slice(behind)?;
+        self.without_comma.extend_from_slice(gap)?;
+        Ok(())
+    }
+
+    /// The element or the member at the front of `rest` goes or stays, where a comma stands at `stop`,
+    /// behind the gap at `after`, and another or the end at `next`.
+    fn take(
+        &mut self,
+        is_gone: bool,
+        rest: &[u8],
+        after: &[u8],
+        stop: &[u8],
+        next: &[u8],
+    ) -> Result<(), AllocError>
+        ensures gone { OnOk result (is_gone ≡ true → Leaves self.old self.new after.now stop.now next.now) }
+        ensures kept { OnOk result (is_gone ≡ false → Keeps self.old self.new rest.now stop.now next.now) }
+    {
+        if is_gone {
+            self.leave(
+                before(past_blanks(behind_one(stop)), next),
+                before(after, stop),
+            )
+        } else {
+            self.keep(before(rest, stop), before(stop, next))
+        }
+    }
+
+    /// The whole, where the last one goes or stays and no comma stands behind it.
+    fn end(self, is_gone: bool, rest: &[u8], after: &[u8]) -> Result<Vec<u8>, AllocError>
+        ensures { IfOk result (λ v. v.items ≡ (if is_gone
+            then (self.firm.items ++ self.without_comma.items) ++ after.now
+            else (self.firm.items ++ self.with_comma.items) ++ rest.now)) }
+    {
+        if is_gone {
+            without(self, after)
+        } else {
+            self.with(rest)
+        }
+    }
+
+    /// The whole, with a comma before the end.
+    fn with(self, end: &[u8]) -> Result<Vec<u8>, AllocError>
+        ensures { IfOk result (λ v. v.items ≡ (self.firm.items ++ self.with_comma.items) ++ end.now) }
+    {
+        let Remainder {
+            mut firm,
+            with_comma,
+            without_comma: _,
+        } = self;
+        firm.extend_from_slice(with_comma.as_slice())?;
+        firm.extend_from_slice(end)?;
+        Ok(firm)
+    }
+
+    /// The whole, with none.
+    fn without(self, end: &[u8]) -> Result<Vec<u8>, AllocError>
+        ensures { IfOk result (λ v. v.items ≡ (self.firm.items ++ self.without_comma.items) ++ end.now) }
+    {
+        let Remainder {
+            mut firm,
+            with_comma: _,
+            without_comma,
+        } = self;
+        firm.extend_from_slice(without_comma.as_slice())?;
+        firm.extend_from_slice(end)?;
+        Ok(firm)
+    }
+}
+
+/// The closing brace or bracket.
+fn closer(is_table: bool) -> u8
+    ensures { result ≡ closing is_table }
+{
+    if is_table { b'}' } else { b']' }
+}
+
+/// Whether the part of a key with this mark is the name of a step.
+fn is_step(alloc: Global, text: &str, mark: Mark, step: &Step) -> CargoResult<bool>
+    ensures { (name : List ℕ) → SaysAt text.now mark name
+        → MatchResult result (λ b. b ≡ same_step (step_seen step.now) (name_step name)) IsMemory }
+{
+    match step {
+        Step::Index(_) => Ok(false),
+        Step::Key(key) => {
+            let words = words_of(alloc, text, mark)?;
+            Ok(words_in(text, &words) == key.as_str())
+        }
+    }
+}
+
+/// Whether a key whose parts have these marks names the place of the steps or one below it.
+fn is_named(alloc: Global, text: &str, marks: &[Mark], steps: &[Step]) -> CargoResult<bool>
+    ensures { (ns : List (List ℕ)) → AreSaid text.now marks.now ns
+        → MatchResult result (λ b. b ≡ is_within (place_seen steps.now) (map name_step ns)) IsMemory }
+{
+    let [step, steps @ ..] = steps else {
+        return Ok(true);
+    };
+    let [mark, marks @ ..] = marks else {
+        return Ok(false);
+    };
+    if is_step(alloc, text, *mark, step)? {
+        is_named(alloc, text, marks, steps)
+    } else {
+        Ok(false)
+    }
+}
+
+/// Whether a place is that of the element of a number.
+fn is_element(index: usize, below: &[Step]) -> bool
+    ensures { result ≡ same_place (index_step index ∷ []) (place_seen below.now) }
+{
+    match below {
+        [Step::Index(other)] => index == *other,
+        _ => false,
+    }
+}
+
+/// Whether the element or the member at the front goes, and what follows it.
+pub(crate) fn past_slot<'a>(
+    alloc: Global,
+    text: &str,
+    s: &'a [u8],
+    is_table: bool,
+    index: usize,
+    below: &[Step],
+) -> CargoResult<(bool, &'a [u8])>
+    ensures { (it : Slot) (c : List Between) (rest : List ℕ) → StandsAt text.now s.now is_table it c rest
+        → MatchResult result (λ r. (r.0 ≡ goes (place_seen below.now) index it)
+        × (r.1.now ≡ gap c rest)) IsMemory }
+{
+    if !is_table {
+        let rest = past_value(alloc, s)?;
+        return Ok((is_element(index, below), rest));
+    }
+    let mut marks = Vec::new(alloc);
+    let value = past_name(&mut marks, s)?;
+    let is_gone = is_named(alloc, text, marks.as_slice(), below)?;
+    let rest = past_value(alloc, value)?;
+    Ok((is_gone, rest))
+}
+
+/// The bytes of an array or an inline table without the
+/// element at a place below it, or the members that name one.
+fn slots_left(alloc: Global, text: &str, below: &[Step]) -> CargoResult<Vec<u8>>
+    ensures { (is_table : Bool) (g : List Between) (ss : Slots) → IsEnclosed is_table g ss text.now
+        → MatchResult result (λ v. v.items ≡ enclosed_left is_table (place_seen below.now) g ss) IsMemory }
+{
+    let bytes = text.as_bytes();
+    let is_table = begins(bytes, b'{');
+    let end = closer(is_table);
+    let mut rest = past_gap(behind_one(bytes));
+    let mut left = Remainder::new(alloc, before(bytes, rest))?;
+    'slots: for index in 0..bytes.len() {
+        if begins(rest, end) {
+            return Ok(left.with(rest)?);
+        }
+        let (is_gone, after) = past_slot(alloc, text, rest, is_table, index, below)?;
+        let stop = past_gap(after);
+        if !begins(stop, b',') {
+            return Ok(left.end(is_gone, rest, after)?);
+        }
+        let next = past_gap(behind_one(stop));
+        left.take(is_gone, rest, after, stop, next)?;
+        rest = next;
+    }
+    Ok(left.with(rest)?)
+}
+
+/// The bytes of the array or the inline table that is written as `text`, where the element or the member at
+/// the place `below` it is removed: with the comma behind it
+/// and the white space there, or else with the comma before it.
+pub(crate) fn value_without(alloc: Global, text: &str, below: &[Step]) -> CargoResult<Vec<u8>>
+    ensures { (place : Place) (v : Value) → IsContainer v → IsValue v → depth v ≤ 80
+        → text.now ≡ value_text v []
+        → MatchResult result
+        (λ w. w.items ≡ value_left (place ++ place_seen below.now) place v []) IsMemory }
+{
+    slots_left(alloc, text, below)
+}

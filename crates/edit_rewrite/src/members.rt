@@ -1,0 +1,100 @@
+//! The members of an inline table, and the one of them that names a place.
+ghost use Rattle.std.specs.Prelude.{◌≡◌, true, ℕ, List, IfOk, IfErr, length, option_map};
+ghost use Rattle.edit_base.specs.Errors.{IsMemory};
+ghost use Rattle.edit_syntax.specs.Grammar.{Between, gap, Value, value as value_text};
+ghost use Rattle.edit_syntax.specs.Strings.{Key};
+ghost use Rattle.edit_tree.specs.Assertions.{Place};
+ghost use Rattle.edit_tree.specs.EditBytes.{part_to};
+ghost use Rattle.edit_rewrite.specs.Entries.{way};
+ghost use Rattle.edit_rewrite.specs.EntrySpots.{part_seen, StandsIn, Tells};
+ghost use Rattle.edit_document.specs.Items.{place_seen};
+ghost use Rattle.edit_tree.specs.Slots.{of_pair};
+ghost use Rattle.edit_tree.specs.SlotTexts.{StandsAt};
+ghost use Rattle.edit_tree.specs.Statements.{paired, paired_value};
+ghost use Rattle.edit_tree.specs.Written.{Valued};
+
+use crate::inside::{begins, behind_one};
+use crate::way::{Way, along, is_at, key_end};
+use edit_document::Step;
+use edit_base::errors::{CargoResult, Error};
+use edit_syntax::Mark;
+use edit_syntax::read::gaps::past_gap;
+use edit_syntax::read::steps::{past_name, past_value};
+use std::alloc::Global;
+
+/// Where the part of a key ends that names the place, by the way along the key.
+fn part_end(named: Way, front: Option<usize>, marks: &[Mark], place: &[Step]) -> Option<usize>
+    ensures { result ≡ part_seen (length (place_seen place.now)) named front marks.now }
+{
+    if front.is_some() {
+        return front;
+    }
+    if is_at(named, place) {
+        Some(key_end(marks))
+    } else {
+        None
+    }
+}
+
+/// Where the part of the key at the front ends that names the place, if one does, and what follows the value.
+/// The way is that of the inline table.
+fn past_member<'a>(
+    alloc: Global,
+    text: &str,
+    s: &'a [u8],
+    place: &[Step],
+    start: Way,
+) -> CargoResult<(Option<usize>, &'a [u8])>
+    ensures told { (table : Place) (k : Key) (a b : List ℕ) (v : Value) (c : List Between) (rest : List ℕ)
+        → StandsAt text.now s.now true (of_pair k a b v) c rest → start ≡ way (place_seen place.now) table
+        → IfOk result (λ r.
+        (r.0 ≡ option_map length (part_to (place_seen place.now) (paired table k a b v (gap c rest))))
+        × (r.1.now ≡ gap c rest)) }
+    ensures refused { IfErr result IsMemory }
+{
+    let mut marks = Vec::new(alloc);
+    let Ok(value) = past_name(&mut marks, s) else {
+        return Err(Error::Memory);
+    };
+    let seen = marks.as_slice();
+    let (named, front) = along(alloc, text, place, seen, start, &[])?;
+    let Ok(after) = past_value(alloc, value) else {
+        return Err(Error::Memory);
+    };
+    Ok((part_end(named, front, seen, place), after))
+}
+
+/// Where a pair is written that names the place, in the inline table at the front of the end of a text, where
+/// one is. The spots are behind the part of the pair's key and behind its value.
+pub(crate) fn table_spots(
+    alloc: Global,
+    text: &str,
+    s: &[u8],
+    place: &[Step],
+    start: Way,
+) -> CargoResult<Option<(usize, usize)>>
+    ensures told { (w : Valued) → StandsIn text.now w → s.now ≡ value_text w.value w.after
+        → start ≡ way (place_seen place.now) w.place
+        → IfOk result (Tells (place_seen place.now) (paired_value w)) }
+    ensures refused { IfErr result IsMemory }
+{
+    if !begins(s, b'{') {
+        return Ok(None);
+    }
+    let mut rest = past_gap(behind_one(s));
+    'members: for _member in 0..s.len() {
+        if begins(rest, b'}') {
+            return Ok(None);
+        }
+        let (part, after) = past_member(alloc, text, rest, place, start)?;
+        if let Some(from) = part {
+            return Ok(Some((from, after.len())));
+        }
+        let stop = past_gap(after);
+        if !begins(stop, b',') {
+            return Ok(None);
+        }
+        rest = past_gap(behind_one(stop));
+    }
+    Ok(None)
+}

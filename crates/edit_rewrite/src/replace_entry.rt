@@ -1,0 +1,171 @@
+//! The entry at a place gives way to another one.
+ghost use Rattle.std.specs.Prelude.{◌≡◌, ◌&&◌, not, true, ◌⊎◌, ◌++◌, ◌≤◌, length, IfOk, IfErr, string_bytes, ◌+◌};
+ghost use Rattle.std.specs.List.{Contains};
+ghost use Rattle.edit_base.specs.Errors.{IsMemory};
+ghost use Rattle.edit_base.specs.declared.errors.Error.TheVariants.{EditRefused};
+ghost use Rattle.edit_syntax.specs.Grammar.{Text};
+ghost use Rattle.edit_tree.specs.Assertions.{Place};
+ghost use Rattle.edit_tree.specs.EditBytes.{Splice, first_made, with_splice, replaced_text, is_one_statement};
+ghost use Rattle.edit_rewrite.specs.Entries.{entry_of};
+ghost use Rattle.edit_rewrite.specs.EntrySpots.{within_entry, last_end, IsAround, Tells, TellsIn};
+ghost use Rattle.edit_document.specs.Items.{place_seen};
+ghost use Rattle.edit_tree.specs.Meant.{HasReplaced, ReplaceFails};
+ghost use Rattle.edit_tree.specs.NewItems.{IsEntry};
+ghost use Rattle.edit_document.specs.NewItemViews.{item_seen};
+ghost use Rattle.edit_tree.specs.Shown.{tree_of};
+ghost use Rattle.edit_rewrite.specs.Spots.{IsSpot};
+ghost use Rattle.edit_tree.specs.Statements.{Stated, stated, line_pairs, inner_pairs};
+ghost use Rattle.edit_tree.specs.Supported.{IsManifest};
+
+use crate::locate::{Entry, entries};
+use crate::members::table_spots;
+use crate::way::{Way, key_end};
+use edit_document::{Document, NewItem, Step};
+use edit_document::new_item::push_entry;
+use edit_base::errors::{CargoResult, Error};
+use edit_syntax::{Mark, first_line};
+use edit_tree::cut::between;
+use std::alloc::Global;
+
+/// Whether it is a pair that names the place or one below it.
+fn is_pair_within(entry: Entry) -> bool
+    ensures { result ≡ (not entry.is_header && entry.is_within) }
+{
+    !entry.is_header && entry.is_within
+}
+
+/// The first pair that names the place or one below it.
+fn first_within(found: &[Entry]) -> Option<Entry>
+    ensures { result ≡ first_made within_entry found.now }
+{
+    'entries: for entry in found {
+        if is_pair_within(*entry) {
+            return Some(*entry);
+        }
+    }
+    None
+}
+
+/// Where the last of some tokens ends, told by how many bytes follow.
+fn last_to(marks: &[Mark]) -> usize
+    ensures { result ≡ last_end 0 marks.now }
+{
+    let mut end = 0;
+    'marks: for mark in marks {
+        end = mark.to as usize;
+    }
+    end
+}
+
+/// Where a pair is written that names the place: behind the part of its key that does, and behind its value.
+fn pair_spots(alloc: Global, text: &str, entry: Entry) -> CargoResult<(usize, usize)>
+    ensures around { (form : Text) (place : Place) (s : Stated) → IsManifest text.now form
+        → is_one_statement form place ≡ true → Contains (stated form) s → entry ≡ entry_of place s
+        → within_entry entry ≡ Some entry → IfOk result (IsAround place (line_pairs form)) }
+    ensures refused { IfErr result IsMemory }
+{
+    let mut marks = Vec::new(alloc);
+    let Ok(_) = first_line(&mut marks, between(text, entry.line, 0).as_bytes()) else {
+        return Err(Error::Memory);
+    };
+    let seen = marks.as_slice();
+    Ok((entry.front.unwrap_or(key_end(seen)), last_to(seen)))
+}
+
+/// The same of the pair that is a statement and names the place, where there is one.
+fn line_spots(alloc: Global, text: &str, place: &[Step]) -> CargoResult<Option<(usize, usize)>>
+    ensures told { (form : Text) → IsManifest text.now form
+        → is_one_statement form (place_seen place.now) ≡ true
+        → IfOk result (Tells (place_seen place.now) (line_pairs form)) }
+    ensures refused { IfErr result IsMemory }
+{
+    let all = entries(alloc, text, place)?;
+    match first_within(all.as_slice()) {
+        Some(entry) => Ok(Some(pair_spots(alloc, text, entry)?)),
+        None => Ok(None),
+    }
+}
+
+/// The text with other bytes in the place of what stands from one spot to another.
+fn swapped(alloc: Global, text: &str, from: usize, to: usize, now: &str) -> CargoResult<String>
+    ensures text { (s : Splice) → IsSpot text.now s.from → IsSpot text.now s.to → from ≡ length s.from
+        → to ≡ length s.to → now.now ≡ s.now → IfOk result (λ r. string_bytes r ≡ with_splice text.now s) }
+    ensures refused { IfErr result IsMemory }
+{
+    let mut out = String::new(alloc);
+    out.push_str(between(text, text.len(), from))?;
+    out.push_str(now)?;
+    out.push_str(between(text, to, 0))?;
+    Ok(out)
+}
+
+/// Where a pair is written that names the place, in the inline table at the place of so many of its
+/// steps, where one is.
+fn spots_in(
+    document: &Document,
+    alloc: Global,
+    place: &[Step],
+    end: usize,
+) -> CargoResult<Option<(usize, usize)>>
+    requires { end ≤ length place.now }
+    ensures told { (form : Text) → IsManifest document.now.bytes form
+        → IfOk result (TellsIn form (place_seen place.now) end) }
+    ensures refused { IfErr result IsMemory }
+{
+    document.has_form();
+    let text = document.as_str();
+    match document.value_range(&place[..end]) {
+        Some((start, _)) => {
+            let table = &text.as_bytes()[start..];
+            table_spots(alloc, text, table, place, Way::On(end))
+        }
+        None => Ok(None),
+    }
+}
+
+/// The same in the inline tables of the whole text.
+fn inner_spots(document: &Document, alloc: Global, place: &[Step]) -> CargoResult<Option<(usize, usize)>>
+    ensures told { (form : Text) → IsManifest document.now.bytes form
+        → IfOk result (Tells (place_seen place.now) (inner_pairs form)) }
+    ensures refused { IfErr result IsMemory }
+{
+    'ends: for end in 0..place.len() + 1 {
+        let spots = spots_in(document, alloc, place, end)?;
+        if spots.is_some() {
+            return Ok(spots);
+        }
+    }
+    Ok(None)
+}
+
+/// Where the pair is written that names a place, of which there is one.
+fn entry_spots(document: &Document, alloc: Global, place: &[Step]) -> CargoResult<(usize, usize)>
+    requires one { (form : Text) → IsManifest document.now.bytes form
+        → is_one_statement form (place_seen place.now) ≡ true }
+    ensures around { (form : Text) → IsManifest document.now.bytes form
+        → IfOk result (IsAround (place_seen place.now) (line_pairs form ++ inner_pairs form)) }
+    ensures refused { IfErr result IsMemory }
+{
+    document.has_form();
+    if let Some(spots) = line_spots(alloc, document.as_str(), place)? {
+        return Ok(spots);
+    }
+    match inner_spots(document, alloc, place)? {
+        Some(spots) => Ok(spots),
+        None => unreachable!(),
+    }
+}
+
+/// The document's text with another entry at a place.
+pub fn with_entry(document: &Document, alloc: Global, place: &[Step], item: &NewItem) -> CargoResult<String>
+    requires one { (form : Text) → IsManifest document.now.bytes form
+        → is_one_statement form (place_seen place.now) ≡ true }
+    ensures text { IfOk result (λ t. (form : Text) → IsManifest document.now.bytes form → string_bytes t
+        ≡ replaced_text (place_seen place.now) (item_seen item.now) form) }
+    ensures refused { IfErr result IsMemory }
+{
+    let (from, to) = entry_spots(document, alloc, place)?;
+    let mut now = String::new(alloc);
+    push_entry(&mut now, item)?;
+    swapped(alloc, document.as_str(), from, to, now.as_str())
+}

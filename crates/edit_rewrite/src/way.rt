@@ -1,0 +1,229 @@
+//! The way to a place that is looked for.
+ghost use Rattle.std.specs.Prelude.{◌≡◌, List, ◌∷◌, IfOk, IfErr, length};
+ghost use Rattle.edit_base.specs.Errors.{IsMemory};
+ghost use Rattle.edit_tree.specs.Assertions.{Place, key as key_step, index as index_step};
+ghost use Rattle.edit_document.specs.Items.{place_seen};
+ghost use Rattle.edit_tree.specs.Statements.{Named};
+ghost use Rattle.edit_rewrite.specs.Standings as standings;
+ghost use Rattle.edit_rewrite.specs.Entries as entries_seen;
+ghost use Rattle.edit_rewrite.specs.EntrySpots as spots_seen;
+
+use edit_document::Step;
+use edit_base::errors::CargoResult;
+use edit_syntax::{Mark, MarkKind};
+use edit_tree::nodes::words_in;
+use edit_tree::words::words_of;
+use std::alloc::Global;
+
+/// How a place stands to one that is looked for: on the way
+/// to it by so many steps, below it, or off the way.
+#[derive(Clone, Copy, PartialEq, Eq)]
+pub(crate) enum Way {
+    On(usize),
+    Below,
+    Off,
+}
+
+/// Whether a way has come to the place.
+pub(crate) fn is_at(way: Way, place: &[Step]) -> bool
+    ensures { result ≡ entries_seen.is_at (length (place_seen place.now)) way }
+{
+    match way {
+        Way::On(done) => done == place.len(),
+        Way::Below | Way::Off => false,
+    }
+}
+
+/// Whether a way has come to the place or below it.
+pub(crate) fn has_come(way: Way, place: &[Step]) -> bool
+    ensures { result ≡ entries_seen.has_come (length (place_seen place.now)) way }
+{
+    match way {
+        Way::On(done) => done == place.len(),
+        Way::Below => true,
+        Way::Off => false,
+    }
+}
+
+/// The way behind a step to a member.
+pub(crate) fn step_name(way: Way, place: &[Step], name: &str) -> Way
+    ensures { result ≡ entries_seen.next_way (place_seen place.now) way (key_step name.now) }
+{
+    match way {
+        Way::On(done) => {
+            if done >= place.len() {
+                return Way::Below;
+            }
+            match &place[done] {
+                Step::Key(key) => {
+                    if name == key.as_str() {
+                        Way::On(done + 1)
+                    } else {
+                        Way::Off
+                    }
+                }
+                Step::Index(_) => Way::Off,
+            }
+        }
+        Way::Below => Way::Below,
+        Way::Off => Way::Off,
+    }
+}
+
+/// The way behind a step to an element.
+pub(crate) fn step_index(way: Way, place: &[Step], number: usize) -> Way
+    ensures { result ≡ entries_seen.next_way (place_seen place.now) way (index_step number) }
+{
+    match way {
+        Way::On(done) => {
+            if done >= place.len() {
+                return Way::Below;
+            }
+            match &place[done] {
+                Step::Key(_) => Way::Off,
+                Step::Index(index) => {
+                    if *index == number {
+                        Way::On(done + 1)
+                    } else {
+                        Way::Off
+                    }
+                }
+            }
+        }
+        Way::Below => Way::Below,
+        Way::Off => Way::Off,
+    }
+}
+
+/// How many elements an array of tables on the way has so far.
+pub(crate) fn count_on(way: Way, counts: &[usize]) -> usize
+    ensures { result ≡ entries_seen.count_on counts.now way }
+{
+    match way {
+        Way::On(done) => { if done < counts.len() { counts[done] } else { 0 } }
+        Way::Below | Way::Off => 0,
+    }
+}
+
+/// A header that goes on below an array of tables goes on below its last element.
+pub(crate) fn resolved(way: Way, place: &[Step], counts: &[usize]) -> Way
+    ensures { result ≡ entries_seen.resolved_way (place_seen place.now) counts.now way }
+{
+    let count = count_on(way, counts);
+    if count > 0 {
+        step_index(way, place, count - 1)
+    } else {
+        way
+    }
+}
+
+/// Whether a mark is that of a part of a key.
+fn is_part(kind: MarkKind) -> bool
+    ensures { result ≡ entries_seen.is_part kind }
+{
+    match kind {
+        MarkKind::BarePart | MarkKind::BasicPart | MarkKind::LiteralPart => true,
+        _ => false,
+    }
+}
+
+/// Whether a part of a key comes first.
+fn begins_part(marks: &[Mark]) -> bool
+    ensures { result ≡ entries_seen.begins_part marks.now }
+{
+    match marks.first() {
+        Some(mark) => is_part(mark.kind),
+        None => false,
+    }
+}
+
+/// The way behind a key, and the spot behind the part of it, but the last, that names the place.
+pub(crate) fn along(
+    alloc: Global,
+    text: &str,
+    place: &[Step],
+    marks: &[Mark],
+    start: Way,
+    counts: &[usize],
+) -> CargoResult<(Way, Option<usize>)>
+    ensures goes { (table : Place) (resolve : Place → Place) (n : Named) (ns : List Named)
+        → entries_seen.AreParts text.now (n ∷ ns) marks.now
+        → entries_seen.Follows (place_seen place.now) counts.now resolve
+        → start ≡ entries_seen.way (place_seen place.now) table
+        → IfOk result (entries_seen.GoesAlong (place_seen place.now) resolve table (n ∷ ns)) }
+    ensures refused { IfErr result IsMemory }
+{
+    if marks.is_empty() {
+        return Ok((start, None));
+    }
+    let mark = marks[0];
+    let words = words_of(alloc, text, mark)?;
+    let here = step_name(start, place, words_in(text, &words));
+    let others = &marks[1..];
+    if !begins_part(others) {
+        return Ok((here, None));
+    }
+    let next = resolved(here, place, counts);
+    let (end, front) = along(alloc, text, place, others, next, counts)?;
+    if is_at(next, place) {
+        Ok((end, Some(mark.to as usize)))
+    } else {
+        Ok((end, front))
+    }
+}
+
+/// The kind of the first mark that is none of a part of a key.
+fn head_of(marks: &[Mark]) -> Option<MarkKind>
+    ensures { result ≡ entries_seen.head_of marks.now }
+{
+    'marks: for mark in marks {
+        if !is_part(mark.kind) {
+            return Some(mark.kind);
+        }
+    }
+    None
+}
+
+/// Where the first mark begins, told by how many bytes follow.
+pub(crate) fn first_from(marks: &[Mark]) -> usize
+    ensures { result ≡ entries_seen.first_from marks.now }
+{
+    match marks.first() {
+        Some(mark) => mark.from as usize,
+        None => 0,
+    }
+}
+
+/// Whether the mark of a header of a table stands behind the key.
+pub(crate) fn heads_table(marks: &[Mark]) -> bool
+    ensures { result ≡ standings.heads_table (entries_seen.head_of marks.now) }
+{
+    match head_of(marks) {
+        Some(MarkKind::Header) => true,
+        _ => false,
+    }
+}
+
+/// Whether that of a header of an element does.
+pub(crate) fn heads_element(marks: &[Mark]) -> bool
+    ensures { result ≡ standings.heads_element (entries_seen.head_of marks.now) }
+{
+    match head_of(marks) {
+        Some(MarkKind::ElementHeader) => true,
+        _ => false,
+    }
+}
+
+/// Where the last part of the key at the front ends, told by how many bytes follow.
+pub(crate) fn key_end(marks: &[Mark]) -> usize
+    ensures { result ≡ spots_seen.key_end 0 marks.now }
+{
+    let mut end = 0;
+    'marks: for mark in marks {
+        if !is_part(mark.kind) {
+            return end;
+        }
+        end = mark.to as usize;
+    }
+    end
+}

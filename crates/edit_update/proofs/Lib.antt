@@ -1,0 +1,11 @@
+mod UpdateFacts
+pub mod EachOnce
+pub mod Updates
+pub mod ItemSteps
+pub mod MissingTables
+pub mod RemovalFacts
+pub mod StaleElements
+pub mod StaleTurns
+pub mod StayingStrings
+pub mod TakenOut
+pub mod Withouts

@@ -1,0 +1,20 @@
+-- A string stands where it stood, once an item is removed that it is not in and that it does not move for.
+use Rattle.std.proofs.Common.{◌≡◌, ℕ, List, Option, Some, sym, ap, ◌∙◌}
+use Rattle.edit_syntax.specs.Grammar.{Text}
+use Rattle.edit_tree.specs.Assertions.{Place}
+use Rattle.edit_tree.specs.Meant.{Tree, Removed, SameButOrder, same, tables, inline_tables, moved}
+use Rattle.edit_tree.specs.Tree.{View, string}
+use Rattle.edit_update.specs.Removals.{HasString, Outlives}
+
+same_string : (o w : Option View) (text : List ℕ) → o ≡ Some (string text) → SameButOrder o w
+    → w ≡ Some (string text)
+same_string _ _ text e (same v) = e
+same_string _ _ text e (tables ms ns h) = absurd cc
+same_string _ _ text e (inline_tables ms ns h) = absurd cc
+
+pub string_stays : (form : Text) (gone q : Place) (old new : Tree) → Removed form gone old new
+    → Outlives gone q → HasString old q → HasString new q
+string_stays form gone q old new removed out h = (
+  h.0,
+  ap new (sym out.2) ∙ same_string (old q) (new (moved gone q)) h.0 h.1 (removed.beside q out.0 out.1),
+)

@@ -1,0 +1,162 @@
+-- An entry that was removed, and its table where no member was left.
+use Rattle.std.proofs.Common.{◌≡◌, ◌==◌, length, ℕ, true, false, cond, List, [], ◌∷◌, ◌++◌, Option, None, Some, refl, sym, ap, ◌∙◌, ◌⊎◌, inl, inr, ⊎_elim, subst, true≢false}
+use Rattle.std.specs.Prelude.{is_some}
+use Rattle.edit_base.specs.declared.errors.Error.{Error}
+use Rattle.edit_base.specs.declared.errors.Error.TheVariants.{EditRefused}
+use Rattle.edit_base.specs.Errors.{IsMemory}
+use Rattle.edit_syntax.specs.Grammar.{Text}
+use Rattle.edit_tree.specs.Assertions.{Place, Step, key, index, at}
+use Rattle.edit_tree.specs.EditBytes.{is_within}
+use Rattle.edit_document.specs.declared.item.Item.{Item}
+use Rattle.edit_document.specs.declared.place.Step.{Step as WrittenStep}
+use Rattle.edit_document.specs.ItemViews.{Finds, view_of}
+use Rattle.edit_document.specs.Items.{place_seen}
+use Rattle.edit_tree.specs.Meant.{Tree, Removed, RemoveFails, is_member}
+use Rattle.edit_tree.specs.RemovedBytes.{removed_text}
+use Rattle.edit_tree.specs.Shown.{Shown, ShowsTree, tree_of}
+use Rattle.edit_tree.specs.Supported.{IsManifest}
+use Rattle.edit_tree.specs.Tree.{View, view_at}
+use Rattle.edit_tree.proofs.HeadedPlaces.{inside_more, inside_self}
+use Rattle.edit_update.specs.Removals.{Without, OneStays}
+use Rattle.edit_update.specs.RemovedEntries.{TakesOut, StaysIn, entry_stays, table_stays, IsKept, IsNotTakenOut, bare_table, entry_of, is_bare, missing_table}
+use Rattle.edit_manifest.specs.Tables.{keyed}
+use Rattle.edit_update.proofs.MissingTables.{more_than_none}
+use Rattle.edit_update.proofs.Withouts.{first_stays, shown_removed, without_one}
+
+-- ---- places
+
+pub member_at : (p : Place) (n : List ℕ) → is_member (at p (key n)) ≡ true
+member_at [] n = refl
+member_at (key m ∷ []) n = refl
+member_at (index i ∷ []) n = refl
+member_at (key m ∷ s ∷ p) n = member_at (s ∷ p) n
+member_at (index i ∷ s ∷ p) n = member_at (s ∷ p) n
+
+member_keyed : (n : List ℕ) (ns : List (List ℕ)) → is_member (keyed (n ∷ ns)) ≡ true
+member_keyed n [] = refl
+member_keyed n (m ∷ ns) = member_keyed m ns
+
+-- a member that was removed is not there
+pub member_gone : (p : Place) (n : List ℕ) (form : Text) (old new : Tree)
+    → Removed form (at p (key n)) old new → new (at p (key n)) ≡ None
+member_gone p n form old new removed = removed.nothing_there (member_at p n) (at p (key n))
+    (inside_self (at p (key n)))
+
+-- nor is what stood in a table that was
+pub inner_gone : (path : List (List ℕ)) (p : Place) (n : List ℕ) (form : Text) (old new : Tree)
+    → p ≡ keyed path → (p ≡ [] → ⊥) → Removed form p old new → new (at p (key n)) ≡ None
+inner_gone [] p n form old new e inner removed = absurd (inner e)
+inner_gone (m ∷ ms) p n form old new e inner removed =
+    removed.nothing_there (ap is_member e ∙ member_keyed m ms) (at p (key n))
+    (inside_more p p (key n ∷ []) (inside_self p))
+
+-- whether a place is the root is told by its steps
+pub root_is : (steps : List WrittenStep) → (length steps == 0) ≡ true → place_seen steps ≡ []
+root_is [] e = refl
+root_is (s ∷ ss) e = absurd (true≢false (sym e ∙ more_than_none (length ss)))
+
+pub root_not : (steps : List WrittenStep) → (length steps == 0) ≡ false → place_seen steps ≡ [] → ⊥
+root_not [] e f = true≢false e
+root_not (s ∷ ss) e f = cc
+
+-- what is found stands there
+pub found_stands : (d : Shown) (p : Place) (r : Option Item) → Finds d p r → is_some r ≡ true
+    → tree_of d p ≡ None → ⊥
+found_stands d p None found e absent = true≢false (sym e)
+found_stands d p (Some i) found e absent = never (sym absent ∙ found.2)
+  where
+    never : None ≡ Some (view_of i) → ⊥
+    never is = cc
+
+-- ---- bare tables
+
+-- whether a table is bare is told by what stands there
+pub bare_same : (t u : Tree) (p : Place) → t p ≡ u p → bare_table t p ≡ bare_table u p
+bare_same t u [] e = refl
+bare_same t u (s ∷ ss) e = ap (λ o. cond (is_bare o) ((s ∷ ss) ∷ []) []) e
+
+pub bare_root : (t : Tree) (p : Place) → p ≡ [] → bare_table t p ≡ []
+bare_root t [] e = refl
+bare_root t (s ∷ ss) e = absurd cc
+
+pub bare_none : (t : Tree) (p : Place) → is_bare (t p) ≡ false → bare_table t p ≡ []
+bare_none t [] e = refl
+bare_none t (s ∷ ss) e = ap (λ b. cond b ((s ∷ ss) ∷ []) []) e
+
+pub bare_some : (t : Tree) (p : Place) → (p ≡ [] → ⊥) → is_bare (t p) ≡ true → bare_table t p ≡ p ∷ []
+bare_some t [] inner e = absurd (inner refl)
+bare_some t (s ∷ ss) inner e = ap (λ b. cond b ((s ∷ ss) ∷ []) []) e
+
+-- ---- both removals
+
+module _ (path : List (List ℕ)) (name : List ℕ) (old : Shown) (form : Text) (r p : Place)
+    (table : r ≡ keyed path)
+    (entry : p ≡ at r (key name)) (reads : IsManifest old.bytes form) (shown : ShowsTree old form) where
+  place_is : p ≡ entry_of path name
+  place_is = entry ∙ ap (λ q. at q (key name)) table
+
+  -- the entry is removed
+  first_out : (middle : Shown) (g : Text) → middle.bytes ≡ removed_text p form → IsManifest middle.bytes g
+      → ShowsTree middle g → Removed form p (tree_of old) (tree_of middle)
+      → Without (entry_of path name ∷ []) old.bytes middle.bytes
+  first_out middle g bytes again shows removed = subst (λ q. Without (q ∷ []) old.bytes middle.bytes) place_is
+      (without_one p form g old.bytes middle.bytes reads bytes again
+      (shown_removed form g p old middle shown shows removed))
+
+  pub taken_out : (middle new : Shown) (g : Text) → missing_table (tree_of old) path ≡ None
+      → (tree_of old p ≡ None → ⊥)
+      → middle.bytes ≡ removed_text p form → IsManifest middle.bytes g → ShowsTree middle g
+      → Removed form p (tree_of old) (tree_of middle)
+      → Without (bare_table (tree_of middle) r) middle.bytes new.bytes → TakesOut path name old new
+  taken_out middle new g tables stood bytes again shows removed rest = record {
+    tables = tables;
+    stood = subst (λ q. tree_of old q ≡ None → ⊥) place_is stood;
+    between = middle.bytes;
+    entry = first_out middle g bytes again shows removed;
+    form = g;
+    reads = again;
+    emptied = subst (λ (ps : List Place). Without ps middle.bytes new.bytes)
+        (ap (bare_table (tree_of middle)) table ∙ bare_same (tree_of middle) (view_at g) (keyed path)
+        (shows (keyed path)))
+        rest;
+  }
+
+  kept : (m : Option (List ℕ)) (o : Option View) (e : Error) → m ≡ None → (o ≡ None → ⊥)
+      → (e ≡ EditRefused) × StaysIn path name old.bytes → IsKept path name old.bytes m o e
+  kept None None e tables stood why = absurd (stood refl)
+  kept None (Some v) e tables stood why = why
+  kept (Some s) o e tables stood why = absurd cc
+
+  refused_for : (e : Error) → missing_table (tree_of old) path ≡ None → (tree_of old p ≡ None → ⊥)
+      → (e ≡ EditRefused) × StaysIn path name old.bytes → IsNotTakenOut path name old e
+  refused_for e tables stood why =
+      inr (kept (missing_table (tree_of old) path) (tree_of old (entry_of path name)) e tables
+      (subst (λ q. tree_of old q ≡ None → ⊥) place_is stood) why)
+
+  -- the entry cannot be removed
+  pub entry_kept : (e : Error) → missing_table (tree_of old) path ≡ None → (tree_of old p ≡ None → ⊥)
+      → IsMemory e ⊎ ((e ≡ EditRefused) × RemoveFails p old.bytes) → IsNotTakenOut path name old e
+  entry_kept e tables stood (inl memory) = inl memory
+  entry_kept e tables stood (inr why) =
+      refused_for e tables stood (
+        why.0,
+        entry_stays (first_stays (entry_of path name) [] old.bytes
+            (subst (λ q. RemoveFails q old.bytes) place_is why.1)),
+      )
+
+  -- its table cannot
+  pub table_kept : (middle : Shown) (g : Text) (e : Error) → missing_table (tree_of old) path ≡ None
+      → (tree_of old p ≡ None → ⊥) → middle.bytes ≡ removed_text p form → IsManifest middle.bytes g
+      → ShowsTree middle g → Removed form p (tree_of old) (tree_of middle)
+      → IsMemory e ⊎ ((e ≡ EditRefused) × OneStays (bare_table (tree_of middle) r) middle.bytes)
+      → IsNotTakenOut path name old e
+  table_kept middle g e tables stood bytes again shows removed (inl memory) = inl memory
+  table_kept middle g e tables stood bytes again shows removed (inr why) =
+      refused_for e tables stood (
+        why.0,
+        table_stays middle.bytes g (first_out middle g bytes again shows removed) again
+            (subst (λ (ps : List Place). OneStays ps middle.bytes)
+            (ap (bare_table (tree_of middle)) table ∙ bare_same (tree_of middle) (view_at g) (keyed path)
+            (shows (keyed path)))
+            why.1),
+      )

@@ -1,0 +1,276 @@
+//! How the members of an entry end that is to say what a record says.
+ghost use Rattle.std.specs.Prelude.{◌≡◌, ◌++◌, ◌∷◌, [], List, ℕ, None, Some, IfErr, IfOk, OnOk, codes, if◌then◌else◌, map, option_copied, option_map, string_bytes, unwrap_or};
+ghost use Rattle.edit_base.specs.Errors.{IsMemory};
+ghost use Rattle.edit_base.specs.Paths.{texts};
+ghost use Rattle.edit_tree.specs.NewItems.{a_string, a_truth};
+ghost use Rattle.edit_document.specs.NewItemViews.{value_seen};
+ghost use Rattle.edit_update.specs.EndViews.{ends_seen};
+ghost use Rattle.edit_update.specs.EntryUpdates.{each_once, ends, ends_with_version, joined_features, own_ends, other_ends, package_ends, source_ends, texts_or_none, workspace_end};
+ghost use Rattle.edit_record.specs.EntryRecords.{from_git, from_registry, from_workspace};
+ghost use Rattle.edit_record.specs.NewEntries.{written_name};
+ghost use Rattle.edit_record.specs.ReadEntries.{features_at};
+ghost use Rattle.edit_record.specs.RecordViews.{path_view, record_view, repository_view, shown_at, source_view, texts_view};
+
+use edit_base::errors::{CargoResult, Error};
+use edit_document::{Item, NewValue};
+use edit_record::dependency::{features_at, joined, path_field};
+use edit_record::{Dependency, GitSource, PathSource, Source};
+use std::alloc::{AllocError, Global};
+use std::collections::BTreeSet;
+
+/// A member of an entry and how it ends: with a value, or not there.
+#[derive(Drop)]
+pub(crate) struct End {
+    pub(crate) name: &'static str,
+    pub(crate) value: Option<NewValue>,
+}
+
+/// Appends a member and how it ends.
+fn push_end(
+    ends: &mut Vec<End>,
+    name: &'static str,
+    value: Option<NewValue>,
+) -> Result<(), AllocError>
+    ensures { OnOk result (ends_seen ends.new.items
+        ≡ ends_seen ends.old.items ++ (name.now, option_map value_seen value) ∷ []) }
+{
+    ends.push(End { name, value })?;
+    Ok(())
+}
+
+/// Appends a member that ends with a text, where there is one.
+fn push_text(
+    ends: &mut Vec<End>,
+    name: &'static str,
+    text: Option<&String>,
+) -> Result<(), AllocError>
+    ensures { OnOk result (ends_seen ends.new.items ≡ ends_seen ends.old.items
+        ++ (name.now, option_map a_string (option_map string_bytes (option_copied text.entry))) ∷ []) }
+{
+    match text {
+        Some(text) => push_end(ends, name, Some(NewValue::Str(text.clone()?))),
+        None => push_end(ends, name, None),
+    }
+}
+
+/// Appends a member that ends as true or false, where that is said.
+fn push_truth(
+    ends: &mut Vec<End>,
+    name: &'static str,
+    truth: Option<bool>,
+) -> Result<(), AllocError>
+    ensures { OnOk result (ends_seen ends.new.items
+        ≡ ends_seen ends.old.items ++ (name.now, option_map a_truth truth) ∷ []) }
+{
+    match truth {
+        Some(truth) => push_end(ends, name, Some(NewValue::Bool(truth))),
+        None => push_end(ends, name, None),
+    }
+}
+
+/// Appends members that go.
+fn push_gone(ends: &mut Vec<End>, names: &[&'static str]) -> Result<(), AllocError>
+    ensures { OnOk result (ends_seen ends.new.items
+        ≡ ends_seen ends.old.items ++ map (λ n. (n, None)) (texts names.now)) }
+{
+    'names: for name in names {
+        push_end(ends, name, None)?;
+    }
+    Ok(())
+}
+
+/// Appends the members of a folder, as seen from the root.
+fn push_path(alloc: Global, root: &str, ends: &mut Vec<End>, source: &PathSource) -> CargoResult<()>
+    ensures ok { OnOk result (ends_seen ends.new.items
+        ≡ ends_seen ends.old.items ++ own_ends root.now (path_view source.now)) }
+    ensures refused { IfErr result IsMemory }
+{
+    let path = path_field(alloc, root, source.path.as_str())?;
+    push_end(ends, "path", Some(NewValue::Str(path)))?;
+    push_text(ends, "version", source.version.as_ref())?;
+    Ok(())
+}
+
+/// Appends the members of a repository.
+fn push_repository(ends: &mut Vec<End>, source: &GitSource) -> Result<(), AllocError>
+    ensures { OnOk result (ends_seen ends.new.items
+        ≡ ends_seen ends.old.items ++ own_ends [] (from_git (repository_view source.now))) }
+{
+    push_text(ends, "git", Some(&source.git))?;
+    push_text(ends, "branch", source.branch.as_ref())?;
+    push_text(ends, "tag", source.tag.as_ref())?;
+    push_text(ends, "rev", source.rev.as_ref())?;
+    push_text(ends, "version", source.version.as_ref())
+}
+
+/// Appends the members that name a source.
+fn push_own(alloc: Global, root: &str, ends: &mut Vec<End>, source: &Source) -> CargoResult<()>
+    ensures ok { OnOk result (ends_seen ends.new.items
+        ≡ ends_seen ends.old.items ++ own_ends root.now (source_view source.now)) }
+    ensures refused { IfErr result IsMemory }
+{
+    match source {
+        Source::Registry(source) => push_text(ends, "version", Some(&source.version))?,
+        Source::Path(source) => push_path(alloc, root, ends, source)?,
+        Source::Git(source) => push_repository(ends, source)?,
+        Source::Workspace(_) => push_truth(ends, "workspace", Some(true))?,
+    }
+    Ok(())
+}
+
+/// Appends the members that name other sources; they go.
+fn push_other(ends: &mut Vec<End>, source: &Source) -> Result<(), AllocError>
+    ensures { (root : List ℕ) → OnOk result (ends_seen ends.new.items
+        ≡ ends_seen ends.old.items ++ other_ends (own_ends root (source_view source.now))) }
+{
+    match source {
+        Source::Registry(_) => push_gone(
+            ends,
+            &["path", "git", "branch", "tag", "rev", "workspace"],
+        ),
+        Source::Path(_) => push_gone(ends, &["git", "branch", "tag", "rev", "workspace"]),
+        Source::Git(_) => push_gone(ends, &["path", "workspace"]),
+        Source::Workspace(_) => push_gone(
+            ends,
+            &["version", "path", "git", "branch", "tag", "rev"],
+        ),
+    }
+}
+
+/// The texts of a member `features`, none where it is not there or no array of strings.
+fn old_features(alloc: Global, entry: Item<'_>) -> CargoResult<Option<Vec<String>>>
+    ensures ok { IfOk result (λ o. unwrap_or (option_map texts_view o) []
+        ≡ texts_or_none (features_at (shown_at entry.entry) [])) }
+    ensures refused { IfErr result IsMemory }
+{
+    match features_at(alloc, "", entry) {
+        Ok(texts) => Ok(texts),
+        Err(error) => {
+            if error.number() == Error::Memory.number() {
+                return Err(error);
+            }
+            Ok(None)
+        }
+    }
+}
+
+/// Each text once, at its first place.
+fn each_once(alloc: Global, texts: &[String]) -> Result<Vec<String>, AllocError>
+    ensures { IfOk result (λ v. texts_view v ≡ each_once (map string_bytes texts.now)) }
+{
+    let mut seen = BTreeSet::new(alloc);
+    let mut once = Vec::new(alloc);
+    'texts: for text in texts {
+        let added = seen.insert(text.as_str())?;
+        if added {
+            once.push(text.clone()?)?;
+        }
+    }
+    Ok(once)
+}
+
+/// The features of an entry and then others, each once.
+fn joined_features(alloc: Global, entry: Item<'_>, new: &Vec<String>) -> CargoResult<NewValue>
+    ensures ok { IfOk result (λ v. value_seen v
+        ≡ joined_features (shown_at entry.entry) (texts_view new.now)) }
+    ensures refused { IfErr result IsMemory }
+{
+    let old = old_features(alloc, entry)?;
+    let all = joined(old, new.clone()?)?;
+    Ok(NewValue::Strings(each_once(alloc, &all)?))
+}
+
+/// Appends the members of the source and of other sources.
+fn push_sources(dependency: &Dependency, alloc: Global, root: &str, ends: &mut Vec<End>) -> CargoResult<()>
+    ensures ok { OnOk result (ends_seen ends.new.items
+        ≡ ends_seen ends.old.items ++ source_ends root.now (record_view dependency.now).origin) }
+    ensures refused { IfErr result IsMemory }
+{
+    if let Some(source) = dependency: &Dependency.source {
+        push_own(alloc, root, ends, source)?;
+        push_other(ends, source)?;
+    }
+    Ok(())
+}
+
+/// Appends a member that goes with a source of the workspace.
+fn push_with_workspace(dependency: &Dependency, ends: &mut Vec<End>, name: &'static str) -> Result<(), AllocError>
+    ensures { OnOk result (ends_seen ends.new.items
+        ≡ ends_seen ends.old.items ++ workspace_end name.now (record_view dependency.now).origin) }
+{
+    match dependency: &Dependency.source {
+        Some(Source::Workspace(_)) => push_end(ends, name, None),
+        _ => Ok(()),
+    }
+}
+
+/// Whether an entry ends with a member `version`.
+fn ends_with_version(dependency: &Dependency, entry: Item<'_>) -> bool
+    ensures { result ≡ ends_with_version (shown_at entry.entry) (record_view dependency.now).origin }
+{
+    match dependency: &Dependency.source {
+        Some(source) => source.version().is_some(),
+        None => entry.get("version").is_some(),
+    }
+}
+
+/// Appends how `registry` ends: it stays beside a version alone.
+fn push_registry(dependency: &Dependency, ends: &mut Vec<End>, entry: Item<'_>) -> Result<(), AllocError>
+    ensures { OnOk result (ends_seen ends.new.items ≡ ends_seen ends.old.items
+        ++ (
+          codes "registry",
+          if ends_with_version (shown_at entry.entry) (record_view dependency.now).origin
+              then option_map a_string (record_view dependency.now).registry else None,
+        ) ∷ []) }
+{
+    if ends_with_version(dependency, entry) {
+        return push_text(ends, "registry", dependency.registry.as_ref());
+    }
+    push_end(ends, "registry", None)
+}
+
+/// Appends how `package` ends.
+fn push_package(dependency: &Dependency, ends: &mut Vec<End>) -> Result<(), AllocError>
+    ensures { OnOk result (ends_seen ends.new.items ≡ ends_seen ends.old.items
+        ++ package_ends (written_name (record_view dependency.now)) (record_view dependency.now).origin) }
+{
+    match dependency: &Dependency.rename {
+        Some(_) => push_text(ends, "package", Some(dependency: &Dependency.name)),
+        None => push_with_workspace(dependency, ends, "package"),
+    }
+}
+
+/// Appends how `features` ends.
+fn push_features(dependency: &Dependency, alloc: Global, ends: &mut Vec<End>, entry: Item<'_>) -> CargoResult<()>
+    ensures ok { OnOk result (ends_seen ends.new.items ≡ ends_seen ends.old.items
+        ++ (
+          codes "features",
+          option_map (joined_features (shown_at entry.entry))
+              (record_view dependency.now).features,
+        ) ∷ []) }
+    ensures refused { IfErr result IsMemory }
+{
+    let value = match dependency: &Dependency.features {
+        Some(new) => Some(joined_features(alloc, entry, new)?),
+        None => None,
+    };
+    push_end(ends, "features", value)?;
+    Ok(())
+}
+
+/// How the members of an entry end that is to say what the record says, in their order.
+pub(crate) fn ends(dependency: &Dependency, alloc: Global, root: &str, entry: Item<'_>) -> CargoResult<Vec<End>>
+    ensures ok { IfOk result (λ v. ends_seen v.items
+        ≡ ends (shown_at entry.entry) root.now (record_view dependency.now)) }
+    ensures refused { IfErr result IsMemory }
+{
+    let mut ends = Vec::new(alloc);
+    push_sources(dependency, alloc, root, &mut ends)?;
+    push_with_workspace(dependency, &mut ends, "registry-index")?;
+    push_registry(dependency, &mut ends, entry)?;
+    push_package(dependency, &mut ends)?;
+    push_truth(&mut ends, "default-features", dependency.default_features)?;
+    push_features(dependency, alloc, &mut ends, entry)?;
+    push_truth(&mut ends, "optional", dependency.optional)?;
+    Ok(ends)
+}

@@ -1,0 +1,224 @@
+//! Strings of features that name a dependency which is gone.
+ghost use Rattle.std.specs.Prelude.{◌≡◌, ◌⊎◌, ◌++◌, IfErr, IfOk, OnOk, codes};
+ghost use Rattle.edit_base.specs.Errors.{IsMemory};
+ghost use Rattle.edit_base.specs.declared.errors.Error.TheVariants.{EditRefused};
+ghost use Rattle.edit_tree.specs.Assertions.{Place as PlaceSeen, at, index as index_step};
+ghost use Rattle.edit_document.specs.ItemViews.{Finds};
+ghost use Rattle.edit_document.specs.Items.{place_seen};
+ghost use Rattle.edit_tree.specs.Shown.{Shown, tree_of};
+ghost use Rattle.edit_update.specs.Features.{IsNotCleared, goes, holds, is_held, is_in_workspace, is_offered, is_plain, is_section, offers, stale_in, stale_in_features, stale_strings};
+ghost use Rattle.edit_manifest.specs.Places.{places_seen};
+ghost use Rattle.edit_update.specs.Removals.{AreInTurn, AreStrings, OneStays, Without};
+ghost use Rattle.edit_manifest.specs.Tables.{dependency_tables};
+
+use edit_base::errors::CargoResult;
+use edit_changes::DocumentExt;
+use edit_document::{Document, Item, Place, Step, copied_place, member_place};
+use edit_manifest::dependency_tables;
+use edit_manifest::ways::{item_below, place_of};
+use std::alloc::Global;
+
+/// Whether this is a table that is not written inline.
+fn is_plain(item: Option<Item>) -> bool
+    ensures { (d : Shown) → (place : PlaceSeen) → Finds d place item.entry
+        → result ≡ is_plain (tree_of d place) }
+{
+    match item {
+        Some(item) => item.is_table_like() && !item.is_inline_table(),
+        None => false,
+    }
+}
+
+/// Whether a place is that of the workspace or lies below it.
+fn is_in_workspace(place: &[Step]) -> bool
+    ensures { result ≡ is_in_workspace (place_seen place.now) }
+{
+    match place.first() {
+        Some(Step::Key(name)) => name.as_str() == "workspace",
+        Some(Step::Index(_)) | None => false,
+    }
+}
+
+/// Whether the dependency table at a place is a section of the package's own.
+fn is_section(document: &Document, place: &[Step]) -> bool
+    ensures { result ≡ is_section (tree_of document.now) (place_seen place.now) }
+{
+    !is_in_workspace(place) && is_plain(document.item(place))
+}
+
+/// Whether such a section stands there and has an entry of this key.
+fn holds(document: &Document, place: &[Step], name: &str) -> bool
+    ensures { result ≡ holds (tree_of document.now) name.now (place_seen place.now) }
+{
+    is_section(document, place) && item_below(document, document.item(place), name).is_some()
+}
+
+/// Whether such a section stands there and has an optional entry of this key.
+fn offers(document: &Document, place: &[Step], name: &str) -> bool
+    ensures { result ≡ offers (tree_of document.now) name.now (place_seen place.now) }
+{
+    if !is_section(document, place) {
+        return false;
+    }
+    let entry = item_below(document, document.item(place), name);
+    match item_below(document, entry, "optional") {
+        Some(optional) => optional.as_bool().unwrap_or(false),
+        None => false,
+    }
+}
+
+/// Whether some section has an entry of this key.
+fn is_held(document: &Document, tables: &[Place], name: &str) -> bool
+    requires tables { places_seen tables.now ≡ dependency_tables (tree_of document.now) }
+    ensures { result ≡ is_held (tree_of document.now) name.now }
+{
+    'tables: for table in tables {
+        if holds(document, table, name) {
+            return true;
+        }
+    }
+    false
+}
+
+/// Whether some section has an optional entry of this key.
+fn is_offered(document: &Document, tables: &[Place], name: &str) -> bool
+    requires tables { places_seen tables.now ≡ dependency_tables (tree_of document.now) }
+    ensures { result ≡ is_offered (tree_of document.now) name.now }
+{
+    'tables: for table in tables {
+        if offers(document, table, name) {
+            return true;
+        }
+    }
+    false
+}
+
+/// A dependency that is gone: its key, the key with a slash, and whether some section holds the key.
+#[derive(Clone, Copy)]
+struct Gone<'a> {
+    name: &'a str,
+    front: &'a str,
+    is_held: bool,
+    ghost fronted: { front.now ≡ name.now ++ codes "/" },
+}
+
+/// Whether a string that names the dependency stands there.
+fn goes(item: Option<Item>, gone: Gone) -> bool
+    ensures { (d : Shown) → (place : PlaceSeen) → Finds d place item.entry
+        → result ≡ goes gone.entry.is_held gone.entry.name.now (tree_of d place) }
+{
+    let Some(item) = item else {
+        return false;
+    };
+    match item.as_str() {
+        Some(text) => text == gone.name || !gone.is_held && text.starts_with(gone.front),
+        None => false,
+    }
+}
+
+/// The place of an element of the array at a place.
+fn element_place(alloc: Global, array: &[Step], index: usize) -> CargoResult<Place>
+    ensures ok { IfOk result (λ p. place_seen p.items ≡ at (place_seen array.now) (index_step index)) }
+    ensures refused { IfErr result IsMemory }
+{
+    let mut place = copied_place(alloc, array)?;
+    place.push(Step::Index(index))?;
+    Ok(place)
+}
+
+/// Adds the places of the strings of an array that go, the last first.
+fn push_stale(
+    alloc: Global,
+    document: &Document,
+    array: &[Step],
+    gone: Gone,
+    places: &mut Vec<Place>,
+) -> CargoResult<()>
+    ensures ok { OnOk result (places_seen places.new.items ≡ places_seen places.old.items
+        ++ stale_in (tree_of document.now) gone.entry.is_held gone.entry.name.now (place_seen array.now)) }
+    ensures refused { IfErr result IsMemory }
+{
+    let Some(item) = document.item(array) else {
+        return Ok(());
+    };
+    let Some(elements) = item.as_array() else {
+        return Ok(());
+    };
+    let mut left = elements.len();
+    'elements: while left > 0 {
+        left -= 1;
+        if goes(elements.at(left), gone) {
+            let place = element_place(alloc, array, left)?;
+            places.push(place)?;
+        }
+    }
+    Ok(())
+}
+
+/// The places of the strings of all features that go, feature by feature.
+fn stale_in_features(alloc: Global, document: &Document, gone: Gone) -> CargoResult<Vec<Place>>
+    ensures ok { IfOk result (λ ps. places_seen ps.items
+        ≡ stale_in_features (tree_of document.now) gone.entry.is_held gone.entry.name.now) }
+    ensures refused { IfErr result IsMemory }
+{
+    let mut places = Vec::new(alloc);
+    let features = place_of(alloc, &["features"])?;
+    let Some(item) = document.item(&features) else {
+        return Ok(places);
+    };
+    if !is_plain(Some(item)) {
+        return Ok(places);
+    }
+    'features: for feature in item.keys() {
+        let array = member_place(alloc, &features, feature)?;
+        push_stale(alloc, document, &array, gone, &mut places)?;
+    }
+    Ok(places)
+}
+
+/// The places of the strings that go, in the order in which they do.
+fn stale_strings(alloc: Global, document: &Document, name: &str) -> CargoResult<Vec<Place>>
+    ensures ok { IfOk result (λ ps. places_seen ps.items
+        ≡ stale_strings (tree_of document.now) name.now) }
+    ensures refused { IfErr result IsMemory }
+{
+    let tables = dependency_tables(alloc, document)?;
+    if is_offered(document, &tables, name) {
+        return Ok(Vec::new(alloc));
+    }
+    let front = format!(in alloc; "{name}/")?;
+    let gone = Gone {
+        name,
+        front: front.as_str(),
+        is_held: is_held(document, &tables, name),
+    };
+    stale_in_features(alloc, document, gone)
+}
+
+/// The document without the strings at these places, removed one after the other.
+fn without(alloc: Global, document: &Document, places: &[Place]) -> CargoResult<Document>
+    requires strings { AreStrings (tree_of document.now) (places_seen places.now) }
+    requires apart { AreInTurn (places_seen places.now) }
+    ensures without { IfOk result (λ d. Without (places_seen places.now) document.now.bytes d.bytes) }
+    ensures refused { IfErr result (λ e. IsMemory e ⊎ ((e ≡ EditRefused)
+        × OneStays (places_seen places.now) document.now.bytes)) }
+{
+    let mut left = document.try_clone(alloc)?;
+    'places: for place in places {
+        left.has_form();
+        left.remove(alloc, place)?;
+        left.has_form();
+    }
+    Ok(left)
+}
+
+/// The document without the strings that go.
+pub(crate) fn cleared(alloc: Global, document: &Document, name: &str) -> CargoResult<Document>
+    ensures text { IfOk result (λ d. Without (stale_strings (tree_of document.now) name.now)
+        document.now.bytes d.bytes) }
+    ensures refused { IfErr result (IsNotCleared name.now document.now) }
+{
+    document.has_form();
+    let places = stale_strings(alloc, document, name)?;
+    without(alloc, document, &places)
+}

@@ -1,0 +1,11 @@
+//! Entries written by their records, and entries and features removed from a manifest.
+#![tactic(auto)]
+
+mod ends;
+mod features;
+mod manifest_ext;
+mod remove;
+mod update;
+
+pub use manifest_ext::ManifestExt;
+pub use update::DependencyExt;

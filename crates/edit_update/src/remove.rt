@@ -1,0 +1,142 @@
+//! Entries removed from their tables.
+ghost use Rattle.std.specs.Prelude.{◌≡◌, ◌⊎◌, ℕ, List, None, IfErr, IfOk, OnOk, map, option_map, string_bytes};
+ghost use Rattle.edit_base.specs.Errors.{IsMemory};
+ghost use Rattle.edit_base.specs.declared.errors.Error.TheVariants.{EditRefused};
+ghost use Rattle.edit_tree.specs.Assertions.{Place as PlaceSeen, at, key};
+ghost use Rattle.edit_document.specs.ItemViews.{Finds};
+ghost use Rattle.edit_document.specs.Items.{place_seen};
+ghost use Rattle.edit_tree.specs.Shown.{Shown, tree_of};
+ghost use Rattle.edit_update.specs.Removals.{OneStays, Without};
+ghost use Rattle.edit_update.specs.RemovedEntries.{IsNotTakenOut, NamesEntry, NamesStep, TakesOut, bare_table, entry_of, is_bare, missing_table};
+ghost use Rattle.edit_manifest.specs.Tables.{is_table_like, keyed};
+
+use edit_base::errors::{CargoResult, Error};
+use edit_changes::DocumentExt;
+use edit_document::{Document, Item, Place, Step, member_place};
+use edit_manifest::ways::item_below;
+use std::alloc::{AllocError, Global};
+
+/// Whether this is a table or an inline table.
+fn is_table(item: Option<Item>) -> bool
+    ensures { (d : Shown) → (place : PlaceSeen) → Finds d place item.entry
+        → result ≡ is_table_like (tree_of d place) }
+{
+    match item {
+        Some(item) => item.is_table_like(),
+        None => false,
+    }
+}
+
+/// The first of these names, one below the other, at which no table stands. It takes no memory.
+fn missing_table<'p>(document: &Document, table_path: &'p [String]) -> Option<&'p str>
+    ensures { option_map (λ s. s.now) result
+        ≡ missing_table (tree_of document.now) (map string_bytes table_path.now) }
+{
+    let mut item = document.item(&[]);
+    'steps: for step in table_path {
+        item = item_below(document, item, step.as_str());
+        if !is_table(item) {
+            return Some(step.as_str());
+        }
+    }
+    None
+}
+
+/// The place of the members of these names, one below the other, from the root.
+fn path_place(alloc: Global, table_path: &[String]) -> Result<Place, AllocError>
+    ensures ok { IfOk result (λ p. place_seen p.items ≡ keyed (map string_bytes table_path.now)) }
+{
+    let mut place = Vec::with_capacity(alloc, table_path.len())?;
+    'steps: for step in table_path {
+        let name = String::from_str(alloc, step.as_str())?;
+        place.push(Step::Key(name))?;
+    }
+    Ok(place)
+}
+
+/// The refusal for want of a table.
+fn no_table(alloc: Global, step: &str) -> Error
+    ensures { IsMemory result ⊎ NamesStep step.now result }
+{
+    match String::from_str(alloc, step) {
+        Ok(step) => Error::NoTable { step },
+        Err(error) => Error::from(error),
+    }
+}
+
+/// The refusal for want of an entry, with the path of its table.
+fn no_entry(alloc: Global, table_path: &[String], name: &str) -> Error
+    ensures { IsMemory result ⊎ NamesEntry (map string_bytes table_path.now) name.now result }
+{
+    let Ok(name) = String::from_str(alloc, name) else {
+        return Error::Memory;
+    };
+    match table_path.join(alloc, ".") {
+        Ok(path) => Error::NoDependency { name, path },
+        Err(error) => Error::from(error),
+    }
+}
+
+/// Removes a table that has no members any more; the root stays.
+fn remove_bare(alloc: Global, document: &mut Document, table: &[Step]) -> CargoResult<()>
+    ensures without { OnOk result (Without (bare_table (tree_of document.old) (place_seen table.now))
+        document.old.bytes document.new.bytes) }
+    ensures gone { OnOk result ((path : List (List ℕ)) → (name : List ℕ)
+        → place_seen table.now ≡ keyed path
+        → tree_of document.old (at (place_seen table.now) (key name)) ≡ None
+        → tree_of document.new (at (place_seen table.now) (key name)) ≡ None) }
+    ensures refused { IfErr result (λ e. IsMemory e ⊎ ((e ≡ EditRefused)
+        × OneStays (bare_table (tree_of document.old) (place_seen table.now)) document.old.bytes)) }
+{
+    document.has_form();
+    if table.is_empty() {
+        return Ok(());
+    }
+    if !is_bare(document.item(table)) {
+        return Ok(());
+    }
+    document.remove(alloc, table)?;
+    document.has_form();
+    Ok(())
+}
+
+/// Whether this is a table or an inline table without members.
+fn is_bare(item: Option<Item>) -> bool
+    ensures { (d : Shown) → (place : PlaceSeen) → Finds d place item.entry
+        → result ≡ is_bare (tree_of d place) }
+{
+    match item {
+        Some(item) => item.is_table_like() && item.len() == 0,
+        None => false,
+    }
+}
+
+/// The document without the entry of a name in the table at a path, and without the table where it has no
+/// member left.
+pub(crate) fn taken_out(
+    alloc: Global,
+    document: &Document,
+    table_path: &[String],
+    name: &str,
+) -> CargoResult<Document>
+    ensures text { IfOk result (λ d. TakesOut (map string_bytes table_path.now) name.now document.now d) }
+    ensures gone { IfOk result
+        (λ d. tree_of d (entry_of (map string_bytes table_path.now) name.now) ≡ None) }
+    ensures refused { IfErr result
+        (IsNotTakenOut (map string_bytes table_path.now) name.now document.now) }
+{
+    if let Some(step) = missing_table(document, table_path) {
+        return Err(no_table(alloc, step));
+    }
+    let table = path_place(alloc, table_path)?;
+    let entry = member_place(alloc, &table, name)?;
+    if document.item(&entry).is_none() {
+        return Err(no_entry(alloc, table_path, name));
+    }
+    document.has_form();
+    let mut left = document.try_clone(alloc)?;
+    left.remove(alloc, &entry)?;
+    left.has_form();
+    remove_bare(alloc, &mut left, &table)?;
+    Ok(left)
+}

@@ -1,0 +1,212 @@
+//! An entry comes to say what a record says.
+ghost use Rattle.std.specs.Prelude.{◌≡◌, ◌⊎◌, ◌≤◌, ◌&&◌, length, None, Some, IfOk, IfErr};
+ghost use Rattle.std.specs.List.{filter_map};
+ghost use Rattle.edit_base.specs.Errors.{IsMemory};
+ghost use Rattle.edit_base.specs.declared.errors.Error.TheVariants.{EditRefused};
+ghost use Rattle.edit_syntax.specs.Grammar.{Text};
+ghost use Rattle.edit_tree.specs.EditBytes.{is_one_statement};
+ghost use Rattle.edit_document.specs.Items.{place_seen};
+ghost use Rattle.edit_document.specs.ItemViews.{view_of};
+ghost use Rattle.edit_document.specs.NewItemViews.{value_seen};
+ghost use Rattle.edit_tree.specs.Shown.{tree_of};
+ghost use Rattle.edit_tree.specs.Supported.{IsManifest};
+ghost use Rattle.edit_update.specs.EndViews.{ends_seen};
+ghost use Rattle.edit_update.specs.EntryUpdates.{is_slight, removal_of, removes, write_of, writes};
+ghost use Rattle.edit_record.specs.RecordViews.{record_view};
+ghost use Rattle.edit_update.specs.UpdatedTexts.{ChangeFails, Changed, HasChanged, OneFails, Updated, UpdateFails, changed_text};
+
+use crate::ends::{End, ends};
+use edit_base::errors::CargoResult;
+use edit_changes::DocumentExt;
+use edit_document::{Document, Item, NewValue, Step, member_place};
+use edit_record::Dependency;
+use std::alloc::Global;
+
+/// Writes a member of an entry: the literal of a value is replaced, and what is not there is inserted.
+fn write_member(
+    alloc: Global,
+    document: &mut Document,
+    entry: &[Step],
+    name: &str,
+    value: &NewValue,
+) -> CargoResult<()>
+    requires room { length entry.now ≤ 70 }
+    ensures bytes { IfOk result (λ _. (form : Text) → IsManifest document.old.bytes form
+        → document.new.bytes ≡ changed_text (place_seen entry.now)
+        (writes name.now (value_seen value.now)) form) }
+    ensures tree { IfOk result (λ _. (form : Text) → IsManifest document.old.bytes form
+        → HasChanged (place_seen entry.now) (writes name.now (value_seen value.now)) form
+        (tree_of document.old) (tree_of document.new)) }
+    ensures refused { IfErr result (λ e. IsMemory e ⊎ ((e ≡ EditRefused) × ChangeFails
+        (place_seen entry.now) (writes name.now (value_seen value.now)) document.old.bytes)) }
+{
+    document.has_form();
+    let place = member_place(alloc, entry, name)?;
+    if document.is_value(&place) {
+        return document.set_value(alloc, &place, value);
+    }
+    if document.item(&place).is_some() {
+        return Ok(());
+    }
+    document.insert(alloc, entry, name, value)
+}
+
+/// Removes a member of an entry, where it is there.
+fn remove_member(
+    alloc: Global,
+    document: &mut Document,
+    entry: &[Step],
+    name: &str,
+) -> CargoResult<()>
+    ensures bytes { IfOk result (λ _. (form : Text) → IsManifest document.old.bytes form
+        → document.new.bytes ≡ changed_text (place_seen entry.now) (removes name.now) form) }
+    ensures tree { IfOk result (λ _. (form : Text) → IsManifest document.old.bytes form
+        → HasChanged (place_seen entry.now) (removes name.now) form (tree_of document.old)
+        (tree_of document.new)) }
+    ensures refused { IfErr result (λ e. IsMemory e ⊎ ((e ≡ EditRefused)
+        × ChangeFails (place_seen entry.now) (removes name.now) document.old.bytes)) }
+{
+    document.has_form();
+    let place = member_place(alloc, entry, name)?;
+    if document.item(&place).is_none() {
+        return Ok(());
+    }
+    document.remove(alloc, &place)
+}
+
+/// Writes each member that ends with a value.
+fn write_members(
+    alloc: Global,
+    document: &mut Document,
+    entry: &[Step],
+    ends: &[End],
+) -> CargoResult<()>
+    requires room { length entry.now ≤ 70 }
+    ensures changed { IfOk result (λ _. Changed (place_seen entry.now)
+        (filter_map write_of (ends_seen ends.now)) document.old.bytes document.new.bytes) }
+    ensures refused { IfErr result (λ e. IsMemory e ⊎ ((e ≡ EditRefused) × OneFails
+        (place_seen entry.now) (filter_map write_of (ends_seen ends.now)) document.old.bytes)) }
+{
+    'ends: for end in ends {
+        document.has_form();
+        if let Some(value) = &end.value {
+            write_member(alloc, document, entry, end.name, value)?;
+            document.has_form();
+        }
+    }
+    Ok(())
+}
+
+/// Removes each member that ends without a value.
+fn remove_members(
+    alloc: Global,
+    document: &mut Document,
+    entry: &[Step],
+    ends: &[End],
+) -> CargoResult<()>
+    ensures changed { IfOk result (λ _. Changed (place_seen entry.now)
+        (filter_map removal_of (ends_seen ends.now)) document.old.bytes document.new.bytes) }
+    ensures refused { IfErr result (λ e. IsMemory e ⊎ ((e ≡ EditRefused) × OneFails
+        (place_seen entry.now) (filter_map removal_of (ends_seen ends.now)) document.old.bytes)) }
+{
+    'ends: for end in ends {
+        document.has_form();
+        if end.value.is_none() {
+            remove_member(alloc, document, entry, end.name)?;
+            document.has_form();
+        }
+    }
+    Ok(())
+}
+
+/// Whether it is a string, or a table of one member.
+fn is_slight(entry: Item<'_>) -> bool
+    ensures { result ≡ is_slight (Some (view_of entry.entry)) }
+{
+    entry.is_str() || (entry.is_table_like() && entry.len() == 1)
+}
+
+/// Whether another entry comes in its place: it is one of these, and one pair alone names it.
+fn is_replaced(document: &Document, place: &[Step], entry: Item<'_>) -> bool
+    ensures { (form : Text) → IsManifest document.now.bytes form
+        → result ≡ (is_one_statement form (place_seen place.now) && is_slight (Some (view_of entry.entry))) }
+{
+    document.one_statement(place) && is_slight(entry)
+}
+
+/// Makes an entry say what the record says, in a document that an error may leave half done.
+fn update_copy(
+    dependency: &Dependency,
+    alloc: Global,
+    crate_root: &str,
+    document: &mut Document,
+    entry: &[Step],
+) -> CargoResult<()>
+    requires item { tree_of document.old (place_seen entry.now) ≡ None → ⊥ }
+    requires room { length entry.now ≤ 70 }
+    ensures text { IfOk result (λ _. Updated (place_seen entry.now) crate_root.now (record_view dependency.now)
+        document.old.bytes document.new.bytes) }
+    ensures refused { IfErr result (λ e. IsMemory e ⊎ ((e ≡ EditRefused) × UpdateFails
+        (place_seen entry.now) crate_root.now (record_view dependency.now) document.old.bytes)) }
+{
+    document.has_form();
+    let Some(item) = document.item(entry) else {
+        unreachable!()
+    };
+    if is_replaced(document, entry, item) {
+        let new = dependency.to_toml(alloc, crate_root)?;
+        document.replace_entry(alloc, entry, &new)?;
+        document.has_form();
+        return Ok(());
+    }
+    let ends = ends(dependency, alloc, crate_root, item)?;
+    write_members(alloc, document, entry, ends.as_slice())?;
+    remove_members(alloc, document, entry, ends.as_slice())
+}
+
+/// Changes of an entry by its record.
+pub trait DependencyExt {
+    /// The entry at a place comes to say what the record says, in a manifest of this folder. The folder and a
+    /// source's path are meant to be absolute, the folder without a part `..`; the entry is meant to be a
+    /// string or a table, a member of its table.
+    ///
+    /// A string, or a table of one member that no header names, gives way to the new entry of `to_toml`. In
+    /// any other table members are written and then removed, and all else stays: the source's own members and
+    /// those of other sources, `registry` beside a version, `package` under another key, `default-features`,
+    /// `features` (those that the entry has, and then the record's, each once) and `optional`. A member that
+    /// was written as a value gets another literal. Without a source in the record those of the entry stay.
+    ///
+    /// After a refusal the document is as it was.
+    fn update_toml(
+        &self,
+        alloc: Global,
+        crate_root: &str,
+        document: &mut Document,
+        entry: &[Step],
+    ) -> CargoResult<()>
+        requires item { tree_of document.old (place_seen entry.now) ≡ None → ⊥ }
+        requires room { length entry.now ≤ 70 };
+}
+
+impl DependencyExt for Dependency {
+    fn update_toml(
+        &self,
+        alloc: Global,
+        crate_root: &str,
+        document: &mut Document,
+        entry: &[Step],
+    ) -> CargoResult<()>
+        requires item { tree_of document.old (place_seen entry.now) ≡ None → ⊥ }
+        requires room { length entry.now ≤ 70 }
+        ensures text { IfOk result (λ _. Updated (place_seen entry.now) crate_root.now (record_view self.now)
+            document.old.bytes document.new.bytes) }
+        ensures err { IfErr result (λ _. document.new ≡ document.old) }
+        ensures refused { IfErr result (λ e. IsMemory e ⊎ ((e ≡ EditRefused) × UpdateFails
+            (place_seen entry.now) crate_root.now (record_view self.now) document.old.bytes)) }
+    {
+        let mut copy = document.try_clone(alloc)?;
+        update_copy(self, alloc, crate_root, &mut copy, entry)?;
+        *document = copy;
+        Ok(())
+    }
+}
