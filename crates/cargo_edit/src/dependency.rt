@@ -2,3 +2,4 @@
 
 pub use edit_record::dependency_on;
 pub use edit_record::{Dependency, GitSource, PathSource, RegistrySource, Source, WorkspaceSource};
+pub use edit_update::DependencyExt;

@@ -3,9 +3,11 @@ ghost use Rattle.edit_tree.specs.NewItems.{IsEntry};
 ghost use Rattle.edit_document.specs.NewItemViews.{item_seen};
 
 use crate::words::Words;
+use edit_changes::DocumentExt;
 use edit_document::{CargoResult, Document, Error, NewItem, NewValue, Step};
 use edit_manifest::Manifest;
 use edit_record::{Dependency, RegistrySource, Source};
+use edit_update::{DependencyExt, ManifestExt};
 use std::alloc::Global;
 
 /// The folder that paths of entries are seen from.

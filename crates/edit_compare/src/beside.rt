@@ -6,7 +6,7 @@ ghost use Rattle.edit_document.specs.Compared.{SameBeside, SamePart, SamePartsBu
 ghost use Rattle.edit_document.specs.Items.{place_numbered, view_numbered, place_seen, step_seen, count_in, Numbers};
 ghost use Rattle.edit_tree.specs.Shown.{tree_of};
 
-use crate::compare::{part, same_below, same_view};
+use crate::compare::{part_at, same_below, same_view};
 use edit_document::{Document, Step};
 
 /// The number of what stands one step below a node.
@@ -34,7 +34,7 @@ pub(crate) fn leads(document: &Document, number: usize, index: usize, step: &Ste
         },
         None => match step {
             Step::Key(_) => false,
-            Step::Index(element) => { *element == index && part(document, number, index).is_some() }
+            Step::Index(element) => { *element == index && part_at(document, number, index).is_some() }
         },
     }
 }
@@ -66,7 +66,7 @@ fn same_part(document: &Document, number: usize, index: usize, other: &Document,
     ensures { Decides result (SamePart document.now number other.now there index) }
 {
     document.is_whole(number);
-    let Some(part) = part(document, number, index) else {
+    let Some(part) = part_at(document, number, index) else {
         return true;
     };
     let Some(other_part) = counterpart(document, number, index, other, there) else {

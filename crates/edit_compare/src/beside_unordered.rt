@@ -8,7 +8,7 @@ ghost use Rattle.edit_document.specs.Lost.{UnorderedPart, UnorderedPartsBut, Sam
 ghost use Rattle.edit_tree.specs.Shown.{tree_of};
 
 use crate::beside::{counterpart, leads, step_down};
-use crate::compare::part;
+use crate::compare::part_at;
 use crate::unordered::{same_but_order, same_unordered};
 use edit_document::{Document, Step};
 
@@ -20,7 +20,7 @@ fn unordered_part(document: &Document, number: usize, index: usize, other: &Docu
     ensures { Decides result (UnorderedPart document.now number other.now there index) }
 {
     document.is_whole(number);
-    let Some(part) = part(document, number, index) else {
+    let Some(part) = part_at(document, number, index) else {
         return true;
     };
     let Some(other_part) = counterpart(document, number, index, other, there) else {

@@ -21,7 +21,7 @@ pub(crate) fn same_word(word: Option<&str>, other: Option<&str>) -> bool
 }
 
 /// The number of a member or an element, in the order of first assertions.
-pub(crate) fn part(document: &Document, number: usize, index: usize) -> Option<usize>
+pub(crate) fn part_at(document: &Document, number: usize, index: usize) -> Option<usize>
     requires { number < length document.now.nodes }
     ensures { NumbersPart document.now number index result }
 {
@@ -102,10 +102,10 @@ pub(crate) fn same_below(
     }
     let count = document.member_count(number);
     'parts: for index in 0..count {
-        let Some(part) = part(document, number, index) else {
+        let Some(part) = part_at(document, number, index) else {
             return false;
         };
-        let Some(other_part) = part(other, there, index) else {
+        let Some(other_part) = part_at(other, there, index) else {
             return false;
         };
         if !same_below(document, part, other, other_part, depth - 1) {

@@ -13,7 +13,7 @@ ghost use Rattle.edit_tree.specs.Supported.{IsManifest};
 
 use crate::beside::{leads, step_down};
 use crate::beside_unordered::beside_unordered;
-use crate::compare::part;
+use crate::compare::part_at;
 use crate::kept::kept_steps;
 use crate::unordered::{has_names_of, same_unordered};
 use edit_document::{Document, Step};
@@ -82,7 +82,7 @@ fn moved_part(
     ensures { Decides result (MovedPart (step_seen step.now) document.now number other.now there index) }
 {
     document.is_whole(number);
-    let Some(part) = part(document, number, index) else {
+    let Some(part) = part_at(document, number, index) else {
         return true;
     };
     let Some(other_part) = moved_counterpart(document, number, index, other, there, step) else {

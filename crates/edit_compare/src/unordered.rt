@@ -6,7 +6,7 @@ ghost use Rattle.edit_document.specs.Items.{place_numbered, view_numbered};
 ghost use Rattle.edit_tree.specs.Meant.{SameButOrder};
 
 use crate::beside::counterpart;
-use crate::compare::{part, same_view};
+use crate::compare::{part_at, same_view};
 use edit_document::Document;
 
 /// Whether each name of a member of a node is one of another node's members too.
@@ -80,7 +80,7 @@ pub(crate) fn same_unordered(
     }
     let count = document.member_count(number);
     'parts: for index in 0..count {
-        let Some(part) = part(document, number, index) else {
+        let Some(part) = part_at(document, number, index) else {
             return false;
         };
         let Some(other_part) = counterpart(document, number, index, other, there) else {

@@ -6,6 +6,7 @@ use crate::stop::{kept, must, push, said, text, unfolded};
 use edit_base::CargoResult;
 use edit_document::{Document, Place, Step};
 use edit_record::Dependency;
+use edit_update::DependencyExt;
 use std::alloc::Global;
 use std::process::Abort;
 

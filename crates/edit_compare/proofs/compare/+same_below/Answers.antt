@@ -24,8 +24,8 @@ returns-in_default t c =
 pub parts-preserved : goal.parts-preserved
 parts-preserved t c =
     parts_more c.args.document.now c.args.number c.args.other.now c.args.there c.parts.index c.in-Some.part
-    c.in-Some-part.other_part (c.same_view.ensures.0 c.if-not-same_view.false) c.parts.invariant
-    (c.in-Some.ensures {u = tt}) (c.in-Some-part.ensures {u = tt})
+    c.in-Some-part_at.other_part (c.same_view.ensures.0 c.if-not-same_view.false) c.parts.invariant
+    (c.in-Some.ensures {u = tt}) (c.in-Some-part_at.ensures {u = tt})
     (c.same_below.ensures.0 c.if-not-same_below.false)
 
 pub returns : goal.returns
@@ -45,16 +45,16 @@ returns-then-not-same_below t c = (
   λ h. sym c.if-not-same_below.true ∙
       c.same_below.ensures.1
       (part_same c.args.document.now c.args.number c.args.other.now c.args.there c.parts.index c.in-Some.part
-      c.in-Some-part.other_part (c.same_view.ensures.0 c.if-not-same_view.false) (c.in-Some.ensures {u = tt})
-      (c.in-Some-part.ensures {u = tt}) h),
+      c.in-Some-part_at.other_part (c.same_view.ensures.0 c.if-not-same_view.false) (c.in-Some.ensures {u = tt})
+      (c.in-Some-part_at.ensures {u = tt}) h),
 )
 
-pub returns-in_default-part : goal.returns-in_default-part
-returns-in_default-part t c =
+pub returns-in_default-part_at : goal.returns-in_default-part_at
+returns-in_default-part_at t c =
     absurd (part_some (view_numbered c.args.document.now c.args.number) c.parts.index
     (omega (arith, c.parts-test.true, c.member_count-count.ensures))
     (ap (λ (v : View). nth_part v c.parts.index) (c.same_view.ensures.0 c.if-not-same_view.false)
-    ∙ c.in_default-part.ensures {u = tt}))
+    ∙ c.in_default-part_at.ensures {u = tt}))
 
 pub parts-init : goal.parts-init
 parts-init t c j step lt = absurd (omega arith)
@@ -64,4 +64,4 @@ same_below-requires t c =
     let part = c.in-Some.ensures {u = tt} in
     let deep = ap {A = List Step} length part.3
     ∙ length-append (place_numbered c.args.document.now c.args.number) (part.0 ∷ []) in
-    (omega arith, (part.2, ((c.in-Some-part.ensures {u = tt}).2, omega (arith, deep))))
+    (omega arith, (part.2, ((c.in-Some-part_at.ensures {u = tt}).2, omega (arith, deep))))

@@ -1,6 +1,6 @@
 use Rattle.std.proofs.Common.{sym}
 use Rattle.edit_compare.proofs.PartNumbers.{member_part, element_part}
-use Rattle.edit_compare.proofs.compare.part.Goals as goal
+use Rattle.edit_compare.proofs.compare.part_at.Goals as goal
 
 pub returns-in-Some : goal.returns-in-Some
 returns-in-Some c =
