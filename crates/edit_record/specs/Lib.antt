@@ -7,3 +7,4 @@ pub mod Finding
 pub mod RelativePaths
 pub mod NewEntries
 pub mod ReadsAgain
+pub mod EachOnce

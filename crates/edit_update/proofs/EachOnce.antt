@@ -13,7 +13,8 @@ use Rattle.edit_document.proofs.EntryPartViews.{same_texts}
 use Rattle.edit_base.specs.Errors.{IsMemory}
 use Rattle.edit_base.specs.declared.errors.Error.{Error}
 use Rattle.edit_record.specs.EntryRecords.{Refusal}
-use Rattle.edit_update.specs.EntryUpdates.{each_once, texts_or_none}
+use Rattle.edit_record.specs.EachOnce.{each_once}
+use Rattle.edit_update.specs.EntryUpdates.{texts_or_none}
 use Rattle.edit_record.specs.RecordViews.{IsRefused}
 
 -- ---- texts one after the other

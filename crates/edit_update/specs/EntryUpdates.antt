@@ -6,6 +6,7 @@ use Rattle.edit_tree.specs.Assertions.{same_bytes}
 use Rattle.edit_document.specs.Items.{count_in, is_string, is_tabular}
 use Rattle.edit_tree.specs.NewItems.{NewValue, a_string, a_truth, a_list, NewItem}
 use Rattle.edit_tree.specs.Tree.{View}
+use Rattle.edit_record.specs.EachOnce.{each_once}
 use Rattle.edit_record.specs.EntryRecords.{EntryRecord, Origin, from_registry, from_path, from_git, from_workspace, Refusal, origin_version}
 use Rattle.edit_record.specs.NewEntries.{item_of, written_name}
 use Rattle.edit_record.specs.ReadEntries.{Tree, member_in, features_at}
@@ -63,11 +64,6 @@ ends_with_version t (Some origin) = is_some (origin_version origin)
 abbrev pub package_ends : Option (List ℕ) → Option Origin → List End
 package_ends (Some name) origin = (codes "package", Some (a_string name)) ∷ []
 package_ends None origin = workspace_end (codes "package") origin
-
--- each text once, at its first place (own)
-abbrev pub each_once : List (List ℕ) → List (List ℕ)
-each_once [] = []
-each_once (s ∷ ss) = s ∷ filter (λ u. not (same_bytes s u)) (each_once ss)
 
 -- a list of texts that was read, and no text where it is not there or was refused (own)
 abbrev pub texts_or_none : Result (Option (List (List ℕ))) Refusal → List (List ℕ)

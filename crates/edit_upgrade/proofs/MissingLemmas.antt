@@ -7,7 +7,7 @@ use Rattle.std.proofs.lemmas.List.Elements.{All-weaker, filter-append, filter_ma
 use Rattle.std.proofs.lemmas.List.Folds.{list_any-append}
 use Rattle.edit_manifest.specs.Entries.{Entry}
 use Rattle.edit_metadata.specs.declared.input.Input.{Input}
-use Rattle.edit_update.specs.EntryUpdates.{each_once}
+use Rattle.edit_record.specs.EachOnce.{each_once}
 use Rattle.edit_version.specs.CrateWords.{word_name}
 use Rattle.edit_upgrade.specs.Missing.{AddsNames, AreKnown, AreMissing, HasNames, is_among, name_of, names_in}
 use Rattle.edit_upgrade.specs.Words.{is_named, words_of}

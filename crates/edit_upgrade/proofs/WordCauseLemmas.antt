@@ -5,7 +5,7 @@ use Rattle.std.specs.declared.alloc.Global.{Global}
 use Rattle.std.proofs.lemmas.List.Elements.{All-nil}
 use Rattle.edit_base.specs.declared.errors.Error.{Error}
 use Rattle.edit_base.specs.declared.errors.Error.TheVariants as error
-use Rattle.edit_update.specs.EntryUpdates.{each_once}
+use Rattle.edit_record.specs.EachOnce.{each_once}
 use Rattle.edit_version.specs.CrateWords.{IsRefusedWord, word_name}
 use Rattle.edit_upgrade.specs.WordCauses.{IsRefusedFor, StopsAtWord}
 use Rattle.edit_upgrade.specs.Words.{IsWord}

@@ -16,7 +16,7 @@ use Rattle.std.proofs.lemmas.Map.Text.{btree_map_updates_text}
 use Rattle.edit_tree.specs.Assertions.{same_bytes}
 use Rattle.edit_tree.proofs.SamePlace.{same_bytes_is, same_bytes_self}
 use Rattle.edit_document.proofs.EntryPartViews.{same_texts}
-use Rattle.edit_update.specs.EntryUpdates.{each_once}
+use Rattle.edit_record.specs.EachOnce.{each_once}
 use Rattle.edit_version.specs.CrateWords.{IsReadOrAbsent, unfit, word_name, word_requirement}
 use Rattle.edit_upgrade.specs.Picks.{AddsWord, AreWordsRead, has_name, kept_requirement}
 use Rattle.edit_upgrade.specs.Words.{IsWord, WordsSelect, is_named, is_word_of, requirement_for, requirement_in, words_of}

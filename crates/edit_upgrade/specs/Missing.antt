@@ -7,7 +7,7 @@ use Rattle.edit_tree.specs.Supported.{IsManifest}
 use Rattle.edit_tree.specs.Tree.{view_at}
 use Rattle.edit_manifest.specs.Entries.{Entry, entries}
 use Rattle.edit_metadata.specs.declared.input.Input.{Input}
-use Rattle.edit_update.specs.EntryUpdates.{each_once}
+use Rattle.edit_record.specs.EachOnce.{each_once}
 use Rattle.edit_version.specs.CrateWords.{word_name}
 use Rattle.edit_upgrade.specs.Words.{is_named, words_of}
 use Rattle.edit_upgrade.specs.declared.decision.options.Options.{Options}

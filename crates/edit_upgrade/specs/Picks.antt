@@ -4,7 +4,7 @@ use Rattle.std.specs.BTreeMap.{get_by_text}
 use Rattle.std.specs.BTreeSet.{contains_text}
 use Rattle.std.specs.List.{list_any}
 use Rattle.std.specs.Str.{bytes_eq}
-use Rattle.edit_update.specs.EntryUpdates.{each_once}
+use Rattle.edit_record.specs.EachOnce.{each_once}
 use Rattle.edit_version.specs.CrateWords.{word_name, word_requirement}
 use Rattle.edit_upgrade.specs.Words.{IsWord, excluded_of, is_named, requirement_in, words_of}
 use Rattle.edit_upgrade.specs.declared.picks.Picks.{Picks}
