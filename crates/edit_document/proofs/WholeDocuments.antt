@@ -9,7 +9,7 @@ use Rattle.edit_tree.specs.Tree.{View, kind_at}
 use Rattle.edit_tree.specs.Written.{values}
 use Rattle.edit_document.specs.DocumentLayout.{placed, Placed, IsRead}
 use Rattle.edit_tree.specs.Nodes.{Shape, listed, inline as inlined, section, sections, Spot, names_of, view_of_shape, below, IsTree}
-use Rattle.edit_document.specs.Items.{place_numbered, view_numbered}
+use Rattle.edit_document.specs.Items.{view_numbered}
 use Rattle.edit_tree.specs.Shown.{Shown, tree_of, node_at}
 use Rattle.edit_document.specs.Compared.{nth_part, AreSteps, AreNames, AreKeys, IsWhole}
 use Rattle.edit_tree.proofs.SamePlace.{not_root, last_same}

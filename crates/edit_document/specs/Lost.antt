@@ -3,7 +3,7 @@ use Rattle.std.specs.Prelude.{◌≡◌, ℕ, ◌+◌, ◌-◌, ◌<◌, Bool, t
 use Rattle.std.specs.List.{list_any}
 use Rattle.edit_syntax.specs.Grammar.{Text}
 use Rattle.edit_document.specs.declared.place.Step.{Step as WrittenStep}
-use Rattle.edit_tree.specs.Assertions.{Step, key, index, Place, at, same_step, same_place, assertions}
+use Rattle.edit_tree.specs.Assertions.{Step, key, index, Place, at, same_place, assertions}
 use Rattle.edit_document.specs.Compared.{nth_part, SameButOrderBelow, IsNumber}
 use Rattle.edit_tree.specs.EditBytes.{is_within}
 use Rattle.edit_document.specs.Items.{place_seen, place_numbered, view_numbered, names_in}
