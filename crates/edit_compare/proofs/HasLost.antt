@@ -1,13 +1,13 @@
 -- A document has lost an item where all beside the innermost table that is left is the same, and that table
 -- has lost a part.
-use Rattle.std.proofs.Common.{◌≡◌, ℕ, zero, suc, ◌+◌, ◌<◌, Bool, true, false, cond, List, [], ◌∷◌, ◌++◌, length, get_or, take, drop, Option, Some, None, refl, sym, ap, subst, ◌∙◌, append_assoc, true≢false, arith}
+use Rattle.std.proofs.Common.{◌≡◌, ℕ, zero, suc, ◌+◌, ◌<◌, Bool, true, false, List, [], ◌∷◌, ◌++◌, length, get_or, take, drop, Option, None, refl, sym, ap, subst, ◌∙◌, append_assoc, true≢false, arith}
 use Rattle.std.specs.Bool.{Decides}
 use Rattle.edit_syntax.specs.Grammar.{Text}
 use Rattle.edit_document.specs.declared.place.Step.{Step as WrittenStep}
 use Rattle.edit_tree.specs.Assertions.{Place, Step, at, assertions}
 use Rattle.edit_document.specs.Compared.{tree_below}
 use Rattle.edit_tree.specs.EditBytes.{is_within}
-use Rattle.edit_document.specs.Items.{place_seen, step_seen, place_numbered, view_numbered}
+use Rattle.edit_document.specs.Items.{place_seen, step_seen, place_numbered}
 use Rattle.edit_document.specs.Lost.{SameButOrderBeside, LosesPart, IsLeft, IsLost, IsInnermost}
 use Rattle.edit_tree.specs.Meant.{Loses, from_table, from_inline_table, from_array, from_table_array, Removed}
 use Rattle.edit_tree.specs.Shown.{Shown, tree_of, ShowsTree}

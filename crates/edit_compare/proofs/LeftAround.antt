@@ -3,7 +3,7 @@ use Rattle.std.proofs.Common.{◌≡◌, ℕ, Bool, true, false, ◌&&◌, if◌
 use Rattle.std.proofs.lemmas.Bool.{and_parts}
 use Rattle.edit_syntax.specs.Grammar.{Text}
 use Rattle.edit_syntax.proofs.Cases.{by_test}
-use Rattle.edit_tree.specs.Assertions.{Place, Step, key, index, at, same_step, Kind, Assertion, assertions}
+use Rattle.edit_tree.specs.Assertions.{Place, Step, key, index, at, same_step, Kind, assertions}
 use Rattle.edit_tree.specs.EditBytes.{is_within}
 use Rattle.edit_document.specs.Lost.{IsLeft, IsLost}
 use Rattle.edit_tree.specs.Meant.{staying, moved, is_member}

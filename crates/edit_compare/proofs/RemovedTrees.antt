@@ -1,6 +1,6 @@
 -- A tree has lost an item where all beside the innermost table that stays is the same, and that table has lost a
 -- part.
-use Rattle.std.proofs.Common.{◌≡◌, ℕ, true, false, ◌&&◌, if◌then◌else◌, List, [], ◌∷◌, ◌++◌, Option, Some, None, refl, sym, ap, subst, ◌∙◌, ◌⊎◌, inl, inr, true≢false, append_assoc, append-nil}
+use Rattle.std.proofs.Common.{◌≡◌, ℕ, true, false, ◌&&◌, if◌then◌else◌, List, [], ◌∷◌, ◌++◌, None, refl, sym, ap, subst, ◌∙◌, ◌⊎◌, inl, inr, true≢false, append_assoc, append-nil}
 use Rattle.edit_syntax.specs.Grammar.{Text}
 use Rattle.edit_syntax.proofs.Cases.{by_test}
 use Rattle.edit_tree.specs.Assertions.{Place, Step, key, at, same_step, assertions}
@@ -10,7 +10,7 @@ use Rattle.edit_tree.specs.Meant.{Tree, moved, Loses, SameButOrder, same, is_mem
 use Rattle.edit_tree.specs.Tree.{kind_at, view_in}
 use Rattle.edit_compare.proofs.Besides.{within_back}
 use Rattle.edit_tree.proofs.HeadedPlaces.{inside_self, inside_more, inside_trans}
-use Rattle.edit_compare.proofs.KeptParts.{not_longer, apart_ways}
+use Rattle.edit_compare.proofs.KeptParts.{apart_ways}
 use Rattle.edit_tree.proofs.SamePlace.{same_step_self, same_step_is}
 use Rattle.edit_tree.proofs.StayingWays.{on_one_way}
 use Rattle.edit_compare.proofs.LeftAround.{within_rest, moved_step, moved_back, moved_else, moved_flat, member_back, cancel, flat, up, nothing_else, one_front}
