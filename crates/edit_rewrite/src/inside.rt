@@ -15,7 +15,6 @@ ghost use Rattle.edit_tree.specs.SlotTexts.{AreSaid, StandsAt};
 ghost use Rattle.edit_rewrite.specs.Remainders.{Leaves, Keeps};
 ghost use Rattle.edit_tree.specs.WalkState.{SaysAt};
 
-use crate::remove_text::without;
 use edit_document::Step;
 use edit_base::errors::CargoResult;
 use edit_syntax::read::Mark;
@@ -131,7 +130,7 @@ impl Remainder {
             else (self.firm.items ++ self.with_comma.items) ++ rest.now)) }
     {
         if is_gone {
-            without(self, after)
+            self.without(after)
         } else {
             self.with(rest)
         }

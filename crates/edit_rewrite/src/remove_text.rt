@@ -100,7 +100,7 @@ fn without_members(
 }
 
 /// The innermost value around a place.
-fn around(document: &Document, place: &[Step]) -> Option<Around>
+fn value_around(document: &Document, place: &[Step]) -> Option<Around>
     ensures { (form : Text) → IsManifest document.now.bytes form
         → HasAround form (place_seen place.now) result }
 {
@@ -113,7 +113,7 @@ fn around(document: &Document, place: &[Step]) -> Option<Around>
             from: document.as_str().len().saturating_sub(start),
             to: document.as_str().len().saturating_sub(end),
         }),
-        None => around(document, above),
+        None => value_around(document, above),
     }
 }
 
@@ -124,7 +124,7 @@ pub fn without(document: &Document, alloc: Global, place: &[Step]) -> CargoResul
     ensures refused { IfErr result IsMemory }
 {
     document.has_form();
-    match around(document, place) {
+    match value_around(document, place) {
         Some(around) => {
             let below = &place[around.steps..];
             without_members(alloc, document.as_str(), around.from, around.to, below)

@@ -1,7 +1,7 @@
 use Rattle.std.proofs.Common.{ℕ, List, ◌-◌, length, refl, ap, subst, ◌∙◌}
 use Rattle.std.specs.Prelude.{IsUtf8}
 use Rattle.edit_rewrite.proofs.AroundValues.{none_around_root, some_around, around_above}
-use Rattle.edit_rewrite.proofs.remove_text.+around.Goals as goal
+use Rattle.edit_rewrite.proofs.remove_text.+value_around.Goals as goal
 
 pub returns-in_default : goal.returns-in_default
 returns-in_default t c form m = none_around_root form c.args.place.now c.in_default.len_below
@@ -18,5 +18,5 @@ returns-in-Some t c form m =
 
 pub returns-in-None : goal.returns-in-None
 returns-in-None t c form m =
-    around_above form c.args.place.now c.around.result c.in-len1-up.len_at_least
-    (c.in-None.ensures {u = tt} form m) (c.around.ensures form m)
+    around_above form c.args.place.now c.value_around.result c.in-len1-up.len_at_least
+    (c.in-None.ensures {u = tt} form m) (c.value_around.ensures form m)
