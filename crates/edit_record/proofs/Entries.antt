@@ -2,7 +2,7 @@
 use Rattle.std.proofs.Common.{◌≡◌, List, ℕ, Option, Some, None, Bool, ap, ◌∙◌}
 use Rattle.std.specs.Prelude.{IsTrue, option_and_then}
 use Rattle.semver.specs.Parse.{Parts}
-use Rattle.edit_version.specs.Admissible.{admissible, admissible_in, entry_order, is_kept}
+use Rattle.edit_version.specs.Admissible.{admissible_in, entry_order, is_kept}
 use Rattle.edit_record.specs.Finding.{IsFound, IsFoundAtLeast}
 use Rattle.edit_version.specs.Greatest.{IsGreatest, IsGreatestKept}
 use Rattle.edit_version.specs.IndexEntry.{IndexEntry}
