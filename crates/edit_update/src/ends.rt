@@ -187,7 +187,7 @@ fn push_sources(dependency: &Dependency, alloc: Global, root: &str, ends: &mut V
         ≡ ends_seen ends.old.items ++ source_ends root.now (record_view dependency.now).origin) }
     ensures refused { IfErr result IsMemory }
 {
-    if let Some(source) = dependency: &Dependency.source {
+    if let Some(source) = &dependency.source {
         push_own(alloc, root, ends, source)?;
         push_other(ends, source)?;
     }
@@ -199,7 +199,7 @@ fn push_with_workspace(dependency: &Dependency, ends: &mut Vec<End>, name: &'sta
     ensures { OnOk result (ends_seen ends.new.items
         ≡ ends_seen ends.old.items ++ workspace_end name.now (record_view dependency.now).origin) }
 {
-    match dependency: &Dependency.source {
+    match &dependency.source {
         Some(Source::Workspace(_)) => push_end(ends, name, None),
         _ => Ok(()),
     }
@@ -209,7 +209,7 @@ fn push_with_workspace(dependency: &Dependency, ends: &mut Vec<End>, name: &'sta
 fn ends_with_version(dependency: &Dependency, entry: Item<'_>) -> bool
     ensures { result ≡ ends_with_version (shown_at entry.entry) (record_view dependency.now).origin }
 {
-    match dependency: &Dependency.source {
+    match &dependency.source {
         Some(source) => source.version().is_some(),
         None => entry.get("version").is_some(),
     }
@@ -235,8 +235,8 @@ fn push_package(dependency: &Dependency, ends: &mut Vec<End>) -> Result<(), Allo
     ensures { OnOk result (ends_seen ends.new.items ≡ ends_seen ends.old.items
         ++ package_ends (written_name (record_view dependency.now)) (record_view dependency.now).origin) }
 {
-    match dependency: &Dependency.rename {
-        Some(_) => push_text(ends, "package", Some(dependency: &Dependency.name)),
+    match &dependency.rename {
+        Some(_) => push_text(ends, "package", Some(&dependency.name)),
         None => push_with_workspace(dependency, ends, "package"),
     }
 }
@@ -251,7 +251,7 @@ fn push_features(dependency: &Dependency, alloc: Global, ends: &mut Vec<End>, en
         ) ∷ []) }
     ensures refused { IfErr result IsMemory }
 {
-    let value = match dependency: &Dependency.features {
+    let value = match &dependency.features {
         Some(new) => Some(joined_features(alloc, entry, new)?),
         None => None,
     };

@@ -268,7 +268,7 @@ impl Source {
     }
 
     /// The version text, none for the workspace's entry.
-    pub(crate) fn version(&self) -> Option<&str>
+    pub fn version(&self) -> Option<&str>
         ensures { option_map (λ s. s.now) result ≡ source_version self.now }
     {
         match self {
