@@ -1,7 +1,7 @@
 pub mod Entries
-mod CopiedLists
+pub mod CopiedLists
 mod EntryLemmas
-mod SampleEntries
+pub mod SampleEntries
 mod ReadFacts
 mod WriteFacts
 pub mod RelativeTexts

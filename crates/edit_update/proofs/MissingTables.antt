@@ -1,5 +1,5 @@
 -- The first name that leads to no table, name by name; and tables without members.
-use Rattle.std.proofs.Common.{◌≡◌, ℕ, suc, length, arith, true, false, ◌&&◌, ◌==◌, cond, List, [], ◌∷◌, Option, None, Some, refl, sym, ap, ◌∙◌}
+use Rattle.std.proofs.Common.{◌≡◌, ℕ, suc, length, arith, true, false, ◌&&◌, ◌==◌, cond, List, [], ◌∷◌, Some, refl, ap, ◌∙◌}
 use Rattle.edit_tree.specs.Assertions.{Place, at, key}
 use Rattle.edit_document.specs.Items.{count_in, is_tabular}
 use Rattle.edit_tree.specs.Tree.{View, string, truth, whole, fractional, moment, static_array, table_array, inline_table, table}

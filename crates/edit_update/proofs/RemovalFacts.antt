@@ -1,6 +1,6 @@
 -- What is removed, as the definitions compute it.
 use Rattle.std.proofs.Common.{◌≡◌, [], refl}
-use Rattle.std.specs.Prelude.{ℕ, true, false, List, ◌∷◌, ◌++◌, Option, Some, None, codes}
+use Rattle.std.specs.Prelude.{ℕ, true, false, List, ◌∷◌, ◌++◌, Some, None, codes}
 use Rattle.edit_tree.specs.Assertions.{Place, Step, at, key, index}
 use Rattle.edit_tree.specs.Shown.{node_at}
 use Rattle.edit_tree.specs.Tree.{View, inline_table, static_array, string, table, truth}

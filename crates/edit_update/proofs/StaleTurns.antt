@@ -1,17 +1,16 @@
 -- The strings of features that go are each where they were, once those before them are gone.
-use Rattle.std.proofs.Common.{◌≡◌, ℕ, zero, suc, ◌<◌, ◌-◌, Bool, true, false, not, ◌&&◌, ◌==◌, nat_lt, cond, List, [], ◌∷◌, ◌++◌, Option, None, Some, refl, sym, ap, ◌∙◌, true≢false, arith}
+use Rattle.std.proofs.Common.{◌≡◌, ℕ, zero, suc, ◌<◌, ◌-◌, Bool, true, false, ◌&&◌, ◌==◌, nat_lt, cond, List, [], ◌∷◌, ◌++◌, Option, None, Some, refl, sym, ap, ◌∙◌, true≢false, arith}
 use Rattle.std.specs.Prelude.{slice_get, codes}
 use Rattle.std.specs.List.{AllByRecursion, filter, flat_map}
 use Rattle.edit_syntax.specs.Grammar.{Text}
 use Rattle.edit_syntax.proofs.Cases.{by_test}
-use Rattle.edit_tree.specs.Assertions.{Place, Step, key, index, at, same_bytes, same_step, assertions}
-use Rattle.edit_tree.specs.EditBytes.{is_within}
+use Rattle.edit_tree.specs.Assertions.{Place, key, index, at, same_bytes, assertions}
 use Rattle.edit_tree.specs.Meant.{moved}
-use Rattle.edit_tree.specs.Tree.{View, string, truth, whole, fractional, moment, static_array, table_array, inline_table, table, view_at, view_in}
+use Rattle.edit_tree.specs.Tree.{View, string, truth, whole, fractional, moment, static_array, table_array, inline_table, table, view_at}
 use Rattle.edit_document.specs.Items.{viewed, names_in}
 use Rattle.edit_compare.proofs.ApartViews.{apart_view}
 use Rattle.edit_tree.proofs.SamePlace.{same_bytes_is}
-use Rattle.edit_update.specs.Features.{elements_back, elements_of, features, goes, is_plain, stale_in, stale_in_features, stale_strings, is_offered, is_held}
+use Rattle.edit_update.specs.Features.{elements_back, elements_of, features, goes, is_plain, stale_in, stale_strings, is_offered, is_held}
 use Rattle.edit_update.specs.Removals.{AreInTurn, AreStrings, HasString, Outlives}
 use Rattle.edit_manifest.specs.Tables.{Tree, member_names}
 

@@ -1,12 +1,11 @@
 -- An entry that was removed, and its table where no member was left.
-use Rattle.std.proofs.Common.{◌≡◌, ◌==◌, length, ℕ, true, false, cond, List, [], ◌∷◌, ◌++◌, Option, None, Some, refl, sym, ap, ◌∙◌, ◌⊎◌, inl, inr, ⊎_elim, subst, true≢false}
+use Rattle.std.proofs.Common.{◌≡◌, ◌==◌, length, ℕ, true, false, cond, List, [], ◌∷◌, Option, None, Some, refl, sym, ap, ◌∙◌, ◌⊎◌, inl, inr, subst, true≢false}
 use Rattle.std.specs.Prelude.{is_some}
 use Rattle.edit_base.specs.declared.errors.Error.{Error}
 use Rattle.edit_base.specs.declared.errors.Error.TheVariants.{EditRefused}
 use Rattle.edit_base.specs.Errors.{IsMemory}
 use Rattle.edit_syntax.specs.Grammar.{Text}
-use Rattle.edit_tree.specs.Assertions.{Place, Step, key, index, at}
-use Rattle.edit_tree.specs.EditBytes.{is_within}
+use Rattle.edit_tree.specs.Assertions.{Place, key, index, at}
 use Rattle.edit_document.specs.declared.item.Item.{Item}
 use Rattle.edit_document.specs.declared.place.Step.{Step as WrittenStep}
 use Rattle.edit_document.specs.ItemViews.{Finds, view_of}

@@ -9,7 +9,7 @@ use Rattle.edit_tree.specs.Supported.{IsManifest}
 use Rattle.edit_tree.specs.Tree.{string, view_at}
 use Rattle.edit_syntax.specs.Grammar.{Text}
 use Rattle.edit_tree.proofs.EditedDocuments.{removed_along}
-use Rattle.edit_update.specs.Removals.{Without, none, next, OneStays, AreStrings, AreInTurn, HasString, Outlives}
+use Rattle.edit_update.specs.Removals.{Without, none, next, OneStays, AreStrings, HasString, Outlives}
 use Rattle.edit_update.proofs.StayingStrings.{string_stays}
 
 -- what the trees of two documents show, their forms show

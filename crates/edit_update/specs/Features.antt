@@ -1,13 +1,13 @@
 -- The strings of a manifest's features that name a dependency which is gone (Cargo reference, "Features",
 -- "Optional dependencies" and "Dependency features").
-use Rattle.std.specs.Prelude.{◌≡◌, ◌⊎◌, ℕ, zero, suc, Bool, true, false, not, ◌&&◌, ◌||◌, if◌then◌else◌, List, [], ◌∷◌, ◌++◌, Option, Some, None, is_some, codes, nat_eq, option_and_then, unwrap_or}
+use Rattle.std.specs.Prelude.{◌≡◌, ◌⊎◌, ℕ, zero, suc, Bool, true, false, not, ◌&&◌, ◌||◌, if◌then◌else◌, List, [], ◌∷◌, ◌++◌, Option, Some, is_some, codes, nat_eq, option_and_then, unwrap_or}
 use Rattle.std.specs.List.{filter, flat_map, list_any, starts_with}
 use Rattle.std.specs.Option.{option_map_or}
 use Rattle.std.specs.Str.{bytes_eq}
 use Rattle.edit_base.specs.declared.errors.Error.{Error}
 use Rattle.edit_base.specs.declared.errors.Error.TheVariants.{EditRefused}
 use Rattle.edit_base.specs.Errors.{IsMemory}
-use Rattle.edit_tree.specs.Assertions.{Place, Step, at, key, index}
+use Rattle.edit_tree.specs.Assertions.{Place, at, key, index}
 use Rattle.edit_document.specs.Items.{string_in, truth_in}
 use Rattle.edit_tree.specs.Shown.{Shown, tree_of}
 use Rattle.edit_tree.specs.Tree.{View, static_array, table}

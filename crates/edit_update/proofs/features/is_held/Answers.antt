@@ -1,4 +1,4 @@
-use Rattle.std.proofs.Common.{drop, map, ap, sym, ◌+◌, ◌∙◌, arith}
+use Rattle.std.proofs.Common.{drop, map, ap, sym, ◌+◌, ◌∙◌}
 use Rattle.std.specs.List.{list_any}
 use Rattle.edit_document.specs.Items.{place_seen}
 use Rattle.edit_tree.specs.Shown.{tree_of}

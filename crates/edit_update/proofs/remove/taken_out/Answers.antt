@@ -1,4 +1,4 @@
-use Rattle.std.proofs.Common.{◌≡◌, map, ap, sym, ◌∙◌, None, Option, ◌⊎◌, inl, inr, ⊎_elim, not, subst}
+use Rattle.std.proofs.Common.{◌≡◌, map, ap, sym, ◌∙◌, None, ◌⊎◌, not, subst}
 use Rattle.std.proofs.lemmas.Result.{err_from_is_err_and}
 use Rattle.std.specs.Prelude.{string_bytes}
 use Rattle.edit_base.specs.declared.errors.Error.TheVariants.{EditRefused}
@@ -8,7 +8,7 @@ use Rattle.edit_document.specs.Items.{place_seen}
 use Rattle.edit_tree.specs.Meant.{Removed, RemoveFails}
 use Rattle.edit_tree.specs.Shown.{tree_of}
 use Rattle.edit_tree.specs.Supported.{IsManifest}
-use Rattle.edit_update.specs.RemovedEntries.{IsNotTakenOut, missing_table}
+use Rattle.edit_update.specs.RemovedEntries.{IsNotTakenOut}
 use Rattle.edit_manifest.specs.Tables.{keyed}
 use Rattle.edit_update.proofs.TakenOut.{entry_kept, found_stands, member_gone, table_kept, taken_out}
 use Rattle.edit_update.proofs.remove.taken_out.Goals as goal
