@@ -14,6 +14,9 @@ const METADATA: &[u8] = b"\
 {\"name\":\"a\",\"id\":\"a\",\"version\":\"0.1.0\",\"manifest_path\":\"/w/a/Cargo.toml\"},\
 {\"name\":\"b\",\"id\":\"b\",\"version\":\"0.5.0\",\"manifest_path\":\"/w/b/Cargo.toml\"}]}";
 
+/// The manifest of the workspace.
+const ROOT: &[u8] = b"[workspace]\nmembers = [\"a\", \"b\"]\n";
+
 /// The manifest of the first member.
 const FIRST: &[u8] = b"[package]\nname = \"a\"\nversion = \"0.1.0\"\n";
 
@@ -41,6 +44,7 @@ fn raise(alloc: Global, files: &mut MemoryStore, member: &str) -> CargoResult<()
 fn dependents_follow(rt: HostRuntime) {
     let alloc = rt.alloc();
     let mut files = MemoryStore::new(alloc);
+    must(&rt, files.write(alloc, "/w/Cargo.toml", ROOT));
     must(&rt, files.write(alloc, "/w/a/Cargo.toml", FIRST));
     must(&rt, files.write(alloc, "/w/b/Cargo.toml", SECOND));
     must(&rt, raise(alloc, &mut files, "a"));
