@@ -8,6 +8,8 @@
 #[cfg(test)]
 mod diffs;
 #[cfg(test)]
+mod documents;
+#[cfg(test)]
 mod manifests;
 #[cfg(test)]
 mod paths;
