@@ -19,3 +19,4 @@ pub mod MembersApart
 pub mod EntriesApart
 pub mod TablesAfter
 pub mod EntriesAfter
+pub mod EntryReasons

@@ -1,0 +1,15 @@
+use Rattle.std.proofs.Common.{sym, subst}
+use Rattle.std.specs.Prelude.{All}
+use Rattle.std.proofs.lemmas.List.Elements.{All-push}
+use Rattle.edit_tree.specs.Shown.{tree_of}
+use Rattle.edit_manifest.specs.EntryViews.{HasReason}
+use Rattle.edit_manifest.proofs.entries.found.push_entries.Goals as goal
+
+pub names-preserved-clause-reasons : goal.names-preserved-clause-reasons
+names-preserved-clause-reasons c = λ before.
+    let has = HasReason (tree_of c.args.document.now) c.args.root.now in
+    let one : has c.in_ok-entry.entry =
+    subst (λ d. HasReason (tree_of d) c.args.root.now c.in_ok-entry.entry) c.in-Some.ensures.0
+    c.in_ok-entry.ensures.reason in
+    subst (All has) (sym c.in_ok-push.ensures.items)
+    (All-push has c.names.entries.items c.in_ok-entry.entry (c.names.invariant.reasons before) one)
