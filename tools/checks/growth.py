@@ -15,6 +15,7 @@ import pathlib
 import subprocess
 import sys
 import tempfile
+from collections import Counter
 from concurrent.futures import ThreadPoolExecutor
 from dataclasses import dataclass
 
@@ -30,7 +31,7 @@ ENTRIES = b'{"name":"serde","vers":"1.2.3"}\n{"name":"held","vers":"1.0.0"}\n'
 VERSIONS = b"".join(b'{"name":"a","vers":"%s"%s}\n' % (version, rest) for version, rest in (
     (b"1.0.0+a", b""), (b"1.2.0", b""), (b"1.0.0+b", b""), (b"bad", b""), (b"1.3.0", b',"yanked":true'))) \
     + b'{"name":"held","vers":"1.0.0"}\n'
-HELD = b"behind a refusal 46, 1 held, then "
+CACHED = b"after error 46: 1 held, %d cached, then "
 MEMBER = b'[package]\nname = "%s"\nversion = "0.1.0"\n\n[dependencies]\n'
 OLD = {"a": MEMBER % b"a", "b": MEMBER % b"b" + b'a = { path = "../a", version = "0.1" }\n',
        "c": MEMBER % b"c" + b"b = { path = '../b', version = '^0.1.0' } # keep\n"}
@@ -61,9 +62,19 @@ def edit(what, before, views, after, *words):
 
 def plan(what, answer, files, *words, held=False, **others):
     """A call of a plan or a reader, with a cache that holds an answer or without one."""
-    lacks = [b"refused 46 " + LACK + b"\n"] + [HELD + answer + b"done\n"] * held
+    lacks = [b"refused 46 " + LACK + b"\n"] + [CACHED % 0 + answer + b"done\n"] * held
     left = {"left": files, "left_by_refusal": [files], **others}
     return Call(what, words, files, answer + b"done\n", lacks, **left)
+
+
+def lookup(call, answer):
+    """A call for a name with five entries, and how many lookups it has made: one for the name that is held and one for this
+    one. Where a lookup ended with 46, no entries are in the cache, and the second call makes one more; where the entries
+    were in the cache already, it makes none."""
+    files = {"Cargo.toml": b"", "index.json": VERSIONS}
+    made = plan(call, answer + b"2 lookups\n", files, call, "@HERE@", "a")
+    made.lacks += [CACHED % 0 + answer + b"3 lookups\ndone\n", CACHED % 5 + answer + b"2 lookups\ndone\n"]
+    return made
 
 
 def edits():
@@ -97,8 +108,8 @@ def workspace(members):
 def plans():
     raised = {"Cargo.toml": FIRST, "index.json": ENTRIES}
     yield plan("plan_upgrade", b"@HERE@/Cargo.toml\n" + RAISED + b"\n", raised, "upgrade", "@HERE@", held=True)
-    ranked = {"Cargo.toml": b"", "index.json": VERSIONS}
-    yield plan("ranked", b"1.2.0 1.0.0+b 1.0.0+a ", ranked, "ranked", "@HERE@", "a", held=True)
+    yield lookup("krate", b"1.0.0+a 1.2.0 1.0.0+b bad 1.3.0 ")
+    yield lookup("ranked", b"1.2.0 1.0.0+b 1.0.0+a ")
     yield plan("plan_set_version", b"".join(b"@HERE@/%s/Cargo.toml\n%s\n" % (name.encode(), text) for name, text in NEW.items()),
                workspace(OLD), "set_version", "@HERE@")
     # behind a refusal so many of the three outputs are written
@@ -143,8 +154,8 @@ def judged(call, answer, left):
 
 
 def refused(pool, program, call, library):
-    """How many requests were refused in turn, and how many runs answered 46."""
-    told = 0
+    """How many requests were refused in turn, how many runs answered 46, and how often each text was printed."""
+    told, printed = 0, Counter()
     for first in itertools.count(1, 4 * AT_ONCE):
         runs = pool.map(lambda number: run(program, call, library, number), range(first, first + 4 * AT_ONCE))
         for number, (answer, seen, left) in enumerate(runs, first):
@@ -152,21 +163,32 @@ def refused(pool, program, call, library):
             if fault:
                 sys.exit(f"{call.what}, request {number}: {fault}: {answer} {left}")
             told += lacks
+            printed[answer[1]] += 1
             if not seen:
                 if lacks or not told:
                     sys.exit(f"{call.what}: " + ("a run without a refusal answered 46" if lacks else "no refusal was told"))
-                return number - 1, told
+                return number - 1, told, printed
+
+
+def check_cached(counts):
+    """The entries are in the cache where memory runs out while they are ranked: that is at each request of `ranked` that
+    `krate`, which only looks them up, does not make."""
+    (looked_up, _, without), (requests, _, printed) = counts["krate"], counts["ranked"]
+    kept = [sum(count for text, count in texts.items() if text.startswith(CACHED % 5)) for texts in (without, printed)]
+    if kept != [0, requests - looked_up] or requests <= looked_up:
+        sys.exit(f"krate, ranked: {looked_up} and {requests} requests, {kept} of which left entries in the cache")
 
 
 def main():
     library, program = (str(pathlib.Path(word).resolve()) for word in sys.argv[1:3])
-    counts = []
+    counts = {}
     with ThreadPoolExecutor(AT_ONCE) as pool:
         for call in [*edits(), *plans()]:
-            counts.append(refused(pool, program, call, library))
-            print(f"{call.what}: {counts[-1][0]} requests refused in turn, {counts[-1][1]} answers 46")
-    print(f"{sum(count for count, _ in counts)} requests for memory refused in turn, over {len(counts)} calls, "
-          f"{sum(told for _, told in counts)} answers 46")
+            counts[call.what] = requests, told, _ = refused(pool, program, call, library)
+            print(f"{call.what}: {requests} requests refused in turn, {told} answers 46")
+    check_cached(counts)
+    print(f"{sum(requests for requests, _, _ in counts.values())} requests for memory refused in turn, over {len(counts)} "
+          f"calls, {sum(told for _, told, _ in counts.values())} answers 46")
 
 
 if __name__ == "__main__":

@@ -1,4 +1,4 @@
--- What the ranks of entries tell, and what sorting keeps of it.
+-- What the ranks of entries say, and what of that holds after sorting.
 use Rattle.std.proofs.Common.{◌≡◌, ℕ, ◌+◌, ◌<◌, List, [], ◌∷◌, ◌++◌, length, map, Option, Some, None, Bool, true, false, ◌==◌, ◌||◌, ◌≤◌, IsSome, cond, inl, inr, subst, sym, ap, ◌∙◌, refl, append_assoc, arith, zero, suc, eq-eqb, length-append, append-nil, take, get_or}
 use Rattle.std.specs.Prelude.{All, slice_get, option_and_then, option_map, option_to_list}
 use Rattle.std.specs.List.{list_any, sum_by}
@@ -56,7 +56,7 @@ tells_one entries n e at (Some c) read = All-cons (Tells entries) (ranking n e c
       read = ap (λ o. option_and_then candidate_in o) at ∙ read;
     }) (All-nil (Tells entries))
 
--- each rank tells of its entry
+-- each rank has the name and the versions of its entry
 pub tells_from : (pre rest : List IndexEntry) → All (Tells (pre ++ rest)) (ranks_from (length pre) rest)
 tells_from pre [] = All-nil (Tells (pre ++ []))
 tells_from pre (e ∷ rest) =

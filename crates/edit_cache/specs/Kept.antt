@@ -19,7 +19,7 @@ IsRanked None (Some ranked) = ⊥
 IsRanked (Some krate) None = ⊥
 IsRanked (Some krate) (Some ranked) = IsRanking (entries_of krate) (ranks_of ranked)
 
--- the ranking of the answer that is kept, and none where none is (own)
+-- the ranking of the answer in the cache, and none where it has no answer (own)
 abbrev pub IsRankedAt : Option (Option IndexKrate) → Option Ranked → Type 0
 IsRankedAt None None = Unit {0}
 IsRankedAt None (Some ranked) = ⊥

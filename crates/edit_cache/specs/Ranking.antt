@@ -20,7 +20,7 @@ ranks_of ranked = map rank_of ranked.ranks.items
 abbrev pub rank_order : Ranking → Ranking → Ordering
 rank_order a b = ordering_then (full_order b.version a.version) (nat_cmp b.place a.place)
 
--- a rank that tells the name of the entry at its place, and what is read of it (own)
+-- a rank has the name of the entry at its place, and the versions that are read of it (own)
 pub record Tells (entries : List IndexEntry) (r : Ranking) : Type 0 where
   pub named : option_map (λ e. e.name) (slice_get entries r.place) ≡ Some r.name
   pub read : option_and_then candidate_in (slice_get entries r.place) ≡ Some (r.version, r.rust_version)
@@ -34,7 +34,8 @@ HasEach entries ranks = (i : ℕ) → IsSome (option_and_then candidate_in (slic
 abbrev pub IsInOrder : List Ranking → Type 0
 IsInOrder ranks = AllPairs (λ a b. rank_order a b ≡ Less) ranks
 
--- the ranking of entries: those that are readable and not yanked, each once, in that order (own)
+-- the ranking of entries: those that are readable and not yanked, each once, the greater version first and
+-- among equals the later entry (own)
 pub record IsRanking (entries : List IndexEntry) (ranks : List Ranking) : Type 0 where
   pub tells : All (Tells entries) ranks
   pub each : HasEach entries ranks

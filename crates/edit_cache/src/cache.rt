@@ -1,4 +1,4 @@
-//! The answers of an index that are kept.
+//! A cache of the answers of an index.
 ghost use Rattle.std.specs.Prelude.{◌≡◌, ◌≢◌, ◌⊎◌, ◌↔◌, ℕ, List, Some, None, Ok, IsOk, IsSome, IsTrue, IfOk, IfErr, IfSome, OnOk, OnErr, Option, option_and_then, option_map, option_copied};
 ghost use Rattle.std.specs.BTreeMap.{get_by_text};
 ghost use Rattle.url.specs.Parts.{serialize};
@@ -18,8 +18,8 @@ use std::collections::BTreeMap;
 use std::mem;
 use url::Url;
 
-/// The answers of an index that are kept: what it gave for an address and a name at the first
-/// successful look since the last `update_krate`.
+/// A cache of the answers of an index: what it gave for an address and a name at the first successful
+/// lookup since the last `update_krate`.
 #[derive(Debug, Drop)]
 pub struct IndexCache<I> {
     index: I,
@@ -27,7 +27,7 @@ pub struct IndexCache<I> {
 }
 
 impl<I: Index> IndexCache<I> {
-    /// A cache that keeps no answer yet.
+    /// A cache without answers.
     pub fn new(alloc: Global, index: I) -> IndexCache<I>
         ensures index { index_of result ≡ index }
         ensures empty { (address name : List ℕ) → kept_at result address name ≡ None }
@@ -47,7 +47,7 @@ impl<I: Index> IndexCache<I> {
         mem::replace(&mut self.index, index)
     }
 
-    /// The entries that are kept; none where no answer is, or where the index has no such name.
+    /// The entries in the cache; none where it has no answer, or where the index has no such name.
     pub fn shown(&self, registry: &Url, name: &str) -> Option<&IndexKrate>
         ensures { option_copied result ≡ krate_at self.now (serialize registry.now) name.now }
     {
@@ -57,14 +57,14 @@ impl<I: Index> IndexCache<I> {
         }
     }
 
-    /// The answer that is kept, if one is.
+    /// The answer in the cache, if there is one.
     fn kept(&self, address: &str, name: &str) -> Option<&Kept>
         ensures { option_copied result ≡ told_at self.now address.now name.now }
     {
         self.answers.get(address)?.get(name)
     }
 
-    /// Forgets the answer for a name. It takes no memory and is never refused.
+    /// Forgets the answer for a name. It takes no memory and never fails.
     pub fn update_krate(&mut self, registry: &Url, name: &str) -> CargoResult<()>
         ensures done { result ≡ Ok tt }
         ensures index { index_of self.new ≡ index_of self.old }
@@ -75,7 +75,7 @@ impl<I: Index> IndexCache<I> {
         Ok(())
     }
 
-    /// Forgets the answer at an address.
+    /// Forgets the answer for a name at an address.
     fn forget(&mut self, address: &str, name: &str)
         ensures index { self.new.index ≡ self.old.index }
         ensures forgotten { kept_at self.new address.now name.now ≡ None }
@@ -86,7 +86,7 @@ impl<I: Index> IndexCache<I> {
         }
     }
 
-    /// Keeps an answer.
+    /// Adds an answer to the cache.
     fn keep(
         &mut self,
         alloc: Global,
@@ -113,9 +113,9 @@ impl<I: Index> IndexCache<I> {
         Ok(())
     }
 
-    /// Sees to it that an answer for a name is kept, which `shown` then tells.
+    /// Looks a name up, unless the cache has an answer for it; `shown` then gives the entries.
     ///
-    /// Refused as a look of the index is, or for want of memory; then no answer is added.
+    /// Its errors are those of a lookup in the index, and want of memory; then no answer is added.
     pub fn fetch(&mut self, alloc: Global, registry: &Url, name: &str) -> CargoResult<()>
         ensures { Fetches (I.view (index_of self.old)) (I.view
             (index_of self.new)) registry.now name.now self.old self.new result }
@@ -131,7 +131,7 @@ impl<I: Index> IndexCache<I> {
     }
 
     /// The entries of a name; none where the index has no such name. It is `fetch` and then `shown`: an error
-    /// is not kept, so a later call makes the lookup again. The contract of `fetch` says what the cache holds
+    /// is not stored, so a later call makes the lookup again. The contract of `fetch` says what the cache has
     /// afterwards; of this call, whose result lies in the cache, tests show it.
     pub fn krate(
         &mut self,
@@ -144,7 +144,7 @@ impl<I: Index> IndexCache<I> {
         ensures given { kept_at self.old (serialize registry.now) name.now ≡ None → IfOk result
             (λ o. (I.view (index_of self.old)).gives registry.now name.now (Ok (answer_of
             (option_copied o)))) }
-        // a kept answer is never refused
+        // an answer in the cache is given without an error
         ensures kept_answers { IsSome (kept_at self.old (serialize registry.now) name.now) → IsOk result }
         ensures refused { IfErr result (IsMissed (I.view (index_of self.old)).gives registry.now name.now
             (kept_at self.old (serialize registry.now) name.now)) }
@@ -187,10 +187,13 @@ impl<I: Index> IndexCache<I> {
         }
     }
 
-    /// Sees to it that an answer for a name and its ranking are kept, which `shown_ranking` tells.
+    /// Looks a name up and ranks its entries, each unless the cache has that already; `shown_ranking` then
+    /// gives the ranking.
     ///
-    /// Its errors are those of `fetch`. Want of memory while the entries are ranked leaves them without a
-    /// ranking, and a later call ranks them.
+    /// Its errors are those of `fetch`. Want of memory while the entries are ranked leaves them in the cache
+    /// without a ranking, and a later call ranks them without a lookup. Tests show this, as no contract
+    /// counts lookups. A caller whose proof needs it calls `fetch` and then `rank_kept`, whose contract says
+    /// that each answer stays.
     pub fn rank(&mut self, alloc: Global, registry: &Url, name: &str) -> CargoResult<()>
         ensures { Ranks (I.view (index_of self.old)) (I.view
             (index_of self.new)) registry.now name.now self.old self.new result }
@@ -201,7 +204,8 @@ impl<I: Index> IndexCache<I> {
         }
     }
 
-    /// Ranks the answer that is kept for a name, once, which `shown_ranking` then tells; it makes no look.
+    /// Ranks the answer in the cache for a name, once; `shown_ranking` then gives the ranking. It makes no
+    /// lookup.
     pub fn rank_kept(&mut self, alloc: Global, registry: &Url, name: &str) -> CargoResult<()>
         ensures index { index_of self.new ≡ index_of self.old }
         ensures kept { SameKept self.old self.new }
@@ -212,7 +216,7 @@ impl<I: Index> IndexCache<I> {
         self.rank_at(alloc, registry.as_str(), name)
     }
 
-    /// The same by the text of an address.
+    /// `rank_kept` by the text of an address.
     fn rank_at(&mut self, alloc: Global, address: &str, name: &str) -> CargoResult<()>
         ensures index { self.new.index ≡ self.old.index }
         ensures kept { SameKept self.old self.new }
@@ -229,7 +233,7 @@ impl<I: Index> IndexCache<I> {
         }
     }
 
-    /// The ranking that is kept; none where no answer was ranked, or the index has no such name.
+    /// The ranking in the cache; none where no answer was ranked, or the index has no such name.
     pub fn shown_ranking(&self, registry: &Url, name: &str) -> Option<&Ranked>
         ensures { option_copied result ≡ ranking_at self.now (serialize registry.now) name.now }
     {
@@ -240,7 +244,7 @@ impl<I: Index> IndexCache<I> {
     }
 
     /// The ranking of the entries of a name; none where the index has no such name. It is `rank` and then
-    /// `shown_ranking`: an error of the lookup is not kept, and want of memory while the entries are ranked
+    /// `shown_ranking`: an error of the lookup is not stored, and want of memory while the entries are ranked
     /// leaves them in the cache without a ranking, so that a later call makes no lookup. Tests show this, as
     /// the result lies in the cache.
     pub fn ranked(
@@ -255,7 +259,7 @@ impl<I: Index> IndexCache<I> {
             (λ o. (k : Option IndexKrate)
             × (I.view (index_of self.old)).gives registry.now name.now (Ok (answer_of k))
             × IsRanked k (option_copied o)) }
-        // a kept answer is refused only for want of memory while it is ranked
+        // with an answer in the cache the one error is want of memory while it is ranked
         ensures kept_answers { IsSome (kept_at self.old (serialize registry.now) name.now)
             → IfErr result IsMemory }
         ensures refused { IfErr result (IsMissed (I.view (index_of self.old)).gives registry.now name.now

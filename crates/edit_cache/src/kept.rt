@@ -1,4 +1,4 @@
-//! An answer that is kept, with its ranking once it was asked for.
+//! An answer of an index in the cache, with the ranking of its entries once that is made.
 ghost use Rattle.std.specs.Prelude.{◌≡◌, IfErr, OnOk, OnErr};
 ghost use Rattle.edit_base.specs.Errors.{IsMemory};
 ghost use Rattle.edit_cache.specs.Kept.{FitsAnswer, FitsAnswer-prop, IsRanked};
@@ -18,7 +18,7 @@ pub struct Kept {
 }
 
 impl Kept {
-    /// An answer that was not ranked yet.
+    /// An answer without a ranking.
     pub(crate) fn new(answer: Option<IndexKrate>) -> Kept
         ensures answer { result.answer ≡ answer }
     {

@@ -1,4 +1,4 @@
-//! The answers of an index that are kept, ranked once each.
+//! A cache of the answers of an index, each of which is ranked once.
 #![tactic(auto)]
 
 pub mod cache;

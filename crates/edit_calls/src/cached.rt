@@ -3,6 +3,7 @@ ghost use Rattle.std.specs.Prelude.{◌≡◌, IfOk, length};
 ghost use Rattle.edit_steps.specs.Workspaces.{HaveOwnPaths};
 ghost use Rattle.edit_steps.specs.Sources.{MayBePlanned};
 
+use crate::counted::CountedIndex;
 use crate::plans::show_outputs;
 use crate::said::say;
 use edit_base::CargoResult;
@@ -14,39 +15,115 @@ use edit_steps::upgrade_read::{Asked, IndexSource, RustChoice, Sources, read_sou
 use edit_store::HostStore;
 use edit_upgrade::{Options, plan_upgrade};
 use std::alloc::Global;
+use std::cell::Cell;
 use url::Url;
 
 /// The name that a cache has an answer for before the call.
 const HELD: &str = "held";
 
-/// Tells how many entries the cache still has for that name.
-fn tell_held(rt: &HostRuntime, cache: &IndexCache<FileIndex>, registry: &Url) {
-    let count = match cache.shown(registry, HELD) {
+/// A cache over an index of one file, whose lookups are counted.
+type Cache<'a> = IndexCache<CountedIndex<'a, FileIndex>>;
+
+/// A call: what is called, for which name of which registry, and the count of its index's lookups.
+#[derive(Clone, Copy)]
+struct CacheCall<'a> {
+    what: &'a str,
+    registry: &'a Url,
+    name: &'a str,
+    lookups: &'a Cell<u64>,
+}
+
+/// How many entries of a name a cache has.
+fn count_of(cache: &Cache<'_>, registry: &Url, name: &str) -> usize {
+    match cache.shown(registry, name) {
         Some(krate) => krate.versions.len(),
         None => 0,
-    };
-    say(rt, format_args!("behind a refusal 46, {count} held, then "));
+    }
 }
 
-/// Prints the three first versions of a ranking.
-fn ranking(
-    rt: &HostRuntime,
-    cache: &mut IndexCache<FileIndex>,
-    registry: &Url,
-    name: &str,
-) -> CargoResult<()> {
-    let Some(ranked) = cache.ranked(rt.alloc(), registry, name)? else {
-        return Ok(());
-    };
-    for n in 0..3 {
-        if let Some(version) = ranked.version(n) {
-            say(rt, format_args!("{version} "));
+impl<'a> CacheCall<'a> {
+    /// Prints how many entries a cache has after want of memory: of the name that it had an answer for before
+    /// the call, and of the name of the call.
+    fn show_cached(self, rt: &HostRuntime, cache: &Cache<'_>) {
+        let held = count_of(cache, self.registry, HELD);
+        let cached = count_of(cache, self.registry, self.name);
+        say(
+            rt,
+            format_args!("after error 46: {held} held, {cached} cached, then "),
+        );
+    }
+
+    /// Prints how many lookups were made.
+    fn show_lookups(self, rt: &HostRuntime) {
+        let lookups = self.lookups.get();
+        say(rt, format_args!("{lookups} lookups\n"));
+    }
+
+    /// Prints the three first versions of a ranking.
+    fn ranking(self, rt: &HostRuntime, cache: &mut Cache<'_>) -> CargoResult<()> {
+        if let Some(ranked) = cache.ranked(rt.alloc(), self.registry, self.name)? {
+            for n in 0..3 {
+                if let Some(version) = ranked.version(n) {
+                    say(rt, format_args!("{version} "));
+                }
+            }
+        }
+        self.show_lookups(rt);
+        Ok(())
+    }
+
+    /// Prints the version of each entry.
+    fn entries(self, rt: &HostRuntime, cache: &mut Cache<'_>) -> CargoResult<()> {
+        if let Some(krate) = cache.krate(rt.alloc(), self.registry, self.name)? {
+            for entry in &krate.versions {
+                say(rt, format_args!("{} ", entry.version));
+            }
+        }
+        self.show_lookups(rt);
+        Ok(())
+    }
+
+    /// Makes the call.
+    fn once(
+        self,
+        rt: &HostRuntime,
+        cache: &mut Cache<'_>,
+        inputs: &[Input],
+        configs: &[Vec<Config>],
+    ) -> CargoResult<()>
+        requires paths { HaveOwnPaths inputs.now }
+        requires each { length configs.now ≡ length inputs.now }
+    {
+        match self.what {
+            "ranked" => self.ranking(rt, cache),
+            "krate" => self.entries(rt, cache),
+            _ => upgrade(rt, cache, inputs, configs),
         }
     }
-    Ok(())
+
+    /// Makes the call over a cache that holds an answer, and again where memory ran out.
+    fn twice(
+        self,
+        rt: &HostRuntime,
+        cache: &mut Cache<'_>,
+        inputs: &[Input],
+        configs: &[Vec<Config>],
+    ) -> CargoResult<()>
+        requires paths { HaveOwnPaths inputs.now }
+        requires each { length configs.now ≡ length inputs.now }
+    {
+        cache.fetch(rt.alloc(), self.registry, HELD)?;
+        match self.once(rt, cache, inputs, configs) {
+            Err(error) if error.number() == 46 => {
+                self.show_cached(rt, cache);
+                self.once(rt, cache, inputs, configs)
+            }
+            answer => answer,
+        }
+    }
 }
 
-/// The options of an upgrade without words.
+/// The options of an upgrade without arguments.
 fn usual(alloc: Global) -> Options {
     Options {
         compatible: true,
@@ -65,7 +142,7 @@ fn usual(alloc: Global) -> Options {
 /// Plans an upgrade, and prints what it would write.
 fn upgrade(
     rt: &HostRuntime,
-    cache: &mut IndexCache<FileIndex>,
+    cache: &mut Cache<'_>,
     inputs: &[Input],
     configs: &[Vec<Config>],
 ) -> CargoResult<()>
@@ -76,47 +153,6 @@ fn upgrade(
     let plan = plan_upgrade(rt.alloc(), &options, inputs, configs, cache)?;
     show_outputs(rt, &plan.outputs);
     Ok(())
-}
-
-/// Plans an upgrade, or ranks a name where there is one.
-fn once(
-    rt: &HostRuntime,
-    cache: &mut IndexCache<FileIndex>,
-    inputs: &[Input],
-    configs: &[Vec<Config>],
-    registry: &Url,
-    name: &str,
-) -> CargoResult<()>
-    requires paths { HaveOwnPaths inputs.now }
-    requires each { length configs.now ≡ length inputs.now }
-{
-    if name.is_empty() {
-        upgrade(rt, cache, inputs, configs)
-    } else {
-        ranking(rt, cache, registry, name)
-    }
-}
-
-/// Makes the call over a cache that holds an answer, and again where memory ran out.
-fn twice(
-    rt: &HostRuntime,
-    cache: &mut IndexCache<FileIndex>,
-    inputs: &[Input],
-    configs: &[Vec<Config>],
-    registry: &Url,
-    name: &str,
-) -> CargoResult<()>
-    requires paths { HaveOwnPaths inputs.now }
-    requires each { length configs.now ≡ length inputs.now }
-{
-    cache.fetch(rt.alloc(), registry, HELD)?;
-    match once(rt, cache, inputs, configs, registry, name) {
-        Err(error) if error.number() == 46 => {
-            tell_held(rt, cache, registry);
-            once(rt, cache, inputs, configs, registry, name)
-        }
-        answer => answer,
-    }
 }
 
 /// Reads what a call rests on from a folder.
@@ -140,8 +176,8 @@ fn sources_of(rt: &HostRuntime, folder: &str) -> CargoResult<Sources>
     }
 }
 
-/// Makes the call over the files of a folder.
-fn over_files(rt: &HostRuntime, folder: &str, registry: &Url, name: &str) -> CargoResult<()> {
+/// Makes a call over the files of a folder.
+fn over_files(rt: &HostRuntime, folder: &str, call: CacheCall<'_>) -> CargoResult<()> {
     let sources = sources_of(rt, folder)?;
     let Sources {
         target,
@@ -151,12 +187,26 @@ fn over_files(rt: &HostRuntime, folder: &str, registry: &Url, name: &str) -> Car
     let IndexSource::Lines(index) = index else {
         return Ok(());
     };
+    let index = CountedIndex::new(index, call.lookups);
     let mut cache = IndexCache::new(rt.alloc(), index);
-    twice(rt, &mut cache, &target.inputs, &configs, registry, name)
+    call.twice(rt, &mut cache, &target.inputs, &configs)
 }
 
-/// The same, by the address of the usual registry.
-pub(crate) fn over_cache(rt: &HostRuntime, folder: &str, name: &str) -> CargoResult<()> {
+/// Makes a call over the files of a folder: `ranked` or `krate` for a name of the usual registry, or an
+/// upgrade.
+pub(crate) fn over_cache(
+    rt: &HostRuntime,
+    what: &str,
+    folder: &str,
+    name: &str,
+) -> CargoResult<()> {
     let registry = resolve(rt.alloc(), &[], None)?;
-    over_files(rt, folder, &registry, name)
+    let lookups = Cell::new(0);
+    let call = CacheCall {
+        what,
+        registry: &registry,
+        name,
+        lookups: &lookups,
+    };
+    over_files(rt, folder, call)
 }

@@ -34,20 +34,23 @@
 //!
 //!     edit_calls upgrade FOLDER
 //!     edit_calls ranked FOLDER NAME
+//!     edit_calls krate FOLDER NAME
 //!     edit_calls set_version FOLDER
 //!     edit_calls apply FOLDER
 //!     edit_calls word FILE
 //!
-//! The first two read `Cargo.toml` and `index.json` of the folder, and lend the call a cache that holds an
-//! answer; where memory ran out they tell what the cache still has, and make the call again. `set_version`
-//! plans the next minor version of each member of the workspace that `metadata.json` tells of, and `apply`
-//! writes that plan. `word` reads the word that a file holds. It prints the texts that a plan would write,
-//! the first versions of a ranking or the name in the word, and then `done`; or `refused`, a number and a
-//! text.
+//! The first three read `Cargo.toml` and `index.json` of the folder, and lend the call a cache that holds an
+//! answer for the name `held`; where memory ran out they print how many entries the cache then has of that
+//! name and of NAME, and make the call again. `set_version` plans the next minor version of each member of
+//! the workspace that `metadata.json` describes, and `apply` writes that plan. `word` reads the word that a
+//! file holds. It prints the texts that a plan would write, the name in the word, or of `ranked` the first
+//! versions of the ranking and of `krate` the version of each entry, with the number of lookups so far; and
+//! then `done`, or `refused`, a number and a text.
 #![tactic(auto)]
 
 mod cached;
 mod calls;
+mod counted;
 mod plans;
 mod readers;
 mod said;

@@ -43,7 +43,7 @@ impl<'a> Call<'a> {
     /// Makes the call, which prints what it answers.
     fn make(self, rt: &HostRuntime) -> CargoResult<()> {
         match self.what {
-            "upgrade" | "ranked" => over_cache(rt, self.at, self.name),
+            "upgrade" | "ranked" | "krate" => over_cache(rt, self.what, self.at, self.name),
             "set_version" => set_versions(rt, self.at, false),
             "apply" => set_versions(rt, self.at, true),
             _ => word(rt, self.at),
@@ -64,7 +64,7 @@ pub(crate) fn planned_call(words: &[String]) -> Option<Call<'_>> {
     let what = words.first()?.as_str();
     if !matches!(
         what,
-        "upgrade" | "ranked" | "set_version" | "apply" | "word"
+        "upgrade" | "ranked" | "krate" | "set_version" | "apply" | "word"
     ) {
         return None;
     }

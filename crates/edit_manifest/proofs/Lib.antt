@@ -11,3 +11,4 @@ pub mod MembersApart
 pub mod EntriesApart
 pub mod TablesAfter
 pub mod EntriesAfter
+pub mod EntryReasons

@@ -1,11 +1,13 @@
 -- Entries, as the program has them.
-use Rattle.std.specs.Prelude.{Bool, true, false, Option, Some, None, string_bytes}
+use Rattle.std.specs.Prelude.{◌≡◌, ⊤, ℕ, List, Bool, true, false, Option, Some, None, Result, Err, string_bytes}
 use Rattle.edit_tree.specs.Assertions.{Place}
 use Rattle.edit_document.specs.Items.{place_seen}
-use Rattle.edit_record.specs.EntryRecords.{EntryRecord}
-use Rattle.edit_record.specs.RecordViews.{record_view}
+use Rattle.edit_record.specs.EntryRecords.{EntryRecord, Refusal}
+use Rattle.edit_record.specs.ReadEntries.{record_of}
+use Rattle.edit_record.specs.RecordViews.{record_view, Tells}
 use Rattle.edit_manifest.specs.Entries as named
 use Rattle.edit_manifest.specs.Entries.{version_place}
+use Rattle.edit_manifest.specs.Tables.{Tree}
 use Rattle.edit_manifest.specs.declared.entries.found.Entry.{Entry}
 use Rattle.edit_manifest.specs.declared.entries.found.Said.{Said}
 use Rattle.edit_manifest.specs.declared.entries.found.Said.TheVariants.{Read, Unsupported}
@@ -28,3 +30,13 @@ entry_view e = record {
   literal = literal_by e.bare (place_seen e.place.items);
   said = said_view e.said;
 }
+
+-- where nothing was read, the error is the one with which reading the item fails (own)
+abbrev pub IsReason : Result EntryRecord Refusal → Said → Type 0
+IsReason read (Read d) = ⊤
+IsReason read (Unsupported error) = (r : Refusal) × (read ≡ Err r) × Tells r error
+
+-- an entry without a record has the error with which reading the item at its place under its key fails, with
+-- its paths meant from this root on (own)
+abbrev pub HasReason : Tree → List ℕ → Entry → Type 0
+HasReason t root e = IsReason (record_of t (place_seen e.place.items) root (string_bytes e.key)) e.said

@@ -11,18 +11,18 @@ use Rattle.edit_record.specs.EntryRecords.{Refusal, wrong_type, workspace_false,
 use Rattle.edit_record.specs.ReadEntries.{Tree, below, and_then, entry_record, feature_texts, first_texts, table_record, text_of, true_workspace}
 use Rattle.edit_record.specs.RecordViews.{IsRefused, Tells, shown_at}
 
--- a refusal that is told
+-- an error of a result
 pub told_refusal : {A : Type 0} (r : Refusal) (told : Result A Refusal) (e : Error) →
     told ≡ Err r → Tells r e → IsRefused told e
 told_refusal r told e is tells = inr (r, is, tells)
 
--- a refusal stays in what follows
+-- an error stays in what follows
 pub refusal_stays : {A B : Type 0} (told : Result A Refusal) (f : A → Result B Refusal) (e : Error) →
     IsRefused told e → IsRefused (and_then told f) e
 refusal_stays told f e (inl memory) = inl memory
 refusal_stays told f e (inr h) = inr (h.0, ap (λ x. and_then x f) h.1, h.2)
 
--- past an answer, a refusal of what follows
+-- past a value, an error of what follows
 pub refusal_past : {A B : Type 0} (told : Result A Refusal) (f : A → Result B Refusal) (x : A) (e : Error) →
     told ≡ Ok x → IsRefused (f x) e → IsRefused (and_then told f) e
 refusal_past told f x e is refused = rw is refused
@@ -58,7 +58,7 @@ pub no_element : (t : Tree) (dep : List ℕ) (n : ℕ) (ss : List (List ℕ)) �
     first_texts t dep n ≡ Ok ss → t (index n ∷ []) ≡ None → first_texts t dep (suc n) ≡ Ok ss
 no_element t dep n ss first absent = rw (first, absent) (ap Ok (append-nil ss))
 
--- what is refused among the first elements is refused among more
+-- an error among the first elements is the error among more
 pub refused_later : (t : Tree) (dep : List ℕ) (k j : ℕ) (r : Refusal) →
     first_texts t dep k ≡ Err r → first_texts t dep (k + j) ≡ Err r
 refused_later t dep k zero r e = rw add-zero e

@@ -1,4 +1,4 @@
--- Entries and their records or refusals, and the texts of dependencies, as the definitions compute them.
+-- Entries and their records or errors, and the texts of dependencies, as the definitions compute them.
 use Rattle.std.proofs.Common.{◌≡◌, [], refl}
 use Rattle.std.specs.Prelude.{ℕ, true, false, List, ◌∷◌, Some, None, Result, Ok, Err, codes}
 use Rattle.edit_tree.specs.Assertions.{key}
@@ -82,13 +82,13 @@ pub below_a_place : record_of (node_at ((key (codes "dependencies") ∷ key x �
     ≡ Ok (bare_record x (from_registry (codes "1")))
 below_a_place = refl
 
--- ---- refusals
+-- ---- errors
 
 -- a wrong type where a string is expected
 abbrev no_text : List ℕ → Result EntryRecord Refusal
 no_text name = Err (wrong_type (codes "integer") name (codes "string") x)
 
--- `x = { version = 1 }`, and how it is told
+-- `x = { version = 1 }`, and the text of its error
 pub version_number : reads (entry (number (codes "version") ∷ [])) ≡ no_text (codes "version")
 version_number = refl
 
@@ -96,7 +96,7 @@ pub version_number_told : refusal_text (wrong_type (codes "integer") (codes "ver
     ≡ codes "Found integer for version when string was expected for x"
 version_number_told = refl
 
--- `x = { workspace = false }`, and how it is told
+-- `x = { workspace = false }`, and the text of its error
 pub workspace_is_false : reads (entry ((codes "workspace", truth false) ∷ [])) ≡ Err (workspace_false x)
 workspace_is_false = refl
 
@@ -113,14 +113,14 @@ tables = refl
 pub absent : reads (node_at []) ≡ Err (unknown_entry x)
 absent = refl
 
--- `x = {}`, and `x = { branch = 1 }`: what goes with `git` is not looked at without it
+-- `x = {}`, and `x = { branch = 1 }`: what belongs to `git` is not read without it
 pub no_source : reads (entry []) ≡ Err (unknown_source x)
 no_source = refl
 
 pub branch_alone : reads (entry (number (codes "branch") ∷ [])) ≡ Err (unknown_source x)
 branch_alone = refl
 
--- `x = { default_features = false }` has no source; with `version = "1"` the spelling is refused
+-- `x = { default_features = false }` has no source; with `version = "1"` the spelling is the error
 pub spelling_alone : reads (entry (flag (codes "default_features") ∷ [])) ≡ Err (unknown_source x)
 spelling_alone = refl
 
@@ -129,7 +129,7 @@ pub spelling : reads (entry (says (codes "version") (codes "1") ∷ flag (codes 
     ≡ Err (old_default_features x)
 spelling = refl
 
--- `package`, `git`, `path`, `registry` as numbers; the first check that fails is told
+-- `package`, `git`, `path`, `registry` as numbers; the first check that fails gives the error
 pub package_number : reads (entry (number (codes "version") ∷ number (codes "package") ∷ []))
     ≡ no_text (codes "package")
 package_number = refl
@@ -185,7 +185,7 @@ pub version_beside_path : reads (entry (says (codes "path") (codes "p") ∷ numb
     ≡ no_text (codes "version")
 version_beside_path = refl
 
--- `x = { git = "u", branch = "b", tag = "t" }`: the tag alone is kept
+-- `x = { git = "u", branch = "b", tag = "t" }`: the record has the tag alone
 pub a_tag : reads (entry (says (codes "git") (codes "u") ∷ says (codes "branch") (codes "b")
     ∷ says (codes "tag") (codes "t") ∷ []))
     ≡ Ok (bare_record x (from_git (repository (codes "u") None (Some (codes "t")) None None)))

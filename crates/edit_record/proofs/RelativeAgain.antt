@@ -92,7 +92,7 @@ names-steps text =
     (All-parts (λ b. is_slash b ≡ false) text (λ k d l other. other)))
     (filter_passes is_kept (parts_of text))
 
--- of steps alone each is kept
+-- of steps alone none is left out
 filter-steps : (ws : List (List ℕ)) → All IsStep ws → filter is_kept ws ≡ ws
 filter-steps [] h = refl
 filter-steps (w ∷ ws) h =

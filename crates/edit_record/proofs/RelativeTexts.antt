@@ -17,12 +17,12 @@ use Rattle.edit_record.specs.RelativePaths.{is_kept, names_of, steps_between, re
 
 -- ---- relative paths
 
--- an idle part is not kept
+-- a part that is empty or `.` is left out
 idle-lost : (part : List ℕ) → IsIdle part → is_kept part ≡ false
 idle-lost part (inl e) = rw e refl
 idle-lost part (inr e) = rw e refl
 
--- any other part is kept
+-- a part that is neither empty nor `.` stays
 other-kept : (part : List ℕ) → (IsIdle part → ⊥) → is_kept part ≡ true
 other-kept part h = elim (cases_Bool (same_bytes part [])) [
   | inl e ↦ absurd (h (inl (same_bytes_is part [] e)))
@@ -32,7 +32,7 @@ other-kept part h = elim (cases_Bool (same_bytes part [])) [
   ]
 ]
 
--- the parts that name something are those that are kept
+-- the parts that name something are those that stay
 named-filter : (parts names : List (List ℕ)) → Named parts names → filter is_kept parts ≡ names
 named-filter _ _ none = refl
 named-filter _ _ (named_drop parts names part n idle) =

@@ -1,4 +1,4 @@
--- What is written of a plain record reads as a record of which the same is written.
+-- The new entry of a plain record reads as a record that has the same new entry.
 use Rattle.std.proofs.Common.{◌≡◌, ℕ, Bool, true, false, List, [], ◌∷◌, ◌++◌, refl, ap, sym, subst, ◌∙◌, Option, Some, None, append-nil}
 use Rattle.std.specs.Prelude.{Result, Ok, option_map, is_some, if◌then◌else◌, option_and_then, unwrap_or, IsSome, IfSome, IsOkAnd, codes}
 use Rattle.edit_tree.specs.NewItems.{NewItem, a_string, a_value}
@@ -21,7 +21,7 @@ version-whole : (version : Option (List ℕ)) → IfSome version (λ v. holds_pl
 version-whole None h = refl
 version-whole (Some v) h = ap Some (cut-none v h)
 
--- the members of the source are written the same again
+-- the source that is read again has the same members
 members-again : (root : List ℕ) (registry : Option (List ℕ)) (origin : Origin)
     → IsPlainSource registry origin
     → IfSome (origin_version origin) (λ v. holds_plus v ≡ false)
@@ -58,7 +58,7 @@ if-twice : {X : Type 0} (b : Bool) (o : Option X)
 if-twice true o = refl
 if-twice false o = refl
 
--- the options are written the same again
+-- the options that are read again have the same members
 options-again : (root : List ℕ) (r : EntryRecord) (origin : Origin) → r.origin ≡ Some origin
     → option_members (read_again r (origin_again root origin)) ≡ option_members r
 options-again root r origin is =

@@ -28,7 +28,7 @@ members ms = ([], inline_table (map (λ m. key m.0) ms)) ∷ map (λ m. (key m.0
 abbrev pub entry : List (List ℕ × View) → Tree
 entry ms = node_at (members ms)
 
--- the record or the refusal of an entry
+-- the record of an entry, or its error
 abbrev pub reads : Tree → Result EntryRecord Refusal
 reads t = record_of t [] foo x
 

@@ -25,7 +25,7 @@ at_one = (codes "version", a_string (codes "1.0"))
 pub short_entry : item_of root dep ≡ a_value (a_string (codes "1.0"))
 short_entry = refl
 
--- `"1.0"`: that a crate is not optional, and wanted with its default features, needs no word
+-- `"1.0"`: that a crate is not optional, and wanted with its default features, needs no member
 pub plain_entry : item_of root (record dep { optional = Some false; default_features = Some true })
     ≡ a_value (a_string (codes "1.0"))
 plain_entry = refl

@@ -17,7 +17,7 @@ pub data Origin : Type 0 where
   from_git : Repository → Origin
   from_workspace : Origin
 
--- what a dependency says, but for the features that its crate has (own)
+-- what a dependency says, without the features that its crate has (own)
 pub record EntryRecord : Type 0 where
   pub name : List ℕ
   pub optional : Option Bool
@@ -28,8 +28,8 @@ pub record EntryRecord : Type 0 where
   pub registry : Option (List ℕ)
   pub rename : Option (List ℕ)
 
--- why an entry has no record: the type that was found, the member, the type that was expected and the
--- entry's key; in all other cases the key alone (own)
+-- why an entry has no record: a member of a wrong type, with the type that was found, the member's name, the
+-- type that was expected and the entry's key; each other error with the entry's key alone (own)
 pub data Refusal : Type 0 where
   wrong_type : List ℕ → List ℕ → List ℕ → List ℕ → Refusal
   workspace_false : List ℕ → Refusal

@@ -13,7 +13,7 @@ part_text None None None = []
 abbrev pub repository_text : Repository → List ℕ
 repository_text g = g.address ++ part_text g.branch g.tag g.rev
 
--- a source: a requirement, a path, an address, or the word `workspace` (own)
+-- a source: a requirement, a path, an address, or `workspace` (own)
 abbrev pub origin_text : Origin → List ℕ
 origin_text (from_registry version) = version
 origin_text (from_path path version) = path

@@ -16,7 +16,8 @@ IsFound rust test entries None = IsGreatest (is_kept rust test) entry_order entr
 IsFound rust test entries (Some d) = (e : IndexEntry)
     × IsGreatestKept (is_kept rust test) entry_order entries e × IsRegistryDependency e.name e.version d
 
--- such an entry is found, and it is not less than this one (own)
+-- the greatest of the admissible entries whose versions pass a test is found, as a dependency, and it is not
+-- less than this entry (own)
 abbrev pub IsFoundAtLeast : Option Numbers → (Parts → Bool) → List IndexEntry → IndexEntry
     → Option Dependency → Type 0
 IsFoundAtLeast rust test entries least None = ⊥

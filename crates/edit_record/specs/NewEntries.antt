@@ -19,7 +19,7 @@ where_there name (Some v) = (name, v) ∷ []
 abbrev pub text_member : List ℕ → Option (List ℕ) → List Member
 text_member name text = where_there name (option_map a_string text)
 
--- a member that is true or false, where that is said (own)
+-- a member that is a boolean, where there is one (own)
 abbrev pub truth_member : List ℕ → Option Bool → List Member
 truth_member name truth = where_there name (option_map a_truth truth)
 

@@ -16,23 +16,23 @@ Tree = Place → Option View
 abbrev pub below : Tree → Place → Tree
 below t place rest = t (place ++ rest)
 
--- ---- answers, one after the other
+-- ---- results, one after the other
 
--- what follows an answer; a refusal stays (own)
+-- what follows a value; an error stays (own)
 abbrev pub and_then : {A B : Type 0} → Result A Refusal → (A → Result B Refusal) → Result B Refusal
 and_then (Ok x) f = f x
 and_then (Err e) f = Err e
 
--- an answer changed; a refusal stays (own)
+-- a function of a value; an error stays (own)
 abbrev pub ok_map : {A B : Type 0} → (A → B) → Result A Refusal → Result B Refusal
 ok_map f told = and_then told (λ x. Ok (f x))
 
--- what is there, else this refusal (own)
+-- the value that is there, else this error (own)
 abbrev pub there_or : {A : Type 0} → Refusal → Option A → Result A Refusal
 there_or r None = Err r
 there_or r (Some x) = Ok x
 
--- the same of what need not be there at all (own)
+-- what is read of a value that is there, and no error where none is (own)
 abbrev pub if_there : {A B : Type 0} → (A → Result B Refusal) → Option A → Result (Option B) Refusal
 if_there read None = Ok None
 if_there read (Some x) = ok_map Some (read x)
@@ -59,7 +59,7 @@ version_at t dep = ok_map (option_map cut) (text_at t dep (codes "version"))
 abbrev pub truth_at : Tree → List ℕ → Option Bool
 truth_at t name = option_and_then truth_in (member_in t name)
 
--- the texts of the first elements of an array, as many as this; the first that is no string is refused (own)
+-- the texts of the first elements of an array, as many as this; the first that is no string is an error (own)
 abbrev pub first_texts : Tree → List ℕ → ℕ → Result (List (List ℕ)) Refusal
 first_texts t dep zero = Ok []
 first_texts t dep (suc n) =
@@ -79,7 +79,7 @@ features_at t dep =
 
 -- ---- sources
 
--- of branch, tag and revision the last one that is there is kept (own)
+-- a repository at its revision, else its tag, else its branch: at most one of the three (own)
 abbrev pub repository :
     List ℕ → Option (List ℕ) → Option (List ℕ) → Option (List ℕ) → Option (List ℕ) → Repository
 repository address branch tag rev version = record {
@@ -107,7 +107,7 @@ path_origin t root dep path =
     and_then (text_of dep (codes "path") path) (λ place.
     ok_map (λ version. from_path (joined root place) version) (version_at t dep))
 
--- an entry with a member `version` and neither of those
+-- an entry with a member `version` and without `git` and `path`
 -- (Cargo reference, "Specifying Dependencies")
 abbrev pub registry_origin : List ℕ → View → Result Origin Refusal
 registry_origin dep version = ok_map (λ v. from_registry (cut v)) (text_of dep (codes "version") version)
@@ -119,7 +119,7 @@ true_workspace dep (truth true) = Ok from_workspace
 true_workspace dep (truth false) = Err (workspace_false dep)
 true_workspace dep v = Err (wrong_type (type_name_of v) (codes "workspace") (codes "bool") dep)
 
--- an entry with none of those, by its member `workspace`
+-- an entry without `git`, `path` and `version`, by its member `workspace`
 -- (Cargo reference, "Specifying Dependencies", inheriting a dependency from a workspace)
 abbrev pub workspace_origin : List ℕ → Option View → Result Origin Refusal
 workspace_origin dep None = Err (unknown_source dep)
@@ -147,7 +147,7 @@ abbrev pub names_by : Option (List ℕ) → List ℕ → List ℕ × Option (Lis
 names_by None dep = (dep, None)
 names_by (Some package_name) dep = (package_name, Some dep)
 
--- the spelling `default_features` is refused (own)
+-- a member `default_features`, an old spelling of `default-features`, is an error (own)
 abbrev pub old_spelling : List ℕ → Option View → Result Bool Refusal
 old_spelling dep None = Ok false
 old_spelling dep (Some v) = Err (old_default_features dep)
@@ -159,7 +159,7 @@ options_at t dep =
     and_then (old_spelling dep (member_in t (codes "default_features"))) (λ spelling.
     ok_map (λ features. (registry, features)) (features_at t dep)))
 
--- a table: the checks in their order, and what is kept (own)
+-- a table: the checks in their order, and the record (own)
 abbrev pub table_record : Tree → List ℕ → List ℕ → Result EntryRecord Refusal
 table_record t root dep =
     and_then (text_at t dep (codes "package")) (λ package_name.
@@ -182,7 +182,7 @@ entry_record t root dep (Some (table members)) = table_record t root dep
 entry_record t root dep (Some (inline_table members)) = table_record t root dep
 entry_record t root dep other = Err (unknown_entry dep)
 
--- the record of the entry at a place, with its paths from this root on and under this key, or its refusal
+-- the record of the entry at a place, under this key and with its paths meant from this root on, or its error
 -- (Cargo reference, "Specifying Dependencies")
 abbrev pub record_of : Tree → Place → List ℕ → List ℕ → Result EntryRecord Refusal
 record_of t place root dep = entry_record (below t place) root dep (t place)

@@ -1,4 +1,4 @@
--- What is written of a record reads as a record of which the same is written; the law is this project's own.
+-- The new entry of a record reads as a record that has the same new entry; the law is this project's own.
 use Rattle.std.specs.Prelude.{◌≡◌, ◌≢◌, ◌≤◌, ℕ, false, List, [], ◌++◌, length, All, Option, None, option_to_list, option_and_then, IsSome, IfSome, IsOkAnd, ⊤}
 use Rattle.edit_tree.specs.Meant.{item_view}
 use Rattle.edit_tree.specs.NewItems.{NewItem}
@@ -16,13 +16,13 @@ IsPlainSource registry (from_git g) =
     length (option_to_list g.branch ++ (option_to_list g.tag ++ option_to_list g.rev)) ≤ 1
 IsPlainSource registry from_workspace = registry ≡ None
 
--- a record that reads again: it has such a source, and no plus in its requirement (own)
+-- a record that reads again: it has a source that does, and no plus in its requirement (own)
 pub record IsPlain (r : EntryRecord) : Type 0 where
   pub sourced : IsSome r.origin
   pub plain : IfSome r.origin (IsPlainSource r.registry)
   pub no_plus : IfSome (option_and_then origin_version r.origin) (λ version. holds_plus version ≡ false)
 
--- a new entry, read under this key, is that of a record of which the same entry is written (own)
+-- a new entry, read under this key, gives a record whose new entry is this one (own)
 abbrev pub ReadsAgain : List ℕ → List ℕ → NewItem → Type 0
 ReadsAgain root dep item =
     IsOkAnd (record_of (item_view false item) [] root dep) (λ again. item_of root again ≡ item)

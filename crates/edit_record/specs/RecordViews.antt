@@ -1,4 +1,4 @@
--- A record and a refusal as the code has them, and the texts of the refusals.
+-- Records of entries and errors of reading them, as the code has them, and the texts of these errors.
 use Rattle.std.specs.Prelude.{◌≡◌, ◌⊎◌, ℕ, List, ◌++◌, map, option_map, Option, Some, None, Result, Err, codes, String, string_bytes, Vec}
 use Rattle.std.specs.declared.alloc.Global.{Global}
 use Rattle.edit_base.specs.Errors.{IsMemory}
@@ -55,7 +55,7 @@ abbrev pub git_in : Source → Option GitSource
 git_in (Git s) = Some s
 git_in _ = None
 
--- the workspace's entry, where the source is that (own)
+-- the workspace's entry, where the source is one (own)
 abbrev pub workspace_in : Source → Option WorkspaceSource
 workspace_in (Workspace s) = Some s
 workspace_in _ = None
@@ -89,9 +89,9 @@ available_view d = map (λ e. (string_bytes e.0, texts_view e.1)) d.available_fe
 abbrev pub shown_at : Item → Tree
 shown_at i = below (tree_of (document_of i)) (place_of i)
 
--- ---- refusals
+-- ---- errors
 
--- the error is this refusal, with these texts (own)
+-- the error is of this kind and names these texts (own)
 abbrev pub Tells : Refusal → Error → Type 0
 Tells (wrong_type found name expected dep) (error.InvalidType a k x d) =
     (string_bytes a ≡ found) × (string_bytes k ≡ name) × (string_bytes x ≡ expected) × (string_bytes d ≡ dep)
@@ -101,11 +101,11 @@ Tells (old_default_features dep) (error.OldDefaultFeatures k) = string_bytes k �
 Tells (unknown_entry dep) (error.UnknownEntry k) = string_bytes k ≡ dep
 Tells r e = ⊥
 
--- the error is the refusal that is told, or memory ran out (own)
+-- the error is the one of this result, or memory ran out (own)
 abbrev pub IsRefused : {A : Type 0} → Result A Refusal → Error → Type 0
 IsRefused told e = IsMemory e ⊎ ((r : Refusal) × (told ≡ Err r) × Tells r e)
 
--- the text of a refusal (own)
+-- the text of an error (own)
 abbrev pub refusal_text : Refusal → List ℕ
 refusal_text (wrong_type found name expected dep) =
     codes "Found " ++ (found ++ (codes " for " ++ (name ++ (codes " when " ++ (expected

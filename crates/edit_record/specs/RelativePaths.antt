@@ -4,11 +4,11 @@ use Rattle.std.specs.List.{join_by}
 use Rattle.edit_base.specs.Paths.{parts_of}
 use Rattle.edit_tree.specs.Assertions.{same_bytes}
 
--- a part that names something; `..` is a part like others (own)
+-- a part of a path that is neither empty nor `.`; `..` counts as a name (own)
 abbrev pub is_kept : List ℕ → Bool
 is_kept part = not (same_bytes part [] || same_bytes part (codes "."))
 
--- the parts of a path that name something (own)
+-- the parts of a path that are neither empty nor `.` (own)
 abbrev pub names_of : List ℕ → List (List ℕ)
 names_of path = filter is_kept (parts_of path)
 

@@ -161,7 +161,7 @@ impl Dependency {
         })
     }
 
-    /// The same dependency on memory of its own.
+    /// A copy of the dependency, on memory of its own.
     pub fn try_clone(&self, alloc: Global) -> CargoResult<Dependency>
         ensures ok { IfOk result (λ d. record_view d ≡ record_view self.now) }
         ensures kept { IfOk result (λ d. available_view d ≡ available_view self.now) }

@@ -20,7 +20,7 @@ use edit_version::rust_version::RustVersion;
 use semver::VersionReq;
 use std::alloc::Global;
 
-/// The dependency on the version that an entry tells of.
+/// The dependency on the version of an entry of an index.
 pub fn dependency_on(alloc: Global, told: &IndexVersion) -> CargoResult<Dependency>
     ensures ok { IfOk result
         (IsRegistryDependency (string_bytes told.now.name) (string_bytes told.now.version)) }

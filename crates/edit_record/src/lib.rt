@@ -1,4 +1,4 @@
-//! Records of a manifest's entries, what an index tells of a crate, and the choice of a version.
+//! Records of a manifest's entries, and the choice of a version among the entries of an index.
 #![tactic(auto)]
 
 pub mod dependency;

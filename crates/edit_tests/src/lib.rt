@@ -1,5 +1,5 @@
-//! Tests of what the libraries below the program answer, by public calls alone: manifests, paths and the
-//! texts of refusals; versions, records, sources and workspaces; plans, reports and diffs. What built
+//! Tests of what the libraries below the program answer, by public calls alone: documents, manifests, paths
+//! and the texts of errors; versions, records, sources and workspaces; plans, reports and diffs. What built
 //! programs can show stands in tests/cases, and the program's own tests in `edit_program_tests`.
 //!
 //! They stand in a crate of their own, since a crate with tests is proved once more with them.
@@ -7,6 +7,8 @@
 
 #[cfg(test)]
 mod diffs;
+#[cfg(test)]
+mod documents;
 #[cfg(test)]
 mod examples;
 #[cfg(test)]

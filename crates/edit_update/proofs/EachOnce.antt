@@ -1,4 +1,4 @@
--- Texts, each once at its first place, and a set that has those that were kept.
+-- Texts, each once at its first place, and a set that has those that were taken.
 use Rattle.std.proofs.Common.{◌≡◌, ℕ, Bool, true, false, cond, not, ◌&&◌, ◌||◌, List, [], ◌∷◌, ◌++◌, BTreeSet, Bor, refl, sym, ap, ◌∙◌, if◌then◌else◌, append_assoc, append-nil, inl, inr, Option, Result}
 use Rattle.std.proofs.lemmas.List.Folds.{list_any-append}
 use Rattle.std.proofs.lemmas.Map.Text.{is_eq-slice_cmp}
@@ -42,7 +42,7 @@ join_all done (s ∷ ss) = join_all (joins done s) ss
 abbrev pub in_set : BTreeSet (Bor (List ℕ)) → List ℕ → Bool
 in_set set text = contains_by (λ k. slice_cmp nat_cmp text k.now) set
 
--- the set has exactly the texts that were kept
+-- the set has exactly the texts that were taken
 abbrev pub HoldsThese : BTreeSet (Bor (List ℕ)) → List (List ℕ) → Type 0
 HoldsThese set done = (u : List ℕ) → in_set set u ≡ is_old done u
 
@@ -61,7 +61,7 @@ in_more key old new updates u =
     updates.0 (record { ref_ptr = (0, 0); now = u }) ∙ ap (λ b. cond b true (in_set old u))
     (is_eq-slice_cmp key u ∙ same_texts key u)
 
--- a text that was kept, and the set that got it
+-- a text that was taken, and the set that got it
 pub holds_joined : (key : List ℕ) (old new : BTreeSet (Bor (List ℕ))) (done : List (List ℕ))
     → UpdatesBy (λ (x y : Bor (List ℕ)). slice_cmp nat_cmp x.now y.now)
     (λ (k : Bor (List ℕ)). slice_cmp nat_cmp key k.now) old new true
@@ -81,7 +81,7 @@ holds_joined key old new done updates holds u = by (is_old done key) refl
 
 -- ---- filters
 
--- behind one filter another one keeps the same, where what it drops is dropped by the second
+-- behind one filter another one leaves the same elements, where the second drops each that the first drops
 filter_same : (p q r : List ℕ → Bool) → ((u : List ℕ) → (q u && p u) ≡ r u) → (xs : List (List ℕ))
     → filter p (filter q xs) ≡ filter r xs
 filter_same p q r same [] = refl
@@ -151,9 +151,9 @@ pub join_more : (done xs : List (List ℕ)) (s : List ℕ)
 join_more done [] s = refl
 join_more done (x ∷ xs) s = join_more (joins done x) xs s
 
--- ---- features that are refused
+-- ---- features that cannot be read
 
--- but for want of memory, features that are refused count as none
+-- features that cannot be read count as none, if memory did not run out
 pub refused_texts : (told : Result (Option (List (List ℕ))) Refusal) (e : Error) → IsRefused told e
     → (IsMemory e → ⊥) → [] ≡ texts_or_none told
 refused_texts told e (inl memory) not_memory = absurd (not_memory memory)

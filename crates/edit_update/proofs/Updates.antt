@@ -95,9 +95,9 @@ reads_replaced entry item form after old new was again is e h = record {
   shows = replaced_along entry item (tree_of old) (view_at form) (tree_of new) (view_at after) was is h;
 }
 
--- ---- refusals
+-- ---- errors
 
--- an edit is refused behind others
+-- an edit fails behind others
 stops : (entry : Place) (front : List Change) (c : Change) (back : List Change) (old mid : List ℕ)
     → Changed entry front old mid → ChangeFails entry c mid → OneFails entry (front ++ c ∷ back) old
 stops entry front c back old mid h fails = record {
@@ -110,7 +110,7 @@ stops entry front c back old mid h fails = record {
   fails = fails;
 }
 
--- what is refused among the first edits is refused among more
+-- an edit that fails among the first ones fails among more
 pub stops_before : (entry : Place) (cs ds : List Change) (old : List ℕ)
     → OneFails entry cs old → OneFails entry (cs ++ ds) old
 stops_before entry cs ds old h = record {

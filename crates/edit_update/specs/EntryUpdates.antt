@@ -24,7 +24,7 @@ source_names =
     codes "version" ∷ codes "path" ∷ codes "git" ∷ codes "branch" ∷ codes "tag" ∷ codes "rev"
     ∷ codes "workspace" ∷ []
 
--- the keys of a source of its own (own)
+-- the keys of a source and how each ends (own)
 abbrev pub own_ends : List ℕ → Origin → List End
 own_ends root (from_registry version) = (codes "version", Some (a_string version)) ∷ []
 own_ends root (from_path path version) =
@@ -36,12 +36,12 @@ own_ends root (from_git g) =
     ∷ (codes "version", option_map a_string g.version) ∷ []
 own_ends root from_workspace = (codes "workspace", Some (a_truth true)) ∷ []
 
--- the keys of other sources go (own)
+-- the keys that name a source and are not among these are removed (own)
 abbrev pub other_ends : List End → List End
 other_ends own =
     map (λ n. (n, None)) (filter (λ n. not (list_any (λ e. same_bytes e.0 n) own)) source_names)
 
--- all keys of sources; they stay as they are where the record has no source (own)
+-- the keys of all sources and how each ends; none where the record has no source: the entry's keys stay (own)
 abbrev pub source_ends : List ℕ → Option Origin → List End
 source_ends root None = []
 source_ends root (Some origin) = own_ends root origin ++ other_ends (own_ends root origin)
@@ -51,7 +51,7 @@ abbrev pub is_from_workspace : Option Origin → Bool
 is_from_workspace (Some from_workspace) = true
 is_from_workspace other = false
 
--- this member goes with a source of the workspace, and else stays as it is (own)
+-- the member of this name is removed where the source is the workspace, and else stays as it is (own)
 abbrev pub workspace_end : List ℕ → Option Origin → List End
 workspace_end name origin = if is_from_workspace origin then (name, None) ∷ [] else []
 
@@ -60,12 +60,13 @@ abbrev pub ends_with_version : Tree → Option Origin → Bool
 ends_with_version t None = is_some (member_in t (codes "version"))
 ends_with_version t (Some origin) = is_some (origin_version origin)
 
--- the crate's name is written under another key; else it goes with a source of the workspace (own)
+-- `package` is written where the entry has another key than the crate's name; else it is removed where the
+-- source is the workspace, and stays as it is where not (own)
 abbrev pub package_ends : Option (List ℕ) → Option Origin → List End
 package_ends (Some name) origin = (codes "package", Some (a_string name)) ∷ []
 package_ends None origin = workspace_end (codes "package") origin
 
--- a list of texts that was read, and no text where it is not there or was refused (own)
+-- a list of texts that was read; empty where no list is there, or where reading it failed (own)
 abbrev pub texts_or_none : Result (Option (List (List ℕ))) Refusal → List (List ℕ)
 texts_or_none (Ok (Some ss)) = ss
 texts_or_none other = []
@@ -74,7 +75,7 @@ texts_or_none other = []
 abbrev pub joined_features : Tree → List (List ℕ) → NewValue
 joined_features t new = a_list (each_once (texts_or_none (features_at t []) ++ new))
 
--- how the members of an entry end, in their order; a member that is not named here stays as it is (own)
+-- how the members of an entry end, in their order; any other member stays as it is (own)
 abbrev pub ends : Tree → List ℕ → EntryRecord → List End
 ends t root r =
     source_ends root r.origin
@@ -110,13 +111,13 @@ pub data Update : Type 0 where
   replaced_by : NewItem → Update
   changed_by : List Change → Update
 
--- a string, or a table of one member: nothing of it is to stay (own)
+-- a string, or a table of one member (own)
 abbrev pub is_slight : Option View → Bool
 is_slight None = false
 is_slight (Some v) = is_string v || (is_tabular v && (count_in v == 1))
 
--- What the entry becomes that this tree shows, where `one` tells whether one statement alone names it: then a
--- string, which is named by no more than one, or a table of one member is replaced whole (own).
+-- what the entry of a tree becomes: a string or a table of one member is replaced by a new entry, where `one`
+-- says that one statement alone names it, and any other entry gets other members (own)
 abbrev pub update_of : Tree → Bool → List ℕ → EntryRecord → Update
 update_of t one root r =
     if one && is_slight (t []) then replaced_by (item_of root r) else changed_by (changes (ends t root r))

@@ -1,5 +1,5 @@
--- The text in which an entry says what a record says, over the edits of the document, and when one is
--- refused.
+-- The text in which an entry says what a record says, over the edits of the document, and when one of the
+-- edits fails.
 use Rattle.std.specs.Prelude.{◌≡◌, ℕ, Bool, List, [], ◌∷◌, ◌++◌, None, is_some, if◌then◌else◌, MatchBool}
 use Rattle.edit_tree.specs.Assertions.{key, Place, at}
 use Rattle.edit_tree.specs.EditBytes.{set_text, replaced_text, inserted_text, is_one_statement}
@@ -79,9 +79,9 @@ abbrev pub Updated : Place → List ℕ → EntryRecord → List ℕ → List �
 Updated entry root r old new =
     (form : Text) → IsManifest old form → HasBecome entry (update_in form entry root r) form old new
 
--- ---- refusals
+-- ---- errors
 
--- the edit of a member is one that can be refused, and is: a new one is inserted, or one is removed (own)
+-- the edit of a member fails: it inserts a new member or removes one, and the document refuses that (own)
 abbrev pub ChangeFails : Place → Change → List ℕ → Type 0
 ChangeFails entry (writes name v) old =
     ((form : Text) → IsManifest old form → view_at form (at entry (key name)) ≡ None)
@@ -90,7 +90,7 @@ ChangeFails entry (removes name) old =
     ((form : Text) → IsManifest old form → view_at form (at entry (key name)) ≡ None → ⊥)
     × RemoveFails (at entry (key name)) old
 
--- one of the edits is refused, behind those before it (own)
+-- one of the edits fails, in the text that the edits before it leave (own)
 pub record OneFails (entry : Place) (edits : List Change) (old : List ℕ) : Type 0 where
   pub front : List Change
   pub refused : Change
@@ -100,12 +100,12 @@ pub record OneFails (entry : Place) (edits : List Change) (old : List ℕ) : Typ
   pub changed : Changed entry front old bytes
   pub fails : ChangeFails entry refused bytes
 
--- the update is refused (own)
+-- an edit of this update fails (own)
 abbrev pub BecomingFails : Place → Update → List ℕ → Type 0
 BecomingFails entry (replaced_by item) old = ReplaceFails entry item old
 BecomingFails entry (changed_by edits) old = OneFails entry edits old
 
--- one of the edits of the entry is refused (own)
+-- an edit fails of the update that makes the entry say what the record says (own)
 abbrev pub UpdateFails : Place → List ℕ → EntryRecord → List ℕ → Type 0
 UpdateFails entry root r old =
     (form : Text) → IsManifest old form → BecomingFails entry (update_in form entry root r) old

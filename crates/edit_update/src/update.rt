@@ -119,14 +119,15 @@ fn remove_members(
     Ok(())
 }
 
-/// Whether it is a string, or a table of one member.
+/// Whether an entry is a string, or a table of one member.
 fn is_slight(entry: Item<'_>) -> bool
     ensures { result ≡ is_slight (Some (view_of entry.entry)) }
 {
     entry.is_str() || (entry.is_table_like() && entry.len() == 1)
 }
 
-/// Whether another entry comes in its place: it is one of these, and one pair alone names it.
+/// Whether a new entry replaces the one at a place: it is a string or a table of one member, and one pair
+/// of a key and a value alone names it.
 fn is_replaced(document: &Document, place: &[Step], entry: Item<'_>) -> bool
     ensures { (form : Text) → IsManifest document.now.bytes form
         → result ≡ (is_one_statement form (place_seen place.now) && is_slight (Some (view_of entry.entry))) }
@@ -176,7 +177,7 @@ pub trait DependencyExt {
     /// `features` (those that the entry has, and then the record's, each once) and `optional`. A member that
     /// was written as a value gets another literal. Without a source in the record those of the entry stay.
     ///
-    /// After a refusal the document is as it was.
+    /// After an error the document is as it was.
     fn update_toml(
         &self,
         alloc: Global,

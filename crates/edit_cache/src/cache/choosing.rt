@@ -1,4 +1,4 @@
-//! What requirements lead to, remembered beside the answers that are kept.
+//! What requirements lead to, remembered beside the answers in the cache.
 ghost use Rattle.std.specs.Prelude.{◌≡◌, IfErr, OnOk};
 ghost use Rattle.url.specs.Parts.{serialize};
 ghost use Rattle.edit_base.specs.Errors.{IsMemory};
@@ -13,8 +13,9 @@ use std::alloc::Global;
 use url::Url;
 
 impl<I: Index> IndexCache<I> {
-    /// `rank_kept`, and remembers what a requirement leads to for a Rust version: `Ranked::version_pair` then
-    /// finds it by the requirement's text, however many entries have that text.
+    /// Ranks the answer in the cache for a name, once, as `rank_kept` does, and remembers what a requirement
+    /// leads to for a Rust version: `Ranked::version_pair` then finds it by the requirement's text, however
+    /// many entries have that text.
     pub fn rank_for(
         &mut self,
         alloc: Global,
@@ -32,7 +33,7 @@ impl<I: Index> IndexCache<I> {
         self.rank_for_at(alloc, registry.as_str(), name, old, rust_version)
     }
 
-    /// The same by the text of an address.
+    /// `rank_for` by the text of an address.
     fn rank_for_at(
         &mut self,
         alloc: Global,

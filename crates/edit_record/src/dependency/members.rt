@@ -1,4 +1,4 @@
-//! The members of an entry, and why they are refused.
+//! The members of an entry, and the error of one that may not stand there.
 ghost use Rattle.std.specs.Prelude.{◌≡◌, IfOk, IfErr, codes, false, option_map, string_bytes};
 ghost use Rattle.edit_base.specs.Errors.{IsMemory};
 ghost use Rattle.edit_document.specs.ItemViews.{view_of};
@@ -13,7 +13,7 @@ use edit_document::Item;
 use edit_version::requirement::before_plus;
 use std::alloc::{AllocError, Global};
 
-/// The refusal of a member of a wrong type.
+/// The error for a member of a wrong type.
 pub(crate) fn wrong_type(
     alloc: Global,
     dep: &str,
@@ -96,7 +96,7 @@ pub(crate) fn truth_at(table: Item<'_>, name: &str) -> Option<bool>
     }
 }
 
-/// The spelling `default_features` is refused.
+/// The error for a member `default_features`, an old spelling of `default-features`.
 pub(crate) fn check_spelling(alloc: Global, dep: &str, table: Item<'_>) -> CargoResult<()>
     ensures ok { IfOk result (λ _.
         old_spelling dep.now (member_in (shown_at table.entry) (codes "default_features")) ≡ Ok false) }

@@ -198,7 +198,7 @@ impl Dependency {
     /// A string is the version in a registry. Else it is a table or an inline table (25 UnknownEntry).
     /// `package` gives the name, and the key is then the other name. The first of `git`, `path`, `version`
     /// and `workspace` gives the source (22 WorkspaceFalse, 23 UnknownSource). Then come `registry`,
-    /// `default_features` (24 OldDefaultFeatures) and `features`. A member of a wrong type is refused
+    /// `default_features` (24 OldDefaultFeatures) and `features`. A member of a wrong type is an error
     /// (21 InvalidType), but for `default-features` and `optional`, which count only as booleans.
     pub fn from_toml(
         alloc: Global,

@@ -19,7 +19,7 @@ pub struct RegistrySource {
 }
 
 impl RegistrySource {
-    /// A requirement, of which the text before the first `+` is kept.
+    /// A requirement, cut before its first `+`.
     pub fn new(alloc: Global, version: &str) -> CargoResult<RegistrySource>
         ensures ok { IfOk result (λ s. string_bytes s.version ≡ cut version.now) }
         ensures refused { IfErr result IsMemory }
@@ -29,7 +29,7 @@ impl RegistrySource {
         })
     }
 
-    /// The same source on memory of its own.
+    /// A copy of the source, on memory of its own.
     pub fn try_clone(&self, _alloc: Global) -> CargoResult<RegistrySource>
         ensures ok { IfOk result (λ s. string_bytes s.version ≡ string_bytes self.now.version) }
         ensures refused { IfErr result IsMemory }
@@ -60,7 +60,7 @@ impl PathSource {
         })
     }
 
-    /// The folder with another requirement, of which the text before the first `+` is kept.
+    /// The folder with another requirement, cut before its first `+`.
     pub fn set_version(self, alloc: Global, version: &str) -> CargoResult<PathSource>
         ensures ok { IfOk result (λ s. path_view s
             ≡ from_path (string_bytes self.path) (Some (cut version.now))) }
@@ -73,7 +73,7 @@ impl PathSource {
         })
     }
 
-    /// The same source on memory of its own.
+    /// A copy of the source, on memory of its own.
     pub fn try_clone(&self, _alloc: Global) -> CargoResult<PathSource>
         ensures ok { IfOk result (λ s. path_view s ≡ path_view self.now) }
         ensures refused { IfErr result IsMemory }
@@ -156,7 +156,7 @@ impl GitSource {
         })
     }
 
-    /// The repository with another requirement, of which the text before the first `+` is kept.
+    /// The repository with another requirement, cut before its first `+`.
     pub fn set_version(self, alloc: Global, version: &str) -> CargoResult<GitSource>
         ensures ok { IfOk result (λ s. repository_view s
             ≡ record (repository_view self) { version = Some (cut version.now) }) }
@@ -169,7 +169,7 @@ impl GitSource {
         })
     }
 
-    /// The same source on memory of its own.
+    /// A copy of the source, on memory of its own.
     pub fn try_clone(&self, _alloc: Global) -> CargoResult<GitSource>
         ensures ok { IfOk result (λ s. repository_view s ≡ repository_view self.now) }
         ensures refused { IfErr result IsMemory }
@@ -196,7 +196,7 @@ impl WorkspaceSource {
         WorkspaceSource
     }
 
-    /// The same source.
+    /// A copy of the source.
     pub fn try_clone(&self, _alloc: Global) -> CargoResult<WorkspaceSource>
         ensures refused { IfErr result IsMemory }
     {
@@ -244,7 +244,7 @@ impl Source {
         }
     }
 
-    /// The workspace's entry, where the source is that.
+    /// The workspace's entry, where the source is one.
     pub fn as_workspace(&self) -> Option<&WorkspaceSource>
         ensures { option_copied result ≡ workspace_in self.now }
     {
@@ -254,7 +254,7 @@ impl Source {
         }
     }
 
-    /// The same source on memory of its own.
+    /// A copy of the source, on memory of its own.
     pub fn try_clone(&self, alloc: Global) -> CargoResult<Source>
         ensures ok { IfOk result (λ s. source_view s ≡ source_view self.now) }
         ensures refused { IfErr result IsMemory }

@@ -22,7 +22,7 @@ joined-new done text new = rw new refl
 joined-old : (done : List (List ℕ)) (text : List ℕ) → is_old done text ≡ true → joins done text ≡ done
 joined-old done text old = rw old refl
 
--- the texts that are kept after a turn
+-- the texts that are taken after a turn
 kept : (c : goal.Joined-added) → texts_view c.if-added.once ≡ joins (texts_view c.texts.once)
     c.as_str.result.now
 kept c =

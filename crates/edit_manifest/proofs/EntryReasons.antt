@@ -1,0 +1,25 @@
+-- The error of an entry without a record: at equal places, and where nothing stands.
+use Rattle.std.proofs.Common.{◌≡◌, ℕ, List, None, Err, refl, subst, sym}
+use Rattle.edit_tree.specs.Assertions.{Place}
+use Rattle.edit_tree.specs.Shown.{Shown, tree_of}
+use Rattle.edit_record.specs.EntryRecords.{unknown_entry}
+use Rattle.edit_record.specs.ReadEntries.{below, entry_record, record_of}
+use Rattle.edit_manifest.specs.EntryViews.{IsReason}
+use Rattle.edit_manifest.specs.declared.entries.found.Said.{Said}
+
+-- the error of an item, seen in an equal document, at an equal place and under an equal key
+pub reason_at : (d d' : Shown) (p p' : Place) (root name name' : List ℕ) (s : Said)
+    → d ≡ d' → p ≡ p' → name ≡ name'
+    → IsReason (record_of (tree_of d) p root name) s → IsReason (record_of (tree_of d') p' root name') s
+reason_at d d' p p' root name name' s same_document same_place same_name reason =
+    subst (λ x. IsReason (record_of (tree_of x) p' root name') s) same_document
+    (subst (λ x. IsReason (record_of (tree_of d) x root name') s) same_place
+    (subst (λ x. IsReason (record_of (tree_of d) p root x) s) same_name reason))
+
+-- the error where nothing stands
+pub reason_nowhere : (d : Shown) (p p' : Place) (root name name' : List ℕ) (s : Said)
+    → tree_of d p ≡ None → p ≡ p' → name ≡ name' → IsReason (Err (unknown_entry name)) s
+    → IsReason (record_of (tree_of d) p' root name') s
+reason_nowhere d p p' root name name' s nothing same_place same_name reason =
+    reason_at d d p p' root name name' s refl same_place same_name
+    (subst (λ o. IsReason (entry_record (below (tree_of d) p) root name o) s) (sym nothing) reason)
