@@ -20,7 +20,7 @@ use Rattle.edit_set_version.specs.Followers.{IsUnfollowed, fixed, memory}
 use Rattle.edit_set_version.specs.Follows.{AllRise}
 use Rattle.edit_set_version.specs.PlanCauses.{literal as of_literal, requirement}
 use Rattle.edit_set_version.specs.PlanRefused.{HasBadInputBy, HasLiteral, IsInputClearBy, StandsAgainstInput}
-use Rattle.edit_set_version.specs.Projects.{path_of}
+use Rattle.edit_metadata.specs.Inputs.{path_of}
 use Rattle.edit_set_version.specs.SetVersioned.{Bump, followings, writes_own}
 
 -- a requirement that cannot follow stands against the bumps

@@ -30,7 +30,8 @@ use Rattle.edit_set_version.specs.PlanLines.{Named, lines_of, manifests, shared_
 use Rattle.edit_set_version.specs.PlanRefused.{HasBadInput, HasBadInputBy, HasVersions, IsBehindLiterals, IsCauseOf, IsInputClear, IsInputClearBy, unknown}
 use Rattle.edit_set_version.specs.PlanRefused.IsCauseOf.{manifest as of_manifest, memory as of_memory}
 use Rattle.edit_set_version.specs.Planned.{AreOutputs, HasFollowed, HasOutputsBy, HasSetOutputs, bytes_after, changed, outputs_at, unchanged}
-use Rattle.edit_set_version.specs.Projects.{IsMemberOf, IsProject, IsTreeAt, path_of}
+use Rattle.edit_metadata.specs.Inputs.{path_of}
+use Rattle.edit_set_version.specs.Projects.{IsMemberOf, IsProject, IsTreeAt}
 use Rattle.edit_set_version.specs.SetVersioned.{Bump, Project, bumps, edits, followings, workspace_current, workspace_next}
 use Rattle.edit_set_version.specs.ToldLines.{HasUnfollowed}
 use Rattle.edit_set_version.specs.Written.{TellsShared, shared_seen}

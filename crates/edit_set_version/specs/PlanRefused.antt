@@ -16,7 +16,8 @@ use Rattle.edit_set_version.specs.Bumps.{Bumped, Target, becomes, bump, stays}
 use Rattle.edit_set_version.specs.Chosen.{Asked, held_back, missing}
 use Rattle.edit_set_version.specs.Follows.{AllRise}
 use Rattle.edit_set_version.specs.PlanCauses.{IsMissing, ManifestStandsAgainst, StandsAgainst, currents}
-use Rattle.edit_set_version.specs.Projects.{IsProject, path_of}
+use Rattle.edit_metadata.specs.Inputs.{path_of}
+use Rattle.edit_set_version.specs.Projects.{IsProject}
 use Rattle.edit_set_version.specs.SetVersioned.{Bump, Project, bumps, writes_own}
 
 -- the refusal tells of something in an input's manifest that stands against these bumps

@@ -13,7 +13,7 @@ use Rattle.edit_set_version.specs.Bumps.{Target}
 use Rattle.edit_set_version.specs.Chosen.{Asked}
 use Rattle.edit_set_version.specs.Follows.{Follow}
 use Rattle.edit_set_version.specs.PlanLines.{Told}
-use Rattle.edit_set_version.specs.Projects.{path_of}
+use Rattle.edit_metadata.specs.Inputs.{path_of}
 use Rattle.edit_set_version.specs.SetVersioned.{Bump, Project, bumps, edits_by, workspace_next}
 use Rattle.edit_set_version.specs.declared.plan.SetVersionPlan.{SetVersionPlan}
 

@@ -18,9 +18,9 @@ ghost use Rattle.edit_set_version.specs.Followers.{IsUnfollowed};
 ghost use Rattle.edit_set_version.specs.Numbers.{TellsFirst};
 ghost use Rattle.edit_set_version.specs.PlanRefused.{HasBadInputBy, IsInputClearBy, StandsAgainstInput};
 ghost use Rattle.edit_set_version.specs.Planned.{AreOutputsOf, HasOutputsBy, OutputsInOrder};
-ghost use Rattle.edit_set_version.specs.Projects.{path_of};
 ghost use Rattle.edit_set_version.specs.SetVersioned.{edits_by, followings, own_edit, requirement_edit, shared_edits, writes_own};
-ghost use Rattle.edit_set_version.specs.Written.{CanShare, HaveDistinctPaths, TellsShared, shared_seen};
+ghost use Rattle.edit_metadata.specs.Inputs.{HaveOwnPaths, path_of};
+ghost use Rattle.edit_set_version.specs.Written.{CanShare, TellsShared, shared_seen};
 
 use crate::crates::Bump;
 use crate::follow::followers_of;
@@ -254,7 +254,7 @@ pub(crate) fn outputs_of(
     requires numbers { TellsFirst (bumps_seen writing.now.bumps.now) writing.now.numbers.now }
     requires apart { AreApart (bumps_seen writing.now.bumps.now) }
     requires read { AllZip IsReadOf inputs.now manifests.now }
-    requires distinct { HaveDistinctPaths inputs.now }
+    requires distinct { HaveOwnPaths inputs.now }
     requires shared { TellsShared inputs.now writing.now.root.now (shared_seen writing.now.shared) }
     ensures outputs { IfOk result (λ os. All (HasOutputsBy writing.now.root.now
         (shared_seen writing.now.shared) (bumps_seen writing.now.bumps.now) os.items) inputs.now) }

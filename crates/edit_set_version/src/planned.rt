@@ -18,7 +18,8 @@ ghost use Rattle.edit_set_version.specs.Projects.{AreInputsOf, EachInput, HasPro
 ghost use Rattle.edit_set_version.specs.Selections.{asked_of};
 ghost use Rattle.edit_set_version.specs.SetVersioned.{bumps, workspace_current, workspace_next};
 ghost use Rattle.edit_set_version.specs.ToldLines.{HasUnfollowed};
-ghost use Rattle.edit_set_version.specs.Written.{HaveDistinctPaths, TellsShared};
+ghost use Rattle.edit_metadata.specs.Inputs.{HaveOwnPaths};
+ghost use Rattle.edit_set_version.specs.Written.{TellsShared};
 
 use crate::bumps::bumps_of;
 use crate::choose::choose;
@@ -92,7 +93,7 @@ fn plan_with(
 ) -> CargoResult<SetVersionPlan>
     requires apart { AreApart (bumps_seen versions.now.bumps.items) }
     requires read { AllZip IsReadOf inputs.now read.now }
-    requires distinct { HaveDistinctPaths inputs.now }
+    requires distinct { HaveOwnPaths inputs.now }
     requires shared { TellsShared inputs.now (project_seen project.now).path
         (option_map parts_of versions.now.next) }
     ensures outputs { IfOk result (λ plan. All (HasOutputsBy (project_seen project.now).path

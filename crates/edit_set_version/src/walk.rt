@@ -4,7 +4,7 @@ ghost use Rattle.edit_base.specs.Errors.{IsMemory};
 ghost use Rattle.edit_set_version.specs.Crates.{bumps_seen, member_of, members_of, project_seen};
 ghost use Rattle.edit_set_version.specs.Numbers.{TellsFirst};
 ghost use Rattle.edit_set_version.specs.PlanLines.{manifests};
-ghost use Rattle.edit_set_version.specs.Projects.{path_of};
+ghost use Rattle.edit_metadata.specs.Inputs.{path_of};
 ghost use Rattle.edit_set_version.specs.SetVersioned.{Bump as Bumped};
 ghost use Rattle.edit_set_version.specs.ToldLines.{HasUnfollowed, bump_told, lists_told, other_manifests, with_manifests};
 ghost use Rattle.edit_tree.specs.Shown.{tree_of};

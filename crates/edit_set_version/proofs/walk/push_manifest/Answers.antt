@@ -1,7 +1,7 @@
 use Rattle.std.proofs.Common.{arith, refl, subst, zero}
 use Rattle.std.proofs.lemmas.Result.{err_from_is_err_and}
 use Rattle.edit_set_version.specs.Followers.{IsUnfollowed, memory}
-use Rattle.edit_set_version.specs.Projects.{path_of}
+use Rattle.edit_metadata.specs.Inputs.{path_of}
 use Rattle.edit_tree.specs.Shown.{tree_of}
 use Rattle.edit_set_version.proofs.walk.push_manifest.Goals as goal
 
