@@ -17,7 +17,7 @@ use Rattle.edit_set_version.specs.Planned.{AreOutputs, AreOutputsOf, HasOutputsB
 use Rattle.edit_set_version.specs.SetVersioned.{Bump}
 use Rattle.edit_metadata.specs.Inputs.{HaveOwnPaths, path_of}
 use Rattle.edit_set_version.proofs.DistinctInputs.{Distinct, distinct_each}
-use Rattle.edit_set_version.proofs.Following.{of_all}
+use Rattle.edit_set_version.proofs.DependentLaw.{of_all}
 use Rattle.edit_set_version.proofs.WrittenPlaces.{all_then}
 
 -- the outputs of each input, and all of them in a row

@@ -10,11 +10,11 @@ pub mod Apart
 pub mod Crates
 pub mod Wanted
 pub mod Numbers
-pub mod Followers
+pub mod Dependents
 pub mod Pointed
 pub mod PlanLines
 pub mod ToldLines
-pub mod Follows
+pub mod Admitted
 pub mod PlanCauses
 pub mod Selections
 pub mod Missing

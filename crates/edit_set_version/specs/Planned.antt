@@ -11,7 +11,7 @@ use Rattle.edit_metadata.specs.declared.input.Input.{Input}
 use Rattle.edit_report.specs.declared.output.Output.{Output}
 use Rattle.edit_set_version.specs.Bumps.{Target}
 use Rattle.edit_set_version.specs.Chosen.{Asked}
-use Rattle.edit_set_version.specs.Follows.{Follow}
+use Rattle.edit_set_version.specs.Admitted.{AllAdmitNext}
 use Rattle.edit_set_version.specs.PlanLines.{Told}
 use Rattle.edit_metadata.specs.Inputs.{path_of}
 use Rattle.edit_set_version.specs.SetVersioned.{Bump, Project, bumps, edits_by, workspace_next}
@@ -35,7 +35,7 @@ pub data AreOutputs (path old : List ℕ) (es : Edits) : List Output → Type 0 
   changed : (output : Output) → es ≢ [] → string_bytes output.path ≡ path
       → Replaces es old output.bytes.items → AreOutputs path old es (output ∷ [])
 
--- the outputs of an input have the literals of bumped versions and of requirements that follow, and no other
+-- the outputs of an input have the literals of bumped versions and of requirements on them, and no other
 -- byte is new: over the root's path, the next version of the workspace, and the bumps
 pub record AreOutputsOf (root : List ℕ) (next : Option Parts) (bs : List Bump) (input : Input)
     (own : List Output) : Type 0 where
@@ -73,9 +73,9 @@ bytes_after old (output ∷ outputs) = output.bytes.items
 
 -- what stands for an input after the plan is a manifest, and each of its requirements that points to a
 -- bumped crate follows
-pub record HasFollowed
+pub record HasAdmitted
     (t : Target) (a : Asked) (outputs : List Output) (p : Project) (input : Input) : Type 0 where
   pub form : Text
   pub manifest : IsManifest
       (bytes_after input.bytes.items (outputs_at (path_of input) outputs)) form
-  pub follow : Follow (bumps t a p) (path_of input) (view_at form)
+  pub admit : AllAdmitNext (bumps t a p) (path_of input) (view_at form)

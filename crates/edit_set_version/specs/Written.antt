@@ -13,13 +13,13 @@ use Rattle.edit_set_version.specs.Projects.{IsTreeAt}
 abbrev pub shared_seen : Option (Bor Version) → Option Parts
 shared_seen shared = option_map (λ v. parts_of v.now) shared
 
--- where the workspace gets a next version, the manifest at the root's path tells its version
+-- where the workspace gets a next version, the manifest at the root's path has its current version
 abbrev pub TellsShared : List Input → List ℕ → Option Parts → Type 0
 TellsShared inputs root None = Unit {0}
 TellsShared inputs root (Some next) =
     (tree : Tree) × IsTreeAt inputs root tree × (workspace_version tree ≢ None)
 
--- the same of one manifest, by its path and its tree
+-- where the workspace gets a next version and a manifest is at the root's path, it has the current version
 abbrev pub CanShare : List ℕ → Option Parts → List ℕ → Tree → Type 0
 CanShare root None path tree = Unit {0}
 CanShare root (Some next) path tree = path ≡ root → workspace_version tree ≢ None

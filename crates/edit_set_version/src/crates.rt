@@ -11,7 +11,7 @@ use edit_metadata::{Input, Package, Workspace};
 use semver::Version;
 use std::alloc::{AllocError, Global};
 
-/// A crate of a workspace: what metadata tell of it, its input, and its manifest.
+/// A crate of a workspace: its package in the metadata, its input, and its manifest.
 #[derive(Clone, Copy)]
 pub(crate) struct Crate<'a> {
     pub(crate) told: &'a Package,

@@ -9,15 +9,15 @@ ghost use Rattle.edit_set_version.specs.Apart.{AreApart};
 ghost use Rattle.edit_set_version.specs.Bumps.{IsReadableTarget, bump, target_of};
 ghost use Rattle.edit_set_version.specs.Chosen.{chosen, held_back};
 ghost use Rattle.edit_set_version.specs.Crates.{IsReadOf, bumps_seen, project_seen};
-ghost use Rattle.edit_set_version.specs.Follows.{AreVersions};
+ghost use Rattle.edit_set_version.specs.Admitted.{AreVersions};
 ghost use Rattle.edit_set_version.specs.PlanCauses.{StandsAgainst, currents};
 ghost use Rattle.edit_set_version.specs.PlanLines.{lines, lines_of, manifests, shared_lines};
 ghost use Rattle.edit_set_version.specs.PlanRefused.{HasBadInputBy, IsBehindLiterals, IsBumpable, IsCauseOf, IsClear, IsInputClearBy};
-ghost use Rattle.edit_set_version.specs.Planned.{HasFollowed, HasOutputsBy, HasSetOutputs, OutputsInOrder, has_lines, told_lines};
+ghost use Rattle.edit_set_version.specs.Planned.{HasAdmitted, HasOutputsBy, HasSetOutputs, OutputsInOrder, has_lines, told_lines};
 ghost use Rattle.edit_set_version.specs.Projects.{AreInputsOf, EachInput, HasProject};
 ghost use Rattle.edit_set_version.specs.Selections.{asked_of};
 ghost use Rattle.edit_set_version.specs.SetVersioned.{bumps, workspace_current, workspace_next};
-ghost use Rattle.edit_set_version.specs.ToldLines.{HasUnfollowed};
+ghost use Rattle.edit_set_version.specs.ToldLines.{HasUnraised};
 ghost use Rattle.edit_metadata.specs.Inputs.{HaveOwnPaths};
 ghost use Rattle.edit_set_version.specs.Written.{TellsShared};
 
@@ -107,7 +107,7 @@ fn plan_with(
     ensures clear { OnOk result (All (IsInputClearBy (bumps_seen versions.now.bumps.items)) inputs.now) }
     ensures refused { IfErr result (λ e. IsMemory e
         ⊎ (IsBehindLiterals (bumps_seen versions.now.bumps.items) inputs.now e
-        × (HasUnfollowed (bumps_seen versions.now.bumps.items) (manifests (project_seen project.now)) e
+        × (HasUnraised (bumps_seen versions.now.bumps.items) (manifests (project_seen project.now)) e
         ⊎ HasBadInputBy (bumps_seen versions.now.bumps.items) inputs.now e))) }
 {
     let numbers = numbers_of(alloc, &versions.bumps)?;
@@ -156,10 +156,10 @@ pub fn plan_set_version(
         (λ p. told_lines plan ≡ lines (target_of target.now) (asked_of selection.now) p)) }
     ensures changed { IfOk result (λ plan. plan.changed ≡ has_lines plan) }
     // in what stands after the plan each requirement that points to a bumped crate admits its next version
-    ensures follow { IsReadableTarget (target_of target.now)
+    ensures dependents { IsReadableTarget (target_of target.now)
         → All (λ p. IsReadable (parts_of p.version)) workspace.now.packages.items
         → IfOk result (λ plan. EachInput (workspace_said workspace.now) inputs.now
-        (HasFollowed (target_of target.now) (asked_of selection.now) plan.outputs.items)) }
+        (HasAdmitted (target_of target.now) (asked_of selection.now) plan.outputs.items)) }
     // the first cause that stands in the input, or memory ran out; and where a plan is given none stands
     ensures refused { IfErr result (IsCauseOf (target_of target.now) (asked_of selection.now)
         (workspace_said workspace.now) inputs.now) }

@@ -13,20 +13,20 @@ use Rattle.edit_set_version.specs.Apart.{AreApart}
 use Rattle.edit_set_version.specs.Bumps.{target_of}
 use Rattle.edit_set_version.specs.Chosen.{missing}
 use Rattle.edit_set_version.specs.Crates.{IsReadOf, bumps_seen, project_seen}
-use Rattle.edit_set_version.specs.Follows.{AreVersions}
+use Rattle.edit_set_version.specs.Admitted.{AreVersions}
 use Rattle.edit_set_version.specs.PlanLines.{lines, lines_of, manifests, shared_lines}
 use Rattle.edit_set_version.specs.PlanRefused.{HasBadInputBy, IsBehindLiterals, IsCauseOf, IsClear, IsInputClearBy}
 use Rattle.edit_set_version.specs.PlanRefused.IsCauseOf.{memory as of_memory, no_manifest as of_input, no_package as of_package, project as of_project}
-use Rattle.edit_set_version.specs.Planned.{HasFollowed, HasOutputsBy, HasSetOutputs, told_lines}
+use Rattle.edit_set_version.specs.Planned.{HasAdmitted, HasOutputsBy, HasSetOutputs, told_lines}
 use Rattle.edit_set_version.specs.Projects.{EachInput, HasProject}
 use Rattle.edit_set_version.specs.Selections.{asked_of}
 use Rattle.edit_set_version.specs.SetVersioned.{bumps, workspace_current, workspace_next}
-use Rattle.edit_set_version.specs.ToldLines.{HasUnfollowed}
+use Rattle.edit_set_version.specs.ToldLines.{HasUnraised}
 use Rattle.edit_set_version.specs.Written.{TellsShared}
 use Rattle.edit_set_version.specs.declared.plan.SetVersionPlan.{SetVersionPlan}
 use Rattle.edit_set_version.proofs.ApartBumps.{bumps_apart}
 use Rattle.edit_set_version.proofs.InputPaths.{inputs_apart}
-use Rattle.edit_set_version.proofs.PlanLemmas.{all_followed, cause_given, clear_given, lines_for, names_told, outputs_given, readable_chosen, tells_shared, where_err, where_ok}
+use Rattle.edit_set_version.proofs.PlanLemmas.{all_admitted, cause_given, clear_given, lines_for, names_told, outputs_given, readable_chosen, tells_shared, where_err, where_ok}
 use Rattle.edit_set_version.proofs.planned.plan_set_version.Goals as goal
 
 pub returns-in_err-manifests-clause-refused : goal.returns-in_err-manifests-clause-refused
@@ -86,8 +86,8 @@ returns-clause-outputs c =
           c.in_ok-versions.ensures.bumps set;
     }) c.plan_with.ensures.outputs c.plan_with.ensures.clear
 
-pub returns-clause-follow : goal.returns-clause-follow
-returns-clause-follow c = λ target packages.
+pub returns-clause-dependents : goal.returns-clause-dependents
+returns-clause-dependents c = λ target packages.
     let t = target_of c.args.target.now in
     let a = asked_of c.args.selection.now in
     let w = workspace_said c.args.workspace.now in
@@ -103,11 +103,11 @@ returns-clause-follow c = λ target packages.
     where_ok c.plan_with.result
     (λ (plan : SetVersionPlan). All (HasOutputsBy p.path n bs plan.outputs.items) is)
     (All (IsInputClearBy bs) is)
-    (λ (plan : SetVersionPlan). EachInput w is (HasFollowed t a plan.outputs.items))
+    (λ (plan : SetVersionPlan). EachInput w is (HasAdmitted t a plan.outputs.items))
     (λ plan set clear. record {
       project = p;
       is = c.in_ok-project.ensures.ok;
-      holds = all_followed t a is p plan.outputs.items versions
+      holds = all_admitted t a is p plan.outputs.items versions
           (outputs_given t a is p n bs plan.outputs.items c.in_ok-versions.ensures.next
           c.in_ok-versions.ensures.bumps set)
           (clear_given t a is p bs c.in_ok-versions.ensures.bumps clear);
@@ -123,7 +123,7 @@ returns-clause-refused c =
     let bs = bumps_seen c.in_ok-versions.versions.bumps.items in
     where_err c.plan_with.result
     (λ (e : Error). IsMemory e ⊎ (IsBehindLiterals bs is e
-    × (HasUnfollowed bs (manifests p) e ⊎ HasBadInputBy bs is e)))
+    × (HasUnraised bs (manifests p) e ⊎ HasBadInputBy bs is e)))
     (IsCauseOf t a w is)
     (λ e why. cause_given t a w is p bs e c.in_ok-check_names.ensures.found c.in_ok-project.ensures.ok
     (record {
