@@ -103,7 +103,7 @@ rises (Text s) h = inr (s, refl)
 rises Unread h = absurd h
 rises (Unsupported c) h = absurd h
 
--- the same text
+-- equal texts
 text_is : (a b : List ℕ) → ◌≡◌ {A = Option (List ℕ)} (Some a) (Some b) → a ≡ b
 text_is a b e = cc e
 

@@ -123,7 +123,7 @@ edits_values root next bs file form can literal =
     reqs : Edits
     reqs = filter_map requirement_edit (dependents bs file (view_at form))
 
--- the same over the tree that a form shows
+-- values stand there, over the tree that a form shows
 pub values_shown : (root : List ℕ) (next : Option Parts) (bs : List Bump) (file : List ℕ) (t : Tree)
     (form : Text) → t ≡ view_at form → CanShare root next file t
     → (filter (writes_own file) bs ≢ [] → is_value_at form package_version ≡ true)

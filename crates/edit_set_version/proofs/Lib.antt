@@ -31,4 +31,5 @@ pub mod OutputLists
 pub mod EditsStand
 pub mod PlanLemmas
 pub mod InputPaths
+pub mod PlanParts
 pub mod MadeVersions

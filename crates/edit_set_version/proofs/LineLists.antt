@@ -47,7 +47,7 @@ other_number m n less = elim (cases_Bool (m == n)) [
   | inr other ↦ other
 ]
 
--- a requirement that stays tells nothing
+-- a requirement that stays has no line
 pub stays_untold : (name : List ℕ) (m : ℕ) (f : Dependent) (n : ℕ) (ls : List (List Told))
     → update_told name f ≡ None → with_updates name ((m, f) ∷ []) n ls ≡ ls
 stays_untold name m f n [] none = refl
@@ -64,7 +64,7 @@ past_untold name m f n (l ∷ ls) less =
     rw (other_number m n less) (ap₂ (λ x xs. x ∷ xs) (append-nil l)
     (past_untold name m f (suc n) ls (omega (arith, less))))
 
--- one that becomes another text tells one line
+-- one that becomes another text has one line
 pub rise_told : (name : List ℕ) (m k n : ℕ) (f : Dependent) (line : Told) (ls : List (List Told))
     → m ≡ k + n → update_told name f ≡ Some line
     → with_updates name ((m, f) ∷ []) n ls ≡ with_line k line ls

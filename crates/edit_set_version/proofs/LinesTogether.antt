@@ -9,7 +9,7 @@ use Rattle.edit_set_version.specs.ToldLines.{bump_told, dependent_number, manife
 use Rattle.edit_set_version.proofs.GroupedBumps.{alone_dependents}
 use Rattle.edit_set_version.specs.Apart.{AreApart}
 
--- what a manifest tells for the bump with a number
+-- the lines of a manifest for the bump with a number
 updates_are : (all before : List Bump) (b : Bump) (rest : List Bump) (n : ℕ) → all ≡ before ++ b ∷ rest
     → n ≡ length before → AreApart all → (m : Named)
     → updates_told m.name (all_numbered all m.path m.tree) n ≡ updates b m
@@ -21,7 +21,7 @@ updates_are all before b rest n is at apart m =
     ∙ ap (λ bs. filter_map (dependent_number n) (all_numbered bs m.path m.tree)) (sym is) in
     ap (filter_map (update_told m.name)) (sym numbered)
 
--- what all tell
+-- the lines of all manifests
 told_are : (all before : List Bump) (b : Bump) (rest : List Bump) (n : ℕ) → all ≡ before ++ b ∷ rest
     → n ≡ length before → AreApart all → (ms : List Named)
     → manifests_told all ms n ≡ flat_map (updates b) ms

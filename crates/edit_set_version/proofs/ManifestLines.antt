@@ -1,4 +1,4 @@
--- Lists of lines that grow by what manifests tell.
+-- Lists of lines that grow by the lines of manifests.
 use Rattle.std.proofs.Common.{◌≡◌, ◌∙◌, ◌+◌, ◌<◌, ℕ, zero, suc, arith, get_or, length, not, subst, take, List, [], ◌∷◌, ◌++◌, false, true, map, refl, sym, ap}
 use Rattle.std.specs.Prelude.{if◌then◌else◌}
 use Rattle.std.specs.List.{filter}
@@ -14,7 +14,7 @@ use Rattle.edit_set_version.specs.PlanLines.{Named, Told}
 use Rattle.edit_set_version.specs.SetVersioned.{Bump}
 use Rattle.edit_set_version.specs.ToldLines.{HasUnraised, manifests_told, named_member, other_manifests, updates_told, with_manifests, with_more, with_updates}
 
--- what is told in two parts
+-- lines in two parts
 more_in_parts : (f g h : ℕ → List Told) → ((k : ℕ) → h k ≡ f k ++ g k) → (n : ℕ) (ls : List (List Told))
     → with_more h n ls ≡ with_more g n (with_more f n ls)
 more_in_parts f g h same n [] = refl
@@ -23,7 +23,7 @@ more_in_parts f g h same n (l ∷ ls) =
     ∙ ap (λ x. x ∷ with_more h (suc n) ls) (sym (append_assoc l (f n) (g n)))
     ∙ ap (λ xs. ((l ++ f n) ++ g n) ∷ xs) (more_in_parts f g h same (suc n) ls)
 
--- the same is told
+-- the lines are equal
 more_same : (f g : ℕ → List Told) → ((k : ℕ) → f k ≡ g k) → (n : ℕ) (ls : List (List Told))
     → with_more f n ls ≡ with_more g n ls
 more_same f g same n [] = refl
@@ -91,7 +91,7 @@ others_more path cs i c within is =
     ∙ ap (λ z. members_of (take i cs) ++ member_of z ∷ []) (sym is))
     ∙ other_append path (members_of (take i cs)) (member_of c ∷ [])
 
--- ---- refusals
+-- ---- errors
 
 pub unraised_first : (bs : List Bump) (xs ys : List Named) (e : Error) → HasUnraised bs xs e
     → HasUnraised bs (xs ++ ys) e

@@ -59,7 +59,7 @@ readable_told is (p ∷ ps) (m ∷ ms) are all =
     (readable_told is ps ms are.1 (All-tail (λ (p : PackageSaid). IsReadable p.version) p ps all))
 
 -- what holds of all members holds of those that are chosen
-all_chosen : (P : Member → Type 0) (a : Asked) (ms : List Member) → All P ms → All P (chosen a ms)
+pub all_chosen : (P : Member → Type 0) (a : Asked) (ms : List Member) → All P ms → All P (chosen a ms)
 all_chosen P a ms all =
     All-append P (filter (is_asked a) ms) _ (All-filter (is_asked a) P ms all)
     (by (length (inheriting a ms) == 0))
@@ -69,14 +69,13 @@ all_chosen P a ms all =
     by true = All-nil P
     by false = All-filter (λ m. not (is_asked a m) && is_inherited m.tree) P ms all
 
--- the versions of the chosen members can be read, where those of the packages can
-pub readable_chosen : (a : Asked) (w : WorkspaceSaid) (is : List Input) (p : Project) → IsProject w is p
+-- the versions of the members can be read, where those of the packages can
+pub readable_members : (w : WorkspaceSaid) (is : List Input) (p : Project) → IsProject w is p
     → All (λ (q : PackageSaid). IsReadable q.version) w.packages
-    → All (λ (m : Member). IsReadable m.version) (chosen a p.members)
-readable_chosen a w is p project all =
-    all_chosen (λ (m : Member). IsReadable m.version) a p.members
-    (readable_told is (members w.packages) p.members project.members
-    (All-filter (λ (q : PackageSaid). q.member) (λ (q : PackageSaid). IsReadable q.version) w.packages all))
+    → All (λ (m : Member). IsReadable m.version) p.members
+readable_members w is p project all =
+    readable_told is (members w.packages) p.members project.members
+    (All-filter (λ (q : PackageSaid). q.member) (λ (q : PackageSaid). IsReadable q.version) w.packages all)
 
 -- the manifest of each member is that of an input
 trees_told : (is : List Input) (ps : List PackageSaid) (ms : List Member) → AllZip (IsMemberOf is) ps ms
@@ -246,11 +245,12 @@ has_admitted t a outputs p input versions clear set =
     (λ tree left. dependents_admit t a p path (view_at set.form) tree versions rise left) set.are in
     record { form = after.form; manifest = after.manifest; admit = after.holds }
 
--- what holds where a call succeeds
-pub where_ok : {T E : Type 0} (r : Result T E) (P : T → Type 0) (X : Type 0) (Q : T → Type 0)
-    → ((x : T) → P x → X → Q x) → IfOk r P → OnOk r X → IfOk r Q
-where_ok (Ok x) P X Q h p q = h x p q
-where_ok (Err e) P X Q h p q = tt
+-- what five facts of a call make together, where it succeeds
+pub where_all : {T E : Type 0} (r : Result T E) (P Q R S : T → Type 0) (X : Type 0) (Z : T → Type 0)
+    → ((x : T) → P x → Q x → R x → S x → X → Z x)
+    → IfOk r P → IfOk r Q → IfOk r R → IfOk r S → OnOk r X → IfOk r Z
+where_all (Ok x) P Q R S X Z h a b c d e = h x a b c d e
+where_all (Err e) P Q R S X Z h a b c d f = tt
 
 -- what holds where a call fails
 pub where_err : {T E : Type 0} (r : Result T E) (P Q : E → Type 0) → ((e : E) → P e → Q e) → IfErr r P

@@ -1,4 +1,5 @@
--- Set-version plans at small workspaces: who is chosen, which requirements are on bumped crates, and what is written.
+-- Set-version plans at small workspaces: who is chosen, which requirements are on bumped crates, and what is
+-- written.
 use Rattle.std.proofs.Common.{◌≡◌, ℕ, List, [], ◌∷◌, None, refl, false, true}
 use Rattle.std.specs.Prelude.{codes, map}
 use Rattle.semver.specs.Parse.{Parts}

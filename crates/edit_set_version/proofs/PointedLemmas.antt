@@ -27,7 +27,7 @@ one : {A B : Type 0} (f : A → Option B) (o : Option A)
 one f None = refl
 one f (Some x) = alone (f x)
 
--- what is kept of parts in a row
+-- what is left of parts in a row
 flat : {A B C : Type 0} (g : B → Option C) (f : A → List B) (xs : List A)
     → filter_map g (flat_map f xs) ≡ flat_map (λ x. filter_map g (f x)) xs
 flat g f [] = refl

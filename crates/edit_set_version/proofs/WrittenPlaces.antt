@@ -33,7 +33,7 @@ all_filter_map P Q f h (x ∷ xs) all = elim (option_cases (f x)) [
   | inr some ↦ rw some.1 (h x all.0 some.0 some.1, all_filter_map P Q f h xs all.1)
 ]
 
--- what follows from what holds of each
+-- what is implied by what holds of each
 pub all_then : {A : Type 0} (P Q : A → Type 0) → ((x : A) → P x → Q x) → (xs : List A) → AllByRecursion P xs
     → AllByRecursion Q xs
 all_then P Q h [] all = tt
@@ -135,7 +135,7 @@ pub untouched : (es : Edits) (t : Tree) (q : Place) → AllByRecursion (λ e. sa
     → AllByRecursion (λ e. is_below e.0 q ≡ false) es → written es (emptied es t) q ≡ t q
 untouched es t q other below = written_other es (emptied es t) q other ∙ emptied_other es t q below
 
--- the same of a place that none of what is written reaches
+-- what is written leaves a place that none of it reaches
 pub unreached : (es : Edits) (t : Tree) (q : Place) → AllByRecursion (λ e. reaches e.0 q ≡ false) es
     → written es (emptied es t) q ≡ t q
 unreached es t q h =
@@ -207,7 +207,7 @@ written_none new t (p ∷ ps) q h = elim (option_cases (new p)) [
   ])
 ]
 
--- the same text
+-- equal texts
 text_is : (a b : List ℕ) → ◌≡◌ {A = Option (List ℕ)} (Some a) (Some b) → a ≡ b
 text_is a b e = cc e
 

@@ -15,8 +15,8 @@ change_of current (refused r) = Refused r
 change_of current (becomes v) = To v
 change_of current _ = To current
 
--- a lower version is asked for, and the error has both versions; or an increment or build metadata is refused for
--- its cause, or memory ran out
+-- a lower version is asked for, and the error has both versions; or an increment or build metadata is refused
+-- for its cause, or memory ran out
 abbrev pub IsUnbumped : Bumped → Parts → Error → Type 0
 IsUnbumped b current (error.Downgrade from to) =
     (asked : Parts) × (b ≡ lower asked)

@@ -20,5 +20,6 @@ pub mod Selections
 pub mod Missing
 pub mod Projects
 pub mod Planned
+pub mod Plan
 pub mod PlanRefused
 pub mod Written

@@ -1,5 +1,5 @@
 -- The project of a workspace and its inputs (own).
-use Rattle.std.specs.Prelude.{◌≡◌, ℕ, List, All, Contains}
+use Rattle.std.specs.Prelude.{◌≡◌, ℕ, List, Contains}
 use Rattle.std.specs.List.{AllZip}
 use Rattle.edit_base.specs.Paths.{IsNormalOf}
 use Rattle.edit_syntax.specs.Grammar.{Text}
@@ -44,7 +44,3 @@ pub record HasProject (w : WorkspaceSaid) (inputs : List Input) (P : Project →
   pub project : Project
   pub is : IsProject w inputs project
   pub holds : P project
-
--- the inputs are manifests, and this holds of each of them in their project
-abbrev pub EachInput : WorkspaceSaid → List Input → (Project → Input → Type 0) → Type 0
-EachInput w inputs P = HasProject w inputs (λ p. All (P p) inputs)

@@ -79,7 +79,7 @@ pub(crate) fn crates_with<'a>(
     Ok(crates)
 }
 
-/// The same of inputs and manifests of which the last ones are those of the members.
+/// Members with their inputs and manifests, which are the last ones of these lists.
 fn crates_last<'a>(
     alloc: Global,
     members: &[&'a Package],
