@@ -21,3 +21,4 @@ pub mod EntrySpots
 pub mod Lost
 pub mod RemoveText
 pub mod Inner
+pub mod Forms

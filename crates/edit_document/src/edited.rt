@@ -5,6 +5,7 @@ ghost use Rattle.edit_base.specs.declared.errors.Error.TheVariants.{EditRefused}
 ghost use Rattle.edit_syntax.specs.Grammar.{Text};
 ghost use Rattle.edit_tree.specs.Assertions.{at, key as key_step};
 ghost use Rattle.edit_tree.specs.EditBytes.{inserted_text, replaced_text};
+ghost use Rattle.edit_document.specs.Forms.{Becomes, IfDocument};
 ghost use Rattle.edit_document.specs.Items.{place_seen};
 ghost use Rattle.edit_tree.specs.Meant.{Inserted, InsertFails, HasReplaced, ReplaceFails, Removed, RemoveFails};
 ghost use Rattle.edit_document.specs.NewItemViews.{value_seen, item_seen};
@@ -21,7 +22,7 @@ use std::alloc::Global;
 /// Reads the text that an edit leaves. Where it is no document, the edit is refused.
 pub(crate) fn read_edited(alloc: Global, text: &str) -> CargoResult<Document>
     ensures bytes { IfOk result (λ d. d.bytes ≡ text.now) }
-    ensures shows { IfOk result (λ d. (form : Text) → IsManifest text.now form → ShowsTree d form) }
+    ensures shows { IfOk result (λ d. IfDocument text.now (λ form. ShowsTree d form)) }
     ensures pieces { IfOk result (λ d. length d.pieces ≤ 1) }
     ensures refused { IfErr result (λ e. IsMemory e
         ⊎ ((e ≡ EditRefused) × ((form : Text) → IsManifest text.now form → ⊥))) }
@@ -47,11 +48,11 @@ impl Document {
         key: &str,
         value: &NewValue,
     ) -> CargoResult<()>
-        requires written { (form : Text) → IsManifest self.old.bytes form
-            → text.now ≡ inserted_text (place_seen place.now) key.now (value_seen value.now) form }
+        requires written { Becomes self.old.bytes (inserted_text (place_seen place.now) key.now
+            (value_seen value.now)) text.now }
         requires absent { tree_of self.old (at (place_seen place.now) (key_step key.now)) ≡ None }
-        ensures bytes { IfOk result (λ _. (form : Text) → IsManifest self.old.bytes form
-            → self.new.bytes ≡ inserted_text (place_seen place.now) key.now (value_seen value.now) form) }
+        ensures bytes { IfOk result (λ _. Becomes self.old.bytes (inserted_text (place_seen place.now)
+            key.now (value_seen value.now)) self.new.bytes) }
         ensures tree { IfOk result (λ _. Inserted (place_seen place.now) key.now (value_seen value.now)
             (tree_of self.old) (tree_of self.new)) }
         ensures pieces { IfOk result (λ _. length self.new.pieces ≤ length self.old.pieces + 2) }
@@ -77,10 +78,10 @@ impl Document {
         place: &[Step],
         item: &NewItem,
     ) -> CargoResult<()>
-        requires written { (form : Text) → IsManifest self.old.bytes form
-            → text.now ≡ replaced_text (place_seen place.now) (item_seen item.now) form }
-        ensures bytes { IfOk result (λ _. (form : Text) → IsManifest self.old.bytes form
-            → self.new.bytes ≡ replaced_text (place_seen place.now) (item_seen item.now) form) }
+        requires written { Becomes self.old.bytes (replaced_text (place_seen place.now)
+            (item_seen item.now)) text.now }
+        ensures bytes { IfOk result (λ _. Becomes self.old.bytes (replaced_text (place_seen place.now)
+            (item_seen item.now)) self.new.bytes) }
         ensures tree { IfOk result (λ _. HasReplaced (place_seen place.now) (item_seen item.now)
             (tree_of self.old) (tree_of self.new)) }
         ensures pieces { IfOk result (λ _. length self.new.pieces ≤ length self.old.pieces + 2) }
@@ -105,14 +106,13 @@ impl Document {
         text: &str,
         place: &[Step],
     ) -> CargoResult<()>
-        requires written { (form : Text) → IsManifest self.old.bytes form
-            → text.now ≡ removed_text (place_seen place.now) form }
+        requires written { Becomes self.old.bytes (removed_text (place_seen place.now)) text.now }
         requires inner { place_seen place.now ≡ [] → ⊥ }
         requires stands { tree_of self.old (place_seen place.now) ≡ None → ⊥ }
-        ensures bytes { IfOk result (λ _. (form : Text) → IsManifest self.old.bytes form
-            → self.new.bytes ≡ removed_text (place_seen place.now) form) }
-        ensures tree { IfOk result (λ _. (form : Text) → IsManifest self.old.bytes form
-            → Removed form (place_seen place.now) (tree_of self.old) (tree_of self.new)) }
+        ensures bytes { IfOk result (λ _. Becomes self.old.bytes (removed_text (place_seen place.now))
+            self.new.bytes) }
+        ensures tree { IfOk result (λ _. IfDocument self.old.bytes (λ form. Removed form
+            (place_seen place.now) (tree_of self.old) (tree_of self.new))) }
         ensures err { IfErr result (λ _. self.new ≡ self.old) }
         ensures refused { IfErr result (λ e. IsMemory e ⊎ ((e ≡ EditRefused)
             × RemoveFails (place_seen place.now) self.old.bytes)) }

@@ -2,16 +2,16 @@
 ghost use Rattle.std.specs.Prelude.{◌≡◌, ℕ, true, List, ◌++◌, ◌∷◌, Some, MatchResult, IfOk, IfErr, codes, length, option_map, string_bytes};
 ghost use Rattle.edit_base.specs.Errors.{IsMemory};
 ghost use Rattle.edit_syntax.specs.Characters.{right_brace};
-ghost use Rattle.edit_syntax.specs.Grammar.{Between, gap, Members, Text};
+ghost use Rattle.edit_syntax.specs.Grammar.{Between, gap, Members};
 ghost use Rattle.edit_tree.specs.Assertions.{Place};
 ghost use Rattle.edit_tree.specs.EditBytes.{put_before, last_made, with_splice, front_to, dotted_pair};
+ghost use Rattle.edit_document.specs.Forms.{IfDocument};
 ghost use Rattle.edit_document.specs.Entries as entries_seen;
 ghost use Rattle.edit_document.specs.Inner as inner_seen;
 ghost use Rattle.edit_document.specs.Items.{place_seen};
 ghost use Rattle.edit_tree.specs.Slots.{Slot};
 ghost use Rattle.edit_tree.specs.SlotTexts.{StandsAt, TableAt};
 ghost use Rattle.edit_tree.specs.Statements.{Paired, paired_members, inner_pairs};
-ghost use Rattle.edit_tree.specs.Supported.{IsManifest};
 
 use crate::document::Document;
 use crate::inline::{from_start, with_lead};
@@ -117,8 +117,8 @@ pub(crate) fn with_inner(alloc: Global, text: &str, inner: Inner, pair: &str) ->
 impl Document {
     /// The closest inline table above a place: how many steps lead to it, and where it begins.
     fn table_above(&self, place: &[Step]) -> Option<(usize, usize)>
-        ensures { (form : Text) → IsManifest self.now.bytes form
-            → inner_seen.IsClosest form (place_seen place.now) result }
+        ensures { IfDocument self.now.bytes (λ form. inner_seen.IsClosest form (place_seen place.now)
+            result) }
     {
         let mut found = None;
         'ends: for end in 0..place.len() {
@@ -131,8 +131,8 @@ impl Document {
 
     /// The last pair, of the inline tables of the text, whose key goes on behind a place.
     pub(crate) fn last_inner(&self, alloc: Global, place: &[Step]) -> CargoResult<Option<Inner>>
-        ensures found { (form : Text) → IsManifest self.now.bytes form → IfOk result
-            (λ o. o ≡ last_made (inner_seen.inner_of (place_seen place.now)) (inner_pairs form)) }
+        ensures found { IfDocument self.now.bytes (λ form. IfOk result (λ o. o ≡ last_made
+            (inner_seen.inner_of (place_seen place.now)) (inner_pairs form))) }
         ensures refused { IfErr result IsMemory }
     {
         self.has_form();

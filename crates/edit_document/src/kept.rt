@@ -2,6 +2,7 @@
 ghost use Rattle.std.specs.Prelude.{◌≡◌, ◌<◌, [], None, length};
 ghost use Rattle.edit_syntax.specs.Grammar.{Text};
 ghost use Rattle.edit_tree.specs.Assertions.{Step as StepSeen, at};
+ghost use Rattle.edit_document.specs.Forms.{IfDocument};
 ghost use Rattle.edit_document.specs.Items.{place_numbered, place_seen};
 ghost use Rattle.edit_document.specs.Lost.{is_named, IsKept, IsInnermost};
 ghost use Rattle.edit_tree.specs.Shown.{tree_of};
@@ -24,8 +25,8 @@ impl Document {
     fn is_named(&self, number: usize) -> bool
         requires here { number < length self.now.nodes }
         requires inner { place_numbered self.now number ≡ [] → ⊥ }
-        ensures { (form : Text) → IsManifest self.now.bytes form
-            → result ≡ is_named form (place_numbered self.now number) }
+        ensures { IfDocument self.now.bytes (λ form. result ≡ is_named form (place_numbered self.now
+            number)) }
     {
         let _text = self.text.as_str();
         let node = &self.nodes[number];
@@ -53,7 +54,7 @@ impl Document {
     pub(crate) fn kept_steps(&self, place: &[Step]) -> usize
         requires inner { place_seen place.now ≡ [] → ⊥ }
         requires stands { tree_of self.now (place_seen place.now) ≡ None → ⊥ }
-        ensures { (form : Text) → IsManifest self.now.bytes form → IsInnermost form place.now result }
+        ensures { IfDocument self.now.bytes (λ form. IsInnermost form place.now result) }
     {
         self.has_form();
         self.is_tree();

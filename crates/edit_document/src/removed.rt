@@ -1,15 +1,14 @@
 //! Whether a document shows another without an item.
 ghost use Rattle.std.specs.Prelude.{◌≡◌, ◌<◌, ◌≤◌, [], None, Some, length, take};
 ghost use Rattle.std.specs.Bool.{Decides};
-ghost use Rattle.edit_syntax.specs.Grammar.{Text};
 ghost use Rattle.edit_tree.specs.Assertions.{Step as StepSeen, at, key as key_step};
+ghost use Rattle.edit_document.specs.Forms.{IfDocument};
 ghost use Rattle.edit_document.specs.Compared.{nth_part, tree_below};
 ghost use Rattle.edit_document.specs.Items.{place_numbered, view_numbered, place_seen, step_seen, Numbers};
 ghost use Rattle.edit_document.specs.Lost.{HasNamesBut, MovedPart, MovedParts, LosesPart, moved_place};
 ghost use Rattle.edit_document.specs.Lost as lost;
 ghost use Rattle.edit_tree.specs.Meant.{Loses, Removed};
 ghost use Rattle.edit_tree.specs.Shown.{tree_of};
-ghost use Rattle.edit_tree.specs.Supported.{IsManifest};
 
 use crate::document::Document;
 use crate::place::Step;
@@ -193,8 +192,8 @@ impl Document {
     pub(crate) fn has_lost(&self, other: &Document, place: &[Step]) -> bool
         requires inner { place_seen place.now ≡ [] → ⊥ }
         requires stands { tree_of self.now (place_seen place.now) ≡ None → ⊥ }
-        ensures { (form : Text) → IsManifest self.now.bytes form
-            → Decides result (Removed form (place_seen place.now) (tree_of self.now) (tree_of other.now)) }
+        ensures { IfDocument self.now.bytes (λ form. Decides result (Removed form (place_seen place.now)
+            (tree_of self.now) (tree_of other.now))) }
     {
         self.has_form();
         self.is_tree();

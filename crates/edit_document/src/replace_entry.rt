@@ -6,6 +6,7 @@ ghost use Rattle.edit_base.specs.declared.errors.Error.TheVariants.{EditRefused}
 ghost use Rattle.edit_syntax.specs.Grammar.{Text};
 ghost use Rattle.edit_tree.specs.Assertions.{Place};
 ghost use Rattle.edit_tree.specs.EditBytes.{Splice, first_made, with_splice, replaced_text, is_one_statement};
+ghost use Rattle.edit_document.specs.Forms.{Becomes, IfDocument};
 ghost use Rattle.edit_document.specs.Entries.{entry_of};
 ghost use Rattle.edit_document.specs.EntrySpots.{within_entry, last_end, IsAround, Tells, TellsIn};
 ghost use Rattle.edit_document.specs.Items.{place_seen};
@@ -75,9 +76,8 @@ fn pair_spots(alloc: Global, text: &str, entry: Entry) -> CargoResult<(usize, us
 
 /// The same of the pair that is a statement and names the place, where there is one.
 fn line_spots(alloc: Global, text: &str, place: &[Step]) -> CargoResult<Option<(usize, usize)>>
-    ensures told { (form : Text) → IsManifest text.now form
-        → is_one_statement form (place_seen place.now) ≡ true
-        → IfOk result (Tells (place_seen place.now) (line_pairs form)) }
+    ensures told { IfDocument text.now (λ form. is_one_statement form (place_seen place.now) ≡ true
+        → IfOk result (Tells (place_seen place.now) (line_pairs form))) }
     ensures refused { IfErr result IsMemory }
 {
     let all = entries(alloc, text, place)?;
@@ -110,8 +110,8 @@ impl Document {
         end: usize,
     ) -> CargoResult<Option<(usize, usize)>>
         requires { end ≤ length place.now }
-        ensures told { (form : Text) → IsManifest self.now.bytes form
-            → IfOk result (TellsIn form (place_seen place.now) end) }
+        ensures told { IfDocument self.now.bytes (λ form. IfOk result (TellsIn form
+            (place_seen place.now) end)) }
         ensures refused { IfErr result IsMemory }
     {
         self.has_form();
@@ -127,8 +127,8 @@ impl Document {
 
     /// The same in the inline tables of the whole text.
     fn inner_spots(&self, alloc: Global, place: &[Step]) -> CargoResult<Option<(usize, usize)>>
-        ensures told { (form : Text) → IsManifest self.now.bytes form
-            → IfOk result (Tells (place_seen place.now) (inner_pairs form)) }
+        ensures told { IfDocument self.now.bytes (λ form. IfOk result (Tells (place_seen place.now)
+            (inner_pairs form))) }
         ensures refused { IfErr result IsMemory }
     {
         'ends: for end in 0..place.len() + 1 {
@@ -142,10 +142,10 @@ impl Document {
 
     /// Where the pair is written that names a place, of which there is one.
     fn entry_spots(&self, alloc: Global, place: &[Step]) -> CargoResult<(usize, usize)>
-        requires one { (form : Text) → IsManifest self.now.bytes form
-            → is_one_statement form (place_seen place.now) ≡ true }
-        ensures around { (form : Text) → IsManifest self.now.bytes form
-            → IfOk result (IsAround (place_seen place.now) (line_pairs form ++ inner_pairs form)) }
+        requires one { IfDocument self.now.bytes (λ form. is_one_statement form (place_seen place.now)
+            ≡ true) }
+        ensures around { IfDocument self.now.bytes (λ form. IfOk result (IsAround (place_seen place.now)
+            (line_pairs form ++ inner_pairs form))) }
         ensures refused { IfErr result IsMemory }
     {
         self.has_form();
@@ -160,10 +160,10 @@ impl Document {
 
     /// The document's text with another entry at a place.
     fn with_entry(&self, alloc: Global, place: &[Step], item: &NewItem) -> CargoResult<String>
-        requires one { (form : Text) → IsManifest self.now.bytes form
-            → is_one_statement form (place_seen place.now) ≡ true }
-        ensures text { IfOk result (λ t. (form : Text) → IsManifest self.now.bytes form → string_bytes t
-            ≡ replaced_text (place_seen place.now) (item_seen item.now) form) }
+        requires one { IfDocument self.now.bytes (λ form. is_one_statement form (place_seen place.now)
+            ≡ true) }
+        ensures text { IfOk result (λ t. Becomes self.now.bytes (replaced_text (place_seen place.now)
+            (item_seen item.now)) (string_bytes t)) }
         ensures refused { IfErr result IsMemory }
     {
         let (from, to) = self.entry_spots(alloc, place)?;
@@ -181,12 +181,12 @@ impl Document {
         place: &[Step],
         item: &NewItem,
     ) -> CargoResult<()>
-        requires one { (form : Text) → IsManifest self.old.bytes form
-            → is_one_statement form (place_seen place.now) ≡ true }
+        requires one { IfDocument self.old.bytes (λ form. is_one_statement form (place_seen place.now)
+            ≡ true) }
         requires room { length place.now ≤ 70 }
         requires entry { IsEntry (item_seen item.now) }
-        ensures bytes { IfOk result (λ _. (form : Text) → IsManifest self.old.bytes form
-            → self.new.bytes ≡ replaced_text (place_seen place.now) (item_seen item.now) form) }
+        ensures bytes { IfOk result (λ _. Becomes self.old.bytes (replaced_text (place_seen place.now)
+            (item_seen item.now)) self.new.bytes) }
         ensures tree { IfOk result (λ _. HasReplaced (place_seen place.now) (item_seen item.now)
             (tree_of self.old) (tree_of self.new)) }
         ensures pieces { IfOk result (λ _. length self.new.pieces ≤ length self.old.pieces + 2) }

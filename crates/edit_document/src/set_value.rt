@@ -1,15 +1,15 @@
 //! Other values in the place of values.
 ghost use Rattle.std.specs.Prelude.{◌≡◌, [], ◌∷◌, ◌++◌, IfOk, IfErr, true, drop, string_bytes, take, length, ◌≤◌, ◌+◌};
 ghost use Rattle.edit_base.specs.Errors.{IsMemory};
-ghost use Rattle.edit_syntax.specs.Grammar.{Text, value as value_text};
+ghost use Rattle.edit_syntax.specs.Grammar.{value as value_text};
 ghost use Rattle.edit_tree.specs.EditBytes.{set_text};
+ghost use Rattle.edit_document.specs.Forms.{Becomes, IfDocument};
 ghost use Rattle.edit_document.specs.Items.{place_seen};
 ghost use Rattle.edit_tree.specs.Meant.{HasSet};
 ghost use Rattle.edit_tree.specs.NewItems.{new_value};
 ghost use Rattle.edit_document.specs.NewItemViews.{value_seen, HasRoom};
 ghost use Rattle.edit_tree.specs.Shown.{tree_of};
 ghost use Rattle.edit_document.specs.Splices.{AreInOrder};
-ghost use Rattle.edit_tree.specs.Supported.{IsManifest};
 ghost use Rattle.edit_tree.specs.Tree.{is_value_at};
 
 use crate::document::Document;
@@ -41,10 +41,9 @@ fn with_range(
 impl Document {
     /// The document's text with the literal of another value in the place of a value.
     fn with_value(&self, alloc: Global, place: &[Step], value: &NewValue) -> CargoResult<String>
-        requires { (form : Text) → IsManifest self.now.bytes form
-            → is_value_at form (place_seen place.now) ≡ true }
-        ensures bytes { IfOk result (λ s. (form : Text) → IsManifest self.now.bytes form
-            → string_bytes s ≡ set_text (place_seen place.now) (value_seen value.now) form) }
+        requires { IfDocument self.now.bytes (λ form. is_value_at form (place_seen place.now) ≡ true) }
+        ensures bytes { IfOk result (λ s. Becomes self.now.bytes (set_text (place_seen place.now)
+            (value_seen value.now)) (string_bytes s)) }
         ensures refused { IfErr result IsMemory }
     {
         self.has_form();
@@ -57,11 +56,11 @@ impl Document {
     /// Writes the literal of another value in the place of a value, and nothing else; what stood inside the
     /// old value goes with it. It is refused for want of memory alone, and then the document is as it was.
     pub fn set_value(&mut self, alloc: Global, place: &[Step], value: &NewValue) -> CargoResult<()>
-        requires is_value { (form : Text) → IsManifest self.old.bytes form
-            → is_value_at form (place_seen place.now) ≡ true }
+        requires is_value { IfDocument self.old.bytes (λ form. is_value_at form (place_seen place.now)
+            ≡ true) }
         requires room { HasRoom (place_seen place.now) (value_seen value.now) }
-        ensures bytes { IfOk result (λ _. (form : Text) → IsManifest self.old.bytes form
-            → self.new.bytes ≡ set_text (place_seen place.now) (value_seen value.now) form) }
+        ensures bytes { IfOk result (λ _. Becomes self.old.bytes (set_text (place_seen place.now)
+            (value_seen value.now)) self.new.bytes) }
         ensures tree { IfOk result (λ _.
             HasSet (place_seen place.now) (value_seen value.now) (tree_of self.old) (tree_of self.new)) }
         ensures pieces { IfOk result (λ _. length self.new.pieces ≤ length self.old.pieces + 2) }
