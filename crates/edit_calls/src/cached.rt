@@ -1,6 +1,6 @@
 //! Calls that are lent a cache.
 ghost use Rattle.std.specs.Prelude.{◌≡◌, IfOk, length};
-ghost use Rattle.edit_steps.specs.Workspaces.{HaveOwnPaths};
+ghost use Rattle.edit_metadata.specs.Inputs.{HaveOwnPaths};
 ghost use Rattle.edit_steps.specs.Sources.{MayBePlanned};
 
 use crate::counted::CountedIndex;

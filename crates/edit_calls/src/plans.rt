@@ -4,7 +4,7 @@ ghost use Rattle.edit_metadata.specs.Workspaces.{HasOwnFolders, workspace_said};
 ghost use Rattle.edit_report.specs.Applied.{HaveDistinctPaths};
 ghost use Rattle.edit_set_version.specs.Planned.{OutputsInOrder};
 ghost use Rattle.edit_set_version.specs.Projects.{AreInputsOf};
-ghost use Rattle.edit_steps.specs.Workspaces.{HaveOwnPaths};
+ghost use Rattle.edit_metadata.specs.Inputs.{HaveOwnPaths};
 
 use crate::said::say;
 use edit_base::CargoResult;

@@ -1,4 +1,4 @@
-//! The requirement that cannot follow a new version.
+//! The requirement that cannot be raised to a new version.
 
 use crate::entries::entry_position;
 use crate::members::{Explanation, is_asked};
@@ -13,7 +13,7 @@ use edit_version::upgrade_requirement;
 use semver::Version;
 use std::alloc::Global;
 
-/// What a user can do where a requirement cannot follow.
+/// What a user can do where a requirement cannot be raised.
 const HELP: &str = "write a requirement that can follow, such as \"1.2.3\"";
 
 /// Whether the path of an entry, from the folder of its manifest, is that of a package.
@@ -89,7 +89,7 @@ fn refused_in(
     None
 }
 
-/// The first requirement of these manifests that cannot follow a new version for this error.
+/// The first requirement of these manifests that cannot be raised to a new version for this error.
 pub(crate) fn refused_requirement(
     alloc: Global,
     error: &Error,

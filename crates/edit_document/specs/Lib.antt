@@ -14,3 +14,4 @@ pub use Rattle.edit_syntax.specs.Numbers
 pub use Rattle.edit_syntax.specs.Grammar
 pub mod OneStatement
 pub mod Lost
+pub mod Forms

@@ -2,6 +2,7 @@
 ghost use Rattle.std.specs.Prelude.{◌≡◌, Some, None, ◌<◌, ◌≤◌, [], ◌++◌, IfOk, IfErr, MatchResult, string_bytes, length, map, slice_get, option_map};
 ghost use Rattle.edit_tree.specs.Assertions.{Place, at, key as key_step, index as index_step};
 ghost use Rattle.edit_base.specs.Errors.{IsMemory};
+ghost use Rattle.edit_document.specs.Forms.{IfDocument};
 ghost use Rattle.edit_document.specs.DocumentLayout.{nodes_by, spots_of};
 ghost use Rattle.edit_document.specs.ItemViews.{Finds};
 ghost use Rattle.edit_syntax.specs.Grammar.{Text};
@@ -64,8 +65,7 @@ impl Document {
         // What is read is a document, and shows its tree.
         ensures found { IfOk result (λ d. (form : Text) × IsManifest text.now form × ShowsTree d form) }
         // Whatever is a document is read, in whichever way the text was split, unless memory runs out.
-        ensures only { (form : Text) → IsManifest text.now form
-            → MatchResult result (λ d. ShowsTree d form) IsMemory }
+        ensures only { IfDocument text.now (λ form. MatchResult result (λ d. ShowsTree d form) IsMemory) }
         ensures pieces { IfOk result (λ d. length d.pieces ≤ 1) }
         ensures refused { IfErr result (IsReadRefusal (length text.now)) }
     {
@@ -216,15 +216,14 @@ impl Document {
     /// and a caller that is lent a document calls it to know these two.
     pub fn has_form(&self)
         ensures some { (form : Text) × IsManifest self.now.bytes form }
-        ensures shows { (form : Text) → IsManifest self.now.bytes form → ShowsTree self.now form }
+        ensures shows { IfDocument self.now.bytes (λ form. ShowsTree self.now form) }
     {
         let _nodes = &self.nodes;
     }
 
     /// Where the value of a place is written, from its first byte to its end, or `None` where no value is.
     pub fn value_range(&self, place: &[Step]) -> Option<(usize, usize)>
-        ensures { (form : Text) → IsManifest self.now.bytes form
-            → HasRange form (place_seen place.now) result }
+        ensures { IfDocument self.now.bytes (λ form. HasRange form (place_seen place.now) result) }
     {
         let len = self.text.len();
         let number = self.number(place)?;

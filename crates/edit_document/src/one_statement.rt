@@ -3,6 +3,7 @@ ghost use Rattle.std.specs.Prelude.{◌≡◌, ◌<◌, ℕ, List, true, false, 
 ghost use Rattle.edit_syntax.specs.Grammar.{Text};
 ghost use Rattle.edit_tree.specs.Assertions.{Place, at, key as key_step};
 ghost use Rattle.edit_tree.specs.EditBytes.{is_one_statement};
+ghost use Rattle.edit_document.specs.Forms.{IfDocument};
 ghost use Rattle.edit_document.specs.Items.{place_numbered, place_seen};
 ghost use Rattle.edit_document.specs.OneStatement.{HasMember, Answers};
 ghost use Rattle.edit_tree.specs.Supported.{IsManifest};
@@ -79,8 +80,7 @@ impl Document {
     /// Whether exactly one pair names a place by some part of its key, and no header does. The root and an
     /// element of an array are named by no pair. It takes no memory.
     pub fn one_statement(&self, place: &[Step]) -> bool
-        ensures { (form : Text) → IsManifest self.now.bytes form
-            → result ≡ is_one_statement form (place_seen place.now) }
+        ensures { IfDocument self.now.bytes (λ form. result ≡ is_one_statement form (place_seen place.now)) }
     {
         self.has_form();
         if !is_member(place) {

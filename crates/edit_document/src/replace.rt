@@ -2,6 +2,7 @@
 ghost use Rattle.std.specs.Prelude.{◌≡◌, ◌≤◌, ◌+◌, IfOk, IfErr, length, true, map, string_bytes};
 ghost use Rattle.edit_base.specs.Errors.{IsMemory};
 ghost use Rattle.edit_syntax.specs.Grammar.{Text, text as text_of};
+ghost use Rattle.edit_document.specs.Forms.{IfDocument};
 ghost use Rattle.edit_document.specs.Items.{place_seen};
 ghost use Rattle.edit_tree.specs.Literals.{literal_bytes};
 ghost use Rattle.edit_tree.specs.Pieces.{IsAmong, IsSwapped};
@@ -10,7 +11,6 @@ ghost use Rattle.edit_tree.specs.Replaces.{Edits, replaced, written, emptied, Ar
 ghost use Rattle.edit_tree.specs.Assertions.{Place as PlaceSeen};
 ghost use Rattle.edit_tree.specs.Shown.{tree_of};
 ghost use Rattle.edit_document.specs.Splices.{range_of, spliced, AreInOrder, IsRangeFor, Locates};
-ghost use Rattle.edit_tree.specs.Supported.{IsManifest};
 ghost use Rattle.edit_tree.specs.Tree.{is_value_at, view_at};
 
 use crate::document::Document;
@@ -63,18 +63,16 @@ pub(crate) fn splice_unordered(
 impl Document {
     /// Whether a value stands at a place: it was written behind an equals sign or as an array's element.
     pub fn is_value(&self, place: &[Step]) -> bool
-        ensures { (form : Text) → IsManifest self.now.bytes form
-            → result ≡ is_value_at form (place_seen place.now) }
+        ensures { IfDocument self.now.bytes (λ form. result ≡ is_value_at form (place_seen place.now)) }
     {
         self.value_range(place).is_some()
     }
 
     /// The rewrite of the value at a place.
     fn rewrite_of<'a>(&self, place: &[Step], text: &'a str) -> Rewrite<'a>
-        requires { (form : Text) → IsManifest self.now.bytes form
-            → is_value_at form (place_seen place.now) ≡ true }
-        ensures { (form : Text) → IsManifest self.now.bytes form
-            → IsRangeFor form (record { 0 = place_seen place.now; 1 = text.now }) (range_of result) }
+        requires { IfDocument self.now.bytes (λ form. is_value_at form (place_seen place.now) ≡ true) }
+        ensures { IfDocument self.now.bytes (λ form. IsRangeFor form
+            (record { 0 = place_seen place.now; 1 = text.now }) (range_of result)) }
     {
         self.has_form();
         match self.value_range(place) {
@@ -91,8 +89,8 @@ impl Document {
         place: &[Step],
         text: &str,
     ) -> CargoResult<(String, (usize, usize))>
-        requires is_value { (form : Text) → IsManifest self.now.bytes form
-            → is_value_at form (place_seen place.now) ≡ true }
+        requires is_value { IfDocument self.now.bytes (λ form. is_value_at form (place_seen place.now)
+            ≡ true) }
         ensures replaces { IfOk result (λ r.
             Replaces (one_edit (place_seen place.now) text.now) self.now.bytes (string_bytes r.0)) }
         ensures swapped { IfOk result (λ r.
@@ -114,17 +112,16 @@ impl Document {
     /// The document's text with the literals of other texts in the place of values. The places may come in
     /// any order; what is inside a value goes with it, so none of the places lies inside another.
     pub fn with_literals(&self, alloc: Global, edits: &[(Place, String)]) -> CargoResult<String>
-        requires values { (form : Text) → IsManifest self.now.bytes form
-            → AreValues (edits_seen edits.now) form }
+        requires values { IfDocument self.now.bytes (λ form. AreValues (edits_seen edits.now) form) }
         requires distinct { AreDistinct (edits_seen edits.now) }
         requires outside { AreOutside (edits_seen edits.now) }
-        ensures bytes { IfOk result (λ s. (form : Text) → IsManifest self.now.bytes form
-            → string_bytes s ≡ text_of (replaced (edits_seen edits.now) form)) }
+        ensures bytes { IfOk result (λ s. IfDocument self.now.bytes (λ form. string_bytes s ≡ text_of
+            (replaced (edits_seen edits.now) form))) }
         ensures replaces { IfOk result (λ s.
             Replaces (edits_seen edits.now) self.now.bytes (string_bytes s)) }
-        ensures tree { IfOk result (λ s. (form : Text) → IsManifest (string_bytes s) form → (at : PlaceSeen)
+        ensures tree { IfOk result (λ s. IfDocument (string_bytes s) (λ form. (at : PlaceSeen)
             → let edits = edits_seen edits.now in
-            view_at form at ≡ written edits (emptied edits (tree_of self.now)) at) }
+            view_at form at ≡ written edits (emptied edits (tree_of self.now)) at)) }
         ensures refused { IfErr result IsMemory }
     {
         self.has_form();
@@ -138,8 +135,8 @@ impl Document {
     /// Writes the literal of a text in the place of a value; it is one of the pieces then. After a refusal
     /// the document is as it was.
     pub fn set_literal(&mut self, alloc: Global, place: &[Step], text: &str) -> CargoResult<()>
-        requires is_value { (form : Text) → IsManifest self.old.bytes form
-            → is_value_at form (place_seen place.now) ≡ true }
+        requires is_value { IfDocument self.old.bytes (λ form. is_value_at form (place_seen place.now)
+            ≡ true) }
         ensures bytes { IfOk result (λ _.
             Replaces (one_edit (place_seen place.now) text.now) self.old.bytes self.new.bytes) }
         ensures tree { IfOk result (λ _. (at : PlaceSeen)

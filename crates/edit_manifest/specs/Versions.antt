@@ -9,9 +9,8 @@ use Rattle.edit_document.specs.Items.{string_in, truth_in}
 use Rattle.edit_document.specs.Ranges.{one_edit}
 use Rattle.edit_tree.specs.Replaces.{Replaces, emptied, written}
 use Rattle.edit_tree.specs.Shown.{Shown, tree_of}
-use Rattle.edit_tree.specs.Supported.{IsManifest}
+use Rattle.edit_document.specs.Forms.{IfDocument}
 use Rattle.edit_tree.specs.Tree.{View, string, table, inline_table, is_value_at}
-use Rattle.edit_syntax.specs.Grammar.{Text}
 use Rattle.edit_version.specs.ReadVersion.{version_read}
 use Rattle.semver.specs.Parse.{Parts}
 use Rattle.edit_manifest.specs.Tables.{Tree, keyed}
@@ -87,7 +86,7 @@ pub record SetsVersion (place : Place) (text : List ℕ) (old new : Shown) : Typ
 
 -- no value is written at the place
 abbrev pub IsNoValue : Shown → Place → Type 0
-IsNoValue d place = (form : Text) → IsManifest d.bytes form → is_value_at form place ≡ false
+IsNoValue d place = IfDocument d.bytes (λ form. is_value_at form place ≡ false)
 
 -- why no version is set at a place: memory ran out, or no value is written there
 abbrev pub IsUnset : Shown → Place → Error → Type 0

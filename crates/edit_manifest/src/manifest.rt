@@ -1,4 +1,5 @@
 //! A manifest as a document.
+ghost use Rattle.edit_document.specs.Forms.{IfDocument};
 ghost use Rattle.std.specs.Prelude.{◌≡◌, Some, IfErr, IfOk, IsUtf8, MatchResult, OnOk, length};
 ghost use Rattle.edit_base.specs.Errors.{IsMemory};
 ghost use Rattle.edit_syntax.specs.Grammar.{Text};
@@ -24,8 +25,8 @@ impl Manifest {
         ensures bytes { IfOk result (λ m. m.document.bytes ≡ text.now) }
         ensures found { IfOk result
             (λ m. (form : Text) × IsManifest text.now form × ShowsTree m.document form) }
-        ensures only { (form : Text) → IsManifest text.now form
-            → MatchResult result (λ m. ShowsTree m.document form) IsMemory }
+        ensures only { IfDocument text.now (λ form. MatchResult result (λ m. ShowsTree m.document form)
+            IsMemory) }
         ensures refused { IfErr result (IsReadRefusal (length text.now)) }
     {
         let document = Document::read(alloc, text)?;

@@ -1,5 +1,5 @@
 -- The manifests of a workspace that plans are made for (own).
-use Rattle.std.specs.Prelude.{◌≡◌, ◌⊎◌, ℕ, List, ◌∷◌, Bool, true, Option, Some, None, codes, Contains, if◌then◌else◌, map, option_map, string_bytes}
+use Rattle.std.specs.Prelude.{◌≡◌, ◌≢◌, ◌⊎◌, ℕ, List, ◌∷◌, AllPairs, Bool, true, Option, Some, None, codes, Contains, if◌then◌else◌, map, option_map, string_bytes}
 use Rattle.std.specs.List.{AllZip, fold}
 use Rattle.std.specs.Option.{option_or}
 use Rattle.edit_base.specs.Paths.{IsNormalOf, joined}
@@ -68,9 +68,17 @@ pub record IsInputOf (asked : RustAsked) (m : ManifestSaid) (i : Input) : Type 0
   pub path : IsNormalOf m.path (string_bytes i.path)
   pub rust_version : option_map numbers_of i.rust_version ≡ rust_version_for asked m.rust_version
 
+-- the path of an input
+abbrev pub path_of : Input → List ℕ
+path_of i = string_bytes i.path
+
 -- the paths of inputs
 abbrev pub input_paths : List Input → List (List ℕ)
 input_paths is = map (λ i. string_bytes i.path) is
+
+-- no two inputs have one path
+abbrev pub HaveOwnPaths : List Input → Type 0
+HaveOwnPaths is = AllPairs (λ a b. path_of a ≢ path_of b) is
 
 -- the inputs of a workspace: the members' in order, and before them the root's where no member has its path
 pub data AreInputs (asked : RustAsked) (w : WorkspaceSaid) : List Input → Type 0 where

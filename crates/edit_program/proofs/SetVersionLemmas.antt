@@ -13,7 +13,7 @@ use Rattle.edit_set_version.specs.PlanRefused.{IsCauseOf}
 use Rattle.edit_set_version.specs.Planned.{OutputsInOrder, outputs_at, told_lines}
 use Rattle.edit_set_version.specs.Selections.{asked_of}
 use Rattle.edit_set_version.specs.declared.plan.SetVersionPlan.{SetVersionPlan}
-use Rattle.edit_steps.specs.Workspaces.{HaveOwnPaths}
+use Rattle.edit_metadata.specs.Inputs.{HaveOwnPaths}
 use Rattle.edit_steps.proofs.DistinctPaths.{none_differ, outputs_differ}
 use Rattle.edit_store.specs.Store.{SameFiles, StoreView}
 use Rattle.edit_program.specs.SetVersionCauses.{IsSetVersionCause}

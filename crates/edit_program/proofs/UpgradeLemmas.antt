@@ -14,7 +14,7 @@ use Rattle.edit_report.specs.Applied.{AreWritten, HaveDistinctPaths}
 use Rattle.edit_report.specs.declared.output.Output.{Output}
 use Rattle.edit_sources.specs.Configured.{given}
 use Rattle.edit_steps.proofs.DistinctPaths.{outputs_differ}
-use Rattle.edit_steps.specs.Workspaces.{HaveOwnPaths}
+use Rattle.edit_metadata.specs.Inputs.{HaveOwnPaths}
 use Rattle.edit_base.specs.declared.errors.DeviceCall.TheVariants as call
 use Rattle.edit_store.specs.Store.{OnlyReads, SameFiles, StoreView}
 use Rattle.edit_upgrade.specs.Inputs.{outputs_at}

@@ -6,7 +6,7 @@ use Rattle.edit_base.specs.declared.errors.Error.TheVariants.{DependenciesMissin
 use Rattle.edit_base.specs.declared.errors.MissingKind.TheVariants as kind
 use Rattle.edit_store.specs.Store.{RefusesCall, SameFiles, StoreView}
 use Rattle.edit_upgrade.specs.Asked.{asked_by, is_due}
-use Rattle.edit_upgrade.specs.Pins.{IsFirstRefused}
+use Rattle.edit_upgrade.specs.WordCauses.{StopsAtWord}
 use Rattle.edit_upgrade.specs.declared.decision.options.Options.{Options}
 use Rattle.edit_upgrade.specs.declared.upgrade.UpgradePlan.{UpgradePlan}
 use Rattle.edit_program.specs.Delivered.{AreBothWritten, IsToldTo}
@@ -21,7 +21,7 @@ AreTold missing other = ⊥
 -- calls are due, and an argument is not read
 abbrev pub HasBadWord : UpgradePlan → Options → Error → Type 0
 HasBadWord plan options e = (is_due (asked_by plan options) ≡ true)
-    × IsFirstRefused (map string_bytes options.package.items) e
+    × StopsAtWord (map string_bytes options.package.items) e
 
 -- nothing of a plan may be written: the manifests are locked and it has outputs, or an argument is not read
 abbrev pub IsHeldBack : Delivery → Error → Type 0

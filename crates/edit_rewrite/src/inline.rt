@@ -4,6 +4,7 @@ ghost use Rattle.edit_base.specs.Errors.{IsMemory};
 ghost use Rattle.edit_syntax.specs.Characters.{right_brace};
 ghost use Rattle.edit_syntax.specs.Grammar.{Between, inline, Members, no_members, Text};
 ghost use Rattle.edit_tree.specs.EditBytes.{Splice, put_before, with_splice, behind_last, inline_grown, in_inline, inserted_text};
+ghost use Rattle.edit_document.specs.Forms.{IfDocument};
 ghost use Rattle.edit_document.specs.Items.{place_seen};
 ghost use Rattle.edit_tree.specs.NewItems.{NewValue as Meant, new_pair};
 ghost use Rattle.edit_document.specs.Ranges.{HasTable};
@@ -126,8 +127,7 @@ pub(crate) fn from_start(s: &[u8], start: usize) -> &[u8]
 
 /// Where the inline table of a place begins, or `None` where none is written there.
 pub(crate) fn table_start(document: &Document, place: &[Step]) -> Option<usize>
-    ensures { (form : Text) → IsManifest document.now.bytes form
-        → HasTable form (place_seen place.now) result }
+    ensures { IfDocument document.now.bytes (λ form. HasTable form (place_seen place.now) result) }
 {
     document.has_form();
     let (start, _) = document.value_range(place)?;

@@ -2,16 +2,16 @@
 ghost use Rattle.std.specs.Prelude.{◌≡◌, ℕ, true, List, ◌++◌, ◌∷◌, Some, MatchResult, IfOk, IfErr, codes, length, option_map, string_bytes};
 ghost use Rattle.edit_base.specs.Errors.{IsMemory};
 ghost use Rattle.edit_syntax.specs.Characters.{right_brace};
-ghost use Rattle.edit_syntax.specs.Grammar.{Between, gap, Members, Text};
+ghost use Rattle.edit_syntax.specs.Grammar.{Between, gap, Members};
 ghost use Rattle.edit_tree.specs.Assertions.{Place};
 ghost use Rattle.edit_tree.specs.EditBytes.{put_before, last_made, with_splice, front_to, dotted_pair};
+ghost use Rattle.edit_document.specs.Forms.{IfDocument};
 ghost use Rattle.edit_rewrite.specs.Entries as entries_seen;
 ghost use Rattle.edit_rewrite.specs.Inner as inner_seen;
 ghost use Rattle.edit_document.specs.Items.{place_seen};
 ghost use Rattle.edit_tree.specs.Slots.{Slot};
 ghost use Rattle.edit_tree.specs.SlotTexts.{StandsAt, TableAt};
 ghost use Rattle.edit_tree.specs.Statements.{Paired, paired_members, inner_pairs};
-ghost use Rattle.edit_tree.specs.Supported.{IsManifest};
 
 use crate::inline::{from_start, table_start, with_lead};
 use crate::inside::{begins, behind_one};
@@ -115,8 +115,8 @@ pub(crate) fn with_inner(alloc: Global, text: &str, inner: Inner, pair: &str) ->
 
 /// The closest inline table above a place: how many steps lead to it, and where it begins.
 fn table_above(document: &Document, place: &[Step]) -> Option<(usize, usize)>
-    ensures { (form : Text) → IsManifest document.now.bytes form
-        → inner_seen.IsClosest form (place_seen place.now) result }
+    ensures { IfDocument document.now.bytes (λ form. inner_seen.IsClosest form (place_seen place.now)
+        result) }
 {
     let mut found = None;
     'ends: for end in 0..place.len() {
@@ -129,8 +129,8 @@ fn table_above(document: &Document, place: &[Step]) -> Option<(usize, usize)>
 
 /// The last pair, of the inline tables of the text, whose key goes on behind a place.
 pub(crate) fn last_inner_of(document: &Document, alloc: Global, place: &[Step]) -> CargoResult<Option<Inner>>
-    ensures found { (form : Text) → IsManifest document.now.bytes form → IfOk result
-        (λ o. o ≡ last_made (inner_seen.inner_of (place_seen place.now)) (inner_pairs form)) }
+    ensures found { IfDocument document.now.bytes (λ form. IfOk result (λ o. o ≡ last_made
+        (inner_seen.inner_of (place_seen place.now)) (inner_pairs form))) }
     ensures refused { IfErr result IsMemory }
 {
     document.has_form();

@@ -6,6 +6,7 @@ ghost use Rattle.edit_syntax.specs.Grammar.{Text};
 ghost use Rattle.edit_syntax.specs.Strings.{◌·◌};
 ghost use Rattle.edit_tree.specs.Assertions.{Place, at, key as key_step};
 ghost use Rattle.edit_tree.specs.EditBytes.{first_made, last_made, put_before, new_line, at_start, with_splice, in_inline, inserted_text};
+ghost use Rattle.edit_document.specs.Forms.{Becomes, IfDocument};
 ghost use Rattle.edit_rewrite.specs.Entries.{entry_of, front_of};
 ghost use Rattle.edit_rewrite.specs.Inner.{inner_of};
 ghost use Rattle.edit_document.specs.Items.{place_seen};
@@ -115,8 +116,8 @@ fn with_header(alloc: Global, text: &str, entry: Entry, pair: &str) -> CargoResu
 
 /// The text with a line more at its start.
 fn with_first(alloc: Global, text: &str, pair: &str) -> CargoResult<String>
-    ensures text { (form : Text) → IsManifest text.now form
-        → IfOk result (λ t. string_bytes t ≡ with_splice text.now (at_start pair.now form)) }
+    ensures text { IfDocument text.now (λ form. IfOk result (λ t. string_bytes t ≡ with_splice text.now
+        (at_start pair.now form))) }
     ensures refused { IfErr result IsMemory }
 {
     let mut line = String::from_str(alloc, pair)?;
@@ -175,8 +176,8 @@ pub fn with_member(
     key: &str,
     value: &NewValue,
 ) -> CargoResult<String>
-    ensures text { IfOk result (λ t. (form : Text) → IsManifest document.now.bytes form → string_bytes t
-        ≡ inserted_text (place_seen place.now) key.now (value_seen value.now) form) }
+    ensures text { IfOk result (λ t. Becomes document.now.bytes (inserted_text (place_seen place.now) key.now
+        (value_seen value.now)) (string_bytes t)) }
     ensures refused { IfErr result IsMemory }
 {
     let written = pair_text(alloc, key, value)?;

@@ -1,10 +1,9 @@
 //! How the statements of a text stand to a place.
 ghost use Rattle.std.specs.Prelude.{◌≡◌, [], ◌++◌, true, IfOk, IfErr, map};
 ghost use Rattle.edit_base.specs.Errors.{IsMemory};
-ghost use Rattle.edit_syntax.specs.Grammar.{Text};
 ghost use Rattle.edit_tree.specs.Assertions.{of_statement, prefix_after};
+ghost use Rattle.edit_document.specs.Forms.{IfDocument};
 ghost use Rattle.edit_document.specs.Items.{place_seen};
-ghost use Rattle.edit_tree.specs.Supported.{IsManifest};
 ghost use Rattle.edit_tree.specs.Statements.{Stated, stated};
 ghost use Rattle.edit_tree.specs.EditBytes.{is_pair};
 ghost use Rattle.edit_rewrite.specs.Standings.{StandsTo, IsTaken, is_table_header, is_element_header};
@@ -211,8 +210,8 @@ impl Standing {
 
 /// The statements of a text in their order, as they stand to a place.
 pub(crate) fn entries(alloc: Global, text: &str, place: &[Step]) -> CargoResult<Vec<Entry>>
-    ensures found { (form : Text) → IsManifest text.now form
-        → IfOk result (λ v. v.items ≡ map (entries_seen.entry_of (place_seen place.now)) (stated form)) }
+    ensures found { IfDocument text.now (λ form. IfOk result (λ v. v.items ≡ map (entries_seen.entry_of
+        (place_seen place.now)) (stated form))) }
     ensures refused { IfErr result IsMemory }
 {
     let mut found = Vec::new(alloc);

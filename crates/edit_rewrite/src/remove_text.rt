@@ -2,14 +2,14 @@
 ghost use Rattle.std.specs.Prelude.{◌≡◌, ◌++◌, [], Some, None, IfOk, IfErr, string_bytes};
 ghost use Rattle.std.specs.Bool.{Decides};
 ghost use Rattle.edit_base.specs.Errors.{IsMemory};
-ghost use Rattle.edit_syntax.specs.Grammar.{Text, Value, value, IsValue, lines, byte_order_mark};
+ghost use Rattle.edit_syntax.specs.Grammar.{Value, value, IsValue, lines, byte_order_mark};
 ghost use Rattle.edit_tree.specs.EditBytes.{with_splice};
+ghost use Rattle.edit_document.specs.Forms.{Becomes, IfDocument};
 ghost use Rattle.edit_document.specs.Items.{place_seen};
 ghost use Rattle.edit_tree.specs.RemovedBytes.{lines_left, value_left, removed_text};
 ghost use Rattle.edit_rewrite.specs.RemoveText.{HasAround, StandsBetween};
 ghost use Rattle.edit_tree.specs.Slots.{IsContainer};
 ghost use Rattle.edit_tree.specs.Statements.{stated};
-ghost use Rattle.edit_tree.specs.Supported.{IsManifest};
 ghost use Rattle.edit_tree.specs.Written.{Valued};
 
 use crate::inside::{begins, value_without};
@@ -23,9 +23,8 @@ use std::alloc::Global;
 /// The text without the statements that name the place or one below it, and without the blank and comment
 /// lines before each of them.
 fn without_lines(alloc: Global, text: &str, place: &[Step]) -> CargoResult<String>
-    ensures text { (form : Text) → IsManifest text.now form → IfOk result (λ t. string_bytes t
-        ≡ byte_order_mark form.marked
-        (lines_left (place_seen place.now) (lines form.lines) (stated form))) }
+    ensures text { IfDocument text.now (λ form. IfOk result (λ t. string_bytes t
+        ≡ byte_order_mark form.marked (lines_left (place_seen place.now) (lines form.lines) (stated form)))) }
     ensures refused { IfErr result IsMemory }
 {
     let all = entries(alloc, text, place)?;
@@ -101,8 +100,7 @@ fn without_members(
 
 /// The innermost value around a place.
 fn value_around(document: &Document, place: &[Step]) -> Option<Around>
-    ensures { (form : Text) → IsManifest document.now.bytes form
-        → HasAround form (place_seen place.now) result }
+    ensures { IfDocument document.now.bytes (λ form. HasAround form (place_seen place.now) result) }
 {
     let [above @ .., _] = place else {
         return None;
@@ -119,8 +117,8 @@ fn value_around(document: &Document, place: &[Step]) -> Option<Around>
 
 /// The document's text without the item at a place. Where nothing stands there, nothing goes.
 pub fn without(document: &Document, alloc: Global, place: &[Step]) -> CargoResult<String>
-    ensures text { IfOk result (λ t. (form : Text) → IsManifest document.now.bytes form
-        → string_bytes t ≡ removed_text (place_seen place.now) form) }
+    ensures text { IfOk result (λ t. Becomes document.now.bytes (removed_text (place_seen place.now))
+        (string_bytes t)) }
     ensures refused { IfErr result IsMemory }
 {
     document.has_form();

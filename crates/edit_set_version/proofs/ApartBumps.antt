@@ -51,7 +51,7 @@ later_all R x [] h = tt
 later_all R x (y ∷ ys) h =
     (h zero y (omega arith), later_all R x ys (λ j d w. h (suc j) d (omega (arith, w))))
 
--- the same of texts that members have
+-- so are folders of members, by their texts
 members_apart : (ms : List Member) → AllPairs (λ (a b : List ℕ). a ≢ b) (map folder_told ms) → StandApart ms
 members_apart [] pairs = tt
 members_apart (m ∷ ms) pairs = (

@@ -112,6 +112,6 @@ keeps_build : bump (exactly (plain 2 0 0)) None (1, 0, 0, [], codes "git.1")
     ≡ becomes (2, 0, 0, [], codes "git.1")
 keeps_build = refl
 
--- odd: the order is told before build metadata is filled in, so the same version without it is a downgrade
+-- odd: the order is decided before build metadata is filled in, so the same version without it is a downgrade
 lower_by_build : bump (exactly (plain 1 0 0)) None (1, 0, 0, [], codes "git.1") ≡ lower (plain 1 0 0)
 lower_by_build = refl

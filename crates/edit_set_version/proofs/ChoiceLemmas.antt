@@ -79,7 +79,7 @@ element_among (y ∷ ys) (suc i) x within is =
     let there = element_among ys i x (omega (arith, within)) is in
     (suc there.0, omega (arith, there.1), there.2)
 
--- the same elements, where two tests agree
+-- equal elements, where two tests agree
 pub filter_same : {X : Type 0} (p q : X → Bool) → ((x : X) → p x ≡ q x) → (xs : List X)
     → filter p xs ≡ filter q xs
 filter_same p q same [] = refl
@@ -98,7 +98,7 @@ joined_texts sep (x ∷ xs) = ap (λ ts. x.now ++ ts) (rest xs)
     rest [] = refl
     rest (y ∷ ys) = ap (λ ts. (sep ++ y.now) ++ ts) (rest ys)
 
--- the set that decides tells who is asked for
+-- the set that decides has who is asked for
 pub wants_asked : (a : Asked) (w : Wanted) (m : Member) → IsWanted a w → wants w m ≡ is_asked a m
 wants_asked a w m is =
     ap (λ b. if b then not (contains_text w.names m.name) else contains_text w.names m.name) is.all

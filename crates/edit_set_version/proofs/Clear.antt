@@ -1,4 +1,4 @@
--- What a plan writes stands neither at nor above what tells of a manifest's entries.
+-- What a plan writes stands neither at nor above what shows a manifest's entries.
 use Rattle.std.proofs.Common.{◌≡◌, ℕ, Bool, true, false, ◌&&◌, List, [], ◌∷◌, refl, ap, inl, inr}
 use Rattle.std.specs.Prelude.{codes}
 use Rattle.std.proofs.lemmas.Bool.{cases_Bool}
@@ -50,7 +50,7 @@ kind_left name kind fails holds = elim (cases_Bool (same_bytes name kind)) [
   | inr other ↦ other
 ]
 
--- the same the other way round
+-- the other way round
 kind_right : (name kind : List ℕ) → is_kind name ≡ false → is_kind kind ≡ true → same_bytes kind name ≡ false
 kind_right name kind fails holds = elim (cases_Bool (same_bytes kind name)) [
   | inl same ↦

@@ -16,17 +16,18 @@ use Rattle.edit_manifest.specs.declared.manifest.Manifest.{Manifest}
 use Rattle.edit_metadata.specs.declared.input.Input.{Input}
 use Rattle.edit_version.specs.ReadVersion.{version_read}
 use Rattle.edit_set_version.specs.Crates.{IsReadOf}
-use Rattle.edit_set_version.specs.Projects.{IsTreeAt, path_of}
-use Rattle.edit_set_version.specs.Written.{CanShare, HaveDistinctPaths, TellsShared}
+use Rattle.edit_set_version.specs.Projects.{IsTreeAt}
+use Rattle.edit_metadata.specs.Inputs.{HaveOwnPaths, path_of}
+use Rattle.edit_set_version.specs.Written.{CanShare, TellsShared}
 use Rattle.edit_set_version.proofs.ProjectRoot.{tree_beside}
 
--- the same, input by input
+-- no two inputs have one path, input by input
 abbrev pub Distinct : List Input → Type 0
 Distinct [] = Unit {0}
 Distinct (x ∷ xs) = AllByRecursion (λ y. path_of x ≢ path_of y) xs × Distinct xs
 
 -- as pairs say it
-pub distinct_each : (xs : List Input) → HaveDistinctPaths xs → Distinct xs
+pub distinct_each : (xs : List Input) → HaveOwnPaths xs → Distinct xs
 distinct_each [] h = tt
 distinct_each (x ∷ xs) h = (
   behind x xs (λ k d within. h zero (suc k) d (omega arith) (omega (arith, within))),
@@ -59,8 +60,8 @@ same_input (z ∷ zs) x y d (suc k, a, is) (zero, b, it) same =
 same_input (z ∷ zs) x y d (suc k, a, is) (suc m, b, it) same =
     same_input zs x y d.1 (k, omega (arith, a), is) (m, omega (arith, b), it) same
 
--- the trees at one path are the same
-one_tree : (xs : List Input) (path : List ℕ) (t u : Tree) → HaveDistinctPaths xs → IsTreeAt xs path t
+-- the trees at one path are equal
+one_tree : (xs : List Input) (path : List ℕ) (t u : Tree) → HaveOwnPaths xs → IsTreeAt xs path t
     → IsTreeAt xs path u → (q : Place) → t q ≡ u q
 one_tree xs path t u d a b q =
     let same = same_input xs a.input b.input (distinct_each xs d) a.among b.among (a.at ∙ sym b.at) in
@@ -68,9 +69,10 @@ one_tree xs path t u d a b q =
     let form = one_form b.input.bytes.items a.form b.form read b.manifest in
     a.is q ∙ ap (λ (f : Text). view_at f q) form ∙ sym (b.is q)
 
--- where the workspace gets a next version, the manifest beside the input at the root's path tells its version
+-- where the workspace gets a next version, the manifest beside the input at the root's path has
+-- its version
 pub can_share : (root : List ℕ) (next : Option Parts) (is : List Input) (ms : List Manifest) (n : ℕ)
-    (i : Input) (m : Manifest) → AllZip IsReadOf is ms → HaveDistinctPaths is → TellsShared is root next
+    (i : Input) (m : Manifest) → AllZip IsReadOf is ms → HaveOwnPaths is → TellsShared is root next
     → n < length is → i ≡ get_or is n i → m ≡ get_or ms n m
     → CanShare root next (path_of i) (tree_of m.document)
 can_share root None is ms n i m read distinct tells within ei em = tt

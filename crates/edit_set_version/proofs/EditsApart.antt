@@ -19,9 +19,9 @@ use Rattle.edit_manifest.specs.Tables.{Tree, dependency_tables, keyed, member_na
 use Rattle.edit_manifest.specs.Versions.{package_version, shared_version, version_member, workspace_version}
 use Rattle.edit_set_version.specs.Apart.{AreApart}
 use Rattle.edit_set_version.specs.Entries.{entries, entries_in, requirement, text_at}
-use Rattle.edit_set_version.specs.SetVersioned.{Bump, Following, edits_by, followed, following, followings, own_edit, requirement_edit, risen, shared_edits, writes_own}
+use Rattle.edit_set_version.specs.SetVersioned.{Bump, Dependent, edits_by, next_at, dependent, dependents, own_edit, requirement_edit, risen, shared_edits, writes_own}
 use Rattle.edit_set_version.proofs.Clear.{IsWritten, entry, entry_clear, member_below, member_clear, own, own_apart, shared_clear, whole, whole_apart}
-use Rattle.edit_set_version.proofs.Following.{following_parts, required}
+use Rattle.edit_set_version.proofs.DependentLaw.{dependent_parts, required}
 use Rattle.edit_set_version.proofs.OwnBump.{own_distinct, own_edits}
 use Rattle.edit_set_version.proofs.TablePlaces.{IsEntry, IsTable, all_append, entries_shaped}
 use Rattle.edit_set_version.proofs.WrittenPlaces.{all_every, all_filter_map, all_then, all_written, below_none, edit_at, edits_by_entry, entry_edits, new_at, option_cases, own_at, same_entry, shared_all}
@@ -170,7 +170,7 @@ IsElsewhere place =
 
 -- differs from those that are written
 requirements_elsewhere : (place : Place) (bs : List Bump) (file : List ℕ) (t : Tree) → IsElsewhere place
-    → AllByRecursion (λ y. same_place place y.0 ≡ false) (filter_map requirement_edit (followings bs file t))
+    → AllByRecursion (λ y. same_place place y.0 ≡ false) (filter_map requirement_edit (dependents bs file t))
 requirements_elsewhere place bs file t apart =
     subst (AllByRecursion (λ y. same_place place y.0 ≡ false)) (sym (edits_by_entry bs file t (entries t)))
     (all_filter_map IsEntry (λ y. same_place place y.0 ≡ false) (λ p. edit_at p (new_at bs file t p))
@@ -206,7 +206,7 @@ edits_distinct root next bs file form apart =
     owns = filter_map (own_edit file) bs
 
     reqs : Edits
-    reqs = filter_map requirement_edit (followings bs file t)
+    reqs = filter_map requirement_edit (dependents bs file t)
 
     reqs_distinct : AreDistinct reqs
     reqs_distinct =

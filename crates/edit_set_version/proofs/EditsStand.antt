@@ -16,23 +16,23 @@ use Rattle.edit_tree.specs.Supported.{IsManifest}
 use Rattle.edit_tree.specs.Tree.{is_value_at, view_at}
 use Rattle.edit_tree.proofs.Shallow.{one_form}
 use Rattle.edit_set_version.specs.Crates.{IsReadOf}
-use Rattle.edit_set_version.specs.Followers.{IsUnfollowed, fixed, memory}
-use Rattle.edit_set_version.specs.Follows.{AllRise}
+use Rattle.edit_set_version.specs.Dependents.{IsUnraised, fixed, memory}
+use Rattle.edit_set_version.specs.Admitted.{AllRise}
 use Rattle.edit_set_version.specs.PlanCauses.{literal as of_literal, requirement}
 use Rattle.edit_set_version.specs.PlanRefused.{HasBadInputBy, HasLiteral, IsInputClearBy, StandsAgainstInput}
-use Rattle.edit_set_version.specs.Projects.{path_of}
-use Rattle.edit_set_version.specs.SetVersioned.{Bump, followings, writes_own}
+use Rattle.edit_metadata.specs.Inputs.{path_of}
+use Rattle.edit_set_version.specs.SetVersioned.{Bump, dependents, writes_own}
 
--- a requirement that cannot follow stands against the bumps
-pub unfollowed_stands : (bs : List Bump) (input : Input) (m : Manifest) (e : Error) → IsReadOf input m
-    → IsUnfollowed bs (path_of input) (tree_of m.document) e → IsMemory e ⊎ StandsAgainstInput bs input e
-unfollowed_stands bs input m e read (memory none) = inl none
-unfollowed_stands bs input m e read (fixed f among refused) = inr (record {
+-- a requirement that cannot be raised stands against the bumps
+pub unraised_stands : (bs : List Bump) (input : Input) (m : Manifest) (e : Error) → IsReadOf input m
+    → IsUnraised bs (path_of input) (tree_of m.document) e → IsMemory e ⊎ StandsAgainstInput bs input e
+unraised_stands bs input m e read (memory none) = inl none
+unraised_stands bs input m e read (fixed f among refused) = inr (record {
   form = read.form;
   manifest = read.manifest;
   against = requirement (record {
-    following = f;
-    among = subst (λ (t : Tree). Contains (followings bs (path_of input) t) f) (fun_ext read.shows) among;
+    dependent = f;
+    among = subst (λ (t : Tree). Contains (dependents bs (path_of input) t) f) (fun_ext read.shows) among;
     fixed = refused;
   });
 })

@@ -16,13 +16,13 @@ use Rattle.edit_manifest.specs.Tables.{Tree}
 use Rattle.edit_manifest.specs.Versions.{package_version, shared_version, version_member, workspace_version}
 use Rattle.edit_version.specs.ReadVersion.{version_read}
 use Rattle.edit_set_version.specs.Entries.{entries, requirement}
-use Rattle.edit_set_version.specs.SetVersioned.{Bump, Following, edits_by, followed, following, followings, own_edit, requirement_edit, risen, shared_edits, writes_own}
+use Rattle.edit_set_version.specs.SetVersioned.{Bump, Dependent, edits_by, next_at, dependent, dependents, own_edit, requirement_edit, risen, shared_edits, writes_own}
 use Rattle.edit_set_version.specs.Written.{CanShare}
 use Rattle.edit_set_version.proofs.EditsApart.{edit_place}
-use Rattle.edit_set_version.proofs.Following.{following_parts, required}
+use Rattle.edit_set_version.proofs.DependentLaw.{dependent_parts, required}
 use Rattle.edit_set_version.proofs.OwnBump.{own_edits}
 use Rattle.edit_set_version.proofs.TablePlaces.{all_append}
-use Rattle.edit_set_version.proofs.WrittenPlaces.{all_every, all_filter_map, following_place}
+use Rattle.edit_set_version.proofs.WrittenPlaces.{all_every, all_filter_map, dependent_place}
 
 -- ---- strings
 
@@ -79,25 +79,25 @@ own_values (b ∷ bs) form h = let value = h (λ e. cc e) in (value, own_values 
 
 -- ---- requirements
 
--- a requirement that follows is a string
-following_string : (bs : List Bump) (file : List ℕ) (t : Tree) (q : Place) (f : Following)
-    → following bs file t q ≡ Some f → is_string (t (version_member f.place)) ≡ true
-following_string bs file t q f e =
-    let parts = following_parts q (requirement t q) (followed bs file t q) f e in
+-- a requirement on a bumped crate is a string
+dependent_string : (bs : List Bump) (file : List ℕ) (t : Tree) (q : Place) (f : Dependent)
+    → dependent bs file t q ≡ Some f → is_string (t (version_member f.place)) ≡ true
+dependent_string bs file t q f e =
+    let parts = dependent_parts q (requirement t q) (next_at bs file t q) f e in
     let there = required t q f.text parts.text in
-    let at = following_place q (requirement t q) (followed bs file t q) f e in
+    let at = dependent_place q (requirement t q) (next_at bs file t q) f e in
     subst (λ (p : Place). is_string (t (version_member p)) ≡ true) (sym at)
     (shows_string (t (version_member q)) f.text there.said)
 
 requirement_strings : (bs : List Bump) (file : List ℕ) (t : Tree)
-    → AreStrings (filter_map requirement_edit (followings bs file t)) t
+    → AreStrings (filter_map requirement_edit (dependents bs file t)) t
 requirement_strings bs file t =
     all_filter_map (λ f. is_string (t (version_member f.place)) ≡ true) (λ y. is_string (t y.0) ≡ true)
     requirement_edit
     (λ f is y e. subst (λ (z : Place). is_string (t z) ≡ true) (edit_place f.place (risen f) y e) is)
-    (followings bs file t)
+    (dependents bs file t)
     (all_filter_map (λ q. Unit {0}) (λ f. is_string (t (version_member f.place)) ≡ true)
-    (following bs file t) (λ q none f e. following_string bs file t q f e) (entries t)
+    (dependent bs file t) (λ q none f e. dependent_string bs file t q f e) (entries t)
     (all_every (λ q. Unit {0}) (λ q. tt) (entries t)))
 
 -- ---- all of it
@@ -121,9 +121,9 @@ edits_values root next bs file form can literal =
     owns = filter_map (own_edit file) bs
 
     reqs : Edits
-    reqs = filter_map requirement_edit (followings bs file (view_at form))
+    reqs = filter_map requirement_edit (dependents bs file (view_at form))
 
--- the same over the tree that a form shows
+-- values stand there, over the tree that a form shows
 pub values_shown : (root : List ℕ) (next : Option Parts) (bs : List Bump) (file : List ℕ) (t : Tree)
     (form : Text) → t ≡ view_at form → CanShare root next file t
     → (filter (writes_own file) bs ≢ [] → is_value_at form package_version ≡ true)

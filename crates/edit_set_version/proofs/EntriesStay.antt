@@ -10,7 +10,7 @@ use Rattle.edit_manifest.specs.Tables.{Tree, dependency_tables, is_table_like, k
 use Rattle.edit_set_version.specs.Entries.{entries, entries_in}
 use Rattle.edit_set_version.proofs.TablePlaces.{IsTable, of_kind, of_target, of_workspace, tables_shaped}
 
--- two trees show the same where a manifest tells its tables
+-- two trees agree where a manifest has its dependency tables
 pub record AgreeOnTables (a b : Tree) : Type 0 where
   pub root : a [] ≡ b []
   pub targets : a (keyed (codes "target" ∷ [])) ≡ b (keyed (codes "target" ∷ []))
@@ -18,13 +18,13 @@ pub record AgreeOnTables (a b : Tree) : Type 0 where
       → a (keyed (codes "target" ∷ name ∷ [])) ≡ b (keyed (codes "target" ∷ name ∷ []))
   pub table : (place : Place) → IsTable place → a place ≡ b place
 
--- parts that are the same in a row
+-- equal parts in a row
 pub flat_same : {A B : Type 0} (f g : A → List B) → ((x : A) → f x ≡ g x) → (xs : List A)
     → flat_map f xs ≡ flat_map g xs
 flat_same f g h [] = refl
 flat_same f g h (x ∷ xs) = ap₂ (λ y ys. y ++ ys) (h x) (flat_same f g h xs)
 
--- the same where something holds of each element
+-- equal parts in a row, where something holds of each element
 flat_same_where : {A B : Type 0} (P : A → Type 0) (f g : A → List B) → ((x : A) → P x → f x ≡ g x)
     → (xs : List A) → AllByRecursion P xs → flat_map f xs ≡ flat_map g xs
 flat_same_where P f g h [] all = refl
@@ -79,7 +79,7 @@ tables_same a b agree =
     flat_same (tables_under a) (tables_under b) (under_same a b agree) (member_names (a []))
     ∙ ap (λ v. flat_map (tables_under b) (member_names v)) agree.root
 
--- the entries of trees that show the same there
+-- the entries of trees that agree there
 pub entries_same : (a b : Tree) → AgreeOnTables a b → entries a ≡ entries b
 entries_same a b agree =
     flat_same_where IsTable (entries_in a) (entries_in b)

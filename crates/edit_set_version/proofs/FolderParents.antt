@@ -40,7 +40,7 @@ along_kept folder (p ∷ ps) h free =
     (further_kept folder p (same_bytes p []) (same_bytes p (codes ".")) (same_bytes p (codes "..")) refl refl
     refl h free.0) free.1
 
--- the names of the folder that a path names are kept
+-- the names of the folder that a path names stay
 pub names_kept : (path : List ℕ) → AllByRecursion IsKept (names_of path)
 names_kept path = along_kept [] (parts_of path) tt (parts_free path)
 
@@ -76,7 +76,7 @@ kept_reversed (x ∷ xs) a =
     subst (AllByRecursion IsKept) (sym (reverse-append (x ∷ []) xs))
     (kept_append (reverse xs) (x ∷ []) (kept_reversed xs a.1) (a.0, tt))
 
--- the names of the path of kept names
+-- the names of the path of names that stay
 names_absolute : (names : List (List ℕ)) → AllByRecursion IsKept names
     → names_of (absolute names) ≡ reverse names
 names_absolute [] kept = refl

@@ -1,4 +1,4 @@
--- Two folders are the same where their texts are.
+-- Two folders are equal where their texts are.
 use Rattle.std.proofs.Common.{◌≡◌, ◌∙◌, ℕ, List, [], ◌∷◌, Bool, true, false, refl, sym, ap, subst, reverse, cond, ◌++◌, Some, None, Option, option_map}
 use Rattle.std.specs.Prelude.{◌&&◌, codes, is_some, if◌then◌else◌}
 use Rattle.std.specs.List.{AllByRecursion}
@@ -23,7 +23,7 @@ both_ways true y f g = sym (f refl)
 both_ways false true f g = g refl
 both_ways false false f g = refl
 
--- folders that are the same are equal
+-- folders that are found equal are equal
 pub same_folder_is : (a b : Folder) → same_folder a b ≡ true → a ≡ b
 same_folder_is [] [] h = refl
 same_folder_is [] (n ∷ ns) h = cc h

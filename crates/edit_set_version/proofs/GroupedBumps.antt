@@ -1,5 +1,5 @@
--- Where bumped crates stand in folders of their own, what follows one of them alone is what follows it among
--- all.
+-- Where bumped crates stand in folders of their own, what depends on one of them alone is what depends on it
+-- among all.
 use Rattle.std.proofs.Common.{◌≡◌, ◌∙◌, ℕ, suc, List, [], ◌∷◌, ◌++◌, true, false, length, Option, Some, None, option_map, refl, ap, sym, inl, inr}
 use Rattle.std.specs.Prelude.{◌==◌, if◌then◌else◌, option_and_then}
 use Rattle.std.specs.List.{AllByRecursion, cons_option, filter_map}
@@ -9,13 +9,13 @@ use Rattle.semver.specs.Parse.{Parts}
 use Rattle.edit_manifest.specs.Tables.{Tree}
 use Rattle.edit_set_version.specs.Apart.{AreApart}
 use Rattle.edit_set_version.specs.Folders.{Folder, folder_of, reached, same_folder}
-use Rattle.edit_set_version.specs.Followers.{all_numbered, numbered}
+use Rattle.edit_set_version.specs.Dependents.{all_numbered, numbered}
 use Rattle.edit_set_version.specs.Numbers.{first_in}
 use Rattle.edit_set_version.specs.Pointed.{Pointed, led, pointed}
-use Rattle.edit_set_version.specs.SetVersioned.{Bump, Following, followings, next_in}
-use Rattle.edit_set_version.specs.ToldLines.{following_number}
+use Rattle.edit_set_version.specs.SetVersioned.{Bump, Dependent, dependents, next_in}
+use Rattle.edit_set_version.specs.ToldLines.{dependent_number}
 use Rattle.edit_set_version.proofs.FolderSameness.{same_folder_is, same_folder_self}
-use Rattle.edit_set_version.proofs.PointedLemmas.{followings_pointed}
+use Rattle.edit_set_version.proofs.PointedLemmas.{dependents_pointed}
 
 -- the next version, where the number is this one
 abbrev pub of_number : ℕ → ℕ × Parts → Option Parts
@@ -72,11 +72,11 @@ alone_first (x ∷ xs) b after folder apart =
           ∙ sym (of_later (length xs) (first_in (xs ++ b ∷ after) folder)))
     ]
 
--- the requirement of an entry that follows one bump
+-- the requirement of an entry on one bumped crate
 alone_led : (before : List Bump) (b : Bump) (after : List Bump) (file : List ℕ) (q : Pointed)
     → AreApart (before ++ b ∷ after)
     → led (b ∷ []) file q
-    ≡ option_and_then (following_number (length before)) (numbered (before ++ b ∷ after) file q)
+    ≡ option_and_then (dependent_number (length before)) (numbered (before ++ b ∷ after) file q)
 alone_led before b after file q apart =
     ap (option_map (λ (v : Parts). record { place = q.place; text = q.text; next = v }))
     (alone_first before b after (reached file q.path) apart)
@@ -85,7 +85,7 @@ alone_led before b after file q apart =
     both : (o : Option (ℕ × Parts))
         → option_map (λ (v : Parts). record { place = q.place; text = q.text; next = v })
         (option_and_then (of_number (length before)) o)
-        ≡ option_and_then (following_number (length before))
+        ≡ option_and_then (dependent_number (length before))
         (option_map (λ (n : ℕ × Parts). (n.0, record { place = q.place; text = q.text; next = n.1 })) o)
     both None = refl
     both (Some m) = elim (cases_Bool (m.0 == length before)) [
@@ -94,26 +94,26 @@ alone_led before b after file q apart =
     ]
 
 -- those of a manifest
-pub alone_followings : (before : List Bump) (b : Bump) (after : List Bump) (file : List ℕ) (t : Tree)
+pub alone_dependents : (before : List Bump) (b : Bump) (after : List Bump) (file : List ℕ) (t : Tree)
     → AreApart (before ++ b ∷ after)
-    → followings (b ∷ []) file t
-    ≡ filter_map (following_number (length before)) (all_numbered (before ++ b ∷ after) file t)
-alone_followings before b after file t apart = followings_pointed (b ∷ []) file t ∙ each (pointed t)
+    → dependents (b ∷ []) file t
+    ≡ filter_map (dependent_number (length before)) (all_numbered (before ++ b ∷ after) file t)
+alone_dependents before b after file t apart = dependents_pointed (b ∷ []) file t ∙ each (pointed t)
   where
-    picked : (o : Option (ℕ × Following)) (ns : List (ℕ × Following))
-        → cons_option (option_and_then (following_number (length before)) o)
-        (filter_map (following_number (length before)) ns)
-        ≡ filter_map (following_number (length before)) (cons_option o ns)
+    picked : (o : Option (ℕ × Dependent)) (ns : List (ℕ × Dependent))
+        → cons_option (option_and_then (dependent_number (length before)) o)
+        (filter_map (dependent_number (length before)) ns)
+        ≡ filter_map (dependent_number (length before)) (cons_option o ns)
     picked None ns = refl
     picked (Some n) ns = refl
 
     each : (qs : List Pointed)
         → filter_map (led (b ∷ []) file) qs
-        ≡ filter_map (following_number (length before)) (filter_map (numbered (before ++ b ∷ after) file) qs)
+        ≡ filter_map (dependent_number (length before)) (filter_map (numbered (before ++ b ∷ after) file) qs)
     each [] = refl
     each (q ∷ qs) =
-        ap (λ (fs : List Following). cons_option (led (b ∷ []) file q) fs) (each qs)
-        ∙ ap (λ o. cons_option o (filter_map (following_number (length before))
+        ap (λ (fs : List Dependent). cons_option (led (b ∷ []) file q) fs) (each qs)
+        ∙ ap (λ o. cons_option o (filter_map (dependent_number (length before))
         (filter_map (numbered (before ++ b ∷ after) file) qs))) (alone_led before b after file q apart)
         ∙ picked (numbered (before ++ b ∷ after) file q)
         (filter_map (numbered (before ++ b ∷ after) file) qs)

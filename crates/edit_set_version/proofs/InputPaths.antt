@@ -7,15 +7,14 @@ use Rattle.std.proofs.lemmas.List.{length-map}
 use Rattle.std.proofs.lemmas.List.Elements.{All-cons, All-nil}
 use Rattle.std.proofs.lemmas.List.Kept.{AllPairs-cons}
 use Rattle.edit_metadata.specs.Folders.{IsManifestFolder}
-use Rattle.edit_metadata.specs.Inputs.{AreInputs, IsInputOf, RustAsked, input_paths, manifest_of}
+use Rattle.edit_metadata.specs.Inputs.{AreInputs, HaveOwnPaths, IsInputOf, RustAsked, input_paths, manifest_of, path_of}
 use Rattle.edit_metadata.specs.Inputs.AreInputs.{of_members, with_root}
 use Rattle.edit_metadata.specs.Metadata.{PackageSaid, WorkspaceSaid, members}
 use Rattle.edit_metadata.specs.Workspaces.{HasOwnFolders}
 use Rattle.edit_metadata.specs.declared.input.Input.{Input}
 use Rattle.edit_set_version.specs.FolderTexts.{folder_text}
 use Rattle.edit_set_version.specs.Folders.{folder_of}
-use Rattle.edit_set_version.specs.Projects.{AreInputsOf, path_of}
-use Rattle.edit_set_version.specs.Written.{HaveDistinctPaths}
+use Rattle.edit_set_version.specs.Projects.{AreInputsOf}
 use Rattle.edit_set_version.proofs.FolderParents.{folder_named}
 use Rattle.edit_set_version.proofs.ProjectRoot.{one_normal}
 
@@ -41,7 +40,7 @@ folders_made asked (p ∷ ps) (f ∷ fs) (i ∷ is) stand made =
 
 -- inputs whose folders differ have other paths
 paths_apart : (is : List Input) → AllPairs (λ (a b : List ℕ). a ≢ b) (map folder_told is)
-    → HaveDistinctPaths is
+    → HaveOwnPaths is
 paths_apart is apart = λ i j d lt within same.
     apart i j (folder_told d) lt (omega (arith, within, length-map is folder_told))
     (get_or-map folder_told is i d ∙ ap (λ x. folder_text (folder_of x)) same
@@ -57,17 +56,17 @@ none_among (i ∷ is) path none =
 
 -- the inputs of a workspace
 pub inputs_apart : (w : WorkspaceSaid) (is : List Input) → HasOwnFolders w → AreInputsOf w is
-    → HaveDistinctPaths is
+    → HaveOwnPaths is
 inputs_apart w is own are = by (are.0) is are.1
   where
     of_own : (asked : RustAsked) (js : List Input)
-        → AllZip (IsInputOf asked) (map manifest_of (members w.packages)) js → HaveDistinctPaths js
+        → AllZip (IsInputOf asked) (map manifest_of (members w.packages)) js → HaveOwnPaths js
     of_own asked js made =
         paths_apart js
         (subst (AllPairs (λ (a b : List ℕ). a ≢ b))
         (folders_made asked (members w.packages) own.folders js own.stand made) own.apart)
 
-    by : (asked : RustAsked) (js : List Input) → AreInputs asked w js → HaveDistinctPaths js
+    by : (asked : RustAsked) (js : List Input) → AreInputs asked w js → HaveOwnPaths js
     by asked _ (of_members root js made normal among) = of_own asked js made
     by asked _ (with_root j js made root other) =
         AllPairs-cons (λ (a b : Input). path_of a ≢ path_of b) j js (none_among js (path_of j) other)

@@ -4,7 +4,7 @@ pub mod TablePlaces
 pub mod Clear
 pub mod EntriesStay
 pub mod WrittenPlaces
-pub mod Following
+pub mod DependentLaw
 pub mod PointedLemmas
 pub mod NameLemmas
 mod BumpRows
@@ -13,7 +13,7 @@ mod PlanTexts
 pub mod ReachedFolders
 pub mod FolderSameness
 pub mod NumberLemmas
-pub mod FollowerLemmas
+pub mod DependentLemmas
 pub mod ChoiceLemmas
 pub mod GroupedBumps
 pub mod ProjectMembers
@@ -31,4 +31,5 @@ pub mod OutputLists
 pub mod EditsStand
 pub mod PlanLemmas
 pub mod InputPaths
+pub mod PlanParts
 pub mod MadeVersions

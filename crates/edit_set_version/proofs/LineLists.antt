@@ -9,19 +9,19 @@ use Rattle.std.specs.Global.{Vec}
 use Rattle.std.specs.Prelude.{String}
 use Rattle.std.specs.declared.alloc.Global.{Global}
 use Rattle.edit_set_version.specs.PlanLines.{Told}
-use Rattle.edit_set_version.specs.SetVersioned.{Following}
-use Rattle.edit_set_version.specs.ToldLines.{following_number, line_told, lists_told, update_told, updates_told, with_line, with_updates}
+use Rattle.edit_set_version.specs.SetVersioned.{Dependent}
+use Rattle.edit_set_version.specs.ToldLines.{dependent_number, line_told, lists_told, update_told, updates_told, with_line, with_updates}
 
 -- the lines of requirements in two parts
-updates_append : (name : List ℕ) (xs ys : List (ℕ × Following)) (n : ℕ)
+updates_append : (name : List ℕ) (xs ys : List (ℕ × Dependent)) (n : ℕ)
     → updates_told name (xs ++ ys) n ≡ updates_told name xs n ++ updates_told name ys n
 updates_append name xs ys n =
-    ap (filter_map (update_told name)) (filter_map-append (following_number n) xs ys)
-    ∙ filter_map-append (update_told name) (filter_map (following_number n) xs)
-    (filter_map (following_number n) ys)
+    ap (filter_map (update_told name)) (filter_map-append (dependent_number n) xs ys)
+    ∙ filter_map-append (update_told name) (filter_map (dependent_number n) xs)
+    (filter_map (dependent_number n) ys)
 
 -- lists grow by one part and then by the other
-pub updates_in_parts : (name : List ℕ) (xs ys : List (ℕ × Following)) (n : ℕ) (ls : List (List Told))
+pub updates_in_parts : (name : List ℕ) (xs ys : List (ℕ × Dependent)) (n : ℕ) (ls : List (List Told))
     → with_updates name (xs ++ ys) n ls ≡ with_updates name ys n (with_updates name xs n ls)
 updates_in_parts name xs ys n [] = refl
 updates_in_parts name xs ys n (l ∷ ls) =
@@ -47,8 +47,8 @@ other_number m n less = elim (cases_Bool (m == n)) [
   | inr other ↦ other
 ]
 
--- a requirement that stays tells nothing
-pub stays_untold : (name : List ℕ) (m : ℕ) (f : Following) (n : ℕ) (ls : List (List Told))
+-- a requirement that stays has no line
+pub stays_untold : (name : List ℕ) (m : ℕ) (f : Dependent) (n : ℕ) (ls : List (List Told))
     → update_told name f ≡ None → with_updates name ((m, f) ∷ []) n ls ≡ ls
 stays_untold name m f n [] none = refl
 stays_untold name m f n (l ∷ ls) none = elim (cases_Bool (m == n)) [
@@ -57,15 +57,15 @@ stays_untold name m f n (l ∷ ls) none = elim (cases_Bool (m == n)) [
 ]
 
 -- nor to later lists
-past_untold : (name : List ℕ) (m : ℕ) (f : Following) (n : ℕ) (ls : List (List Told)) → m < n
+past_untold : (name : List ℕ) (m : ℕ) (f : Dependent) (n : ℕ) (ls : List (List Told)) → m < n
     → with_updates name ((m, f) ∷ []) n ls ≡ ls
 past_untold name m f n [] less = refl
 past_untold name m f n (l ∷ ls) less =
     rw (other_number m n less) (ap₂ (λ x xs. x ∷ xs) (append-nil l)
     (past_untold name m f (suc n) ls (omega (arith, less))))
 
--- one that becomes another text tells one line
-pub rise_told : (name : List ℕ) (m k n : ℕ) (f : Following) (line : Told) (ls : List (List Told))
+-- one that becomes another text has one line
+pub rise_told : (name : List ℕ) (m k n : ℕ) (f : Dependent) (line : Told) (ls : List (List Told))
     → m ≡ k + n → update_told name f ≡ Some line
     → with_updates name ((m, f) ∷ []) n ls ≡ with_line k line ls
 rise_told name m k n f line [] at is = refl

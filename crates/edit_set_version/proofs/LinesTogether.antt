@@ -2,26 +2,26 @@
 use Rattle.std.proofs.Common.{◌≡◌, ◌∙◌, ℕ, suc, arith, List, [], ◌∷◌, ◌++◌, length, length-append, map, refl, sym, ap, subst}
 use Rattle.std.specs.List.{filter_map, flat_map}
 use Rattle.std.proofs.lemmas.List.{append_assoc}
-use Rattle.edit_set_version.specs.Followers.{all_numbered}
+use Rattle.edit_set_version.specs.Dependents.{all_numbered}
 use Rattle.edit_set_version.specs.PlanLines.{Named, Told, lines_of, manifests, updates}
-use Rattle.edit_set_version.specs.SetVersioned.{Bump, Project, followings}
-use Rattle.edit_set_version.specs.ToldLines.{bump_told, following_number, manifests_told, update_told, updates_told, with_manifests}
-use Rattle.edit_set_version.proofs.GroupedBumps.{alone_followings}
+use Rattle.edit_set_version.specs.SetVersioned.{Bump, Project, dependents}
+use Rattle.edit_set_version.specs.ToldLines.{bump_told, dependent_number, manifests_told, update_told, updates_told, with_manifests}
+use Rattle.edit_set_version.proofs.GroupedBumps.{alone_dependents}
 use Rattle.edit_set_version.specs.Apart.{AreApart}
 
--- what a manifest tells for the bump with a number
+-- the lines of a manifest for the bump with a number
 updates_are : (all before : List Bump) (b : Bump) (rest : List Bump) (n : ℕ) → all ≡ before ++ b ∷ rest
     → n ≡ length before → AreApart all → (m : Named)
     → updates_told m.name (all_numbered all m.path m.tree) n ≡ updates b m
 updates_are all before b rest n is at apart m =
-    let numbered : followings (b ∷ []) m.path m.tree
-    ≡ filter_map (following_number n) (all_numbered all m.path m.tree)
-    = alone_followings before b rest m.path m.tree (subst AreApart is apart)
-    ∙ ap (λ k. filter_map (following_number k) (all_numbered (before ++ b ∷ rest) m.path m.tree)) (sym at)
-    ∙ ap (λ bs. filter_map (following_number n) (all_numbered bs m.path m.tree)) (sym is) in
+    let numbered : dependents (b ∷ []) m.path m.tree
+    ≡ filter_map (dependent_number n) (all_numbered all m.path m.tree)
+    = alone_dependents before b rest m.path m.tree (subst AreApart is apart)
+    ∙ ap (λ k. filter_map (dependent_number k) (all_numbered (before ++ b ∷ rest) m.path m.tree)) (sym at)
+    ∙ ap (λ bs. filter_map (dependent_number n) (all_numbered bs m.path m.tree)) (sym is) in
     ap (filter_map (update_told m.name)) (sym numbered)
 
--- what all tell
+-- the lines of all manifests
 told_are : (all before : List Bump) (b : Bump) (rest : List Bump) (n : ℕ) → all ≡ before ++ b ∷ rest
     → n ≡ length before → AreApart all → (ms : List Named)
     → manifests_told all ms n ≡ flat_map (updates b) ms

@@ -1,4 +1,4 @@
--- Why a version is not made, where build metadata are to follow.
+-- Why a version is not made, where build metadata are to be set then.
 use Rattle.std.proofs.Common.{List, ℕ, Bool, true, false, Option, Some, None}
 use Rattle.std.specs.Prelude.{if◌then◌else◌}
 use Rattle.semver.specs.Grammar.{is_build}
@@ -18,7 +18,7 @@ none_made v d old new (error.InvalidMetadata _) h = absurd (cc h)
 none_made v d old new error.Memory h = tt
 none_made v d old new _ h = absurd h
 
--- refused build metadata tell nothing of the version
+-- refused build metadata show nothing of the version
 any_version : (m : List ℕ) (old new : Parts) (e : Error) → IsCause (Refused (Metadata m)) old e
     → IsCause (Refused (Metadata m)) new e
 any_version m old new (error.ReleaseLevel _ _) h = absurd (cc h.1)
@@ -28,7 +28,7 @@ any_version m old new (error.InvalidMetadata _) h = h
 any_version m old new error.Memory h = tt
 any_version m old new _ h = absurd h
 
--- a cause stays one where build metadata are to follow
+-- a cause stays one where build metadata are to be set then
 pub cause_stays : (given : Option (List ℕ)) (d : Change) (old : Parts) (e : Error) → IsCause d old e
     → IsCause (with_given given d) old e
 cause_stays None d old e h = h

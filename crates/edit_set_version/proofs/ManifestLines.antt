@@ -1,4 +1,4 @@
--- Lists of lines that grow by what manifests tell.
+-- Lists of lines that grow by the lines of manifests.
 use Rattle.std.proofs.Common.{◌≡◌, ◌∙◌, ◌+◌, ◌<◌, ℕ, zero, suc, arith, get_or, length, not, subst, take, List, [], ◌∷◌, ◌++◌, false, true, map, refl, sym, ap}
 use Rattle.std.specs.Prelude.{if◌then◌else◌}
 use Rattle.std.specs.List.{filter}
@@ -9,12 +9,12 @@ use Rattle.edit_base.specs.declared.errors.Error.{Error}
 use Rattle.edit_set_version.specs.Chosen.{Member}
 use Rattle.edit_set_version.specs.Crates.{member_of, members_of}
 use Rattle.edit_set_version.specs.declared.crates.Crate.{Crate}
-use Rattle.edit_set_version.specs.Followers.{all_numbered}
+use Rattle.edit_set_version.specs.Dependents.{all_numbered}
 use Rattle.edit_set_version.specs.PlanLines.{Named, Told}
 use Rattle.edit_set_version.specs.SetVersioned.{Bump}
-use Rattle.edit_set_version.specs.ToldLines.{HasUnfollowed, manifests_told, named_member, other_manifests, updates_told, with_manifests, with_more, with_updates}
+use Rattle.edit_set_version.specs.ToldLines.{HasUnraised, manifests_told, named_member, other_manifests, updates_told, with_manifests, with_more, with_updates}
 
--- what is told in two parts
+-- lines in two parts
 more_in_parts : (f g h : ℕ → List Told) → ((k : ℕ) → h k ≡ f k ++ g k) → (n : ℕ) (ls : List (List Told))
     → with_more h n ls ≡ with_more g n (with_more f n ls)
 more_in_parts f g h same n [] = refl
@@ -23,7 +23,7 @@ more_in_parts f g h same n (l ∷ ls) =
     ∙ ap (λ x. x ∷ with_more h (suc n) ls) (sym (append_assoc l (f n) (g n)))
     ∙ ap (λ xs. ((l ++ f n) ++ g n) ∷ xs) (more_in_parts f g h same (suc n) ls)
 
--- the same is told
+-- the lines are equal
 more_same : (f g : ℕ → List Told) → ((k : ℕ) → f k ≡ g k) → (n : ℕ) (ls : List (List Told))
     → with_more f n ls ≡ with_more g n ls
 more_same f g same n [] = refl
@@ -91,34 +91,34 @@ others_more path cs i c within is =
     ∙ ap (λ z. members_of (take i cs) ++ member_of z ∷ []) (sym is))
     ∙ other_append path (members_of (take i cs)) (member_of c ∷ [])
 
--- ---- refusals
+-- ---- errors
 
-pub unfollowed_first : (bs : List Bump) (xs ys : List Named) (e : Error) → HasUnfollowed bs xs e
-    → HasUnfollowed bs (xs ++ ys) e
-unfollowed_first bs xs ys e has = record {
+pub unraised_first : (bs : List Bump) (xs ys : List Named) (e : Error) → HasUnraised bs xs e
+    → HasUnraised bs (xs ++ ys) e
+unraised_first bs xs ys e has = record {
   manifest = has.manifest;
   among = Contains-append_left xs ys has.manifest has.among;
-  unfollowed = has.unfollowed;
+  unraised = has.unraised;
 }
 
-pub unfollowed_last : (bs : List Bump) (xs ys : List Named) (e : Error) → HasUnfollowed bs ys e
-    → HasUnfollowed bs (xs ++ ys) e
-unfollowed_last bs xs ys e has = record {
+pub unraised_last : (bs : List Bump) (xs ys : List Named) (e : Error) → HasUnraised bs ys e
+    → HasUnraised bs (xs ++ ys) e
+unraised_last bs xs ys e has = record {
   manifest = has.manifest;
   among = Contains-append_right xs ys has.manifest has.among;
-  unfollowed = has.unfollowed;
+  unraised = has.unraised;
 }
 
 -- that of a crate stands for all
-pub unfollowed_among : (bs : List Bump) (path : List ℕ) (cs : List Crate) (i : ℕ) (c : Crate) (e : Error)
-    → i < length cs → c ≡ get_or cs i c → HasUnfollowed bs (other_manifests path (member_of c ∷ [])) e
-    → HasUnfollowed bs (other_manifests path (members_of cs)) e
-unfollowed_among bs path [] i c e within is has = absurd (omega (arith, within))
-unfollowed_among bs path (x ∷ xs) zero c e within is has =
-    subst (λ ms. HasUnfollowed bs ms e) (sym (other_append path (member_of x ∷ []) (members_of xs)))
-    (unfollowed_first bs (other_manifests path (member_of x ∷ [])) (other_manifests path (members_of xs)) e
-    (subst (λ z. HasUnfollowed bs (other_manifests path (member_of z ∷ [])) e) is has))
-unfollowed_among bs path (x ∷ xs) (suc i) c e within is has =
-    subst (λ ms. HasUnfollowed bs ms e) (sym (other_append path (member_of x ∷ []) (members_of xs)))
-    (unfollowed_last bs (other_manifests path (member_of x ∷ [])) (other_manifests path (members_of xs)) e
-    (unfollowed_among bs path xs i c e (omega (arith, within)) is has))
+pub unraised_among : (bs : List Bump) (path : List ℕ) (cs : List Crate) (i : ℕ) (c : Crate) (e : Error)
+    → i < length cs → c ≡ get_or cs i c → HasUnraised bs (other_manifests path (member_of c ∷ [])) e
+    → HasUnraised bs (other_manifests path (members_of cs)) e
+unraised_among bs path [] i c e within is has = absurd (omega (arith, within))
+unraised_among bs path (x ∷ xs) zero c e within is has =
+    subst (λ ms. HasUnraised bs ms e) (sym (other_append path (member_of x ∷ []) (members_of xs)))
+    (unraised_first bs (other_manifests path (member_of x ∷ [])) (other_manifests path (members_of xs)) e
+    (subst (λ z. HasUnraised bs (other_manifests path (member_of z ∷ [])) e) is has))
+unraised_among bs path (x ∷ xs) (suc i) c e within is has =
+    subst (λ ms. HasUnraised bs ms e) (sym (other_append path (member_of x ∷ []) (members_of xs)))
+    (unraised_last bs (other_manifests path (member_of x ∷ [])) (other_manifests path (members_of xs)) e
+    (unraised_among bs path xs i c e (omega (arith, within)) is has))

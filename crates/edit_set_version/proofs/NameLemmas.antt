@@ -56,7 +56,7 @@ among_more names name q =
     ∙ ap (λ b. is_among names q || (b || false)) (swapped q name)
     ∙ either (is_among names q) (bytes_eq name q)
 
--- a name that is kept where a test passes it
+-- a name that is left where a test passes it
 kept_by : (p : List ℕ → Bool) (x : List ℕ) (b s : Bool) → p x ≡ not s
     → filter p (if b then [] else x ∷ []) ≡ (if s || b then [] else x ∷ [])
 kept_by p x true true h = refl
@@ -112,7 +112,7 @@ names_more ps i p within is =
     ∙ map-append (λ (x : PackageSaid). x.name) (members (packages_said (take i ps)))
     (members (package_said p ∷ []))
 
--- a list that is told to be empty, and one that is told not to be
+-- a list that is found empty, and one that is found not to be
 pub told_none : {A : Type 0} (xs : List A) (n : ℕ) (b : Bool) → b ≡ true → b ≡ (n == 0) → length xs ≡ n
     → xs ≡ []
 told_none [] n b t e l = refl

@@ -14,11 +14,10 @@ use Rattle.edit_tree.proofs.SamePlace.{same_bytes_is, same_bytes_self}
 use Rattle.edit_metadata.specs.declared.input.Input.{Input}
 use Rattle.edit_report.specs.declared.output.Output.{Output}
 use Rattle.edit_set_version.specs.Planned.{AreOutputs, AreOutputsOf, HasOutputsBy, OutputsInOrder, changed, outputs_at, unchanged}
-use Rattle.edit_set_version.specs.Projects.{path_of}
 use Rattle.edit_set_version.specs.SetVersioned.{Bump}
-use Rattle.edit_set_version.specs.Written.{HaveDistinctPaths}
+use Rattle.edit_metadata.specs.Inputs.{HaveOwnPaths, path_of}
 use Rattle.edit_set_version.proofs.DistinctInputs.{Distinct, distinct_each}
-use Rattle.edit_set_version.proofs.Following.{of_all}
+use Rattle.edit_set_version.proofs.DependentLaw.{of_all}
 use Rattle.edit_set_version.proofs.WrittenPlaces.{all_then}
 
 -- the outputs of each input, and all of them in a row
@@ -184,7 +183,7 @@ module _ (root : List ℕ) (next : Option Parts) (bs : List Bump) where
 
 -- of outputs in a row each input has its own
 pub row_has : (root : List ℕ) (next : Option Parts) (bs : List Bump) (inputs : List Input)
-    (outputs : List Output) → HaveDistinctPaths inputs → AreInARow root next bs inputs outputs
+    (outputs : List Output) → HaveOwnPaths inputs → AreInARow root next bs inputs outputs
     → All (HasOutputsBy root next bs outputs) inputs
 row_has root next bs inputs outputs distinct row =
     subst (λ os. All (HasOutputsBy root next bs os) inputs) (sym row.in_a_row)
@@ -193,7 +192,7 @@ row_has root next bs inputs outputs distinct row =
 
 -- and they stand in the order of the inputs
 pub row_in_order : (root : List ℕ) (next : Option Parts) (bs : List Bump) (inputs : List Input)
-    (outputs : List Output) → HaveDistinctPaths inputs → AreInARow root next bs inputs outputs
+    (outputs : List Output) → HaveOwnPaths inputs → AreInARow root next bs inputs outputs
     → OutputsInOrder inputs outputs
 row_in_order root next bs inputs outputs distinct row =
     subst (OutputsInOrder inputs) (sym row.in_a_row)

@@ -40,7 +40,7 @@ own_elsewhere file b other = elim (cases_Bool (writes_own file b)) [
   | inr none ↦ none
 ]
 
--- so one whose folder is not the same
+-- so one whose folder is another
 unlike : (file : List ℕ) (b : Bump) → same_folder (folder_of b.member.path) (folder_of file) ≡ false
     → folder_of b.member.path ≡ folder_of file → ⊥
 unlike file b other e =
@@ -48,7 +48,7 @@ unlike file b other e =
     = sym other ∙ (ap (λ f. same_folder f (folder_of file)) e ∙ same_folder_self (folder_of file)) in
     cc back
 
--- folders that are not the same
+-- folders that differ
 differ : (b c : Bump) → same_folder (folder_of b.member.path) (folder_of c.member.path) ≡ false
     → folder_of c.member.path ≡ folder_of b.member.path → ⊥
 differ b c apart e =
@@ -149,13 +149,13 @@ own_first file (x ∷ xs) n v apart h =
           })
     ]
 
--- what a map tells of a manifest's folder
+-- what a map has for a manifest's folder
 pub tells_beside : (bs : List Bump) (numbers : BTreeMap (String Global) Numbered Global) (file : List ℕ)
     → TellsFirst bs numbers → told_in numbers (folder_of file) ≡ first_in bs (folder_of file)
 tells_beside bs numbers file tells =
     subst (λ folder. told_in numbers folder ≡ first_in bs folder) (way_up file) (tells (file ++ codes "/.."))
 
--- the bump of the number that such a map tells
+-- the bump of the number that such a map has
 pub own_told : (file : List ℕ) (xs : List Bumping) (numbers : BTreeMap (String Global) Numbered Global)
     (o : Option Numbered) (told : Numbered) → TellsFirst (bumps_seen xs) numbers → AreApart (bumps_seen xs)
     → option_map numbered_seen o ≡ told_in numbers (folder_of file) → o ≡ Some told

@@ -23,18 +23,19 @@ use Rattle.edit_report.specs.declared.output.Output.{Output}
 use Rattle.edit_version.specs.Laws.{IsReadable}
 use Rattle.edit_set_version.specs.Bumps.{Target, bump, next_of}
 use Rattle.edit_set_version.specs.Chosen.{Asked, Member, bumps_workspace, chosen, inheriting, is_asked}
-use Rattle.edit_set_version.specs.Followers.{IsUnfollowed, fixed, memory}
-use Rattle.edit_set_version.specs.Follows.{AllRise, AreVersions, Follow, IsLeftBy}
+use Rattle.edit_set_version.specs.Dependents.{IsUnraised, fixed, memory}
+use Rattle.edit_set_version.specs.Admitted.{AllRise, AreVersions, AllAdmitNext, IsLeftBy}
 use Rattle.edit_set_version.specs.PlanCauses.{currents, requirement}
 use Rattle.edit_set_version.specs.PlanLines.{Named, lines_of, manifests, shared_lines}
 use Rattle.edit_set_version.specs.PlanRefused.{HasBadInput, HasBadInputBy, HasVersions, IsBehindLiterals, IsCauseOf, IsInputClear, IsInputClearBy, unknown}
 use Rattle.edit_set_version.specs.PlanRefused.IsCauseOf.{manifest as of_manifest, memory as of_memory}
-use Rattle.edit_set_version.specs.Planned.{AreOutputs, HasFollowed, HasOutputsBy, HasSetOutputs, bytes_after, changed, outputs_at, unchanged}
-use Rattle.edit_set_version.specs.Projects.{IsMemberOf, IsProject, IsTreeAt, path_of}
-use Rattle.edit_set_version.specs.SetVersioned.{Bump, Project, bumps, edits, followings, workspace_current, workspace_next}
-use Rattle.edit_set_version.specs.ToldLines.{HasUnfollowed}
+use Rattle.edit_set_version.specs.Planned.{AreOutputs, HasAdmitted, HasOutputsBy, HasSetOutputs, bytes_after, changed, outputs_at, unchanged}
+use Rattle.edit_metadata.specs.Inputs.{path_of}
+use Rattle.edit_set_version.specs.Projects.{IsMemberOf, IsProject, IsTreeAt}
+use Rattle.edit_set_version.specs.SetVersioned.{Bump, Project, bumps, edits, dependents, workspace_current, workspace_next}
+use Rattle.edit_set_version.specs.ToldLines.{HasUnraised}
 use Rattle.edit_set_version.specs.Written.{TellsShared, shared_seen}
-use Rattle.edit_set_version.proofs.Following.{follow}
+use Rattle.edit_set_version.proofs.DependentLaw.{dependents_admit}
 
 -- ---- the members of a project, by their packages
 
@@ -58,7 +59,7 @@ readable_told is (p ∷ ps) (m ∷ ms) are all =
     (readable_told is ps ms are.1 (All-tail (λ (p : PackageSaid). IsReadable p.version) p ps all))
 
 -- what holds of all members holds of those that are chosen
-all_chosen : (P : Member → Type 0) (a : Asked) (ms : List Member) → All P ms → All P (chosen a ms)
+pub all_chosen : (P : Member → Type 0) (a : Asked) (ms : List Member) → All P ms → All P (chosen a ms)
 all_chosen P a ms all =
     All-append P (filter (is_asked a) ms) _ (All-filter (is_asked a) P ms all)
     (by (length (inheriting a ms) == 0))
@@ -68,14 +69,13 @@ all_chosen P a ms all =
     by true = All-nil P
     by false = All-filter (λ m. not (is_asked a m) && is_inherited m.tree) P ms all
 
--- the versions of the chosen members can be read, where those of the packages can
-pub readable_chosen : (a : Asked) (w : WorkspaceSaid) (is : List Input) (p : Project) → IsProject w is p
+-- the versions of the members can be read, where those of the packages can
+pub readable_members : (w : WorkspaceSaid) (is : List Input) (p : Project) → IsProject w is p
     → All (λ (q : PackageSaid). IsReadable q.version) w.packages
-    → All (λ (m : Member). IsReadable m.version) (chosen a p.members)
-readable_chosen a w is p project all =
-    all_chosen (λ (m : Member). IsReadable m.version) a p.members
-    (readable_told is (members w.packages) p.members project.members
-    (All-filter (λ (q : PackageSaid). q.member) (λ (q : PackageSaid). IsReadable q.version) w.packages all))
+    → All (λ (m : Member). IsReadable m.version) p.members
+readable_members w is p project all =
+    readable_told is (members w.packages) p.members project.members
+    (All-filter (λ (q : PackageSaid). q.member) (λ (q : PackageSaid). IsReadable q.version) w.packages all)
 
 -- the manifest of each member is that of an input
 trees_told : (is : List Input) (ps : List PackageSaid) (ms : List Member) → AllZip (IsMemberOf is) ps ms
@@ -127,7 +127,7 @@ pub seen_copied : (o : Option (Bor Version)) → shared_seen o ≡ option_map pa
 seen_copied None = refl
 seen_copied (Some v) = refl
 
--- what is set over one root, version and bumps is set over the same ones
+-- what is set over a root, a version and bumps is set over equal ones
 pub set_for : (is : List Input) (os : List Output) (r s : List ℕ) (m n : Option Parts) (bs cs : List Bump)
     → r ≡ s → m ≡ n → bs ≡ cs → All (HasOutputsBy r m bs os) is → All (HasOutputsBy s n cs os) is
 set_for is os r s m n bs cs root next same all =
@@ -159,7 +159,7 @@ all_currents P a p shared own =
     (chosen a p.members)) shared
     (All-map P (λ (m : Member). m.version) (chosen a p.members) own)
 
--- where the workspace gets a next version, its root tells the current one
+-- where the workspace gets a next version, its root has the current one
 pub tells_shared : (t : Target) (a : Asked) (w : WorkspaceSaid) (is : List Input) (p : Project)
     → IsProject w is p → TellsShared is p.path (workspace_next t a p)
 tells_shared t a w is p project = by (workspace_next t a p) refl
@@ -179,17 +179,17 @@ tells_shared t a w is p project = by (workspace_next t a p) refl
     by None e = tt
     by (Some v) e = (p.tree, project.tree, current (workspace_current a p) refl v e)
 
--- a requirement that cannot follow stands in an input
+-- a requirement that cannot be raised stands in an input
 pub bad_input : (t : Target) (a : Asked) (w : WorkspaceSaid) (is : List Input) (p : Project) (e : Error)
-    → IsProject w is p → HasUnfollowed (bumps t a p) (manifests p) e → IsMemory e ⊎ HasBadInput t a is p e
-bad_input t a w is p e project has = by has.unfollowed
+    → IsProject w is p → HasUnraised (bumps t a p) (manifests p) e → IsMemory e ⊎ HasBadInput t a is p e
+bad_input t a w is p e project has = by has.unraised
   where
     at : IsTreeAt is has.manifest.path has.manifest.tree
     at =
         All-contains (λ (m : Named). IsTreeAt is m.path m.tree) (manifests p) has.manifest
         (manifests_told w is p project) has.among
 
-    by : IsUnfollowed (bumps t a p) has.manifest.path has.manifest.tree e
+    by : IsUnraised (bumps t a p) has.manifest.path has.manifest.tree e
         → IsMemory e ⊎ HasBadInput t a is p e
     by (memory none) = inl none
     by (fixed f among refused) = inr (record {
@@ -199,10 +199,10 @@ bad_input t a w is p e project has = by has.unfollowed
         form = at.form;
         manifest = at.manifest;
         against = requirement (record {
-          following = f;
-          among = subst (λ (path : List ℕ). Contains (followings (bumps t a p) path (view_at at.form)) f)
+          dependent = f;
+          among = subst (λ (path : List ℕ). Contains (dependents (bumps t a p) path (view_at at.form)) f)
               (sym at.at)
-              (subst (λ (tree : Tree). Contains (followings (bumps t a p) has.manifest.path tree) f)
+              (subst (λ (tree : Tree). Contains (dependents (bumps t a p) has.manifest.path tree) f)
               (fun_ext at.is) among);
           fixed = refused;
         });
@@ -232,26 +232,27 @@ stands_after path old form es _ Holds manifest each (changed output some at new)
       ≡ written es (emptied es (view_at f)) q) (one_form old new.form form new.was manifest) (new.tree q));
 }
 
--- the requirements of an input that follow admit the next versions
-pub has_followed : (t : Target) (a : Asked) (outputs : List Output) (p : Project) (input : Input)
+-- after a plan, the requirements of an input on bumped crates admit the next versions
+pub has_admitted : (t : Target) (a : Asked) (outputs : List Output) (p : Project) (input : Input)
     → AreVersions (bumps t a p) → IsInputClear t a p input → HasSetOutputs t a outputs p input
-    → HasFollowed t a outputs p input
-has_followed t a outputs p input versions clear set =
+    → HasAdmitted t a outputs p input
+has_admitted t a outputs p input versions clear set =
     let path = path_of input in
     let rise = subst (λ (f : Text). AllRise (bumps t a p) path (view_at f))
     (one_form input.bytes.items clear.form set.form clear.manifest set.manifest) clear.requirements in
     let after = stands_after path input.bytes.items set.form (edits t a p path (view_at set.form))
-    (outputs_at path outputs) (Follow (bumps t a p) path) set.manifest
-    (λ tree left. follow t a p path (view_at set.form) tree versions rise left) set.are in
-    record { form = after.form; manifest = after.manifest; follow = after.holds }
+    (outputs_at path outputs) (AllAdmitNext (bumps t a p) path) set.manifest
+    (λ tree left. dependents_admit t a p path (view_at set.form) tree versions rise left) set.are in
+    record { form = after.form; manifest = after.manifest; admit = after.holds }
 
--- what follows where a call succeeds
-pub where_ok : {T E : Type 0} (r : Result T E) (P : T → Type 0) (X : Type 0) (Q : T → Type 0)
-    → ((x : T) → P x → X → Q x) → IfOk r P → OnOk r X → IfOk r Q
-where_ok (Ok x) P X Q h p q = h x p q
-where_ok (Err e) P X Q h p q = tt
+-- what five facts of a call make together, where it succeeds
+pub where_all : {T E : Type 0} (r : Result T E) (P Q R S : T → Type 0) (X : Type 0) (Z : T → Type 0)
+    → ((x : T) → P x → Q x → R x → S x → X → Z x)
+    → IfOk r P → IfOk r Q → IfOk r R → IfOk r S → OnOk r X → IfOk r Z
+where_all (Ok x) P Q R S X Z h a b c d e = h x a b c d e
+where_all (Err e) P Q R S X Z h a b c d f = tt
 
--- and where it is refused
+-- what holds where a call fails
 pub where_err : {T E : Type 0} (r : Result T E) (P Q : E → Type 0) → ((e : E) → P e → Q e) → IfErr r P
     → IfErr r Q
 where_err (Ok x) P Q h p = tt
@@ -270,24 +271,24 @@ pub clear_given : (t : Target) (a : Asked) (is : List Input) (p : Project) (bs :
     → All (IsInputClearBy bs) is → All (IsInputClear t a p) is
 clear_given t a is p bs same clear = subst (λ (cs : List Bump). All (IsInputClearBy cs) is) same clear
 
--- in all inputs the requirements follow
-pub all_followed : (t : Target) (a : Asked) (is : List Input) (p : Project) (outputs : List Output)
+-- after a plan, the requirements of all inputs on bumped crates admit the next versions
+pub all_admitted : (t : Target) (a : Asked) (is : List Input) (p : Project) (outputs : List Output)
     → AreVersions (bumps t a p) → All (HasSetOutputs t a outputs p) is → All (IsInputClear t a p) is
-    → All (HasFollowed t a outputs p) is
-all_followed t a is p outputs versions set clear =
-    λ k d within. has_followed t a outputs p (slice_index_or is k d) versions (clear k d within)
+    → All (HasAdmitted t a outputs p) is
+all_admitted t a is p outputs versions set clear =
+    λ k d within. has_admitted t a outputs p (slice_index_or is k d) versions (clear k d within)
     (set k d within)
 
 -- an error of the lines or the outputs has its cause
 pub cause_given : (t : Target) (a : Asked) (w : WorkspaceSaid) (is : List Input) (p : Project)
     (bs : List Bump) (e : Error) → unknown a w ≡ [] → IsProject w is p → HasVersions t a p
     → bs ≡ bumps t a p
-    → IsMemory e ⊎ (IsBehindLiterals bs is e × (HasUnfollowed bs (manifests p) e ⊎ HasBadInputBy bs is e))
+    → IsMemory e ⊎ (IsBehindLiterals bs is e × (HasUnraised bs (manifests p) e ⊎ HasBadInputBy bs is e))
     → IsCauseOf t a w is e
 cause_given t a w is p bs e known project versions same (inl none) = of_memory none
 cause_given t a w is p bs e known project versions same (inr (behind, inl has)) =
     by (bad_input t a w is p e project
-    (subst (λ (cs : List Bump). HasUnfollowed cs (manifests p) e) same has))
+    (subst (λ (cs : List Bump). HasUnraised cs (manifests p) e) same has))
   where
     by : IsMemory e ⊎ HasBadInput t a is p e → IsCauseOf t a w is e
     by (inl none) = of_memory none

@@ -1,4 +1,5 @@
--- Set-version plans at small workspaces: who is chosen, which requirements follow, and what is written.
+-- Set-version plans at small workspaces: who is chosen, which requirements are on bumped crates, and what is
+-- written.
 use Rattle.std.proofs.Common.{◌≡◌, ℕ, List, [], ◌∷◌, None, refl, false, true}
 use Rattle.std.specs.Prelude.{codes, map}
 use Rattle.semver.specs.Parse.{Parts}
@@ -11,7 +12,7 @@ use Rattle.edit_set_version.specs.Chosen.{Asked, Member, bumps_workspace, chosen
 use Rattle.edit_manifest.specs.Tables.{Tree}
 use Rattle.edit_set_version.specs.Folders.{folder_of, reached, same_folder}
 use Rattle.edit_set_version.specs.PlanLines.{note_of}
-use Rattle.edit_set_version.specs.SetVersioned.{Project, bumps, followings}
+use Rattle.edit_set_version.specs.SetVersioned.{Project, bumps, dependents}
 use Rattle.edit_set_version.specs.declared.set_version.BumpLevel.TheVariants as level
 
 -- ---- paths: up, idle parts, itself, an absolute one, past the root, a file
@@ -104,18 +105,18 @@ only_a = record { packages = codes "a" ∷ codes "a" ∷ []; exclude = []; works
 minor : bumps (by_level level.Minor) only_a two ≡ record { member = a; next = (0, 2, 0, [], []) } ∷ []
 minor = refl
 
--- the entry follows by its folder, though its key is another
-follows : followings (bumps (by_level level.Minor) only_a two) b.path b.tree
+-- the entry depends on the crate by its folder, though its key is another
+points : dependents (bumps (by_level level.Minor) only_a two) b.path b.tree
     ≡ record {
       place = key (codes "dependencies") ∷ key (codes "x")
           ∷ [];
       text = codes "0.1";
       next = (0, 2, 0, [], []);
     } ∷ []
-follows = refl
+points = refl
 
-follows_not : followings (bumps (by_level level.Minor) only_a two) a.path a.tree ≡ []
-follows_not = refl
+points_not : dependents (bumps (by_level level.Minor) only_a two) a.path a.tree ≡ []
+points_not = refl
 
 -- ---- members that inherit
 

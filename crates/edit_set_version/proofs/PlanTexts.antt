@@ -1,4 +1,4 @@
--- Set-version plans at small workspaces: what is written and told, as texts.
+-- Set-version plans at small workspaces: what is written and reported, as texts.
 use Rattle.std.proofs.Common.{◌≡◌, [], ◌∷◌, None, refl, false}
 use Rattle.std.specs.Prelude.{codes}
 use Rattle.std.specs.Fmt.{digits}
@@ -29,7 +29,7 @@ written_b : edits (by_level level.Minor) only_a two b.path b.tree
 unfolding semver_on_literals digits
 written_b = refl
 
--- both are told
+-- both are reported
 told_two : lines (by_level level.Minor) only_a two
     ≡ (codes "Upgrading", codes "a from 0.1.0 to 0.2.0")
     ∷ (codes "Updating", codes "b's dependency from 0.1 to 0.2") ∷ []
@@ -73,7 +73,7 @@ written_heir : edits (exactly (2, 0, 0, [], [])) everything one heir.path heir.t
 unfolding semver_on_literals digits
 written_heir = refl
 
--- both are told
+-- both are reported
 told_one : lines (exactly (2, 0, 0, [], [])) everything one
     ≡ (codes "Upgrading", codes "workspace version from 1.0.0 to 2.0.0")
     ∷ (codes "Upgrading", codes "a from 1.0.0 to 2.0.0 (inherited from workspace)") ∷ []

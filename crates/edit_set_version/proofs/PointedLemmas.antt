@@ -1,4 +1,4 @@
--- The requirements that follow a bump are those of the path dependencies that lead to a bumped crate.
+-- The requirements on bumped crates are those of the path dependencies that lead to one.
 use Rattle.std.proofs.Common.{◌≡◌, ℕ, List, [], ◌∷◌, ◌++◌, map, Option, Some, None, refl, ap, ◌∙◌, sym}
 use Rattle.std.specs.Prelude.{option_and_then, option_map, option_to_list}
 use Rattle.std.specs.List.{cons_option, filter_map, flat_map}
@@ -9,7 +9,7 @@ use Rattle.edit_manifest.specs.Tables.{Tree, dependency_tables, member_names}
 use Rattle.edit_set_version.specs.Entries.{entries_in, path_member, requirement, text_at}
 use Rattle.edit_set_version.specs.Folders.{reached}
 use Rattle.edit_set_version.specs.Pointed.{led, pointed, pointed_at, pointed_in, pointed_named, pointed_with}
-use Rattle.edit_set_version.specs.SetVersioned.{Bump, Following, following, following_at, followings, next_in}
+use Rattle.edit_set_version.specs.SetVersioned.{Bump, Dependent, dependent, dependent_at, dependents, next_in}
 use Rattle.edit_set_version.proofs.EntriesStay.{flat_same}
 
 -- ---- lists of at most one element
@@ -27,7 +27,7 @@ one : {A B : Type 0} (f : A → Option B) (o : Option A)
 one f None = refl
 one f (Some x) = alone (f x)
 
--- what is kept of parts in a row
+-- what is left of parts in a row
 flat : {A B C : Type 0} (g : B → Option C) (f : A → List B) (xs : List A)
     → filter_map g (flat_map f xs) ≡ flat_map (λ x. filter_map g (f x)) xs
 flat g f [] = refl
@@ -40,14 +40,14 @@ flat {A} {B} {C} g f (x ∷ xs) =
 -- the requirement with the next version
 next_one : (place : Place) (text : List ℕ) (next : Option Parts)
     → option_map (λ (v : Parts). record { place = place; text = text; next = v }) next
-    ≡ following_at place (Some text) next
+    ≡ dependent_at place (Some text) next
 next_one place text None = refl
 next_one place text (Some v) = refl
 
 -- with both texts, or without one of them
 led_with : (bs : List Bump) (file : List ℕ) (place : Place) (text path : Option (List ℕ))
     → option_and_then (led bs file) (pointed_with place text path)
-    ≡ following_at place text (option_and_then (next_in bs) (option_map (reached file) path))
+    ≡ dependent_at place text (option_and_then (next_in bs) (option_map (reached file) path))
 led_with bs file place None None = refl
 led_with bs file place None (Some path) = refl
 led_with bs file place (Some text) None = refl
@@ -56,41 +56,41 @@ led_with bs file place (Some text) (Some path) = next_one place text (next_in bs
 -- an entry of a table
 named_led : (bs : List Bump) (file : List ℕ) (t : Tree) (table : Place) (name : List ℕ)
     → filter_map (led bs file) (pointed_named t table name)
-    ≡ option_to_list (following bs file t (at table (key name)))
+    ≡ option_to_list (dependent bs file t (at table (key name)))
 named_led bs file t table name =
     let place = at table (key name) in
     one (led bs file) (pointed_at t place)
-    ∙ ap (λ (o : Option Following). option_to_list o)
+    ∙ ap (λ (o : Option Dependent). option_to_list o)
     (led_with bs file place (requirement t place) (text_at t (path_member place)))
 
 -- ---- tables
 
 -- the members that give something, one by one
-members_kept : (f : Place → Option Following) (table : Place) (names : List (List ℕ))
+members_kept : (f : Place → Option Dependent) (table : Place) (names : List (List ℕ))
     → flat_map (λ name. option_to_list (f (at table (key name)))) names
     ≡ filter_map f (map (λ name. at table (key name)) names)
 members_kept f table [] = refl
 members_kept f table (n ∷ ns) =
-    ap (λ (ys : List Following). option_to_list (f (at table (key n))) ++ ys) (members_kept f table ns)
+    ap (λ (ys : List Dependent). option_to_list (f (at table (key n))) ++ ys) (members_kept f table ns)
     ∙ cons_one (f (at table (key n))) (filter_map f (map (λ name. at table (key name)) ns))
 
 -- the entries of a table
 table_led : (bs : List Bump) (file : List ℕ) (t : Tree) (table : Place)
     → filter_map (led bs file) (pointed_in t table)
-    ≡ filter_map (following bs file t) (entries_in t table)
+    ≡ filter_map (dependent bs file t) (entries_in t table)
 table_led bs file t table =
     flat (led bs file) (pointed_named t table) (member_names (t table))
     ∙ flat_same (λ name. filter_map (led bs file) (pointed_named t table name))
-    (λ name. option_to_list (following bs file t (at table (key name)))) (named_led bs file t table)
+    (λ name. option_to_list (dependent bs file t (at table (key name)))) (named_led bs file t table)
     (member_names (t table))
-    ∙ members_kept (following bs file t) table (member_names (t table))
+    ∙ members_kept (dependent bs file t) table (member_names (t table))
 
 -- those of a manifest
-pub followings_pointed : (bs : List Bump) (file : List ℕ) (t : Tree)
-    → followings bs file t ≡ filter_map (led bs file) (pointed t)
-followings_pointed bs file t =
-    flat (following bs file t) (entries_in t) (dependency_tables t)
+pub dependents_pointed : (bs : List Bump) (file : List ℕ) (t : Tree)
+    → dependents bs file t ≡ filter_map (led bs file) (pointed t)
+dependents_pointed bs file t =
+    flat (dependent bs file t) (entries_in t) (dependency_tables t)
     ∙ sym (flat_same (λ table. filter_map (led bs file) (pointed_in t table))
-    (λ table. filter_map (following bs file t) (entries_in t table)) (table_led bs file t)
+    (λ table. filter_map (dependent bs file t) (entries_in t table)) (table_led bs file t)
     (dependency_tables t))
     ∙ sym (flat (led bs file) (pointed_in t) (dependency_tables t))

@@ -19,12 +19,12 @@ use Rattle.edit_set_version.specs.declared.crates.Crate.{Crate}
 abbrev pub inputs_of : List Crate → List Input
 inputs_of cs = map (λ (c : Crate). c.input.now) cs
 
--- what metadata tell of crates
+-- the packages of crates, as the metadata have them
 abbrev pub told_of : List Crate → List PackageSaid
 told_of cs = map (λ (c : Crate). package_said c.told.now) cs
 
 -- crates whose inputs are made of their manifests, and whose manifests are read of these, are the members of
--- the packages that they are told as
+-- their packages
 pub members_stand : (asked : RustAsked) (all : List Input) (cs : List Crate)
     → AllZip (IsInputOf asked) (map (λ (c : Crate). manifest_of (package_said c.told.now)) cs) (inputs_of cs)
     → AllZip IsReadOf (inputs_of cs) (map (λ (c : Crate). c.manifest.now) cs)
@@ -78,13 +78,13 @@ pub dropped : {X : Type 0} (before own : List X) → drop (length before) (befor
 dropped [] own = refl
 dropped (x ∷ before) own = dropped before own
 
--- the manifests that metadata tell of crates
+-- the manifests of crates, as the metadata have them
 told_manifests : (cs : List Crate)
     → map (λ (c : Crate). manifest_of (package_said c.told.now)) cs ≡ map manifest_of (told_of cs)
 told_manifests [] = refl
 told_manifests (c ∷ cs) = ap (λ ms. manifest_of (package_said c.told.now) ∷ ms) (told_manifests cs)
 
--- what metadata tell of crates, by their packages
+-- the packages of crates, one by one
 pub said_of : (cs : List Crate) (ps : List (Bor Package))
     → map (λ (c : Crate). c.told.now) cs ≡ map (λ p. p.now) ps
     → told_of cs ≡ map (λ (p : Bor Package). package_said p.now) ps

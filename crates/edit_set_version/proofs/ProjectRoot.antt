@@ -4,12 +4,12 @@ use Rattle.std.specs.Prelude.{Contains, string_bytes}
 use Rattle.std.specs.List.{AllZip}
 use Rattle.edit_base.specs.Paths.{IsNormalOf}
 use Rattle.edit_manifest.specs.declared.manifest.Manifest.{Manifest}
-use Rattle.edit_metadata.specs.Inputs.{AreInputs, RustAsked, input_paths, root_manifest}
+use Rattle.edit_metadata.specs.Inputs.{AreInputs, RustAsked, input_paths, path_of, root_manifest}
 use Rattle.edit_metadata.specs.Inputs.AreInputs.{of_members, with_root}
 use Rattle.edit_metadata.specs.Metadata.{WorkspaceSaid}
 use Rattle.edit_metadata.specs.declared.input.Input.{Input}
 use Rattle.edit_set_version.specs.Crates.{IsReadOf}
-use Rattle.edit_set_version.specs.Projects.{AreInputsOf, IsTreeAt, path_of}
+use Rattle.edit_set_version.specs.Projects.{AreInputsOf, IsTreeAt}
 use Rattle.edit_set_version.proofs.ReachedFolders.{normal_text}
 use Rattle.edit_tree.specs.Shown.{tree_of}
 

@@ -131,7 +131,7 @@ pub free_of : (ns : List (List ℕ)) → AllByRecursion IsFolderName ns → AllB
 free_of [] h = tt
 free_of (n ∷ ns) h = (h.0.0, free_of ns h.1)
 
--- names of folders are told by the path that they make
+-- names of folders are those of the path that they make
 pub unspelled : (a b : List (List ℕ)) → AllByRecursion IsFolderName a → AllByRecursion IsFolderName b
     → absolute a ≡ absolute b → a ≡ b
 unspelled [] [] ha hb e = refl

@@ -12,7 +12,7 @@ use Rattle.edit_tree.proofs.SamePlace.{last_same, same_place_is, same_place_self
 use Rattle.edit_manifest.specs.Tables.{Tree}
 use Rattle.edit_manifest.specs.Versions.{package_version, shared_version, version_member}
 use Rattle.edit_set_version.specs.Entries.{entries, requirement}
-use Rattle.edit_set_version.specs.SetVersioned.{Bump, Following, edits_by, followed, following, following_at, followings, own_edit, requirement_edit, risen, shared_edits, writes_own}
+use Rattle.edit_set_version.specs.SetVersioned.{Bump, Dependent, edits_by, next_at, dependent, dependent_at, dependents, own_edit, requirement_edit, risen, shared_edits, writes_own}
 use Rattle.edit_set_version.proofs.Clear.{IsWritten, entry, not_below, not_same, own, reaches, whole}
 use Rattle.edit_set_version.proofs.TablePlaces.{IsEntry, all_append, entries_shaped}
 
@@ -33,7 +33,7 @@ all_filter_map P Q f h (x ∷ xs) all = elim (option_cases (f x)) [
   | inr some ↦ rw some.1 (h x all.0 some.0 some.1, all_filter_map P Q f h xs all.1)
 ]
 
--- what follows from what holds of each
+-- what is implied by what holds of each
 pub all_then : {A : Type 0} (P Q : A → Type 0) → ((x : A) → P x → Q x) → (xs : List A) → AllByRecursion P xs
     → AllByRecursion Q xs
 all_then P Q h [] all = tt
@@ -46,19 +46,19 @@ all_every P h (x ∷ xs) = (h x, all_every P h xs)
 
 -- ---- all that is written
 
--- where a requirement that follows stands
-pub following_place : (q : Place) (o : Option (List ℕ)) (v : Option Parts) (f : Following)
-    → following_at q o v ≡ Some f → f.place ≡ q
-following_place q None v f h = cc h
-following_place q (Some text) None f h = cc h
-following_place q (Some text) (Some v) f h = cc h
+-- where a requirement on a bumped crate stands
+pub dependent_place : (q : Place) (o : Option (List ℕ)) (v : Option Parts) (f : Dependent)
+    → dependent_at q o v ≡ Some f → f.place ≡ q
+dependent_place q None v f h = cc h
+dependent_place q (Some text) None f h = cc h
+dependent_place q (Some text) (Some v) f h = cc h
 
--- the requirements that follow stand at entries
-followings_shaped : (bs : List Bump) (file : List ℕ) (t : Tree)
-    → AllByRecursion (λ f. IsEntry f.place) (followings bs file t)
-followings_shaped bs file t =
-    all_filter_map IsEntry (λ f. IsEntry f.place) (following bs file t)
-    (λ q is f e. subst IsEntry (sym (following_place q (requirement t q) (followed bs file t q) f e)) is)
+-- the requirements on bumped crates stand at entries
+dependents_shaped : (bs : List Bump) (file : List ℕ) (t : Tree)
+    → AllByRecursion (λ f. IsEntry f.place) (dependents bs file t)
+dependents_shaped bs file t =
+    all_filter_map IsEntry (λ f. IsEntry f.place) (dependent bs file t)
+    (λ q is f e. subst IsEntry (sym (dependent_place q (requirement t q) (next_at bs file t q) f e)) is)
     (entries t) (entries_shaped t)
 
 -- what is written of a package's version
@@ -73,7 +73,7 @@ own_at file b y h = elim (cases_Bool (writes_own file b)) [
 ]
 
 -- what is written of a requirement
-requirement_place : (f : Following) → IsEntry f.place → (y : Place × List ℕ)
+requirement_place : (f : Dependent) → IsEntry f.place → (y : Place × List ℕ)
     → requirement_edit f ≡ Some y → IsWritten y.0
 requirement_place f is y h = go (risen f) refl
   where
@@ -102,8 +102,8 @@ all_written root next bs file tree =
     (λ b none y e. subst IsWritten (own_at file b y e) own) bs
     (all_every (λ b. Unit {0}) (λ b. tt) _))
     (all_filter_map (λ f. IsEntry f.place) (λ e. IsWritten e.0) requirement_edit
-    (λ f is y e. requirement_place f is y e) (followings bs file tree)
-    (followings_shaped bs file tree)))
+    (λ f is y e. requirement_place f is y e) (dependents bs file tree)
+    (dependents_shaped bs file tree)))
 
 -- ---- places that are not written
 
@@ -135,7 +135,7 @@ pub untouched : (es : Edits) (t : Tree) (q : Place) → AllByRecursion (λ e. sa
     → AllByRecursion (λ e. is_below e.0 q ≡ false) es → written es (emptied es t) q ≡ t q
 untouched es t q other below = written_other es (emptied es t) q other ∙ emptied_other es t q below
 
--- the same of a place that none of what is written reaches
+-- what is written leaves a place that none of it reaches
 pub unreached : (es : Edits) (t : Tree) (q : Place) → AllByRecursion (λ e. reaches e.0 q ≡ false) es
     → written es (emptied es t) q ≡ t q
 unreached es t q h =
@@ -155,17 +155,17 @@ entry_edits new qs = filter_map (λ q. edit_at q (new q)) qs
 
 -- the new requirement of an entry
 abbrev pub new_at : List Bump → List ℕ → Tree → Place → Option (List ℕ)
-new_at bs file t q = option_and_then risen (following bs file t q)
+new_at bs file t q = option_and_then risen (dependent bs file t q)
 
--- what is written of requirements that follow, entry by entry
+-- what is written for requirements on bumped crates, entry by entry
 pub edits_by_entry : (bs : List Bump) (file : List ℕ) (t : Tree) (qs : List Place)
-    → filter_map requirement_edit (filter_map (following bs file t) qs) ≡ entry_edits (new_at bs file t) qs
+    → filter_map requirement_edit (filter_map (dependent bs file t) qs) ≡ entry_edits (new_at bs file t) qs
 edits_by_entry bs file t [] = refl
-edits_by_entry bs file t (q ∷ qs) = elim (option_cases (following bs file t q)) [
+edits_by_entry bs file t (q ∷ qs) = elim (option_cases (dependent bs file t q)) [
   | inl none ↦ rw none (edits_by_entry bs file t qs)
   | inr some ↦
       let place : some.0.place ≡ q =
-      following_place q (requirement t q) (followed bs file t q) some.0 some.1 in
+      dependent_place q (requirement t q) (next_at bs file t q) some.0 some.1 in
       rw some.1 (elim (option_cases (risen some.0)) [
         | inl stays ↦ rw stays (edits_by_entry bs file t qs)
         | inr goes ↦ rw goes.1 (ap₂ (λ (z : Place) (es : Edits). (version_member z, goes.0) ∷ es) place
@@ -207,7 +207,7 @@ written_none new t (p ∷ ps) q h = elim (option_cases (new p)) [
   ])
 ]
 
--- the same text
+-- equal texts
 text_is : (a b : List ℕ) → ◌≡◌ {A = Option (List ℕ)} (Some a) (Some b) → a ≡ b
 text_is a b e = cc e
 

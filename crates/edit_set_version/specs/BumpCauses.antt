@@ -15,15 +15,15 @@ change_of current (refused r) = Refused r
 change_of current (becomes v) = To v
 change_of current _ = To current
 
--- a lower version is asked for, and both versions are told; or an increment or build metadata is refused for
--- its cause, or memory ran out
+-- a lower version is asked for, and the error has both versions; or an increment or build metadata is refused
+-- for its cause, or memory ran out
 abbrev pub IsUnbumped : Bumped → Parts → Error → Type 0
 IsUnbumped b current (error.Downgrade from to) =
     (asked : Parts) × (b ≡ lower asked)
     × (string_bytes from ≡ parts_text current) × (string_bytes to ≡ parts_text asked)
 IsUnbumped b current e = IsCause (change_of current b) current e
 
--- the version that a change gives, or a refusal for its cause
+-- the version that a change gives, or an error with its cause
 abbrev pub IsMade : Change → Parts → Result Version Error → Type 0
 IsMade c current (Ok v) = c ≡ To (parts_of v)
 IsMade c current (Err e) = IsCause c current e

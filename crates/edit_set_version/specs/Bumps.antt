@@ -93,7 +93,7 @@ abbrev pub next_of : Bumped → Option Parts
 next_of (becomes v) = Some v
 next_of _ = None
 
--- what a next version says of the current one: none is there where it stays
+-- what becomes of a version, by the next one: it stays where there is none
 abbrev pub bumped_to : Option Version → Bumped
 bumped_to None = stays
 bumped_to (Some v) = becomes (parts_of v)

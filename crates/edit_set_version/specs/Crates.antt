@@ -29,7 +29,7 @@ members_of cs = map member_of cs
 abbrev pub bump_seen : Bumping → Bump
 bump_seen b = record { member = member_of b.member; next = parts_of b.next }
 
--- the same in their order
+-- the bumps that the program has, in their order
 abbrev pub bumps_seen : List Bumping → List Bump
 bumps_seen bs = map bump_seen bs
 

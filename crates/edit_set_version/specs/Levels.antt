@@ -1,10 +1,10 @@
--- The words of the levels (own, after cargo-edit).
+-- The names of the levels (own, after cargo-edit).
 use Rattle.std.specs.Prelude.{◌≡◌, ◌≢◌, List, ℕ, Result, Ok, Err, codes}
 use Rattle.std.specs.Borrow.{Bor}
 use Rattle.edit_set_version.specs.declared.set_version.BumpLevel.{BumpLevel}
 use Rattle.edit_set_version.specs.declared.set_version.BumpLevel.TheVariants as level
 
--- the word of a level
+-- the name of a level
 abbrev pub level_word : BumpLevel → List ℕ
 level_word level.Major = codes "major"
 level_word level.Minor = codes "minor"
@@ -14,11 +14,11 @@ level_word level.Rc = codes "rc"
 level_word level.Beta = codes "beta"
 level_word level.Alpha = codes "alpha"
 
--- what the refusal of a word that is no level says; odd: it leaves `release` out
+-- the error text for an argument that is no level; odd: it leaves `release` out
 abbrev pub valid_levels : List ℕ
 valid_levels = codes "[valid values: major, minor, patch, rc, beta, alpha]"
 
--- the level whose word the text is, or the one refusal where it is that of none
+-- the level whose name the text is, or the error text where it is that of none
 abbrev pub IsLevel : List ℕ → Result BumpLevel (Bor (List ℕ)) → Type 0
 IsLevel text (Ok l) = text ≡ level_word l
 IsLevel text (Err e) = (e.now ≡ valid_levels) × ((l : BumpLevel) → text ≢ level_word l)

@@ -15,6 +15,6 @@ names_of ps = map (λ p. p.name) (members ps)
 abbrev pub absent : List (List ℕ) → List (List ℕ) → List (List ℕ)
 absent there names = filter (λ name. not (is_among there name)) (each_once names)
 
--- the refusal names what is asked for and no member is called; or memory ran out
+-- the error names the members that are asked for and not there, or memory ran out
 abbrev pub AsksForOthers : Asked → WorkspaceSaid → Error → Type 0
 AsksForOthers a w e = IsMemory e ⊎ IsMissing (missing a (names_of w.packages)) e

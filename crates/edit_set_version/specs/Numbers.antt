@@ -1,4 +1,4 @@
--- The first bump of the crate in a folder, and a map that tells it (own).
+-- The first bump of the crate in a folder, and a map that has it (own).
 use Rattle.std.specs.Prelude.{◌≡◌, ℕ, suc, List, [], ◌∷◌, Option, Some, None, String, if◌then◌else◌, option_map}
 use Rattle.std.specs.BTreeMap.{get_by_text}
 use Rattle.std.specs.declared.alloc.Global.{Global}
@@ -25,6 +25,6 @@ numbered_seen n = (n.number, parts_of n.next.now)
 abbrev pub told_in : BTreeMap (String Global) Numbered Global → Folder → Option (ℕ × Parts)
 told_in numbers folder = option_map numbered_seen (get_by_text numbers (folder_text folder))
 
--- the map tells the first bump of the crate in each folder that a path names
+-- the map has the first bump of the crate in each folder that a path names
 abbrev pub TellsFirst : List Bump → BTreeMap (String Global) Numbered Global → Type 0
 TellsFirst bs numbers = (path : List ℕ) → told_in numbers (names_of path) ≡ first_in bs (names_of path)

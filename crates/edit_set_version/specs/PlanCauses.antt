@@ -1,4 +1,4 @@
--- What stands against a set-version plan, and with which refusal it is told (own, after cargo-edit).
+-- What stands against a set-version plan, and with which error it is reported (own, after cargo-edit).
 use Rattle.std.specs.Prelude.{◌≡◌, ◌≢◌, ℕ, List, [], ◌++◌, Contains, false, codes, map, option_to_list, string_bytes}
 use Rattle.std.specs.List.{filter, join_by}
 use Rattle.semver.specs.Parse.{Parts}
@@ -13,7 +13,7 @@ use Rattle.edit_version.specs.Requirement.{raise}
 use Rattle.edit_set_version.specs.BumpCauses.{IsUnbumped}
 use Rattle.edit_set_version.specs.Bumps.{Target, bump}
 use Rattle.edit_set_version.specs.Chosen.{Asked, Member, chosen, held_back, inheriting}
-use Rattle.edit_set_version.specs.SetVersioned.{Bump, Following, Project, followings, workspace_current, writes_own}
+use Rattle.edit_set_version.specs.SetVersioned.{Bump, Dependent, Project, dependents, workspace_current, writes_own}
 
 -- names in a row
 abbrev pub listed : List Member → List ℕ
@@ -25,7 +25,7 @@ IsMissing names (error.PackagesMissing told) =
     (told.kind ≡ kind.Package) × (names ≢ []) × (map string_bytes told.names.items ≡ names)
 IsMissing names _ = ⊥
 
--- excluded members are told that inherit, and the others that do and are asked for
+-- the error names the excluded members that inherit, and the others that do and are asked for
 abbrev pub IsHeldBack : List Member → List Member → Error → Type 0
 IsHeldBack held others (error.CannotExclude excluded named) =
     (held ≢ []) × (string_bytes excluded ≡ listed held) × (string_bytes named ≡ listed others)
@@ -47,11 +47,11 @@ pub record HasNoLiteral (bs : List Bump) (file : List ℕ) (form : Text) (e : Er
   pub no_value : is_value_at form package_version ≡ false
   pub told : e ≡ error.NoVersionPlace
 
--- a requirement that follows cannot rise
+-- a requirement on a bumped crate cannot be raised
 pub record HasFixed (bs : List Bump) (file : List ℕ) (form : Text) (e : Error) : Type 0 where
-  pub following : Following
-  pub among : Contains (followings bs file (view_at form)) following
-  pub fixed : IsRefusal (raise following.text following.next) following.text e
+  pub dependent : Dependent
+  pub among : Contains (dependents bs file (view_at form)) dependent
+  pub fixed : IsRefusal (raise dependent.text dependent.next) dependent.text e
 
 -- what stands against a plan in the choice of members, and where nothing does, in their versions
 pub data StandsAgainst (t : Target) (a : Asked) (p : Project) (e : Error) : Type 0 where

@@ -1,4 +1,4 @@
--- What a set-version plan tells, line by line (own, after cargo-edit).
+-- The lines that a set-version plan reports (own, after cargo-edit).
 use Rattle.std.specs.Prelude.{ℕ, List, [], ◌∷◌, ◌++◌, not, if◌then◌else◌, Option, Some, codes, map, option_map}
 use Rattle.std.specs.List.{filter, filter_map, flat_map}
 use Rattle.semver.specs.Identifiers.{parts_text}
@@ -8,7 +8,7 @@ use Rattle.edit_manifest.specs.Tables.{Tree}
 use Rattle.edit_manifest.specs.Versions.{is_inherited}
 use Rattle.edit_set_version.specs.Bumps.{Target}
 use Rattle.edit_set_version.specs.Chosen.{Asked, Member}
-use Rattle.edit_set_version.specs.SetVersioned.{Bump, Project, bumps, followings, risen, workspace_current, workspace_next}
+use Rattle.edit_set_version.specs.SetVersioned.{Bump, Project, bumps, dependents, risen, workspace_current, workspace_next}
 
 -- an action and a text
 abbrev pub Told : Type 0
@@ -47,13 +47,13 @@ manifests p = record { name = codes "workspace"; path = p.path; tree = p.tree }
 -- the lines of a manifest for one bump, in the order of its entries
 abbrev pub updates : Bump → Named → List Told
 updates b m =
-    filter_map (λ f. option_map (updating m.name f.text) (risen f)) (followings (b ∷ []) m.path m.tree)
+    filter_map (λ f. option_map (updating m.name f.text) (risen f)) (dependents (b ∷ []) m.path m.tree)
 
--- what is told of a version beside the two versions
+-- what a line adds behind the two versions
 abbrev pub note_of : Member → List ℕ
 note_of m = if is_inherited m.tree then codes " (inherited from workspace)" else []
 
--- the lines of a bump: its own, and then those of the requirements that follow it
+-- the lines of a bump: its own, and then those of the requirements on its crate
 abbrev pub lines_of : Project → Bump → List Told
 lines_of p b =
     upgrading b.member.name b.member.version b.next (note_of b.member) ∷ flat_map (updates b) (manifests p)

@@ -14,12 +14,13 @@ use Rattle.edit_metadata.specs.Metadata.{WorkspaceSaid, members}
 use Rattle.edit_metadata.specs.declared.input.Input.{Input}
 use Rattle.edit_set_version.specs.Bumps.{Bumped, Target, becomes, bump, stays}
 use Rattle.edit_set_version.specs.Chosen.{Asked, held_back, missing}
-use Rattle.edit_set_version.specs.Follows.{AllRise}
+use Rattle.edit_set_version.specs.Admitted.{AllRise}
 use Rattle.edit_set_version.specs.PlanCauses.{IsMissing, ManifestStandsAgainst, StandsAgainst, currents}
-use Rattle.edit_set_version.specs.Projects.{IsProject, path_of}
+use Rattle.edit_metadata.specs.Inputs.{path_of}
+use Rattle.edit_set_version.specs.Projects.{IsProject}
 use Rattle.edit_set_version.specs.SetVersioned.{Bump, Project, bumps, writes_own}
 
--- the refusal tells of something in an input's manifest that stands against these bumps
+-- the error is of something in an input's manifest that stands against these bumps
 pub record StandsAgainstInput (bs : List Bump) (input : Input) (e : Error) : Type 0 where
   pub form : Text
   pub manifest : IsManifest input.bytes.items form
@@ -82,7 +83,7 @@ pub record IsInputClearBy (bs : List Bump) (input : Input) : Type 0 where
   pub literal : filter (writes_own (path_of input)) bs ≢ [] → is_value_at form package_version ≡ true
   pub requirements : AllRise bs (path_of input) (view_at form)
 
--- the same of the bumps of a project
+-- nothing in an input stands against the bumps of a project
 abbrev pub IsInputClear : Target → Asked → Project → Input → Type 0
 IsInputClear t a p input = IsInputClearBy (bumps t a p) input
 

@@ -11,9 +11,9 @@ use Rattle.edit_metadata.specs.declared.input.Input.{Input}
 use Rattle.edit_report.specs.declared.output.Output.{Output}
 use Rattle.edit_set_version.specs.Bumps.{Target}
 use Rattle.edit_set_version.specs.Chosen.{Asked}
-use Rattle.edit_set_version.specs.Follows.{Follow}
+use Rattle.edit_set_version.specs.Admitted.{AllAdmitNext}
 use Rattle.edit_set_version.specs.PlanLines.{Told}
-use Rattle.edit_set_version.specs.Projects.{path_of}
+use Rattle.edit_metadata.specs.Inputs.{path_of}
 use Rattle.edit_set_version.specs.SetVersioned.{Bump, Project, bumps, edits_by, workspace_next}
 use Rattle.edit_set_version.specs.declared.plan.SetVersionPlan.{SetVersionPlan}
 
@@ -35,8 +35,8 @@ pub data AreOutputs (path old : List ℕ) (es : Edits) : List Output → Type 0 
   changed : (output : Output) → es ≢ [] → string_bytes output.path ≡ path
       → Replaces es old output.bytes.items → AreOutputs path old es (output ∷ [])
 
--- the outputs of an input have the literals of bumped versions and of requirements that follow, and no other
--- byte is new: over the root's path, the next version of the workspace, and the bumps
+-- the outputs of an input have the literals of its bumped versions and of its requirements on bumped crates,
+-- and no other byte is new; by the root's path, the next version of the workspace, and the bumps
 pub record AreOutputsOf (root : List ℕ) (next : Option Parts) (bs : List Bump) (input : Input)
     (own : List Output) : Type 0 where
   pub form : Text
@@ -44,12 +44,12 @@ pub record AreOutputsOf (root : List ℕ) (next : Option Parts) (bs : List Bump)
   pub are : AreOutputs (path_of input) input.bytes.items
       (edits_by root next bs (path_of input) (view_at form)) own
 
--- those at an input's path are its own
+-- the outputs at the path of an input are those that it is to have, by a root's path, a version and bumps
 abbrev pub HasOutputsBy : List ℕ → Option Parts → List Bump → List Output → Input → Type 0
 HasOutputsBy root next bs outputs input =
     AreOutputsOf root next bs input (outputs_at (path_of input) outputs)
 
--- the same over a project
+-- the outputs at the path of an input are those that it is to have in a project
 abbrev pub HasSetOutputs : Target → Asked → List Output → Project → Input → Type 0
 HasSetOutputs t a outputs p input =
     HasOutputsBy p.path (workspace_next t a p) (bumps t a p) outputs input
@@ -71,11 +71,11 @@ abbrev pub bytes_after : List ℕ → List Output → List ℕ
 bytes_after old [] = old
 bytes_after old (output ∷ outputs) = output.bytes.items
 
--- what stands for an input after the plan is a manifest, and each of its requirements that points to a
--- bumped crate follows
-pub record HasFollowed
+-- what stands for an input after the plan is a manifest, and each of its requirements on a bumped crate admits
+-- the crate's next version
+pub record HasAdmitted
     (t : Target) (a : Asked) (outputs : List Output) (p : Project) (input : Input) : Type 0 where
   pub form : Text
   pub manifest : IsManifest
       (bytes_after input.bytes.items (outputs_at (path_of input) outputs)) form
-  pub follow : Follow (bumps t a p) (path_of input) (view_at form)
+  pub admit : AllAdmitNext (bumps t a p) (path_of input) (view_at form)

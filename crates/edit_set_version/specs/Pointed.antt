@@ -7,7 +7,7 @@ use Rattle.edit_document.specs.Items.{place_seen}
 use Rattle.edit_manifest.specs.Tables.{Tree, dependency_tables, member_names}
 use Rattle.edit_set_version.specs.Entries.{path_member, requirement, text_at}
 use Rattle.edit_set_version.specs.Folders.{reached}
-use Rattle.edit_set_version.specs.SetVersioned.{Bump, Following, next_in}
+use Rattle.edit_set_version.specs.SetVersioned.{Bump, Dependent, next_in}
 use Rattle.edit_set_version.specs.declared.pointed.PathEntry.{PathEntry}
 
 -- an entry: where it stands, its text requirement, and its path
@@ -37,8 +37,8 @@ pointed_in t table = flat_map (pointed_named t table) (member_names (t table))
 abbrev pub pointed : Tree → List Pointed
 pointed t = flat_map (pointed_in t) (dependency_tables t)
 
--- the requirement of such an entry that follows a bump, where its path leads to a bumped crate
-abbrev pub led : List Bump → List ℕ → Pointed → Option Following
+-- the requirement of such an entry on a bumped crate, where its path leads to one
+abbrev pub led : List Bump → List ℕ → Pointed → Option Dependent
 led bs file q =
     option_map (λ v. record { place = q.place; text = q.text; next = v }) (next_in bs (reached file q.path))
 

@@ -1,5 +1,5 @@
--- The project that a workspace and its inputs tell of (own).
-use Rattle.std.specs.Prelude.{◌≡◌, ℕ, List, All, Contains, string_bytes}
+-- The project of a workspace and its inputs (own).
+use Rattle.std.specs.Prelude.{◌≡◌, ℕ, List, Contains}
 use Rattle.std.specs.List.{AllZip}
 use Rattle.edit_base.specs.Paths.{IsNormalOf}
 use Rattle.edit_syntax.specs.Grammar.{Text}
@@ -7,15 +7,11 @@ use Rattle.edit_tree.specs.Assertions.{Place}
 use Rattle.edit_tree.specs.Supported.{IsManifest}
 use Rattle.edit_tree.specs.Tree.{view_at}
 use Rattle.edit_manifest.specs.Tables.{Tree}
-use Rattle.edit_metadata.specs.Inputs.{AreInputs, RustAsked, root_manifest}
+use Rattle.edit_metadata.specs.Inputs.{AreInputs, RustAsked, path_of, root_manifest}
 use Rattle.edit_metadata.specs.Metadata.{PackageSaid, WorkspaceSaid, members}
 use Rattle.edit_metadata.specs.declared.input.Input.{Input}
 use Rattle.edit_set_version.specs.Chosen.{Member}
 use Rattle.edit_set_version.specs.SetVersioned.{Project}
-
--- the path of an input
-abbrev pub path_of : Input → List ℕ
-path_of input = string_bytes input.path
 
 -- the inputs are the manifests of the workspace, whatever Rust version they are for
 abbrev pub AreInputsOf : WorkspaceSaid → List Input → Type 0
@@ -48,7 +44,3 @@ pub record HasProject (w : WorkspaceSaid) (inputs : List Input) (P : Project →
   pub project : Project
   pub is : IsProject w inputs project
   pub holds : P project
-
--- the same of each input in the project
-abbrev pub EachInput : WorkspaceSaid → List Input → (Project → Input → Type 0) → Type 0
-EachInput w inputs P = HasProject w inputs (λ p. All (P p) inputs)

@@ -51,41 +51,41 @@ next_in (b ∷ bs) folder =
     if same_folder (folder_of b.member.path) folder then Some b.next else next_in bs folder
 
 -- the next version of the crate that an entry points to
-abbrev pub followed : List Bump → List ℕ → Tree → Place → Option Parts
-followed bs file t place = option_and_then (next_in bs) (points_to file t place)
+abbrev pub next_at : List Bump → List ℕ → Tree → Place → Option Parts
+next_at bs file t place = option_and_then (next_in bs) (points_to file t place)
 
--- a requirement that follows a bump: where its entry stands, its text, and the next version
-pub record Following : Type 0 where
+-- a requirement on a bumped crate: where its entry stands, its text, and the next version
+pub record Dependent : Type 0 where
   pub place : Place
   pub text : List ℕ
   pub next : Parts
 
 -- with both, where both are there
-abbrev pub following_at : Place → Option (List ℕ) → Option Parts → Option Following
-following_at place (Some text) (Some v) = Some (record { place = place; text = text; next = v })
-following_at place _ _ = None
+abbrev pub dependent_at : Place → Option (List ℕ) → Option Parts → Option Dependent
+dependent_at place (Some text) (Some v) = Some (record { place = place; text = text; next = v })
+dependent_at place _ _ = None
 
--- what follows at an entry
-abbrev pub following : List Bump → List ℕ → Tree → Place → Option Following
-following bs file t place = following_at place (requirement t place) (followed bs file t place)
+-- the requirement of an entry on a bumped crate
+abbrev pub dependent : List Bump → List ℕ → Tree → Place → Option Dependent
+dependent bs file t place = dependent_at place (requirement t place) (next_at bs file t place)
 
--- the requirements of a manifest that follow these bumps, in the order of the entries
-abbrev pub followings : List Bump → List ℕ → Tree → List Following
-followings bs file t = filter_map (following bs file t) (entries t)
+-- the requirements of a manifest on bumped crates, in the order of the entries
+abbrev pub dependents : List Bump → List ℕ → Tree → List Dependent
+dependents bs file t = filter_map (dependent bs file t) (entries t)
 
 -- the new text, where there is one
 abbrev pub text_of : Raised → Option (List ℕ)
 text_of (Text s) = Some s
 text_of _ = None
 
--- what a requirement that follows becomes, where that is another text
-abbrev pub risen : Following → Option (List ℕ)
+-- what a requirement on a bumped crate becomes, where that is another text
+abbrev pub risen : Dependent → Option (List ℕ)
 risen f = text_of (raise f.text f.next)
 
 -- ---- what is written into a manifest
 
 -- a requirement's new text
-abbrev pub requirement_edit : Following → Option (Place × List ℕ)
+abbrev pub requirement_edit : Dependent → Option (Place × List ℕ)
 requirement_edit f = option_map (λ s. (version_member f.place, s)) (risen f)
 
 -- the manifest at this path is that of the bumped member, which does not inherit its version
@@ -106,7 +106,7 @@ shared_edits false next = []
 abbrev pub edits_by : List ℕ → Option Parts → List Bump → List ℕ → Tree → Edits
 edits_by root next bs file tree =
     shared_edits (same_bytes file root) next
-    ++ (filter_map (own_edit file) bs ++ filter_map requirement_edit (followings bs file tree))
+    ++ (filter_map (own_edit file) bs ++ filter_map requirement_edit (dependents bs file tree))
 
 -- those of a project
 abbrev pub edits : Target → Asked → Project → List ℕ → Tree → Edits

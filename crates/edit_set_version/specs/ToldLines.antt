@@ -6,15 +6,15 @@ use Rattle.std.specs.declared.alloc.Global.{Global}
 use Rattle.edit_base.specs.declared.errors.Error.{Error}
 use Rattle.edit_tree.specs.Assertions.{same_bytes}
 use Rattle.edit_set_version.specs.Chosen.{Member}
-use Rattle.edit_set_version.specs.Followers.{IsUnfollowed, all_numbered}
+use Rattle.edit_set_version.specs.Dependents.{IsUnraised, all_numbered}
 use Rattle.edit_set_version.specs.PlanLines.{Named, Told, note_of, updating, upgrading}
-use Rattle.edit_set_version.specs.SetVersioned.{Bump, Following, risen}
+use Rattle.edit_set_version.specs.SetVersioned.{Bump, Dependent, risen}
 
 -- an action and a text
 abbrev pub line_told : String Global × String Global → Told
 line_told l = (string_bytes l.0, string_bytes l.1)
 
--- what is told of a version that is inherited
+-- what the line of an inherited version adds
 abbrev pub note_if : Bool → List ℕ
 note_if inherited = if inherited then codes " (inherited from workspace)" else []
 
@@ -35,24 +35,24 @@ abbrev pub bump_told : Bump → Told
 bump_told b = upgrading b.member.name b.member.version b.next (note_of b.member)
 
 -- the requirement, where its bump has this number
-abbrev pub following_number : ℕ → ℕ × Following → Option Following
-following_number n f = if f.0 == n then Some f.1 else None
+abbrev pub dependent_number : ℕ → ℕ × Dependent → Option Dependent
+dependent_number n f = if f.0 == n then Some f.1 else None
 
 -- the line of a requirement of a manifest, where it becomes another text
-abbrev pub update_told : List ℕ → Following → Option Told
+abbrev pub update_told : List ℕ → Dependent → Option Told
 update_told name f = option_map (updating name f.text) (risen f)
 
 -- the lines of those of a manifest whose bump has this number
-abbrev pub updates_told : List ℕ → List (ℕ × Following) → ℕ → List Told
-updates_told name fs n = filter_map (update_told name) (filter_map (following_number n) fs)
+abbrev pub updates_told : List ℕ → List (ℕ × Dependent) → ℕ → List Told
+updates_told name fs n = filter_map (update_told name) (filter_map (dependent_number n) fs)
 
--- lists, of this number and the next ones, each with what its number tells at the end
+-- lists, of this number and the next ones, each with the lines of its number at the end
 abbrev pub with_more : (ℕ → List Told) → ℕ → List (List Told) → List (List Told)
 with_more tell n [] = []
 with_more tell n (l ∷ ls) = (l ++ tell n) ∷ with_more tell (suc n) ls
 
 -- with the lines of the requirements of a manifest
-abbrev pub with_updates : List ℕ → List (ℕ × Following) → ℕ → List (List Told) → List (List Told)
+abbrev pub with_updates : List ℕ → List (ℕ × Dependent) → ℕ → List (List Told) → List (List Told)
 with_updates name fs n ls = with_more (updates_told name fs) n ls
 
 -- ---- manifests
@@ -73,8 +73,8 @@ manifests_told bs ms n = flat_map (λ m. updates_told m.name (all_numbered bs m.
 abbrev pub with_manifests : List Bump → List Named → ℕ → List (List Told) → List (List Told)
 with_manifests bs ms n ls = with_more (manifests_told bs ms) n ls
 
--- a requirement of one of these manifests cannot rise, or memory ran out
-pub record HasUnfollowed (bs : List Bump) (ms : List Named) (e : Error) : Type 0 where
+-- a requirement of one of these manifests on a bumped crate cannot be raised, or memory ran out
+pub record HasUnraised (bs : List Bump) (ms : List Named) (e : Error) : Type 0 where
   pub manifest : Named
   pub among : Contains ms manifest
-  pub unfollowed : IsUnfollowed bs manifest.path manifest.tree e
+  pub unraised : IsUnraised bs manifest.path manifest.tree e

@@ -1,5 +1,5 @@
 -- What a plan's outputs rest on (own).
-use Rattle.std.specs.Prelude.{◌≡◌, ◌≢◌, ℕ, List, AllPairs, Option, Some, None, option_map}
+use Rattle.std.specs.Prelude.{◌≡◌, ◌≢◌, ℕ, List, Option, Some, None, option_map}
 use Rattle.std.specs.Borrow.{Bor}
 use Rattle.edit_manifest.specs.Tables.{Tree}
 use Rattle.edit_manifest.specs.Versions.{workspace_version}
@@ -7,23 +7,19 @@ use Rattle.edit_metadata.specs.declared.input.Input.{Input}
 use Rattle.semver.specs.Identifiers.{parts_of}
 use Rattle.semver.specs.Parse.{Parts}
 use Rattle.semver.specs.declared.Version.{Version}
-use Rattle.edit_set_version.specs.Projects.{IsTreeAt, path_of}
+use Rattle.edit_set_version.specs.Projects.{IsTreeAt}
 
 -- a version that may be there, by its parts
 abbrev pub shared_seen : Option (Bor Version) → Option Parts
 shared_seen shared = option_map (λ v. parts_of v.now) shared
 
--- no two of the inputs have one path
-abbrev pub HaveDistinctPaths : List Input → Type 0
-HaveDistinctPaths inputs = AllPairs (λ a b. path_of a ≢ path_of b) inputs
-
--- where the workspace gets a next version, the manifest at the root's path tells its version
+-- where the workspace gets a next version, the manifest at the root's path has its current version
 abbrev pub TellsShared : List Input → List ℕ → Option Parts → Type 0
 TellsShared inputs root None = Unit {0}
 TellsShared inputs root (Some next) =
     (tree : Tree) × IsTreeAt inputs root tree × (workspace_version tree ≢ None)
 
--- the same of one manifest, by its path and its tree
+-- where the workspace gets a next version and a manifest is at the root's path, it has the current version
 abbrev pub CanShare : List ℕ → Option Parts → List ℕ → Tree → Type 0
 CanShare root None path tree = Unit {0}
 CanShare root (Some next) path tree = path ≡ root → workspace_version tree ≢ None

@@ -72,7 +72,7 @@ fn order(version: &Version, other: &Version) -> Ordering
     version.cmp(other)
 }
 
-/// The same version on memory of its own.
+/// A copy of a version on memory of its own.
 fn copy(version: &Version) -> Result<Version, AllocError>
     ensures { IfOk result (λ v. parts_of v ≡ parts_of version.now) }
 {
@@ -128,7 +128,7 @@ pub(crate) fn raised(
     Ok(Some(version))
 }
 
-/// The refusal of a lower version.
+/// The error for a lower version.
 fn downgrade(alloc: Global, current: &Version, requested: &Version) -> Result<Error, AllocError>
     ensures { IfOk result (λ e. IsUnbumped (lower (parts_of requested.now)) (parts_of current.now) e) }
 {

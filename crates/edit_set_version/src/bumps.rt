@@ -8,7 +8,7 @@ ghost use Rattle.edit_set_version.specs.BumpCauses.{IsUnbumped};
 ghost use Rattle.edit_set_version.specs.Bumps.{IsReadableTarget, bump, target_of};
 ghost use Rattle.edit_set_version.specs.Chosen.{Member};
 ghost use Rattle.edit_set_version.specs.Crates.{bump_seen, bumps_seen, member_of, members_of};
-ghost use Rattle.edit_set_version.specs.Follows.{AreVersions};
+ghost use Rattle.edit_set_version.specs.Admitted.{AreVersions};
 ghost use Rattle.edit_set_version.specs.PlanRefused.{IsBumpable};
 ghost use Rattle.edit_set_version.specs.Selections.{asked_of};
 ghost use Rattle.edit_set_version.specs.SetVersioned.{bump_of};

@@ -68,7 +68,7 @@ fn is_in(part: Part, wanted: &Wanted, found: Crate<'_>) -> bool
     }
 }
 
-/// Adds a crate, where it is to be kept.
+/// Adds a crate, where it is to be added.
 fn push_where<'a>(keep: bool, found: Crate<'a>, list: &mut Vec<Crate<'a>>) -> Result<(), AllocError>
     ensures ok { OnOk result (members_of list.new.items
         ≡ members_of list.old.items ++ (if keep then member_of found.entry ∷ [] else [])) }

@@ -11,7 +11,7 @@ use edit_metadata::{Input, Package, Workspace};
 use semver::Version;
 use std::alloc::{AllocError, Global};
 
-/// A crate of a workspace: what metadata tell of it, its input, and its manifest.
+/// A crate of a workspace: its package in the metadata, its input, and its manifest.
 #[derive(Clone, Copy)]
 pub(crate) struct Crate<'a> {
     pub(crate) told: &'a Package,
@@ -79,7 +79,7 @@ pub(crate) fn crates_with<'a>(
     Ok(crates)
 }
 
-/// The same of inputs and manifests of which the last ones are those of the members.
+/// Members with their inputs and manifests, which are the last ones of these lists.
 fn crates_last<'a>(
     alloc: Global,
     members: &[&'a Package],

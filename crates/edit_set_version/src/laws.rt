@@ -1,9 +1,9 @@
 //! What holds of each plan.
-ghost use Rattle.edit_set_version.specs.Follows.{RequirementsFollow};
+ghost use Rattle.edit_set_version.specs.Admitted.{DependentsAdmit};
 
 /// After a plan that nothing refuses, each text requirement of a path dependency on a bumped crate admits
 /// the crate's next version: one without a pre-release, or where the requirement has comparators and all of
 /// them have three numbers.
-pub fn requirements_follow()
-    ensures { RequirementsFollow }
+pub fn dependents_admit()
+    ensures { DependentsAdmit }
 {}

@@ -5,7 +5,7 @@ mod bump;
 mod bumps;
 mod choose;
 mod crates;
-mod follow;
+mod dependents;
 pub mod laws;
 mod lines;
 mod literals;

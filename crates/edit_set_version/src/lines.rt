@@ -1,4 +1,4 @@
-//! What a plan tells, line by line.
+//! The lines that a plan reports.
 ghost use Rattle.std.specs.Prelude.{◌≡◌, [], IfOk, codes};
 ghost use Rattle.semver.specs.Identifiers.{parts_of};
 ghost use Rattle.edit_set_version.specs.Crates.{bump_seen};

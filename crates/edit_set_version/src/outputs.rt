@@ -13,17 +13,17 @@ ghost use Rattle.edit_tree.specs.Supported.{IsManifest};
 ghost use Rattle.edit_tree.specs.Tree.{is_value_at};
 ghost use Rattle.edit_set_version.specs.Apart.{AreApart};
 ghost use Rattle.edit_set_version.specs.Crates.{IsReadOf, bump_seen, bumps_seen};
-ghost use Rattle.edit_set_version.specs.Follows.{AllRise};
-ghost use Rattle.edit_set_version.specs.Followers.{IsUnfollowed};
+ghost use Rattle.edit_set_version.specs.Admitted.{AllRise};
+ghost use Rattle.edit_set_version.specs.Dependents.{IsUnraised};
 ghost use Rattle.edit_set_version.specs.Numbers.{TellsFirst};
 ghost use Rattle.edit_set_version.specs.PlanRefused.{HasBadInputBy, IsInputClearBy, StandsAgainstInput};
 ghost use Rattle.edit_set_version.specs.Planned.{AreOutputsOf, HasOutputsBy, OutputsInOrder};
-ghost use Rattle.edit_set_version.specs.Projects.{path_of};
-ghost use Rattle.edit_set_version.specs.SetVersioned.{edits_by, followings, own_edit, requirement_edit, shared_edits, writes_own};
-ghost use Rattle.edit_set_version.specs.Written.{CanShare, HaveDistinctPaths, TellsShared, shared_seen};
+ghost use Rattle.edit_set_version.specs.SetVersioned.{edits_by, dependents, own_edit, requirement_edit, shared_edits, writes_own};
+ghost use Rattle.edit_metadata.specs.Inputs.{HaveOwnPaths, path_of};
+ghost use Rattle.edit_set_version.specs.Written.{CanShare, TellsShared, shared_seen};
 
 use crate::crates::Bump;
-use crate::follow::followers_of;
+use crate::dependents::dependents_of;
 use crate::numbers::{Numbers, bump_beside};
 use crate::writes::{Edit, own_edit, push_requirements, shared_edit};
 use edit_base::errors::{CargoResult, Error};
@@ -132,8 +132,8 @@ pub(crate) fn push_own(
     Ok(())
 }
 
-/// Adds the requirements of the manifest at this path that follow.
-fn push_follows(
+/// Adds what is written for the requirements on bumped crates of the manifest at this path.
+fn push_dependents(
     alloc: Global,
     writing: &Writing<'_, '_>,
     path: &str,
@@ -143,14 +143,14 @@ fn push_follows(
     requires numbers { TellsFirst (bumps_seen writing.now.bumps.now) writing.now.numbers.now }
     ensures ok { OnOk result (edits_seen edits.new.items ≡ edits_seen edits.old.items
         ++ filter_map requirement_edit
-        (followings (bumps_seen writing.now.bumps.now) path.now (tree_of document.now))) }
+        (dependents (bumps_seen writing.now.bumps.now) path.now (tree_of document.now))) }
     ensures rise { OnOk result
         (AllRise (bumps_seen writing.now.bumps.now) path.now (tree_of document.now)) }
     ensures refused { IfErr result
-        (IsUnfollowed (bumps_seen writing.now.bumps.now) path.now (tree_of document.now)) }
+        (IsUnraised (bumps_seen writing.now.bumps.now) path.now (tree_of document.now)) }
 {
-    let followers = followers_of(alloc, writing.numbers, path, document)?;
-    push_requirements(alloc, &followers, edits)?;
+    let dependents = dependents_of(alloc, writing.numbers, path, document)?;
+    push_requirements(alloc, &dependents, edits)?;
     Ok(())
 }
 
@@ -176,7 +176,7 @@ fn edits_of(
     let mut edits = Vec::new(alloc);
     push_shared(alloc, writing, path, &mut edits)?;
     push_own(alloc, writing, path, document, &mut edits)?;
-    push_follows(alloc, writing, path, document, &mut edits)?;
+    push_dependents(alloc, writing, path, document, &mut edits)?;
     Ok(edits)
 }
 
@@ -254,7 +254,7 @@ pub(crate) fn outputs_of(
     requires numbers { TellsFirst (bumps_seen writing.now.bumps.now) writing.now.numbers.now }
     requires apart { AreApart (bumps_seen writing.now.bumps.now) }
     requires read { AllZip IsReadOf inputs.now manifests.now }
-    requires distinct { HaveDistinctPaths inputs.now }
+    requires distinct { HaveOwnPaths inputs.now }
     requires shared { TellsShared inputs.now writing.now.root.now (shared_seen writing.now.shared) }
     ensures outputs { IfOk result (λ os. All (HasOutputsBy writing.now.root.now
         (shared_seen writing.now.shared) (bumps_seen writing.now.bumps.now) os.items) inputs.now) }

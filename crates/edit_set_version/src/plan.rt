@@ -15,7 +15,7 @@ pub struct Selection {
     pub metadata: Option<String>,
 }
 
-/// The new versions of members, and the requirements that follow them.
+/// The new versions of members, and the requirements of dependents that are raised to them.
 #[derive(Debug, Drop)]
 pub struct SetVersionPlan {
     /// The new bytes of the manifests that change, in the order of the inputs.

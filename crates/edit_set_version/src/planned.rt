@@ -9,16 +9,18 @@ ghost use Rattle.edit_set_version.specs.Apart.{AreApart};
 ghost use Rattle.edit_set_version.specs.Bumps.{IsReadableTarget, bump, target_of};
 ghost use Rattle.edit_set_version.specs.Chosen.{chosen, held_back};
 ghost use Rattle.edit_set_version.specs.Crates.{IsReadOf, bumps_seen, project_seen};
-ghost use Rattle.edit_set_version.specs.Follows.{AreVersions};
+ghost use Rattle.edit_set_version.specs.Admitted.{AreVersions};
 ghost use Rattle.edit_set_version.specs.PlanCauses.{StandsAgainst, currents};
-ghost use Rattle.edit_set_version.specs.PlanLines.{lines, lines_of, manifests, shared_lines};
-ghost use Rattle.edit_set_version.specs.PlanRefused.{HasBadInputBy, IsBehindLiterals, IsBumpable, IsCauseOf, IsClear, IsInputClearBy};
-ghost use Rattle.edit_set_version.specs.Planned.{HasFollowed, HasOutputsBy, HasSetOutputs, OutputsInOrder, has_lines, told_lines};
-ghost use Rattle.edit_set_version.specs.Projects.{AreInputsOf, EachInput, HasProject};
+ghost use Rattle.edit_set_version.specs.Plan.{IsPlan};
+ghost use Rattle.edit_set_version.specs.PlanLines.{lines_of, manifests, shared_lines};
+ghost use Rattle.edit_set_version.specs.PlanRefused.{HasBadInputBy, IsBehindLiterals, IsBumpable, IsCauseOf, IsInputClearBy};
+ghost use Rattle.edit_set_version.specs.Planned.{HasOutputsBy, OutputsInOrder, has_lines, told_lines};
+ghost use Rattle.edit_set_version.specs.Projects.{AreInputsOf, HasProject};
 ghost use Rattle.edit_set_version.specs.Selections.{asked_of};
 ghost use Rattle.edit_set_version.specs.SetVersioned.{bumps, workspace_current, workspace_next};
-ghost use Rattle.edit_set_version.specs.ToldLines.{HasUnfollowed};
-ghost use Rattle.edit_set_version.specs.Written.{HaveDistinctPaths, TellsShared};
+ghost use Rattle.edit_set_version.specs.ToldLines.{HasUnraised};
+ghost use Rattle.edit_metadata.specs.Inputs.{HaveOwnPaths};
+ghost use Rattle.edit_set_version.specs.Written.{TellsShared};
 
 use crate::bumps::bumps_of;
 use crate::choose::choose;
@@ -92,7 +94,7 @@ fn plan_with(
 ) -> CargoResult<SetVersionPlan>
     requires apart { AreApart (bumps_seen versions.now.bumps.items) }
     requires read { AllZip IsReadOf inputs.now read.now }
-    requires distinct { HaveDistinctPaths inputs.now }
+    requires distinct { HaveOwnPaths inputs.now }
     requires shared { TellsShared inputs.now (project_seen project.now).path
         (option_map parts_of versions.now.next) }
     ensures outputs { IfOk result (λ plan. All (HasOutputsBy (project_seen project.now).path
@@ -106,7 +108,7 @@ fn plan_with(
     ensures clear { OnOk result (All (IsInputClearBy (bumps_seen versions.now.bumps.items)) inputs.now) }
     ensures refused { IfErr result (λ e. IsMemory e
         ⊎ (IsBehindLiterals (bumps_seen versions.now.bumps.items) inputs.now e
-        × (HasUnfollowed (bumps_seen versions.now.bumps.items) (manifests (project_seen project.now)) e
+        × (HasUnraised (bumps_seen versions.now.bumps.items) (manifests (project_seen project.now)) e
         ⊎ HasBadInputBy (bumps_seen versions.now.bumps.items) inputs.now e))) }
 {
     let numbers = numbers_of(alloc, &versions.bumps)?;
@@ -129,14 +131,14 @@ fn plan_with(
     })
 }
 
-/// The new versions of a workspace's members, and the requirements that follow them.
+/// The new versions of a workspace's members, and the requirements of dependents that are raised to them.
 ///
 /// The inputs are those that `workspace_inputs` gives. Who gets a new version is what the selection asks for;
 /// each of them gets the version that the target makes of its own; and in each input a requirement with a
-/// path to one of them follows it. Nothing is planned where one of these stands, and the first is the error:
-/// a name that no member has (39), an input that is no manifest (2, 1), an excluded member that shares the
-/// version of the workspace with a chosen one (40), a version that the target refuses (41, 16 to 19), a
-/// version with no place to write it (13), or a requirement that cannot follow (14, 15).
+/// path to one of them is raised to it. Nothing is planned where one of these stands, and the first is the
+/// error: a name that no member has (39), an input that is no manifest (2, 1), an excluded member that shares
+/// the version of the workspace with a chosen one (40), a version that the target refuses (41, 16 to 19), a
+/// version with no place to write it (13), or a requirement that cannot be raised (14, 15).
 pub fn plan_set_version(
     alloc: Global,
     target: &TargetVersion,
@@ -147,23 +149,12 @@ pub fn plan_set_version(
     // as `workspace_inputs` gives them, of a workspace that was read
     requires inputs { AreInputsOf (workspace_said workspace.now) inputs.now }
     requires folders { HasOwnFolders (workspace_said workspace.now) }
-    // the literals of bumped versions and of requirements that follow, and no other byte
-    ensures outputs { IfOk result (λ plan. EachInput (workspace_said workspace.now) inputs.now
-        (HasSetOutputs (target_of target.now) (asked_of selection.now) plan.outputs.items)) }
-    ensures outputs_in_order { IfOk result (λ plan. OutputsInOrder inputs.now plan.outputs.items) }
-    ensures lines { IfOk result (λ plan. HasProject (workspace_said workspace.now) inputs.now
-        (λ p. told_lines plan ≡ lines (target_of target.now) (asked_of selection.now) p)) }
-    ensures changed { IfOk result (λ plan. plan.changed ≡ has_lines plan) }
-    // in what stands after the plan each requirement that points to a bumped crate admits its next version
-    ensures follow { IsReadableTarget (target_of target.now)
-        → All (λ p. IsReadable (parts_of p.version)) workspace.now.packages.items
-        → IfOk result (λ plan. EachInput (workspace_said workspace.now) inputs.now
-        (HasFollowed (target_of target.now) (asked_of selection.now) plan.outputs.items)) }
-    // the first cause that stands in the input, or memory ran out; and where a plan is given none stands
+    // outputs, lines and all else over one project: that of the workspace and the inputs
+    ensures planned { IfOk result (λ plan. HasProject (workspace_said workspace.now) inputs.now
+        (IsPlan (target_of target.now) (asked_of selection.now) inputs.now plan)) }
+    // the first cause that stands in the input, or memory ran out
     ensures refused { IfErr result (IsCauseOf (target_of target.now) (asked_of selection.now)
         (workspace_said workspace.now) inputs.now) }
-    ensures clear { IfOk result (λ plan. HasProject (workspace_said workspace.now) inputs.now
-        (IsClear (target_of target.now) (asked_of selection.now) inputs.now)) }
 {
     selection.check_names(alloc, workspace)?;
     let manifests = manifests_of(alloc, inputs)?;

@@ -8,7 +8,7 @@ ghost use Rattle.edit_document.specs.Items.{place_seen};
 ghost use Rattle.edit_tree.specs.Shown.{tree_of};
 ghost use Rattle.edit_set_version.specs.Entries.{requirement, text_at};
 ghost use Rattle.edit_set_version.specs.Pointed.{led, pointed, pointed_at, pointed_in, pointed_named, pointed_view, pointed_views, pointed_with};
-ghost use Rattle.edit_set_version.specs.SetVersioned.{Bump, followings};
+ghost use Rattle.edit_set_version.specs.SetVersioned.{Bump, dependents};
 
 use edit_base::CargoResult;
 use edit_document::{Document, Item, Place, Step, member_place};
@@ -148,9 +148,9 @@ fn entries_of(alloc: Global, document: &Document) -> CargoResult<Vec<PathEntry>>
 /// has a string `path`.
 pub fn path_entries(alloc: Global, document: &Document) -> CargoResult<Vec<PathEntry>>
     ensures entries { IfOk result (λ es. pointed_views es.items ≡ pointed (tree_of document.now)) }
-    // whatever is bumped, and wherever the manifest stands, only requirements of these follow
-    ensures follow { IfOk result (λ es. (bumps : List Bump) (file : List ℕ)
-        → followings bumps file (tree_of document.now)
+    // whatever is bumped, and wherever the manifest stands, only these depend on a bumped crate
+    ensures dependents { IfOk result (λ es. (bumps : List Bump) (file : List ℕ)
+        → dependents bumps file (tree_of document.now)
         ≡ filter_map (led bumps file) (pointed_views es.items)) }
     ensures refused { IfErr result IsMemory }
 {

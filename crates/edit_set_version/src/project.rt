@@ -3,10 +3,10 @@ ghost use Rattle.std.specs.Prelude.{◌≡◌, Contains, IfErr, IfOk, string_byt
 ghost use Rattle.std.specs.List.{AllZip};
 ghost use Rattle.edit_base.specs.Errors.{IsMemory};
 ghost use Rattle.edit_base.specs.Paths.{IsNormalOf};
-ghost use Rattle.edit_metadata.specs.Inputs.{input_paths, root_manifest};
+ghost use Rattle.edit_metadata.specs.Inputs.{input_paths, path_of, root_manifest};
 ghost use Rattle.edit_metadata.specs.Workspaces.{workspace_said};
 ghost use Rattle.edit_set_version.specs.Crates.{IsReadOf, project_seen};
-ghost use Rattle.edit_set_version.specs.Projects.{AreInputsOf, IsProject, IsTreeAt, path_of};
+ghost use Rattle.edit_set_version.specs.Projects.{AreInputsOf, IsProject, IsTreeAt};
 ghost use Rattle.edit_tree.specs.Shown.{tree_of};
 
 use crate::crates::{Crate, crates_of};

@@ -7,7 +7,7 @@ ghost use Rattle.edit_set_version.specs.Apart.{AreApart};
 ghost use Rattle.edit_set_version.specs.Crates.{bumps_seen, project_seen};
 ghost use Rattle.edit_set_version.specs.Numbers.{TellsFirst};
 ghost use Rattle.edit_set_version.specs.PlanLines.{lines_of, manifests, shared_lines};
-ghost use Rattle.edit_set_version.specs.ToldLines.{HasUnfollowed, line_told, lists_told};
+ghost use Rattle.edit_set_version.specs.ToldLines.{HasUnraised, line_told, lists_told};
 
 use crate::crates::Bump;
 use crate::lines::{Line, workspace_line};
@@ -83,7 +83,7 @@ pub(crate) fn plan_lines(
         (option_map (λ v. parts_of v.now) old.entry) (option_map (λ v. parts_of v.now) new.entry)
         ++ flat_map (lines_of (project_seen project.now)) (bumps_seen bumps.now)) }
     ensures refused { IfErr result (λ e. IsMemory e
-        ⊎ HasUnfollowed (bumps_seen bumps.now) (manifests (project_seen project.now)) e) }
+        ⊎ HasUnraised (bumps_seen bumps.now) (manifests (project_seen project.now)) e) }
 {
     let lists = lists_of(alloc, numbers, project, bumps)?;
     let first = shared_line(alloc, old, new)?;

@@ -29,7 +29,7 @@ pub enum BumpLevel {
     Alpha,
 }
 
-/// What is said of a word that is no level.
+/// The error text for an argument that is no level.
 const LEVELS: &str = "[valid values: major, minor, patch, rc, beta, alpha]";
 
 impl FromStr for BumpLevel {
@@ -68,7 +68,7 @@ impl Default for TargetVersion {
 }
 
 impl TargetVersion {
-    /// The same target on memory of its own.
+    /// A copy of the target on memory of its own.
     pub fn try_clone(&self, _alloc: Global) -> CargoResult<TargetVersion>
         ensures same { IfOk result (λ t. target_of t ≡ target_of self.now) }
         ensures refused { IfErr result IsMemory }
@@ -79,7 +79,7 @@ impl TargetVersion {
         }
     }
 
-    /// The version that follows the current one, `None` where that is the current one itself.
+    /// The next version after the current one, `None` where that is the current one itself.
     ///
     /// A level raises the current version, though `Patch` of a pre-release and `Release` only take its
     /// pre-release away; then the build metadata that is given is set. Refused with 16 to 19 as the

@@ -1,11 +1,11 @@
 //! The lines of each bump, filled while the manifests are walked.
 ghost use Rattle.std.specs.Prelude.{◌≡◌, ◌∷◌, [], All, IfOk, OnOk, map};
 ghost use Rattle.edit_set_version.specs.Crates.{bumps_seen};
-ghost use Rattle.edit_set_version.specs.Followers.{HasRisen, follower_seen};
+ghost use Rattle.edit_set_version.specs.Dependents.{HasRisen, dependent_seen};
 ghost use Rattle.edit_set_version.specs.ToldLines.{bump_told, line_told, lists_told, with_line, with_updates};
 
 use crate::crates::Bump;
-use crate::follow::Follower;
+use crate::dependents::DependentEntry;
 use crate::lines::{Line, bump_line, updating};
 use std::alloc::{AllocError, Global};
 
@@ -36,38 +36,38 @@ fn push_line(lists: &mut Vec<Vec<Line>>, number: usize, line: Line) -> Result<()
     Ok(())
 }
 
-/// Adds the line of a requirement that follows, where it becomes another text, to the list of its bump.
+/// Adds the line of a requirement on a bumped crate, where it becomes another text, to the list of its bump.
 fn push_update(
     alloc: Global,
     name: &str,
-    follower: &Follower<'_>,
+    dependent: &DependentEntry<'_>,
     lists: &mut Vec<Vec<Line>>,
 ) -> Result<(), AllocError>
-    ensures ok { OnOk result (HasRisen follower.now → lists_told lists.new.items
-        ≡ with_updates name.now (follower_seen follower.now ∷ []) 0 (lists_told lists.old.items)) }
+    ensures ok { OnOk result (HasRisen dependent.now → lists_told lists.new.items
+        ≡ with_updates name.now (dependent_seen dependent.now ∷ []) 0 (lists_told lists.old.items)) }
 {
-    match &follower.risen {
+    match &dependent.risen {
         Some(new) => {
-            let line = updating(alloc, name, follower.text.as_str(), new.as_str())?;
-            push_line(lists, follower.bump.number, line)?;
+            let line = updating(alloc, name, dependent.text.as_str(), new.as_str())?;
+            push_line(lists, dependent.bump.number, line)?;
             Ok(())
         }
         None => Ok(()),
     }
 }
 
-/// Adds the lines of the requirements of a manifest that follow, each to the list of its bump.
+/// Adds the lines of the requirements of a manifest on bumped crates, each to the list of its bump.
 pub(crate) fn push_updates(
     alloc: Global,
     name: &str,
-    followers: &[Follower<'_>],
+    dependents: &[DependentEntry<'_>],
     lists: &mut Vec<Vec<Line>>,
 ) -> Result<(), AllocError>
-    ensures ok { OnOk result (All HasRisen followers.now → lists_told lists.new.items
-        ≡ with_updates name.now (map follower_seen followers.now) 0 (lists_told lists.old.items)) }
+    ensures ok { OnOk result (All HasRisen dependents.now → lists_told lists.new.items
+        ≡ with_updates name.now (map dependent_seen dependents.now) 0 (lists_told lists.old.items)) }
 {
-    'followers: for follower in followers {
-        push_update(alloc, name, follower, lists)?;
+    'dependents: for dependent in dependents {
+        push_update(alloc, name, dependent, lists)?;
     }
     Ok(())
 }

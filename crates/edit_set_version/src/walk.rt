@@ -1,16 +1,16 @@
-//! The manifests of a project, walked for the lines of the requirements that follow.
+//! The manifests of a project, walked for the lines of their requirements on bumped crates.
 ghost use Rattle.std.specs.Prelude.{◌≡◌, ◌⊎◌, ◌∷◌, [], List, IfErr, IfOk, OnOk, map};
 ghost use Rattle.edit_base.specs.Errors.{IsMemory};
 ghost use Rattle.edit_set_version.specs.Crates.{bumps_seen, member_of, members_of, project_seen};
 ghost use Rattle.edit_set_version.specs.Numbers.{TellsFirst};
 ghost use Rattle.edit_set_version.specs.PlanLines.{manifests};
-ghost use Rattle.edit_set_version.specs.Projects.{path_of};
+ghost use Rattle.edit_metadata.specs.Inputs.{path_of};
 ghost use Rattle.edit_set_version.specs.SetVersioned.{Bump as Bumped};
-ghost use Rattle.edit_set_version.specs.ToldLines.{HasUnfollowed, bump_told, lists_told, other_manifests, with_manifests};
+ghost use Rattle.edit_set_version.specs.ToldLines.{HasUnraised, bump_told, lists_told, other_manifests, with_manifests};
 ghost use Rattle.edit_tree.specs.Shown.{tree_of};
 
 use crate::crates::{Bump, Crate};
-use crate::follow::followers_of;
+use crate::dependents::dependents_of;
 use crate::lines::Line;
 use crate::numbers::Numbers;
 use crate::project::ProjectRead;
@@ -36,14 +36,14 @@ fn push_manifest(
           tree = tree_of manifest.now.document;
         } ∷ []) 0 (lists_told lists.old.items)) }
     ensures refused { IfErr result (λ e. (bs : List Bumped) → TellsFirst bs numbers.now
-        → HasUnfollowed bs (record {
+        → HasUnraised bs (record {
           name = name.now;
           path = path_of input.now;
           tree = tree_of manifest.now.document;
         } ∷ []) e) }
 {
-    let followers = followers_of(alloc, numbers, input.path.as_str(), &manifest.document)?;
-    push_updates(alloc, name, &followers, lists)?;
+    let dependents = dependents_of(alloc, numbers, input.path.as_str(), &manifest.document)?;
+    push_updates(alloc, name, &dependents, lists)?;
     Ok(())
 }
 
@@ -59,7 +59,7 @@ fn push_member(
         → lists_told lists.new.items ≡ with_manifests bs
         (other_manifests root.now (member_of found.entry ∷ [])) 0 (lists_told lists.old.items)) }
     ensures refused { IfErr result (λ e. (bs : List Bumped) → TellsFirst bs numbers.now
-        → HasUnfollowed bs (other_manifests root.now (member_of found.entry ∷ [])) e) }
+        → HasUnraised bs (other_manifests root.now (member_of found.entry ∷ [])) e) }
 {
     if found.input.path.as_str() == root {
         return Ok(());
@@ -87,7 +87,7 @@ fn push_members(
         → lists_told lists.new.items ≡ with_manifests bs
         (other_manifests root.now (members_of crates.now)) 0 (lists_told lists.old.items)) }
     ensures refused { IfErr result (λ e. (bs : List Bumped) → TellsFirst bs numbers.now
-        → HasUnfollowed bs (other_manifests root.now (members_of crates.now)) e) }
+        → HasUnraised bs (other_manifests root.now (members_of crates.now)) e) }
 {
     'members: for found in crates {
         push_member(alloc, numbers, root, *found, lists)?;
@@ -107,7 +107,7 @@ fn push_project(
         → lists_told lists.new.items
         ≡ with_manifests bs (manifests (project_seen project.now)) 0 (lists_told lists.old.items)) }
     ensures refused { IfErr result (λ e. (bs : List Bumped) → TellsFirst bs numbers.now
-        → HasUnfollowed bs (manifests (project_seen project.now)) e) }
+        → HasUnraised bs (manifests (project_seen project.now)) e) }
 {
     let root = project.root;
     push_manifest(
@@ -141,7 +141,7 @@ pub(crate) fn lists_of(
         ≡ with_manifests (bumps_seen bumps.now) (manifests (project_seen project.now)) 0
         (map (λ b. bump_told b ∷ []) (bumps_seen bumps.now))) }
     ensures refused { IfErr result (λ e. IsMemory e
-        ⊎ HasUnfollowed (bumps_seen bumps.now) (manifests (project_seen project.now)) e) }
+        ⊎ HasUnraised (bumps_seen bumps.now) (manifests (project_seen project.now)) e) }
 {
     let mut lists = bump_lists(alloc, bumps)?;
     push_project(alloc, numbers, project, &mut lists)?;

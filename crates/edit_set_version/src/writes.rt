@@ -7,10 +7,10 @@ ghost use Rattle.edit_document.specs.Items.{place_seen};
 ghost use Rattle.edit_document.specs.Ranges.{edits_seen};
 ghost use Rattle.edit_manifest.specs.Versions.{package_version, shared_version};
 ghost use Rattle.edit_tree.specs.Assertions.{at, key};
-ghost use Rattle.edit_set_version.specs.Followers.{HasRisen, following_of};
+ghost use Rattle.edit_set_version.specs.Dependents.{HasRisen, dependent_of};
 ghost use Rattle.edit_set_version.specs.SetVersioned.{requirement_edit};
 
-use crate::follow::Follower;
+use crate::dependents::DependentEntry;
 use edit_base::CargoResult;
 use edit_document::{Place, Step, member_place};
 use semver::Version;
@@ -19,33 +19,33 @@ use std::alloc::{AllocError, Global};
 /// A place, and the text that is written there.
 pub(crate) type Edit = (Place, String);
 
-/// What a requirement that follows writes, where it becomes another text.
-fn requirement_edit(alloc: Global, follower: &Follower<'_>) -> CargoResult<Option<Edit>>
-    ensures ok { IfOk result (λ o. HasRisen follower.now → edits_seen (option_to_list o)
-        ≡ option_to_list (requirement_edit (following_of follower.now))) }
+/// What is written for a requirement on a bumped crate, where it becomes another text.
+fn requirement_edit(alloc: Global, dependent: &DependentEntry<'_>) -> CargoResult<Option<Edit>>
+    ensures ok { IfOk result (λ o. HasRisen dependent.now → edits_seen (option_to_list o)
+        ≡ option_to_list (requirement_edit (dependent_of dependent.now))) }
     ensures refused { IfErr result IsMemory }
 {
-    match &follower.risen {
+    match &dependent.risen {
         Some(text) => {
             let text = String::from_str(alloc, text.as_str())?;
-            let place = member_place(alloc, &follower.place, "version")?;
+            let place = member_place(alloc, &dependent.place, "version")?;
             Ok(Some((place, text)))
         }
         None => Ok(None),
     }
 }
 
-/// Adds what a requirement that follows writes.
+/// Adds what is written for a requirement on a bumped crate.
 fn push_requirement(
     alloc: Global,
-    follower: &Follower<'_>,
+    dependent: &DependentEntry<'_>,
     edits: &mut Vec<Edit>,
 ) -> CargoResult<()>
-    ensures ok { OnOk result (HasRisen follower.now → edits_seen edits.new.items
-        ≡ edits_seen edits.old.items ++ option_to_list (requirement_edit (following_of follower.now))) }
+    ensures ok { OnOk result (HasRisen dependent.now → edits_seen edits.new.items
+        ≡ edits_seen edits.old.items ++ option_to_list (requirement_edit (dependent_of dependent.now))) }
     ensures refused { IfErr result IsMemory }
 {
-    let edit = requirement_edit(alloc, follower)?;
+    let edit = requirement_edit(alloc, dependent)?;
     match edit {
         Some(edit) => {
             edits.push(edit)?;
@@ -55,18 +55,18 @@ fn push_requirement(
     }
 }
 
-/// Adds what the requirements that follow write, in their order.
+/// Adds what is written for requirements on bumped crates, in their order.
 pub(crate) fn push_requirements(
     alloc: Global,
-    followers: &[Follower<'_>],
+    dependents: &[DependentEntry<'_>],
     edits: &mut Vec<Edit>,
 ) -> CargoResult<()>
-    ensures ok { OnOk result (All HasRisen followers.now → edits_seen edits.new.items
-        ≡ edits_seen edits.old.items ++ filter_map requirement_edit (map following_of followers.now)) }
+    ensures ok { OnOk result (All HasRisen dependents.now → edits_seen edits.new.items
+        ≡ edits_seen edits.old.items ++ filter_map requirement_edit (map dependent_of dependents.now)) }
     ensures refused { IfErr result IsMemory }
 {
-    'followers: for follower in followers {
-        push_requirement(alloc, follower, edits)?;
+    'dependents: for dependent in dependents {
+        push_requirement(alloc, dependent, edits)?;
     }
     Ok(())
 }

@@ -6,7 +6,7 @@ use Rattle.std.proofs.lemmas.List.Kept.{AllPairs-cons, AllPairs-filter}
 use Rattle.edit_metadata.specs.declared.input.Input.{Input}
 use Rattle.edit_report.specs.Applied.{HaveDistinctPaths, path_of}
 use Rattle.edit_report.specs.declared.output.Output.{Output}
-use Rattle.edit_steps.specs.Workspaces.{HaveOwnPaths}
+use Rattle.edit_metadata.specs.Inputs.{HaveOwnPaths}
 
 -- no two of them are alike
 abbrev pub Differ : List (List ℕ) → Type 0

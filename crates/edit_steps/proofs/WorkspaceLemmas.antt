@@ -8,7 +8,7 @@ use Rattle.edit_base.specs.Paths.{IsFolderOf, IsNormalOf}
 use Rattle.edit_base.specs.declared.errors.DeviceCall.TheVariants as call
 use Rattle.edit_base.specs.declared.errors.Error.{Error}
 use Rattle.edit_metadata.specs.Folders.{IsManifestFolder}
-use Rattle.edit_metadata.specs.Inputs.{AreInputs, IsInputOf, IsNoInput, IsReadFrom, RustAsked, input_paths, manifest_of, manifests}
+use Rattle.edit_metadata.specs.Inputs.{AreInputs, HaveOwnPaths, IsInputOf, IsNoInput, IsReadFrom, RustAsked, input_paths, manifest_of, manifests}
 use Rattle.edit_metadata.specs.Inputs.AreInputs.{of_members, with_root}
 use Rattle.edit_metadata.specs.Metadata.{PackageSaid, WorkspaceSaid, members}
 use Rattle.edit_metadata.specs.Workspaces.{HasOwnFolders, IsNoWorkspace}
@@ -16,7 +16,7 @@ use Rattle.edit_metadata.specs.declared.input.Input.{Input}
 use Rattle.edit_metadata.proofs.InputLemmas.{no-input-later}
 use Rattle.edit_store.specs.Store.{Files, OnlyReads, RefusesCall, StoreView}
 use Rattle.edit_steps.specs.Absolute.{IsAbsoluteOf}
-use Rattle.edit_steps.specs.Workspaces.{AreMetadataRead, HasNoMetadata, HasNoWorkspace, HaveOwnPaths, IsUnsaid, IsWorkspaceRead}
+use Rattle.edit_steps.specs.Workspaces.{AreMetadataRead, HasNoMetadata, HasNoWorkspace, IsUnsaid, IsWorkspaceRead}
 use Rattle.edit_steps.proofs.DistinctPaths.{Differ, first_differs, none_differ, others_differ}
 use Rattle.edit_steps.proofs.NormalPaths.{one_folder, one_normal}
 use Rattle.edit_steps.proofs.ReadLemmas.{refused_before}

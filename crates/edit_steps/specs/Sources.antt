@@ -6,7 +6,8 @@ use Rattle.edit_metadata.specs.declared.workspace.Workspace.{Workspace}
 use Rattle.edit_sources.specs.FileIndex.{HoldsLines}
 use Rattle.edit_sources.specs.declared.file_index.FileIndex.{FileIndex}
 use Rattle.edit_steps.specs.Absolute.{IsAbsoluteOf}
-use Rattle.edit_steps.specs.Workspaces.{HaveOwnPaths, IsWorkspaceRead}
+use Rattle.edit_metadata.specs.Inputs.{HaveOwnPaths}
+use Rattle.edit_steps.specs.Workspaces.{IsWorkspaceRead}
 use Rattle.edit_store.specs.Store.{Files}
 use Rattle.edit_tree.specs.Shown.{Shown}
 use Rattle.edit_steps.specs.Asking.{Asking}

@@ -1,5 +1,5 @@
 -- The workspace that a command is for, read from a file of metadata and from manifests (own).
-use Rattle.std.specs.Prelude.{◌≡◌, ◌≢◌, ◌⊎◌, ℕ, List, All, AllPairs, Option, Some, None, string_bytes}
+use Rattle.std.specs.Prelude.{◌≡◌, ◌⊎◌, ℕ, List, All, Option, Some, None}
 use Rattle.edit_base.specs.declared.errors.Error.{Error}
 use Rattle.edit_base.specs.declared.errors.Error.TheVariants.{NoManifest, NoPath}
 use Rattle.edit_metadata.specs.Inputs.{AreInputs, IsReadFrom, LackFile, RustAsked, manifests}
@@ -23,10 +23,6 @@ pub record IsWorkspaceRead (files : Files) (current named : List ℕ) (asked : R
   pub metadata : AreMetadataRead files current named w
   pub are : AreInputs asked w inputs
   pub bytes : All (IsReadFrom files) inputs
-
--- no two inputs have one path
-abbrev pub HaveOwnPaths : List Input → Type 0
-HaveOwnPaths inputs = AllPairs (λ a b. string_bytes a.path ≢ string_bytes b.path) inputs
 
 -- why no metadata are read: there is no file, or its bytes say no workspace
 abbrev pub IsUnsaid : Option (List ℕ) → Error → Type 0

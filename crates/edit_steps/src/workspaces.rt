@@ -1,14 +1,14 @@
 //! The workspace that a command is for.
 ghost use Rattle.std.specs.Prelude.{◌≡◌, ◌<◌, ◌^◌, ◌⊎◌, All, IfErr, IfOk, option_map, true};
 ghost use Rattle.edit_base.specs.declared.errors.DeviceCall.TheVariants as call;
-ghost use Rattle.edit_metadata.specs.Inputs.{AreInputs};
+ghost use Rattle.edit_metadata.specs.Inputs.{AreInputs, HaveOwnPaths};
 ghost use Rattle.edit_metadata.specs.Workspaces.{HasOwnFolders, workspace_said};
 ghost use Rattle.edit_store.specs.Store.{OnlyReads, RefusesCall};
 ghost use Rattle.edit_version.specs.Laws.{IsReadable};
 ghost use Rattle.edit_version.specs.RustVersions.{numbers_of};
 ghost use Rattle.semver.specs.Identifiers.{parts_of};
 ghost use Rattle.edit_steps.specs.Faults.{CountsFault};
-ghost use Rattle.edit_steps.specs.Workspaces.{AreMetadataRead, HasNoMetadata, HasNoWorkspace, HaveOwnPaths, IsWorkspaceRead};
+ghost use Rattle.edit_steps.specs.Workspaces.{AreMetadataRead, HasNoMetadata, HasNoWorkspace, IsWorkspaceRead};
 
 use crate::metadata_fault::at_metadata;
 use crate::paths::absolute;

@@ -3,13 +3,12 @@ ghost use Rattle.std.specs.Prelude.{◌≡◌, ◌⊎◌, ◌≤◌, ◌&&◌, l
 ghost use Rattle.std.specs.List.{filter_map};
 ghost use Rattle.edit_base.specs.Errors.{IsMemory};
 ghost use Rattle.edit_base.specs.declared.errors.Error.TheVariants.{EditRefused};
-ghost use Rattle.edit_syntax.specs.Grammar.{Text};
 ghost use Rattle.edit_tree.specs.EditBytes.{is_one_statement};
+ghost use Rattle.edit_document.specs.Forms.{Becomes, IfDocument};
 ghost use Rattle.edit_document.specs.Items.{place_seen};
 ghost use Rattle.edit_document.specs.ItemViews.{view_of};
 ghost use Rattle.edit_document.specs.NewItemViews.{value_seen};
 ghost use Rattle.edit_tree.specs.Shown.{tree_of};
-ghost use Rattle.edit_tree.specs.Supported.{IsManifest};
 ghost use Rattle.edit_update.specs.EndViews.{ends_seen};
 ghost use Rattle.edit_update.specs.EntryUpdates.{is_slight, removal_of, removes, write_of, writes};
 ghost use Rattle.edit_record.specs.RecordViews.{record_view};
@@ -31,12 +30,10 @@ fn write_member(
     value: &NewValue,
 ) -> CargoResult<()>
     requires room { length entry.now ≤ 70 }
-    ensures bytes { IfOk result (λ _. (form : Text) → IsManifest document.old.bytes form
-        → document.new.bytes ≡ changed_text (place_seen entry.now)
-        (writes name.now (value_seen value.now)) form) }
-    ensures tree { IfOk result (λ _. (form : Text) → IsManifest document.old.bytes form
-        → HasChanged (place_seen entry.now) (writes name.now (value_seen value.now)) form
-        (tree_of document.old) (tree_of document.new)) }
+    ensures bytes { IfOk result (λ _. Becomes document.old.bytes (changed_text (place_seen entry.now)
+        (writes name.now (value_seen value.now))) document.new.bytes) }
+    ensures tree { IfOk result (λ _. IfDocument document.old.bytes (λ form. HasChanged (place_seen entry.now)
+        (writes name.now (value_seen value.now)) form (tree_of document.old) (tree_of document.new))) }
     ensures refused { IfErr result (λ e. IsMemory e ⊎ ((e ≡ EditRefused) × ChangeFails
         (place_seen entry.now) (writes name.now (value_seen value.now)) document.old.bytes)) }
 {
@@ -58,11 +55,10 @@ fn remove_member(
     entry: &[Step],
     name: &str,
 ) -> CargoResult<()>
-    ensures bytes { IfOk result (λ _. (form : Text) → IsManifest document.old.bytes form
-        → document.new.bytes ≡ changed_text (place_seen entry.now) (removes name.now) form) }
-    ensures tree { IfOk result (λ _. (form : Text) → IsManifest document.old.bytes form
-        → HasChanged (place_seen entry.now) (removes name.now) form (tree_of document.old)
-        (tree_of document.new)) }
+    ensures bytes { IfOk result (λ _. Becomes document.old.bytes (changed_text (place_seen entry.now)
+        (removes name.now)) document.new.bytes) }
+    ensures tree { IfOk result (λ _. IfDocument document.old.bytes (λ form. HasChanged (place_seen entry.now)
+        (removes name.now) form (tree_of document.old) (tree_of document.new))) }
     ensures refused { IfErr result (λ e. IsMemory e ⊎ ((e ≡ EditRefused)
         × ChangeFails (place_seen entry.now) (removes name.now) document.old.bytes)) }
 {
@@ -129,8 +125,8 @@ fn is_slight(entry: Item<'_>) -> bool
 /// Whether a new entry replaces the one at a place: it is a string or a table of one member, and one pair
 /// of a key and a value alone names it.
 fn is_replaced(document: &Document, place: &[Step], entry: Item<'_>) -> bool
-    ensures { (form : Text) → IsManifest document.now.bytes form
-        → result ≡ (is_one_statement form (place_seen place.now) && is_slight (Some (view_of entry.entry))) }
+    ensures { IfDocument document.now.bytes (λ form. result ≡ (is_one_statement form
+        (place_seen place.now) && is_slight (Some (view_of entry.entry)))) }
 {
     document.one_statement(place) && is_slight(entry)
 }

@@ -16,7 +16,8 @@ use Rattle.edit_report.specs.declared.output.Output.{Output}
 use Rattle.edit_sources.specs.declared.config.Config.{Config}
 use Rattle.edit_version.specs.RustVersions.{numbers_of}
 use Rattle.edit_upgrade.specs.Drafts.{ArePlanned, IsPathAmong, IsPlanned, lines_on, outputs_on, told_on}
-use Rattle.edit_upgrade.specs.Inputs.{below, output_path, path_of}
+use Rattle.edit_metadata.specs.Inputs.{path_of}
+use Rattle.edit_upgrade.specs.Inputs.{below, output_path}
 use Rattle.edit_upgrade.specs.Lists.{Told}
 use Rattle.edit_upgrade.specs.Looked.{Stays}
 use Rattle.edit_upgrade.specs.Looks.{Kept}

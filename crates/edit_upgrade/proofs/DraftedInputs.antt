@@ -11,7 +11,8 @@ use Rattle.edit_version.specs.RustVersions.{numbers_of}
 use Rattle.edit_upgrade.specs.Caches.{CacheView}
 use Rattle.edit_upgrade.specs.Drafts.{ArePlanned, IsDraft, lines_on}
 use Rattle.edit_upgrade.specs.Headline.{IsSettled, KeepsFloor, LatestIsNotLess, Narrows, NeedsAsBefore, Reaches}
-use Rattle.edit_upgrade.specs.Inputs.{EachInput, Setting, below, outputs_at, path_of, rows_of, setting_of}
+use Rattle.edit_metadata.specs.Inputs.{path_of}
+use Rattle.edit_upgrade.specs.Inputs.{EachInput, Setting, below, outputs_at, rows_of, setting_of}
 use Rattle.edit_upgrade.specs.Lines.{line_of}
 use Rattle.edit_upgrade.specs.Lists.{Tells, warning_view}
 use Rattle.edit_upgrade.specs.Looks.{AreLooks}

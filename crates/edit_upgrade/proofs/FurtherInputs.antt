@@ -14,7 +14,8 @@ use Rattle.edit_sources.specs.Index.{Outcomes, SameOutcomes}
 use Rattle.edit_sources.specs.declared.config.Config.{Config}
 use Rattle.edit_upgrade.specs.Caches.{CacheView, LeavesCache}
 use Rattle.edit_upgrade.specs.Drafts.{AddsInput, AreGiven, ArePlanned, IsDraft, IsPathAmong}
-use Rattle.edit_upgrade.specs.Inputs.{HaveDistinctPaths, output_path, path_of}
+use Rattle.edit_metadata.specs.Inputs.{HaveOwnPaths, path_of}
+use Rattle.edit_upgrade.specs.Inputs.{output_path}
 use Rattle.edit_upgrade.specs.Lines.{line_of}
 use Rattle.edit_upgrade.specs.Lists.{Told, warning_view}
 use Rattle.edit_upgrade.specs.Looked.{AreKept, Stays}
@@ -162,7 +163,7 @@ module _ (o : Options) (xs : List Input) (cs : List (Vec Config)) (x : Input) (o
 -- ---- the next of the inputs
 
 -- its path is none of an earlier one
-path-new : (inputs : List Input) (k : ℕ) (x : Input) → HaveDistinctPaths inputs → k < length inputs
+path-new : (inputs : List Input) (k : ℕ) (x : Input) → HaveOwnPaths inputs → k < length inputs
     → slice_get inputs k ≡ Some x
     → (j : ℕ) (y : Input) → slice_get (take k inputs) j ≡ Some y → path_of y ≢ path_of x
 path-new inputs k x apart low at j y e p =
@@ -192,7 +193,7 @@ input-at low long is own_is here_is =
 -- the draft with it
 pub draft-next : (o : Options) {inputs : List Input} {configs : List (Vec Config)} {k : ℕ} {x : Input}
     {own : Vec Config} {here : List Config} (was now next : CacheView) (d e : Draft)
-    → IsInputAt inputs configs k x own here → HaveDistinctPaths inputs
+    → IsInputAt inputs configs k x own here → HaveOwnPaths inputs
     → IsDraft o (take k inputs) (take k configs) was.gives was.kept now.kept d
     → SameOutcomes was.gives now.gives → Stays now.kept next.kept
     → AddsInput k o x here now.gives now.kept next.kept d e → AreKept (holds_pair e.books.pairs) next.kept

@@ -11,7 +11,8 @@ use Rattle.edit_sources.specs.Index.{Outcomes}
 use Rattle.edit_sources.specs.declared.config.Config.{Config}
 use Rattle.edit_upgrade.specs.Causes.{FirstInput, HasBadEntry, IsEntryCause}
 use Rattle.edit_upgrade.specs.Drafts.{outputs_on}
-use Rattle.edit_upgrade.specs.Inputs.{EachInput, HaveDistinctPaths, OutputsInOrder, Setting, output_path, outputs_at, path_of, setting_of}
+use Rattle.edit_metadata.specs.Inputs.{HaveOwnPaths, path_of}
+use Rattle.edit_upgrade.specs.Inputs.{EachInput, OutputsInOrder, Setting, output_path, outputs_at, setting_of}
 use Rattle.edit_upgrade.specs.Looks.{Kept}
 use Rattle.edit_upgrade.specs.Upgraded.{IsNeeded, IsNeededBy}
 use Rattle.edit_upgrade.specs.declared.decision.options.Options.{Options}
@@ -19,10 +20,10 @@ use Rattle.edit_upgrade.specs.declared.upgrade.UpgradePlan.{UpgradePlan}
 use Rattle.edit_upgrade.proofs.Bytes.{same-refl}
 
 -- one input has a path of its own
-pub one-distinct : (inputs : List Input) (x : Input) → inputs ≡ x ∷ [] → HaveDistinctPaths inputs
+pub one-distinct : (inputs : List Input) (x : Input) → inputs ≡ x ∷ [] → HaveOwnPaths inputs
 one-distinct inputs x e =
-    let one : HaveDistinctPaths (x ∷ []) = λ i j d below within. absurd (omega (arith, below, within)) in
-    subst (λ (xs : List Input). HaveDistinctPaths xs) (sym e) one
+    let one : HaveOwnPaths (x ∷ []) = λ i j d below within. absurd (omega (arith, below, within)) in
+    subst (λ (xs : List Input). HaveOwnPaths xs) (sym e) one
 
 same-some : {A : Type 0} (x y : A) → Some x ≡ Some y → x ≡ y
 same-some x y h = cc h

@@ -13,7 +13,8 @@ use Rattle.edit_sources.specs.Index.{Outcomes}
 use Rattle.edit_sources.specs.declared.config.Config.{Config}
 use Rattle.edit_version.specs.RustVersions.{numbers_of}
 use Rattle.edit_upgrade.specs.Causes.{IsPassed}
-use Rattle.edit_upgrade.specs.Inputs.{below, output_path, path_of}
+use Rattle.edit_metadata.specs.Inputs.{path_of}
+use Rattle.edit_upgrade.specs.Inputs.{below, output_path}
 use Rattle.edit_upgrade.specs.Lines.{line_of}
 use Rattle.edit_upgrade.specs.Lists.{Told, warning_view}
 use Rattle.edit_upgrade.specs.Looked.{AreKept, IsSoFar}

@@ -6,7 +6,8 @@ use Rattle.semver.specs.Parse.{Parts, req_of, version_parts}
 use Rattle.edit_version.specs.Laws.{Admits, precedence}
 use Rattle.edit_sources.specs.declared.config.Config.{Config}
 use Rattle.edit_upgrade.specs.Floors.{HasFloor}
-use Rattle.edit_upgrade.specs.Inputs.{Setting, outputs_at, path_of}
+use Rattle.edit_metadata.specs.Inputs.{path_of}
+use Rattle.edit_upgrade.specs.Inputs.{Setting, outputs_at}
 use Rattle.edit_upgrade.specs.Lines.{line_of}
 use Rattle.edit_upgrade.specs.Outputs.{HasOutputs}
 use Rattle.edit_upgrade.specs.Rows.{Line}

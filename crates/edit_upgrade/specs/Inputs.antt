@@ -1,13 +1,14 @@
 -- What is said of a plan for each of its inputs, with what the rows of the input rest on.
-use Rattle.std.specs.Prelude.{◌≡◌, ◌≢◌, ◌==◌, ℕ, zero, suc, List, [], ◌∷◌, ◌++◌, IfSome, Option, filter, length, map, not, option_map, slice_get, string_bytes}
+use Rattle.std.specs.Prelude.{◌≡◌, ◌==◌, ℕ, zero, suc, List, [], ◌∷◌, ◌++◌, IfSome, Option, filter, length, map, not, option_map, slice_get, string_bytes}
 use Rattle.std.specs.Global.{Vec}
-use Rattle.std.specs.List.{AllPairs, flat_map}
+use Rattle.std.specs.List.{flat_map}
 use Rattle.std.specs.Str.{bytes_eq}
 use Rattle.edit_version.specs.RustVersions.{Numbers, numbers_of}
 use Rattle.edit_sources.specs.declared.config.Config.{Config}
 use Rattle.edit_upgrade.specs.Lines.{line_of}
 use Rattle.edit_upgrade.specs.Lists.{Told, warning_view}
 use Rattle.edit_upgrade.specs.Rows.{Line}
+use Rattle.edit_metadata.specs.Inputs.{path_of}
 use Rattle.edit_metadata.specs.declared.input.Input.{Input}
 use Rattle.edit_upgrade.specs.declared.upgrade.Look.{Look}
 use Rattle.edit_upgrade.specs.declared.decision.options.Options.{Options}
@@ -62,10 +63,6 @@ abbrev pub WarningsInOrder : List Input → UpgradePlan → Type 0
 WarningsInOrder inputs p =
     map warning_view p.warnings.items ≡ flat_map (λ i. warnings_of i p) (below (length inputs))
 
--- the path of an input
-abbrev pub path_of : Input → List ℕ
-path_of input = string_bytes input.path
-
 -- the path of an output
 abbrev pub output_path : Output → List ℕ
 output_path output = string_bytes output.path
@@ -79,7 +76,3 @@ abbrev pub OutputsInOrder : List Input → UpgradePlan → Type 0
 OutputsInOrder inputs p =
     map output_path p.outputs.items
     ≡ filter (λ path. not (length (outputs_at path p) == 0)) (map path_of inputs)
-
--- no two of the inputs have one path
-abbrev pub HaveDistinctPaths : List Input → Type 0
-HaveDistinctPaths inputs = AllPairs (λ a b. path_of a ≢ path_of b) inputs

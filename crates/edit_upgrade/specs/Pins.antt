@@ -1,6 +1,6 @@
 -- The requirements that words select with a precise version (own, after cargo-edit; the operators are those
 -- of Cargo reference, "Specifying Dependencies").
-use Rattle.std.specs.Prelude.{◌≡◌, ℕ, List, [], ◌++◌, ◌∷◌, Bool, true, false, if◌then◌else◌, Option, Some, None, All, option_and_then, option_map}
+use Rattle.std.specs.Prelude.{ℕ, List, [], Bool, true, false, if◌then◌else◌, Option, Some, None, option_and_then, option_map}
 use Rattle.std.specs.BTreeMap.{insert_entry}
 use Rattle.std.specs.Cmp.Lexicographic.{slice_cmp}
 use Rattle.std.specs.List.{filter_map, fold}
@@ -10,8 +10,7 @@ use Rattle.std.specs.Str.{bytes_eq}
 use Rattle.semver.specs.Parse.{Held, Parts}
 use Rattle.semver.specs.declared.Op.{Op}
 use Rattle.semver.specs.declared.Op.TheVariants as op
-use Rattle.edit_base.specs.declared.errors.Error.{Error}
-use Rattle.edit_version.specs.CrateWords.{IsReadOrAbsent, IsRefusedWord, unfit, word_name, word_requirement}
+use Rattle.edit_version.specs.CrateWords.{word_name, word_requirement}
 use Rattle.edit_version.specs.Greatest.{advance}
 use Rattle.edit_version.specs.Requirement.{requirement_read}
 use Rattle.edit_version.specs.VersionOrder.{full_order}
@@ -70,17 +69,3 @@ pins_of words = fold with_word [] words
 -- the pin of a name, where it has one
 abbrev pub pin_at : List (List ℕ × Option Pin) → List ℕ → Option Pin
 pin_at pins name = option_and_then (λ pin. pin) (lookup (bytes_eq name) pins)
-
--- a word is read: its name is fit, and so is its requirement, if it has one
-pub record IsRead (word : List ℕ) : Type 0 where
-  pub fit : unfit (word_name word) ≡ []
-  pub readable : IsReadOrAbsent (word_requirement word)
-
--- the first word that is not read, with its refusal
-pub record IsFirstRefused (words : List (List ℕ)) (e : Error) : Type 0 where
-  pub before : List (List ℕ)
-  pub word : List ℕ
-  pub after : List (List ℕ)
-  pub split : words ≡ before ++ word ∷ after
-  pub read : All IsRead before
-  pub refused : IsRefusedWord word e

@@ -9,7 +9,8 @@ use Rattle.edit_manifest.specs.Entries.{entries}
 use Rattle.edit_sources.specs.declared.config.Config.{Config}
 use Rattle.url.specs.Parts as url
 use Rattle.url.specs.Parts.{serialize}
-use Rattle.edit_upgrade.specs.Inputs.{Setting, path_of, outputs_at, rows_of, warnings_of}
+use Rattle.edit_metadata.specs.Inputs.{path_of}
+use Rattle.edit_upgrade.specs.Inputs.{Setting, outputs_at, rows_of, warnings_of}
 use Rattle.edit_upgrade.specs.Lists.{AreWarnings, Told}
 use Rattle.edit_upgrade.specs.Looks.{told}
 use Rattle.edit_upgrade.specs.Outputs.{HasOutputs}

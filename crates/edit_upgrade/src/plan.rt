@@ -8,7 +8,8 @@ ghost use Rattle.edit_cache.specs.IndexCache.{index_of};
 ghost use Rattle.edit_upgrade.specs.Caches.{LeavesCache, StopsDocuments, StopsInputs, StopsManifest, cache_view};
 ghost use Rattle.edit_upgrade.specs.Drafts.{AddsInput, AreGiven, IsDraft};
 ghost use Rattle.edit_upgrade.specs.Headline.{IsSettled, LatestIsNotLess, Narrows, NeedsAsBefore, NeverLowers, Reaches};
-ghost use Rattle.edit_upgrade.specs.Inputs.{EachInput, HaveDistinctPaths, OutputsInOrder, RowsInOrder, WarningsInOrder};
+ghost use Rattle.edit_metadata.specs.Inputs.{HaveOwnPaths};
+ghost use Rattle.edit_upgrade.specs.Inputs.{EachInput, OutputsInOrder, RowsInOrder, WarningsInOrder};
 ghost use Rattle.edit_upgrade.specs.Lines.{line_of};
 ghost use Rattle.edit_upgrade.specs.Lists.{Tells};
 ghost use Rattle.edit_upgrade.specs.Looked.{AreKept};
@@ -94,7 +95,7 @@ fn drafted<I: Index>(
 ) -> CargoResult<Draft>
     requires documents { AreGiven inputs.now documents.now }
     requires configurations { length configs.now ≡ length inputs.now }
-    requires paths { HaveDistinctPaths inputs.now }
+    requires paths { HaveOwnPaths inputs.now }
     ensures drafted { IfOk result (IsDraft asked.entry.options.now inputs.now configs.now
         (I.view (index_of index.old)).gives
         (kept_by index.old) (kept_by index.new)) }
@@ -129,7 +130,7 @@ fn plan_all<I: Index>(
 ) -> CargoResult<UpgradePlan>
     requires documents { AreGiven inputs.now documents.now }
     requires configurations { length configs.now ≡ length inputs.now }
-    requires paths { HaveDistinctPaths inputs.now }
+    requires paths { HaveOwnPaths inputs.now }
     ensures plan { IfOk result (IsPlan options.now inputs.now configs.now
         (cache_view I.view index.old) (cache_view I.view index.new)) }
     ensures left { LeavesCache (IsNeeded inputs.now configs.now)
@@ -163,7 +164,7 @@ pub fn plan_documents<I: Index>(
 ) -> CargoResult<UpgradePlan>
     requires documents { map (λ d. d.bytes) documents.now ≡ map (λ input. input.bytes.items) inputs.now }
     requires configurations { length configs.now ≡ length inputs.now }
-    requires paths { HaveDistinctPaths inputs.now }
+    requires paths { HaveOwnPaths inputs.now }
     // each promise that `plan_upgrade` makes on its plan, by the same name
     ensures plan { IfOk result (IsPlan options.now inputs.now configs.now
         (cache_view I.view index.old) (cache_view I.view index.new)) }
@@ -193,7 +194,7 @@ pub fn plan_upgrade<I: Index>(
     index: &mut IndexCache<I>,
 ) -> CargoResult<UpgradePlan>
     requires configurations { length configs.now ≡ length inputs.now }
-    requires paths { HaveDistinctPaths inputs.now }
+    requires paths { HaveOwnPaths inputs.now }
     // each seen entry has one row: the decision over the greatest admissible versions that the looks tell of
     ensures rows { IfOk result (EachInput options.now inputs.now configs.now HasItsRows) }
     ensures rows_in_order { IfOk result (RowsInOrder inputs.now) }

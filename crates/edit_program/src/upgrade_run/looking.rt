@@ -4,7 +4,7 @@ ghost use Rattle.std.specs.Io.KnownBytes.{Appends};
 ghost use Rattle.edit_base.specs.Errors.{IsMemory};
 ghost use Rattle.edit_program.specs.NoIndex.{no_view};
 ghost use Rattle.edit_sources.specs.Configured.{given};
-ghost use Rattle.edit_steps.specs.Workspaces.{HaveOwnPaths};
+ghost use Rattle.edit_metadata.specs.Inputs.{HaveOwnPaths};
 ghost use Rattle.edit_store.specs.Store.{OnlyReads};
 ghost use Rattle.edit_steps.specs.Sources.{AreDocuments};
 ghost use Rattle.edit_program.specs.UpgradeCauses.{IsLooksCause};

@@ -1,7 +1,7 @@
 //! The plan over what was read.
 ghost use Rattle.std.specs.Prelude.{◌≡◌, ◌⊎◌, IfErr, IfOk, length};
 ghost use Rattle.edit_base.specs.Errors.{IsMemory};
-ghost use Rattle.edit_steps.specs.Workspaces.{HaveOwnPaths};
+ghost use Rattle.edit_metadata.specs.Inputs.{HaveOwnPaths};
 ghost use Rattle.edit_steps.specs.Sources.{AreDocuments};
 ghost use Rattle.edit_program.specs.Planned.{IsPlanCause, IsPlanned, index_view};
 

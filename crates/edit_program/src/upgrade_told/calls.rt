@@ -7,7 +7,7 @@ ghost use Rattle.edit_base.specs.declared.errors.Error.TheVariants.{Output};
 ghost use Rattle.edit_lock.specs.Views.{packages_seen};
 ghost use Rattle.edit_metadata.specs.Workspaces.{workspace_said};
 ghost use Rattle.edit_upgrade.specs.Asked.{asked_by, is_due};
-ghost use Rattle.edit_upgrade.specs.Pins.{IsFirstRefused};
+ghost use Rattle.edit_upgrade.specs.WordCauses.{StopsAtWord};
 ghost use Rattle.edit_upgrade.specs.Views.{calls_seen, words_seen};
 ghost use Rattle.edit_program.specs.Delivery.{calls_against, calls_of};
 ghost use Rattle.edit_program.specs.Said.{run, runs};
@@ -31,7 +31,7 @@ pub(crate) fn calls_of(
     ensures calls { IfOk result (λ v. calls_seen v.items
         ≡ calls_of plan.now options.now (option_map (λ w. workspace_said w.now) workspace.entry)) }
     ensures refused { IfErr result (λ e. IsMemory e ⊎ ((is_due (asked_by plan.now options.now) ≡ true)
-        × IsFirstRefused (map string_bytes options.now.package.items) e)) }
+        × StopsAtWord (map string_bytes options.now.package.items) e)) }
 {
     match workspace {
         Some(workspace) => update_calls(alloc, plan, workspace, options),

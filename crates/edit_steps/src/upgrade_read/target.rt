@@ -1,6 +1,6 @@
 //! The manifests that are planned for.
 ghost use Rattle.std.specs.Prelude.{◌≡◌, ◌⊎◌, ◌∷◌, [], None, IfErr, IfOk, true};
-ghost use Rattle.edit_steps.specs.Workspaces.{HaveOwnPaths};
+ghost use Rattle.edit_metadata.specs.Inputs.{HaveOwnPaths};
 ghost use Rattle.edit_store.specs.Store.{OnlyReads};
 ghost use Rattle.edit_steps.specs.Asking.{asking_of};
 ghost use Rattle.edit_steps.specs.Causes.{HasNoTarget, IsFailure};

@@ -5,7 +5,9 @@ ghost use Rattle.edit_base.specs.Errors.{IsMemory};
 ghost use Rattle.edit_version.specs.Greatest.{pick};
 ghost use Rattle.edit_version.specs.VersionOrder.{full_order};
 ghost use Rattle.edit_upgrade.specs.PinViews.{pin_seen, pins_seen};
-ghost use Rattle.edit_upgrade.specs.Pins.{IsFirstRefused, IsRead, is_strict, named_version, pin_at, pin_of, pins_of, precise_version};
+ghost use Rattle.edit_upgrade.specs.Words.{IsWord};
+ghost use Rattle.edit_upgrade.specs.WordCauses.{StopsAtWord};
+ghost use Rattle.edit_upgrade.specs.Pins.{is_strict, named_version, pin_at, pin_of, pins_of, precise_version};
 ghost use Rattle.semver.specs.Identifiers.{comparator_view, parts_of};
 
 use edit_base::CargoResult;
@@ -123,9 +125,9 @@ fn maybe_pin(alloc: Global, text: Option<&String>) -> CargoResult<Option<Pin>>
 /// Refused where a word is.
 pub(crate) fn read_pins(alloc: Global, words: &[String]) -> CargoResult<Pins>
     ensures pins { IfOk result (λ m. pins_seen m ≡ pins_of (map string_bytes words.now)) }
-    ensures read { IfOk result (λ m. All IsRead (map string_bytes words.now)) }
+    ensures read { IfOk result (λ m. All IsWord (map string_bytes words.now)) }
     ensures refused { IfErr result
-        (λ e. IsMemory e ⊎ IsFirstRefused (map string_bytes words.now) e) }
+        (λ e. IsMemory e ⊎ StopsAtWord (map string_bytes words.now) e) }
 {
     let mut pins = BTreeMap::new(alloc);
     'words: for word in words {

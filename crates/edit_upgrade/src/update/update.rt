@@ -5,7 +5,9 @@ ghost use Rattle.edit_metadata.specs.Workspaces.{packages_said, workspace_said};
 ghost use Rattle.edit_upgrade.specs.Asked.{asked_by, asks_repositories, is_due, is_recursive};
 ghost use Rattle.edit_upgrade.specs.Groups.{nows};
 ghost use Rattle.edit_upgrade.specs.PinViews.{pins_seen};
-ghost use Rattle.edit_upgrade.specs.Pins.{IsFirstRefused, IsRead, pins_of};
+ghost use Rattle.edit_upgrade.specs.Words.{IsWord};
+ghost use Rattle.edit_upgrade.specs.WordCauses.{StopsAtWord};
+ghost use Rattle.edit_upgrade.specs.Pins.{pins_of};
 ghost use Rattle.edit_upgrade.specs.UpdateCalls.{aggressive_calls, calls_for, git_calls, packages_words, recursive_calls, unpinned, update_calls};
 ghost use Rattle.edit_upgrade.specs.Views.{calls_seen, words_seen};
 
@@ -153,11 +155,11 @@ pub fn update_calls(
         ≡ update_calls (asked_by plan.now options.now) (workspace_said workspace.now)) }
     // where calls are due, each word is read
     ensures words { IfOk result (λ v. is_due (asked_by plan.now options.now) ≡ true
-        → All IsRead (map string_bytes options.now.package.items)) }
+        → All IsWord (map string_bytes options.now.package.items)) }
     // memory ran out, or calls are due and a word is refused
     ensures refused { IfErr result (λ e. IsMemory e
         ⊎ ((is_due (asked_by plan.now options.now) ≡ true)
-        × IsFirstRefused (map string_bytes options.now.package.items) e)) }
+        × StopsAtWord (map string_bytes options.now.package.items) e)) }
 {
     if !is_due(plan, options) {
         return Ok(Vec::new(alloc));

@@ -8,7 +8,7 @@ use Rattle.edit_version.specs.Laws.{IsReadable}
 use Rattle.edit_set_version.specs.Bumps.{bump, target_of}
 use Rattle.edit_set_version.specs.Chosen.{Member}
 use Rattle.edit_set_version.specs.Crates.{bumps_seen, member_of, members_of}
-use Rattle.edit_set_version.specs.Follows.{AreVersions}
+use Rattle.edit_set_version.specs.Admitted.{AreVersions}
 use Rattle.edit_set_version.specs.PlanRefused.{IsBumpable}
 use Rattle.edit_set_version.specs.Selections.{asked_of}
 use Rattle.edit_set_version.specs.SetVersioned.{bump_of}

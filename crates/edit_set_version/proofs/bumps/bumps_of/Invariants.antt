@@ -4,7 +4,7 @@ use Rattle.std.specs.List.{filter_map}
 use Rattle.edit_version.specs.Laws.{IsReadable}
 use Rattle.edit_set_version.specs.Bumps.{IsReadableTarget, bump, target_of}
 use Rattle.edit_set_version.specs.Crates.{bumps_seen, members_of}
-use Rattle.edit_set_version.specs.Follows.{AreVersions}
+use Rattle.edit_set_version.specs.Admitted.{AreVersions}
 use Rattle.edit_set_version.specs.PlanRefused.{IsBumpable}
 use Rattle.edit_set_version.specs.Selections.{asked_of}
 use Rattle.edit_set_version.specs.SetVersioned.{bump_of}

@@ -5,7 +5,7 @@ use Rattle.std.proofs.lemmas.List.Elements.{All-push}
 use Rattle.std.proofs.lemmas.Result.{err_from_is_err_and}
 use Rattle.edit_version.specs.Laws.{IsVersion}
 use Rattle.edit_set_version.specs.Crates.{bump_seen, bumps_seen}
-use Rattle.edit_set_version.specs.Follows.{AreVersions}
+use Rattle.edit_set_version.specs.Admitted.{AreVersions}
 use Rattle.edit_set_version.specs.SetVersioned.{Bump}
 use Rattle.edit_set_version.specs.declared.crates.Bump.{Bump as Bumping}
 use Rattle.edit_set_version.proofs.bumps.push_bump.Goals as goal

@@ -7,21 +7,21 @@ use Rattle.edit_tree.specs.Shown.{tree_of}
 use Rattle.edit_tree.specs.Supported.{IsManifest}
 use Rattle.edit_tree.specs.Tree.{is_value_at}
 use Rattle.edit_set_version.specs.Crates.{bumps_seen}
-use Rattle.edit_set_version.specs.Followers.{IsUnfollowed}
-use Rattle.edit_set_version.specs.Follows.{AllRise}
+use Rattle.edit_set_version.specs.Dependents.{IsUnraised}
+use Rattle.edit_set_version.specs.Admitted.{AllRise}
 use Rattle.edit_set_version.specs.SetVersioned.{writes_own}
-use Rattle.edit_set_version.proofs.EditsStand.{unfollowed_stands, written_clear}
+use Rattle.edit_set_version.proofs.EditsStand.{unraised_stands, written_clear}
 use Rattle.edit_set_version.proofs.outputs.edits_of.Goals as goal
 
-pub returns-in_err-push_follows-clause-refused : goal.returns-in_err-push_follows-clause-refused
-returns-in_err-push_follows-clause-refused c =
+pub returns-in_err-push_dependents-clause-refused : goal.returns-in_err-push_dependents-clause-refused
+returns-in_err-push_dependents-clause-refused c =
     let bs = bumps_seen c.args.writing.now.bumps.now in
     let m = c.args.manifest.now in
-    let p = err_from_is_err_and c.from_residual-in_err-push_follows.result
-    c.from_residual-in_err-push_follows.ensures.1 in
-    rw (p.1, p.2) (unfollowed_stands bs c.args.input.now m c.in_err-push_follows.field-0.0 c.requires.read
-    (subst (λ path. IsUnfollowed bs path (tree_of m.document) c.in_err-push_follows.field-0.0)
-    c.as_str-path.ensures.value c.in_err-push_follows.ensures.refused))
+    let p = err_from_is_err_and c.from_residual-in_err-push_dependents.result
+    c.from_residual-in_err-push_dependents.ensures.1 in
+    rw (p.1, p.2) (unraised_stands bs c.args.input.now m c.in_err-push_dependents.field-0.0 c.requires.read
+    (subst (λ path. IsUnraised bs path (tree_of m.document) c.in_err-push_dependents.field-0.0)
+    c.as_str-path.ensures.value c.in_err-push_dependents.ensures.refused))
 
 pub returns-clause-clear : goal.returns-clause-clear
 returns-clause-clear c =
@@ -31,4 +31,4 @@ returns-clause-clear c =
     (subst (λ path. filter (writes_own path) bs ≢ [] → (form : Text) → IsManifest m.document.bytes form
     → is_value_at form package_version ≡ true) c.as_str-path.ensures.value c.in_ok-push_own.ensures.literal)
     (subst (λ path. AllRise bs path (tree_of m.document)) c.as_str-path.ensures.value
-    c.in_ok-push_follows.ensures.rise)
+    c.in_ok-push_dependents.ensures.rise)

@@ -5,7 +5,7 @@ use Rattle.edit_tree.specs.Replaces.{AreDistinct, AreOutside, AreValues, Replace
 use Rattle.edit_tree.specs.Shown.{tree_of}
 use Rattle.edit_set_version.specs.Crates.{bumps_seen}
 use Rattle.edit_set_version.specs.Planned.{changed, unchanged}
-use Rattle.edit_set_version.specs.Projects.{path_of}
+use Rattle.edit_metadata.specs.Inputs.{path_of}
 use Rattle.edit_set_version.specs.SetVersioned.{edits_by}
 use Rattle.edit_set_version.specs.Written.{shared_seen}
 use Rattle.edit_set_version.proofs.EditsApart.{edits_distinct, edits_outside}

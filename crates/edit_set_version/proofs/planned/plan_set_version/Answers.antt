@@ -1,32 +1,32 @@
 use Rattle.std.proofs.Common.{◌≡◌, ◌⊎◌, ◌∙◌, ◌++◌, ap, inl, inr, option_map, subst, sym}
 use Rattle.std.specs.List.{AllZip, flat_map}
 use Rattle.std.specs.Prelude.{All}
-use Rattle.std.proofs.lemmas.List.Elements.{All-map}
-use Rattle.std.proofs.lemmas.Result.{IfOk-weaker, err_from_is_err_and}
+use Rattle.std.proofs.lemmas.Result.{err_from_is_err_and}
 use Rattle.semver.specs.Identifiers.{parts_of}
 use Rattle.edit_base.specs.Errors.{IsMemory}
 use Rattle.edit_base.specs.declared.errors.Error.{Error}
-use Rattle.edit_metadata.specs.Metadata.{PackageSaid, members}
-use Rattle.edit_metadata.specs.Workspaces.{package_said, workspace_said}
+use Rattle.edit_metadata.specs.Metadata.{members}
+use Rattle.edit_metadata.specs.Workspaces.{workspace_said}
 use Rattle.edit_version.specs.Laws.{IsReadable}
 use Rattle.edit_set_version.specs.Apart.{AreApart}
 use Rattle.edit_set_version.specs.Bumps.{target_of}
-use Rattle.edit_set_version.specs.Chosen.{missing}
+use Rattle.edit_set_version.specs.Chosen.{Member, missing}
 use Rattle.edit_set_version.specs.Crates.{IsReadOf, bumps_seen, project_seen}
-use Rattle.edit_set_version.specs.Follows.{AreVersions}
-use Rattle.edit_set_version.specs.PlanLines.{lines, lines_of, manifests, shared_lines}
-use Rattle.edit_set_version.specs.PlanRefused.{HasBadInputBy, IsBehindLiterals, IsCauseOf, IsClear, IsInputClearBy}
+use Rattle.edit_set_version.specs.Admitted.{AreVersions}
+use Rattle.edit_set_version.specs.Plan.{IsPlan}
+use Rattle.edit_set_version.specs.PlanLines.{lines_of, manifests, shared_lines}
+use Rattle.edit_set_version.specs.PlanRefused.{HasBadInputBy, IsBehindLiterals, IsCauseOf, IsInputClearBy}
 use Rattle.edit_set_version.specs.PlanRefused.IsCauseOf.{memory as of_memory, no_manifest as of_input, no_package as of_package, project as of_project}
-use Rattle.edit_set_version.specs.Planned.{HasFollowed, HasOutputsBy, HasSetOutputs, told_lines}
-use Rattle.edit_set_version.specs.Projects.{EachInput, HasProject}
+use Rattle.edit_set_version.specs.Planned.{HasOutputsBy, OutputsInOrder, has_lines, told_lines}
+use Rattle.edit_set_version.specs.Projects.{HasProject}
 use Rattle.edit_set_version.specs.Selections.{asked_of}
 use Rattle.edit_set_version.specs.SetVersioned.{bumps, workspace_current, workspace_next}
-use Rattle.edit_set_version.specs.ToldLines.{HasUnfollowed}
+use Rattle.edit_set_version.specs.ToldLines.{HasUnraised}
 use Rattle.edit_set_version.specs.Written.{TellsShared}
 use Rattle.edit_set_version.specs.declared.plan.SetVersionPlan.{SetVersionPlan}
 use Rattle.edit_set_version.proofs.ApartBumps.{bumps_apart}
 use Rattle.edit_set_version.proofs.InputPaths.{inputs_apart}
-use Rattle.edit_set_version.proofs.PlanLemmas.{all_followed, cause_given, clear_given, lines_for, names_told, outputs_given, readable_chosen, tells_shared, where_err, where_ok}
+use Rattle.edit_set_version.proofs.PlanLemmas.{all_admitted, all_chosen, cause_given, clear_given, lines_for, names_told, outputs_given, tells_shared, where_all, where_err}
 use Rattle.edit_set_version.proofs.planned.plan_set_version.Goals as goal
 
 pub returns-in_err-manifests-clause-refused : goal.returns-in_err-manifests-clause-refused
@@ -66,52 +66,53 @@ plan_with-requires-clause-shared c =
     (tells_shared (target_of c.args.target.now) (asked_of c.args.selection.now)
     (workspace_said c.args.workspace.now) c.args.inputs.now p c.in_ok-project.ensures.ok)
 
-pub returns-clause-outputs : goal.returns-clause-outputs
-returns-clause-outputs c =
+pub returns-clause-planned : goal.returns-clause-planned
+returns-clause-planned c =
     let t = target_of c.args.target.now in
     let a = asked_of c.args.selection.now in
     let w = workspace_said c.args.workspace.now in
     let is = c.args.inputs.now in
     let p = project_seen c.in_ok-project.project in
-    let n = option_map parts_of c.in_ok-versions.versions.next in
-    let bs = bumps_seen c.in_ok-versions.versions.bumps.items in
-    where_ok c.plan_with.result
+    let project = c.in_ok-project.ensures.ok in
+    let versions = c.in_ok-versions.versions in
+    let made = c.in_ok-versions.ensures in
+    let m = option_map parts_of versions.current in
+    let n = option_map parts_of versions.next in
+    let bs = bumps_seen versions.bumps.items in
+    where_all c.plan_with.result
     (λ (plan : SetVersionPlan). All (HasOutputsBy p.path n bs plan.outputs.items) is)
+    (λ (plan : SetVersionPlan). OutputsInOrder is plan.outputs.items)
+    (λ (plan : SetVersionPlan). told_lines plan ≡ shared_lines m n ++ flat_map (lines_of p) bs)
+    (λ (plan : SetVersionPlan). plan.changed ≡ has_lines plan)
     (All (IsInputClearBy bs) is)
-    (λ (plan : SetVersionPlan). EachInput w is (HasSetOutputs t a plan.outputs.items))
-    (λ plan set clear. record {
+    (λ (plan : SetVersionPlan). HasProject w is (IsPlan t a is plan))
+    (λ plan set in_order told changed clear.
+    let outputs = outputs_given t a is p n bs plan.outputs.items made.next made.bumps set in
+    let each = clear_given t a is p bs made.bumps clear in
+    record {
       project = p;
-      is = c.in_ok-project.ensures.ok;
-      holds = outputs_given t a is p n bs plan.outputs.items c.in_ok-versions.ensures.next
-          c.in_ok-versions.ensures.bumps set;
-    }) c.plan_with.ensures.outputs c.plan_with.ensures.clear
-
-pub returns-clause-follow : goal.returns-clause-follow
-returns-clause-follow c = λ target packages.
-    let t = target_of c.args.target.now in
-    let a = asked_of c.args.selection.now in
-    let w = workspace_said c.args.workspace.now in
-    let is = c.args.inputs.now in
-    let p = project_seen c.in_ok-project.project in
-    let n = option_map parts_of c.in_ok-versions.versions.next in
-    let bs = bumps_seen c.in_ok-versions.versions.bumps.items in
-    let own = readable_chosen a w is p c.in_ok-project.ensures.ok
-    (All-map (λ (q : PackageSaid). IsReadable q.version) package_said
-    c.args.workspace.now.packages.items packages) in
-    let versions = subst AreVersions c.in_ok-versions.ensures.bumps
-    (c.in_ok-versions.ensures.versions target own) in
-    where_ok c.plan_with.result
-    (λ (plan : SetVersionPlan). All (HasOutputsBy p.path n bs plan.outputs.items) is)
-    (All (IsInputClearBy bs) is)
-    (λ (plan : SetVersionPlan). EachInput w is (HasFollowed t a plan.outputs.items))
-    (λ plan set clear. record {
-      project = p;
-      is = c.in_ok-project.ensures.ok;
-      holds = all_followed t a is p plan.outputs.items versions
-          (outputs_given t a is p n bs plan.outputs.items c.in_ok-versions.ensures.next
-          c.in_ok-versions.ensures.bumps set)
-          (clear_given t a is p bs c.in_ok-versions.ensures.bumps clear);
-    }) c.plan_with.ensures.outputs c.plan_with.ensures.clear
+      is = project;
+      holds = record {
+        outputs = outputs;
+        in_order = in_order;
+        lines = told ∙ lines_for p m (workspace_current a p) n (workspace_next t a p) bs (bumps t a p)
+            made.current made.next made.bumps;
+        changed = changed;
+        clear = record {
+          packages = ap (missing a) (names_told is (members w.packages) p.members project.members)
+              ∙ c.in_ok-check_names.ensures.found;
+          excluded = made.excluded;
+          versions = made.bumpable;
+          each = each;
+        };
+        admits = λ target readable. all_admitted t a is p plan.outputs.items
+            (subst AreVersions made.bumps (made.versions target
+            (all_chosen (λ (q : Member). IsReadable q.version) a p.members readable)))
+            outputs each;
+      };
+    })
+    c.plan_with.ensures.outputs c.plan_with.ensures.in_order c.plan_with.ensures.lines
+    c.plan_with.ensures.changed c.plan_with.ensures.clear
 
 pub returns-clause-refused : goal.returns-clause-refused
 returns-clause-refused c =
@@ -123,7 +124,7 @@ returns-clause-refused c =
     let bs = bumps_seen c.in_ok-versions.versions.bumps.items in
     where_err c.plan_with.result
     (λ (e : Error). IsMemory e ⊎ (IsBehindLiterals bs is e
-    × (HasUnfollowed bs (manifests p) e ⊎ HasBadInputBy bs is e)))
+    × (HasUnraised bs (manifests p) e ⊎ HasBadInputBy bs is e)))
     (IsCauseOf t a w is)
     (λ e why. cause_given t a w is p bs e c.in_ok-check_names.ensures.found c.in_ok-project.ensures.ok
     (record {
@@ -131,32 +132,6 @@ returns-clause-refused c =
       versions = c.in_ok-versions.ensures.bumpable;
     }) c.in_ok-versions.ensures.bumps why)
     c.plan_with.ensures.refused
-
-pub returns-clause-clear : goal.returns-clause-clear
-returns-clause-clear c =
-    let t = target_of c.args.target.now in
-    let a = asked_of c.args.selection.now in
-    let w = workspace_said c.args.workspace.now in
-    let is = c.args.inputs.now in
-    let p = project_seen c.in_ok-project.project in
-    let n = option_map parts_of c.in_ok-versions.versions.next in
-    let bs = bumps_seen c.in_ok-versions.versions.bumps.items in
-    let project = c.in_ok-project.ensures.ok in
-    where_ok c.plan_with.result
-    (λ (plan : SetVersionPlan). All (HasOutputsBy p.path n bs plan.outputs.items) is)
-    (All (IsInputClearBy bs) is)
-    (λ (plan : SetVersionPlan). HasProject w is (IsClear t a is))
-    (λ plan set clear. record {
-      project = p;
-      is = project;
-      holds = record {
-        packages = ap (missing a) (names_told is (members w.packages) p.members project.members)
-            ∙ c.in_ok-check_names.ensures.found;
-        excluded = c.in_ok-versions.ensures.excluded;
-        versions = c.in_ok-versions.ensures.bumpable;
-        each = clear_given t a is p bs c.in_ok-versions.ensures.bumps clear;
-      };
-    }) c.plan_with.ensures.outputs c.plan_with.ensures.clear
 
 pub returns-in_err-check_names-clause-refused : goal.returns-in_err-check_names-clause-refused
 returns-in_err-check_names-clause-refused c =
@@ -182,30 +157,3 @@ project_of-requires-clause-manifests c =
 pub plan_with-requires-clause-read : goal.plan_with-requires-clause-read
 plan_with-requires-clause-read c =
     subst (AllZip IsReadOf c.args.inputs.now) (sym c.deref-2.ensures.value) c.in_ok-manifests.ensures.ok
-
-pub returns-clause-outputs_in_order : goal.returns-clause-outputs_in_order
-returns-clause-outputs_in_order c = c.plan_with.ensures.in_order
-
-pub returns-clause-lines : goal.returns-clause-lines
-returns-clause-lines c =
-    let t = target_of c.args.target.now in
-    let a = asked_of c.args.selection.now in
-    let w = workspace_said c.args.workspace.now in
-    let is = c.args.inputs.now in
-    let p = project_seen c.in_ok-project.project in
-    let versions = c.in_ok-versions.versions in
-    let m = option_map parts_of versions.current in
-    let n = option_map parts_of versions.next in
-    let bs = bumps_seen versions.bumps.items in
-    IfOk-weaker c.plan_with.result
-    (λ (plan : SetVersionPlan). told_lines plan ≡ shared_lines m n ++ flat_map (lines_of p) bs)
-    (λ (plan : SetVersionPlan). HasProject w is (λ p. told_lines plan ≡ lines t a p))
-    (λ plan told. record {
-      project = p;
-      is = c.in_ok-project.ensures.ok;
-      holds = told ∙ lines_for p m (workspace_current a p) n (workspace_next t a p) bs (bumps t a p)
-          c.in_ok-versions.ensures.current c.in_ok-versions.ensures.next c.in_ok-versions.ensures.bumps;
-    }) c.plan_with.ensures.lines
-
-pub returns-clause-changed : goal.returns-clause-changed
-returns-clause-changed c = c.plan_with.ensures.changed

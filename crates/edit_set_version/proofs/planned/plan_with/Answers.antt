@@ -7,7 +7,7 @@ use Rattle.edit_set_version.specs.Crates.{bumps_seen, project_seen}
 use Rattle.edit_set_version.specs.Numbers.{TellsFirst}
 use Rattle.edit_set_version.specs.PlanLines.{manifests}
 use Rattle.edit_set_version.specs.PlanRefused.{HasBadInputBy, HasLiteral, IsInputClearBy}
-use Rattle.edit_set_version.specs.ToldLines.{HasUnfollowed}
+use Rattle.edit_set_version.specs.ToldLines.{HasUnraised}
 use Rattle.edit_set_version.specs.Written.{TellsShared, shared_seen}
 use Rattle.edit_set_version.specs.declared.crates.Bump.{Bump as Bumping}
 use Rattle.edit_set_version.proofs.PlanLemmas.{lines_for, seen_copied, set_for}
@@ -69,7 +69,7 @@ returns-in_err-lines-clause-refused c =
       | inr why ↦ inr (
         inr (subst (λ (bs : List Bumping). All (HasLiteral (bumps_seen bs)) c.args.inputs.now)
             c.deref-2.ensures.value c.in_ok-check_literals.ensures.literals),
-        inl (subst (λ (bs : List Bumping). HasUnfollowed (bumps_seen bs) all e) c.deref-3.ensures.value why),
+        inl (subst (λ (bs : List Bumping). HasUnraised (bumps_seen bs) all e) c.deref-3.ensures.value why),
       )
     ])
 

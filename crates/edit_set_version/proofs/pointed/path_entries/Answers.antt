@@ -2,10 +2,10 @@ use Rattle.std.proofs.Common.{◌∙◌, ap, sym}
 use Rattle.std.specs.List.{filter_map}
 use Rattle.edit_tree.specs.Shown.{tree_of}
 use Rattle.edit_set_version.specs.Pointed.{led}
-use Rattle.edit_set_version.proofs.PointedLemmas.{followings_pointed}
+use Rattle.edit_set_version.proofs.PointedLemmas.{dependents_pointed}
 use Rattle.edit_set_version.proofs.pointed.path_entries.Goals as goal
 
-pub returns-clause-follow : goal.returns-clause-follow
-returns-clause-follow c = λ bumps file.
-    followings_pointed bumps file (tree_of c.args.document.now)
+pub returns-clause-dependents : goal.returns-clause-dependents
+returns-clause-dependents c = λ bumps file.
+    dependents_pointed bumps file (tree_of c.args.document.now)
     ∙ ap (filter_map (led bumps file)) (sym c.in_ok-entries.ensures.ok)

@@ -1,5 +1,5 @@
 use Rattle.std.proofs.Common.{◌≡◌, ◌∙◌, None, Some, ap, ap₂, arith, option_map, string_bytes, sym}
-use Rattle.edit_set_version.specs.Followers.{following_of}
+use Rattle.edit_set_version.specs.Dependents.{dependent_of}
 use Rattle.edit_set_version.specs.PlanLines.{updating}
 use Rattle.edit_set_version.specs.ToldLines.{lists_told, update_told, with_line}
 use Rattle.edit_set_version.proofs.LineLists.{rise_told, stays_untold}
@@ -9,26 +9,26 @@ pub returns-in_ok-push_line-in-Some : goal.returns-in_ok-push_line-in-Some
 returns-in_ok-push_line-in-Some c = record {
   ok = λ has.
       let name = c.args.name.now in
-      let f = c.args.follower.now in
+      let f = c.args.dependent.now in
       let n = f.bump.number in
       let was = lists_told c.args.lists.now.items in
       let line = updating name (string_bytes f.text) (string_bytes c.in-Some.new) in
-      let is : update_told name (following_of f) ≡ Some line
+      let is : update_told name (dependent_of f) ≡ Some line
       = ap (option_map (updating name (string_bytes f.text)))
       (sym has.new ∙ ap (option_map string_bytes) c.in-Some.is) in
       c.in_ok-push_line-in-Some.ensures.ok
       ∙ ap (λ t. with_line n t was) (c.in_ok-line-in-Some.ensures.ok
       ∙ ap₂ (updating name) c.as_str.ensures.value c.as_str-in-Some.ensures.value)
-      ∙ sym (rise_told name n n 0 (following_of f) line was (omega arith) is);
+      ∙ sym (rise_told name n n 0 (dependent_of f) line was (omega arith) is);
 }
 
 pub returns-in-None : goal.returns-in-None
 returns-in-None c = record {
   ok = λ has.
       let name = c.args.name.now in
-      let f = c.args.follower.now in
-      let none : update_told name (following_of f) ≡ None
+      let f = c.args.dependent.now in
+      let none : update_told name (dependent_of f) ≡ None
       = ap (option_map (updating name (string_bytes f.text)))
       (sym has.new ∙ ap (option_map string_bytes) c.in-None.is) in
-      sym (stays_untold name f.bump.number (following_of f) 0 (lists_told c.args.lists.now.items) none);
+      sym (stays_untold name f.bump.number (dependent_of f) 0 (lists_told c.args.lists.now.items) none);
 }

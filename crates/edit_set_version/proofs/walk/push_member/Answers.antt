@@ -4,7 +4,7 @@ use Rattle.std.proofs.lemmas.Result.{err_from_is_err_and}
 use Rattle.edit_document.proofs.EntryPartViews.{same_texts}
 use Rattle.edit_tree.specs.Assertions.{same_bytes}
 use Rattle.edit_set_version.specs.Crates.{member_of}
-use Rattle.edit_set_version.specs.ToldLines.{HasUnfollowed, lists_told, with_manifests}
+use Rattle.edit_set_version.specs.ToldLines.{HasUnraised, lists_told, with_manifests}
 use Rattle.edit_set_version.proofs.ManifestLines.{no_manifests, one_named, other_one, other_same}
 use Rattle.edit_set_version.proofs.walk.push_member.Goals as goal
 
@@ -26,7 +26,7 @@ returns-in_err-push_manifest-clause-refused c =
     let other : same_bytes m.path root ≡ false
     = sym (same_texts m.path root) ∙ ap (λ p. bytes_eq p root) (sym c.as_str.ensures.value)
     ∙ (sym c.eq.ensures ∙ c.if-eq.false) in
-    rw (p.1, p.2) (λ bs tells. subst (λ ms. HasUnfollowed bs ms c.in_err-push_manifest.field-0.0)
+    rw (p.1, p.2) (λ bs tells. subst (λ ms. HasUnraised bs ms c.in_err-push_manifest.field-0.0)
     (ap (one_named m) c.as_str-2.ensures.value ∙ sym (other_one root m other))
     (c.in_err-push_manifest.ensures.refused bs tells))
 

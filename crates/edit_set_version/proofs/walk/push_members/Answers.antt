@@ -2,7 +2,7 @@ use Rattle.std.proofs.Common.{◌∙◌, ◌∷◌, [], ap, sym, take}
 use Rattle.std.proofs.lemmas.Result.{err_from_is_err_and}
 use Rattle.edit_set_version.specs.Crates.{member_of, members_of}
 use Rattle.edit_set_version.specs.ToldLines.{lists_told, other_manifests, with_manifests}
-use Rattle.edit_set_version.proofs.ManifestLines.{manifests_in_parts, no_manifests, others_more, unfollowed_among}
+use Rattle.edit_set_version.proofs.ManifestLines.{manifests_in_parts, no_manifests, others_more, unraised_among}
 use Rattle.edit_set_version.proofs.walk.push_members.Goals as goal
 
 pub members-init : goal.members-init
@@ -11,7 +11,7 @@ members-init c = λ bs tells. sym (no_manifests bs 0 (lists_told c.args.lists.no
 pub returns-in_err-push_member-clause-refused : goal.returns-in_err-push_member-clause-refused
 returns-in_err-push_member-clause-refused c =
     let p = err_from_is_err_and c.from_residual.result c.from_residual.ensures.1 in
-    rw (p.1, p.2) (λ bs tells. unfollowed_among bs c.args.root.now c.args.crates.now c.members.found-index
+    rw (p.1, p.2) (λ bs tells. unraised_among bs c.args.root.now c.args.crates.now c.members.found-index
     c.found-item.result c.in_err-push_member.field-0.0 c.members-test.true c.found-item.is
     (c.in_err-push_member.ensures.refused bs tells))
 

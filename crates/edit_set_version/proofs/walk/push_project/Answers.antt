@@ -3,9 +3,9 @@ use Rattle.std.specs.Prelude.{codes}
 use Rattle.std.proofs.lemmas.Result.{err_from_is_err_and}
 use Rattle.edit_set_version.specs.Crates.{members_of}
 use Rattle.edit_set_version.specs.PlanLines.{Named}
-use Rattle.edit_set_version.specs.ToldLines.{HasUnfollowed, lists_told, other_manifests, with_manifests}
+use Rattle.edit_set_version.specs.ToldLines.{HasUnraised, lists_told, other_manifests, with_manifests}
 use Rattle.edit_tree.specs.Shown.{tree_of}
-use Rattle.edit_set_version.proofs.ManifestLines.{manifests_in_parts, unfollowed_first, unfollowed_last}
+use Rattle.edit_set_version.proofs.ManifestLines.{manifests_in_parts, unraised_first, unraised_last}
 use Rattle.edit_set_version.proofs.walk.push_project.Goals as goal
 
 pub returns-in_err-push_manifest-clause-refused : goal.returns-in_err-push_manifest-clause-refused
@@ -18,7 +18,7 @@ returns-in_err-push_manifest-clause-refused c =
       path = path;
       tree = tree_of project.root.manifest.now.document;
     } in
-    rw (p.1, p.2) (λ bs tells. unfollowed_first bs (first ∷ [])
+    rw (p.1, p.2) (λ bs tells. unraised_first bs (first ∷ [])
     (other_manifests path (members_of project.members.items)) c.in_err-push_manifest.field-0.0
     (c.in_err-push_manifest.ensures.refused bs tells))
 
@@ -34,10 +34,10 @@ returns-in_err-push_members-clause-refused c =
       path = path;
       tree = tree_of project.root.manifest.now.document;
     } in
-    rw (p.1, p.2) (λ bs tells. unfollowed_last bs (first ∷ [])
+    rw (p.1, p.2) (λ bs tells. unraised_last bs (first ∷ [])
     (other_manifests path (members_of project.members.items)) e
-    (subst (λ cs. HasUnfollowed bs (other_manifests path (members_of cs)) e) c.deref.ensures.value
-    (subst (λ r. HasUnfollowed bs (other_manifests r (members_of c.deref.result.now)) e)
+    (subst (λ cs. HasUnraised bs (other_manifests path (members_of cs)) e) c.deref.ensures.value
+    (subst (λ r. HasUnraised bs (other_manifests r (members_of c.deref.result.now)) e)
     c.as_str.ensures.value
     (c.in_err-push_members.ensures.refused bs tells))))
 

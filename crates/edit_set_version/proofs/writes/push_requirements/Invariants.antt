@@ -2,11 +2,11 @@ use Rattle.std.proofs.Common.{◌≡◌, ◌++◌, map, take}
 use Rattle.std.specs.Prelude.{All}
 use Rattle.std.specs.List.{filter_map}
 use Rattle.edit_document.specs.Ranges.{edits_seen}
-use Rattle.edit_set_version.specs.Followers.{HasRisen, following_of}
+use Rattle.edit_set_version.specs.Dependents.{HasRisen, dependent_of}
 use Rattle.edit_set_version.specs.SetVersioned.{requirement_edit}
 use Rattle.edit_set_version.proofs.writes.push_requirements.Given as goal
 
-abbrev pub invariant-followers : goal.invariant-followers
-invariant-followers l = All HasRisen l.followers → edits_seen l.edits.items
+abbrev pub invariant-dependents : goal.invariant-dependents
+invariant-dependents l = All HasRisen l.dependents → edits_seen l.edits.items
     ≡ edits_seen l.initial.edits.items
-    ++ filter_map requirement_edit (map following_of (take l.follower-index l.followers))
+    ++ filter_map requirement_edit (map dependent_of (take l.dependent-index l.dependents))

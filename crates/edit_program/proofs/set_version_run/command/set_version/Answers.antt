@@ -24,7 +24,7 @@ pub write_outputs-requires : goal.write_outputs-requires
 write_outputs-requires g c =
     subst HaveDistinctPaths (sym c.written.ensures)
     (written_differ c.args.words.now c.in_ok-read.read.inputs.items c.in_ok-plan.plan.outputs.items
-    c.in_ok-read.ensures.paths c.in_ok-plan.ensures.planned.in_order)
+    c.in_ok-read.ensures.paths c.in_ok-plan.ensures.planned.is.holds.in_order)
 
 pub returns-in_err-print_plan-clause-why : goal.returns-in_err-print_plan-clause-why
 returns-in_err-print_plan-clause-why g c =

@@ -1,9 +1,12 @@
 use Rattle.std.proofs.Common.{subst, sym}
+use Rattle.std.proofs.lemmas.List.Elements.{All-map}
 use Rattle.edit_metadata.specs.Inputs.{AreInputs}
-use Rattle.edit_metadata.specs.Workspaces.{workspace_said}
+use Rattle.edit_metadata.specs.Metadata.{PackageSaid}
+use Rattle.edit_metadata.specs.Workspaces.{package_said, workspace_said}
 use Rattle.edit_set_version.specs.Bumps.{target_of}
 use Rattle.edit_set_version.specs.PlanRefused.{IsCauseOf}
 use Rattle.edit_set_version.specs.Selections.{asked_of}
+use Rattle.edit_version.specs.Laws.{IsReadable}
 use Rattle.edit_program.specs.Plans.{IsVersionPlan}
 use Rattle.edit_program.specs.SetVersions.{no_rust}
 use Rattle.edit_program.proofs.set_version_run.plan.plan_for.Goals as goal
@@ -21,11 +24,9 @@ returns-in-Ok-clause-planned c =
     let a = asked_of c.args.words.now.selection in
     let w = workspace_said c.args.read.now.workspace in
     let there : IsVersionPlan t a w c.as_slice.result.now c.in-Ok.plan = record {
-      outputs = c.in-Ok.ensures.outputs;
-      in_order = c.in-Ok.ensures.outputs_in_order;
-      told = c.in-Ok.ensures.lines;
-      follow = λ readable. c.in-Ok.ensures.follow readable c.requires.readable;
-      clear = c.in-Ok.ensures.clear;
+      readable = All-map (λ (q : PackageSaid). IsReadable q.version) package_said
+          c.args.read.now.workspace.packages.items c.requires.readable;
+      is = c.in-Ok.ensures.planned;
     } in
     subst (λ is. IsVersionPlan t a w is c.in-Ok.plan) c.as_slice.ensures.value there
 

@@ -9,7 +9,9 @@ use Rattle.edit_upgrade.proofs.Steps.{names-more, names-split}
 use Rattle.edit_version.specs.CrateWords.{IsRefusedWord, word_name}
 use Rattle.edit_upgrade.specs.PinViews.{entry_seen, pin_seen}
 use Rattle.edit_upgrade.specs.Pins as spec
-use Rattle.edit_upgrade.specs.Pins.{IsFirstRefused, IsRead, pin_of, pins_of, with_word, word_pin}
+use Rattle.edit_upgrade.specs.Words.{IsWord}
+use Rattle.edit_upgrade.specs.WordCauses.{StopsAtWord}
+use Rattle.edit_upgrade.specs.Pins.{pin_of, pins_of, with_word, word_pin}
 use Rattle.edit_upgrade.proofs.Entries.{insert-seen, word-more}
 use Rattle.edit_upgrade.proofs.update.pins.read_pins.Goals as goal
 
@@ -18,10 +20,10 @@ returns-in_err-spec-clause-refused c =
     let words = c.args.words.now in
     let i = c.words.word-index in
     let e = c.in_err-spec.field-0.0 in
-    let why : IsMemory e ⊎ IsFirstRefused (map string_bytes words) e = inr (record {
-      before = map string_bytes (take i words);
+    let why : IsMemory e ⊎ StopsAtWord (map string_bytes words) e = inr (record {
+      front = map string_bytes (take i words);
       word = string_bytes c.word-item.result;
-      after = map string_bytes (drop (suc i) words);
+      rest = map string_bytes (drop (suc i) words);
       split = names-split string_bytes words i c.word-item.result c.words-test.true c.word-item.is;
       read = c.words.invariant.read;
       refused = subst (λ (w : List ℕ). IsRefusedWord w e) c.as_str.ensures.value
@@ -52,6 +54,6 @@ words-preserved c =
           is_pin
           ∙ ap (with_word (pins_of before)) c.as_str.ensures.value
           ∙ sym (word-more before own) ∙ ap pins_of (sym more);
-      read = subst (All IsRead) (sym more) (All-push IsRead before own c.words.invariant.read
-          (subst IsRead c.as_str.ensures.value (record { fit = said.fit; readable = said.readable })));
+      read = subst (All IsWord) (sym more) (All-push IsWord before own c.words.invariant.read
+          (subst IsWord c.as_str.ensures.value (said.fit, said.readable)));
     }

@@ -1,4 +1,4 @@
--- The requirements that follow a bump, with the numbers of their bumps.
+-- The requirements on bumped crates, with the numbers of their bumps.
 use Rattle.std.proofs.Common.{◌≡◌, ◌∙◌, ℕ, zero, arith, List, [], ◌∷◌, ◌++◌, cond, map, Option, Some, None, option_map, refl, ap, sym, subst, inl, inr}
 use Rattle.std.specs.Prelude.{Contains, codes, nat_eq, option_to_list}
 use Rattle.std.specs.declared.collections.BTreeMap.{BTreeMap}
@@ -13,14 +13,14 @@ use Rattle.edit_base.specs.Paths.{parts_of}
 use Rattle.edit_base.specs.declared.errors.Error.{Error}
 use Rattle.edit_manifest.specs.Tables.{Tree}
 use Rattle.edit_set_version.specs.Folders.{along, folder_of, names_of, reached}
-use Rattle.edit_set_version.specs.Followers.{IsUnfollowed, IsUnled, all_numbered, fixed, lacks, memory, numbered, stays}
+use Rattle.edit_set_version.specs.Dependents.{IsUnraised, IsEntryUnraised, all_numbered, fixed, lacks, memory, numbered, stays}
 use Rattle.edit_set_version.specs.Numbers.{TellsFirst, first_in, told_in}
 use Rattle.edit_set_version.specs.Pointed.{Pointed, led, pointed, pointed_view, pointed_views}
-use Rattle.edit_set_version.specs.SetVersioned.{Bump, Following, followings}
+use Rattle.edit_set_version.specs.SetVersioned.{Bump, Dependent, dependents}
 use Rattle.edit_set_version.specs.declared.pointed.PathEntry.{PathEntry}
 use Rattle.edit_set_version.specs.declared.numbers.Numbered.{Numbered}
 use Rattle.edit_set_version.proofs.NumberLemmas.{next_first}
-use Rattle.edit_set_version.proofs.PointedLemmas.{alone, followings_pointed}
+use Rattle.edit_set_version.proofs.PointedLemmas.{alone, dependents_pointed}
 use Rattle.edit_set_version.proofs.ReachedFolders.{way_on}
 
 -- a folder that is reached is one that a path names
@@ -38,14 +38,14 @@ reached_named file path = elim (cases_Bool (starts_with nat_eq path (codes "/"))
   )
 ]
 
--- what the map tells of the folder that is reached
+-- what the map has for the folder that is reached
 pub tells_reached : (bs : List Bump) (numbers : BTreeMap (String Global) Numbered Global) (file path : List ℕ)
     → TellsFirst bs numbers → told_in numbers (reached file path) ≡ first_in bs (reached file path)
 tells_reached bs numbers file path tells =
     let way = reached_named file path in
     subst (λ folder. told_in numbers folder ≡ first_in bs folder) way.1 (tells way.0)
 
--- the requirement of an entry, by what the map tells
+-- the requirement of an entry, by what the map has
 pub numbered_by : (bs : List Bump) (numbers : BTreeMap (String Global) Numbered Global) (file : List ℕ)
     (q : Pointed) (o : Option (ℕ × Parts)) → TellsFirst bs numbers → o ≡ told_in numbers (reached file q.path)
     → numbered bs file q
@@ -56,7 +56,7 @@ numbered_by bs numbers file q o tells is =
 
 -- without its number
 pub led_numbered : (bs : List Bump) (file : List ℕ) (q : Pointed)
-    → led bs file q ≡ option_map (λ (n : ℕ × Following). n.1) (numbered bs file q)
+    → led bs file q ≡ option_map (λ (n : ℕ × Dependent). n.1) (numbered bs file q)
 led_numbered bs file q =
     ap (option_map (λ (v : Parts). record { place = q.place; text = q.text; next = v }))
     (next_first bs (reached file q.path)) ∙ both (first_in bs (reached file q.path))
@@ -64,28 +64,28 @@ led_numbered bs file q =
     both : (o : Option (ℕ × Parts))
         → option_map (λ (v : Parts). record { place = q.place; text = q.text; next = v })
         (option_map (λ (n : ℕ × Parts). n.1) o)
-        ≡ option_map (λ (n : ℕ × Following). n.1)
+        ≡ option_map (λ (n : ℕ × Dependent). n.1)
         (option_map (λ (n : ℕ × Parts). (n.0, record { place = q.place; text = q.text; next = n.1 })) o)
     both None = refl
     both (Some n) = refl
 
 -- all of a manifest without their numbers
-pub followings_numbered : (bs : List Bump) (file : List ℕ) (t : Tree)
-    → followings bs file t ≡ map (λ (n : ℕ × Following). n.1) (all_numbered bs file t)
-followings_numbered bs file t = followings_pointed bs file t ∙ each (pointed t)
+pub dependents_numbered : (bs : List Bump) (file : List ℕ) (t : Tree)
+    → dependents bs file t ≡ map (λ (n : ℕ × Dependent). n.1) (all_numbered bs file t)
+dependents_numbered bs file t = dependents_pointed bs file t ∙ each (pointed t)
   where
-    kept : (o : Option (ℕ × Following)) (ns : List (ℕ × Following))
-        → cons_option (option_map (λ (n : ℕ × Following). n.1) o) (map (λ (n : ℕ × Following). n.1) ns)
-        ≡ map (λ (n : ℕ × Following). n.1) (cons_option o ns)
+    kept : (o : Option (ℕ × Dependent)) (ns : List (ℕ × Dependent))
+        → cons_option (option_map (λ (n : ℕ × Dependent). n.1) o) (map (λ (n : ℕ × Dependent). n.1) ns)
+        ≡ map (λ (n : ℕ × Dependent). n.1) (cons_option o ns)
     kept None ns = refl
     kept (Some n) ns = refl
 
     each : (qs : List Pointed)
-        → filter_map (led bs file) qs ≡ map (λ (n : ℕ × Following). n.1) (filter_map (numbered bs file) qs)
+        → filter_map (led bs file) qs ≡ map (λ (n : ℕ × Dependent). n.1) (filter_map (numbered bs file) qs)
     each [] = refl
     each (q ∷ qs) =
-        ap (λ (fs : List Following). cons_option (led bs file q) fs) (each qs)
-        ∙ ap (λ o. cons_option o (map (λ (n : ℕ × Following). n.1) (filter_map (numbered bs file) qs)))
+        ap (λ (fs : List Dependent). cons_option (led bs file q) fs) (each qs)
+        ∙ ap (λ o. cons_option o (map (λ (n : ℕ × Dependent). n.1) (filter_map (numbered bs file) qs)))
         (led_numbered bs file q)
         ∙ kept (numbered bs file q) (filter_map (numbered bs file) qs)
 
@@ -96,28 +96,28 @@ pub numbered_more : (bs : List Bump) (file : List ℕ) (es : List PathEntry) (e 
 numbered_more bs file es e =
     ap (filter_map (numbered bs file)) (map_push pointed_view es e)
     ∙ filter_map-append (numbered bs file) (pointed_views es) (pointed_view e ∷ [])
-    ∙ ap (λ (ns : List (ℕ × Following)). filter_map (numbered bs file) (pointed_views es) ++ ns)
+    ∙ ap (λ (ns : List (ℕ × Dependent)). filter_map (numbered bs file) (pointed_views es) ++ ns)
     (alone (numbered bs file (pointed_view e)))
 
--- ---- refusals
+-- ---- errors
 
 -- what an entry gives is among what all give
 led_among : (bs : List Bump) (file : List ℕ) (xs : List Pointed) (q : Pointed) (ys : List Pointed)
-    (f : Following) → led bs file q ≡ Some f → Contains (filter_map (led bs file) (xs ++ q ∷ ys)) f
+    (f : Dependent) → led bs file q ≡ Some f → Contains (filter_map (led bs file) (xs ++ q ∷ ys)) f
 led_among bs file xs q ys f is =
-    subst (λ (fs : List Following). Contains fs f) (sym (filter_map-append (led bs file) xs (q ∷ ys)))
+    subst (λ (fs : List Dependent). Contains fs f) (sym (filter_map-append (led bs file) xs (q ∷ ys)))
     (Contains-append_right (filter_map (led bs file) xs) (filter_map (led bs file) (q ∷ ys)) f
-    (subst (λ (o : Option Following). Contains (cons_option o (filter_map (led bs file) ys)) f) (sym is)
+    (subst (λ (o : Option Dependent). Contains (cons_option o (filter_map (led bs file) ys)) f) (sym is)
     (zero, omega arith, refl)))
 
--- an entry that cannot follow stands for its manifest
-pub unfollowed : (bs : List Bump) (file : List ℕ) (t : Tree) (es : List PathEntry) (e : PathEntry)
+-- a requirement that cannot be raised is one of its manifest
+pub unraised : (bs : List Bump) (file : List ℕ) (t : Tree) (es : List PathEntry) (e : PathEntry)
     (rest : List PathEntry) (why : Error) → pointed_views (es ++ e ∷ rest) ≡ pointed t
-    → IsUnled bs file (pointed_view e) why → IsUnfollowed bs file t why
-unfollowed bs file t es e rest why all (lacks none) = memory none
-unfollowed bs file t es e rest why all (stays f is refused) =
+    → IsEntryUnraised bs file (pointed_view e) why → IsUnraised bs file t why
+unraised bs file t es e rest why all (lacks none) = memory none
+unraised bs file t es e rest why all (stays f is refused) =
     fixed f
-    (subst (λ (fs : List Following). Contains fs f)
+    (subst (λ (fs : List Dependent). Contains fs f)
     (ap (filter_map (led bs file))
-    (sym (map-append pointed_view es (e ∷ rest)) ∙ all) ∙ sym (followings_pointed bs file t))
+    (sym (map-append pointed_view es (e ∷ rest)) ∙ all) ∙ sym (dependents_pointed bs file t))
     (led_among bs file (pointed_views es) (pointed_view e) (pointed_views rest) f is)) refused

@@ -1,11 +1,11 @@
-//! The requirements of a manifest that follow a bump.
+//! The requirements of a manifest on bumped crates.
 ghost use Rattle.std.specs.Prelude.{◌≡◌, ◌++◌, List, All, IfErr, IfOk, OnOk, map, option_to_list, string_bytes};
 ghost use Rattle.semver.specs.Identifiers.{parts_of};
 ghost use Rattle.edit_document.specs.Items.{place_seen};
 ghost use Rattle.edit_tree.specs.Shown.{tree_of};
 ghost use Rattle.edit_version.specs.Refusals.{IsRefusal};
 ghost use Rattle.edit_version.specs.Requirement.{raise};
-ghost use Rattle.edit_set_version.specs.Followers.{HasRisen, IsUnfollowed, IsUnled, all_numbered, following_of, follower_seen, numbered};
+ghost use Rattle.edit_set_version.specs.Dependents.{HasRisen, IsUnraised, IsEntryUnraised, all_numbered, dependent_of, dependent_seen, numbered};
 ghost use Rattle.edit_set_version.specs.Numbers.{TellsFirst, numbered_seen};
 ghost use Rattle.edit_set_version.specs.Pointed.{pointed_view};
 ghost use Rattle.edit_set_version.specs.SetVersioned.{Bump};
@@ -17,9 +17,9 @@ use edit_document::{Document, Place};
 use edit_version::upgrade_requirement;
 use std::alloc::Global;
 
-/// A requirement that follows a bump.
+/// An entry that depends on a bumped crate.
 #[derive(Drop)]
-pub(crate) struct Follower<'a> {
+pub(crate) struct DependentEntry<'a> {
     /// Where its entry stands.
     pub(crate) place: Place,
     pub(crate) text: String,
@@ -28,10 +28,14 @@ pub(crate) struct Follower<'a> {
     pub(crate) risen: Option<String>,
 }
 
-/// The requirement of an entry that follows a bump.
-fn following<'a>(alloc: Global, entry: PathEntry, bump: Numbered<'a>) -> CargoResult<Follower<'a>>
+/// An entry that depends on a bumped crate, with its requirement raised to the next version.
+fn raised_dependent<'a>(
+    alloc: Global,
+    entry: PathEntry,
+    bump: Numbered<'a>,
+) -> CargoResult<DependentEntry<'a>>
     ensures bump { IfOk result (λ f. numbered_seen f.bump ≡ numbered_seen bump.entry) }
-    ensures entry { IfOk result (λ f. following_of f ≡ record {
+    ensures entry { IfOk result (λ f. dependent_of f ≡ record {
       place = (pointed_view entry).place;
       text = (pointed_view entry).text;
       next = (numbered_seen bump.entry).1;
@@ -42,7 +46,7 @@ fn following<'a>(alloc: Global, entry: PathEntry, bump: Numbered<'a>) -> CargoRe
 {
     let risen = upgrade_requirement(alloc, entry.text.as_str(), bump.next)?;
     let PathEntry { place, text, .. } = entry;
-    Ok(Follower {
+    Ok(DependentEntry {
         place,
         text,
         bump,
@@ -50,49 +54,50 @@ fn following<'a>(alloc: Global, entry: PathEntry, bump: Numbered<'a>) -> CargoRe
     })
 }
 
-/// Adds the requirement of an entry, where it follows a bump.
-fn push_follower<'a>(
+/// Adds an entry, where it depends on a bumped crate.
+fn push_dependent<'a>(
     alloc: Global,
     numbers: &Numbers<'a>,
     file: &str,
     entry: PathEntry,
-    followers: &mut Vec<Follower<'a>>,
+    dependents: &mut Vec<DependentEntry<'a>>,
 ) -> CargoResult<()>
     ensures ok { OnOk result ((bs : List Bump) → TellsFirst bs numbers.now
-        → map follower_seen followers.new.items ≡ map follower_seen followers.old.items
+        → map dependent_seen dependents.new.items ≡ map dependent_seen dependents.old.items
         ++ option_to_list (numbered bs file.now (pointed_view entry))) }
-    ensures risen { OnOk result (All HasRisen followers.old.items → All HasRisen followers.new.items) }
+    ensures risen { OnOk result (All HasRisen dependents.old.items → All HasRisen dependents.new.items) }
     ensures refused { IfErr result (λ e. (bs : List Bump) → TellsFirst bs numbers.now
-        → IsUnled bs file.now (pointed_view entry) e) }
+        → IsEntryUnraised bs file.now (pointed_view entry) e) }
 {
     let bump = bump_at(alloc, numbers, file, entry.path.as_str())?;
     match bump {
         Some(bump) => {
-            let follower = following(alloc, entry, bump)?;
-            followers.push(follower)?;
+            let dependent = raised_dependent(alloc, entry, bump)?;
+            dependents.push(dependent)?;
             Ok(())
         }
         None => Ok(()),
     }
 }
 
-/// The requirements of a manifest at an absolute path that follow a bump, in the order of a walk down it.
-pub(crate) fn followers_of<'a>(
+/// The entries of a manifest at an absolute path that depend on bumped crates, in the order of a walk down
+/// it.
+pub(crate) fn dependents_of<'a>(
     alloc: Global,
     numbers: &Numbers<'a>,
     file: &str,
     document: &Document,
-) -> CargoResult<Vec<Follower<'a>>>
+) -> CargoResult<Vec<DependentEntry<'a>>>
     ensures ok { IfOk result (λ fs. (bs : List Bump) → TellsFirst bs numbers.now
-        → map follower_seen fs.items ≡ all_numbered bs file.now (tree_of document.now)) }
+        → map dependent_seen fs.items ≡ all_numbered bs file.now (tree_of document.now)) }
     ensures risen { IfOk result (λ fs. All HasRisen fs.items) }
     ensures refused { IfErr result (λ e. (bs : List Bump) → TellsFirst bs numbers.now
-        → IsUnfollowed bs file.now (tree_of document.now) e) }
+        → IsUnraised bs file.now (tree_of document.now) e) }
 {
     let entries = path_entries(alloc, document)?;
-    let mut followers = Vec::new(alloc);
+    let mut dependents = Vec::new(alloc);
     'entries: for entry in entries {
-        push_follower(alloc, numbers, file, entry, &mut followers)?;
+        push_dependent(alloc, numbers, file, entry, &mut dependents)?;
     }
-    Ok(followers)
+    Ok(dependents)
 }

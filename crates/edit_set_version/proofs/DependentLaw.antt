@@ -1,4 +1,4 @@
--- The requirements that follow a bumped crate admit its next version, after a plan.
+-- Requirements on a bumped crate admit its next version, after a plan.
 use Rattle.std.proofs.Common.{◌≡◌, ℕ, true, false, List, [], ◌∷◌, ◌++◌, Option, Some, None, refl, sym, ap, ◌∙◌, subst, ◌⊎◌, inl, inr}
 use Rattle.std.specs.Prelude.{All, codes, option_and_then, option_map}
 use Rattle.std.specs.List.{AllByRecursion, filter_map}
@@ -16,8 +16,8 @@ use Rattle.edit_manifest.specs.Tables.{Tree, is_table_like, keyed}
 use Rattle.edit_manifest.specs.Versions.{package_version, shared_version, version_member}
 use Rattle.edit_set_version.specs.Entries.{entries, path_member, points_to, requirement, text_at}
 use Rattle.edit_set_version.specs.Folders.{Folder, folder_of, reached, same_folder}
-use Rattle.edit_set_version.specs.Follows.{CanRise, Follows, RequirementsFollow}
-use Rattle.edit_set_version.specs.SetVersioned.{Bump, Following, bumps, edits, followed, following, following_at, followings, next_in, own_edit, requirement_edit, risen, shared_edits, workspace_next}
+use Rattle.edit_set_version.specs.Admitted.{CanRise, AdmitsNext, DependentsAdmit}
+use Rattle.edit_set_version.specs.SetVersioned.{Bump, Dependent, bumps, edits, next_at, dependent, dependent_at, dependents, next_in, own_edit, requirement_edit, risen, shared_edits, workspace_next}
 use Rattle.edit_set_version.proofs.Clear.{IsWritten, entry_clear, last_differs, member_below, member_clear, own_apart, reaches, root_clear, table_clear, target_clear, version_at_end, whole_apart}
 use Rattle.edit_set_version.proofs.EntriesStay.{entries_same}
 use Rattle.edit_set_version.proofs.TablePlaces.{IsEntry, entries_shaped}
@@ -50,26 +50,26 @@ of_one {B} Q f (x ∷ xs) h q (inr i) y e = elim (option_cases (f x)) [
       of_one Q f xs all.1 q i y e
 ]
 
--- ---- what follows at an entry
+-- ---- the requirement of an entry on a bumped crate
 
--- the parts of what follows
-pub record HasParts (o : Option (List ℕ)) (v : Option Parts) (f : Following) : Type 0 where
+-- the parts of a requirement on a bumped crate
+pub record HasParts (o : Option (List ℕ)) (v : Option Parts) (f : Dependent) : Type 0 where
   pub text : o ≡ Some f.text
   pub next : v ≡ Some f.next
 
 -- they are both there
-pub following_parts : (q : Place) (o : Option (List ℕ)) (v : Option Parts) (f : Following)
-    → following_at q o v ≡ Some f → HasParts o v f
-following_parts q None v f h = cc h
-following_parts q (Some text) None f h = cc h
-following_parts q (Some text) (Some v) f h = record { text = cc h; next = cc h }
+pub dependent_parts : (q : Place) (o : Option (List ℕ)) (v : Option Parts) (f : Dependent)
+    → dependent_at q o v ≡ Some f → HasParts o v f
+dependent_parts q None v f h = cc h
+dependent_parts q (Some text) None f h = cc h
+dependent_parts q (Some text) (Some v) f h = record { text = cc h; next = cc h }
 
 -- a requirement stands in a table
 pub record IsRequired (t : Tree) (q : Place) (text : List ℕ) : Type 0 where
   pub like : is_table_like (t q) ≡ true
   pub said : text_at t (version_member q) ≡ Some text
 
--- that is where it is told
+-- where a requirement stands
 pub required : (t : Tree) (q : Place) (text : List ℕ) → requirement t q ≡ Some text → IsRequired t q text
 required t q text h = elim (cases_Bool (is_table_like (t q))) [
   | inl like ↦ record { like = like; said = rw like at h }
@@ -90,11 +90,11 @@ next_is_version (b ∷ bs) folder v all h = elim (cases_Bool (same_folder (folde
       next_is_version bs folder v all.1 e
 ]
 
--- so is the one that an entry follows
-followed_is_version : (bs : List Bump) (o : Option Folder) (v : Parts)
+-- so is the one of the crate that an entry points to
+next_at_is_version : (bs : List Bump) (o : Option Folder) (v : Parts)
     → AllByRecursion (λ b. IsVersion b.next) bs → option_and_then (next_in bs) o ≡ Some v → IsVersion v
-followed_is_version bs None v all h = cc h
-followed_is_version bs (Some folder) v all h = next_is_version bs folder v all h
+next_at_is_version bs None v all h = cc h
+next_at_is_version bs (Some folder) v all h = next_is_version bs folder v all h
 
 -- a requirement that is not refused stays or becomes another
 rises : (r : Raised) → CanRise r → (r ≡ Nothing) ⊎ ((s : List ℕ) × (r ≡ Text s))
@@ -103,24 +103,24 @@ rises (Text s) h = inr (s, refl)
 rises Unread h = absurd h
 rises (Unsupported c) h = absurd h
 
--- the same text
+-- equal texts
 text_is : (a b : List ℕ) → ◌≡◌ {A = Option (List ℕ)} (Some a) (Some b) → a ≡ b
 text_is a b e = cc e
 
 -- at one entry: the requirement was raised, or it stays and needs no other text
 at_entry : (bs : List Bump) (file : List ℕ) (tree base : Tree) (q : Place) (o : Option View) (text : List ℕ)
-    (v : Parts) → is_table_like (tree q) ≡ true → In q (entries tree) → followed bs file tree q ≡ Some v
+    (v : Parts) → is_table_like (tree q) ≡ true → In q (entries tree) → next_at bs file tree q ≡ Some v
     → base (version_member q) ≡ tree (version_member q)
     → o ≡ written (entry_edits (new_at bs file tree) (entries tree)) base (version_member q)
     → option_and_then string_in o ≡ Some text
-    → AllByRecursion (λ f. CanRise (raise f.text f.next)) (followings bs file tree)
+    → AllByRecursion (λ f. CanRise (raise f.text f.next)) (dependents bs file tree)
     → IsVersion v → CanReach text v → Admits text v
-at_entry bs file tree base q o text v like i follows kept look now all big can =
+at_entry bs file tree base q o text v like i leads kept look now all big can =
     let asked : requirement tree q ≡ text_at tree (version_member q) = rw like refl in
     elim (option_cases (text_at tree (version_member q))) [
       | inl gone ↦
           let new : new_at bs file tree q ≡ None =
-          ap (λ (x : Option (List ℕ)). option_and_then risen (following_at q x (followed bs file tree q)))
+          ap (λ (x : Option (List ℕ)). option_and_then risen (dependent_at q x (next_at bs file tree q)))
           (asked ∙ gone) in
           let stands : o ≡ tree (version_member q) =
           look ∙ (written_none (new_at bs file tree) base (entries tree) q new ∙ kept) in
@@ -129,10 +129,10 @@ at_entry bs file tree base q o text v like i follows kept look now all big can =
           cc e
       | inr old ↦
           let req : requirement tree q ≡ Some old.0 = asked ∙ old.1 in
-          let f : Following = record { place = q; text = old.0; next = v } in
-          let here : following bs file tree q ≡ Some f = rw (req, follows) refl in
+          let f : Dependent = record { place = q; text = old.0; next = v } in
+          let here : dependent bs file tree q ≡ Some f = rw (req, leads) refl in
           let fine : CanRise (raise old.0 v) =
-          of_one (λ g. CanRise (raise g.text g.next)) (following bs file tree) (entries tree) all q i f
+          of_one (λ g. CanRise (raise g.text g.next)) (dependent bs file tree) (entries tree) all q i f
           here in
           elim (rises (raise old.0 v) fine) [
             | inl stays ↦
@@ -158,11 +158,11 @@ at_entry bs file tree base q o text v like i follows kept look now all big can =
 
 -- ---- the law
 
--- after a plan, each requirement that follows a bumped crate admits its next version
-pub follow : RequirementsFollow
-follow t a p file tree after readable rising left =
-    of_all Follows (followings bs file after)
-    (all_filter_map (λ q. In q (entries tree)) Follows (following bs file after) at_each (entries after)
+-- after a plan, each requirement on a bumped crate admits its next version
+pub dependents_admit : DependentsAdmit
+dependents_admit t a p file tree after readable rising left =
+    of_all AdmitsNext (dependents bs file after)
+    (all_filter_map (λ q. In q (entries tree)) AdmitsNext (dependent bs file after) at_each (entries after)
     (subst (λ (qs : List Place). AllByRecursion (λ q. In q (entries tree)) qs) (sym same)
     (all_by_in (λ q. In q (entries tree)) (entries tree) (λ q i. i))))
   where
@@ -176,7 +176,7 @@ follow t a p file tree after readable rising left =
     owns = filter_map (own_edit file) bs
 
     reqs : Edits
-    reqs = filter_map requirement_edit (followings bs file tree)
+    reqs = filter_map requirement_edit (dependents bs file tree)
 
     es : Edits
     es = edits t a p file tree
@@ -199,8 +199,8 @@ follow t a p file tree after readable rising left =
       table = λ place shape. clear place (λ e w. table_clear e place w shape);
     })
 
-    at_each : (q : Place) → In q (entries tree) → (f : Following) → following bs file after q ≡ Some f
-        → Follows f
+    at_each : (q : Place) → In q (entries tree) → (f : Dependent) → dependent bs file after q ≡ Some f
+        → AdmitsNext f
     at_each q i f here =
         let is : IsEntry q = all_in IsEntry (entries tree) q (entries_shaped tree) i in
         let away : (e : Place) → IsWritten e → reaches e q ≡ false =
@@ -237,16 +237,16 @@ follow t a p file tree after readable rising left =
         bs (all_every (λ b. Unit {0}) (λ b. tt) bs))
         ∙ ap (λ ws. written ws (emptied es tree) (version_member q))
         (edits_by_entry bs file tree (entries tree)))) in
-        let parts = following_parts q (requirement after q) (followed bs file after q) f here in
+        let parts = dependent_parts q (requirement after q) (next_at bs file after q) f here in
         let now = required after q f.text parts.text in
         let like : is_table_like (tree q) ≡ true = sym (ap is_table_like stays) ∙ now.like in
-        let follows : followed bs file tree q ≡ Some f.next =
+        let leads : next_at bs file tree q ≡ Some f.next =
         sym (ap (λ (x : Option View). option_and_then (next_in bs) (option_map (reached file)
         (option_and_then string_in x))) path) ∙ parts.next in
         λ can. at_entry bs file tree (emptied es tree) q (after (version_member q)) f.text f.next like i
-        follows
+        leads
         kept look now.said
-        (by_recursion (λ g. CanRise (raise g.text g.next)) (followings bs file tree) rising)
-        (followed_is_version bs (points_to file tree q) f.next
-        (by_recursion (λ b. IsVersion b.next) bs readable) follows)
+        (by_recursion (λ g. CanRise (raise g.text g.next)) (dependents bs file tree) rising)
+        (next_at_is_version bs (points_to file tree q) f.next
+        (by_recursion (λ b. IsVersion b.next) bs readable) leads)
         can

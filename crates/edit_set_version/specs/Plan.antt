@@ -1,0 +1,27 @@
+-- What a plan of new versions is (own, after cargo-edit).
+use Rattle.std.specs.Prelude.{◌≡◌, List, All}
+use Rattle.edit_metadata.specs.declared.input.Input.{Input}
+use Rattle.edit_version.specs.Laws.{IsReadable}
+use Rattle.edit_set_version.specs.Bumps.{IsReadableTarget, Target}
+use Rattle.edit_set_version.specs.Chosen.{Asked}
+use Rattle.edit_set_version.specs.PlanLines.{lines}
+use Rattle.edit_set_version.specs.PlanRefused.{IsClear}
+use Rattle.edit_set_version.specs.Planned.{HasAdmitted, HasSetOutputs, OutputsInOrder, has_lines, told_lines}
+use Rattle.edit_set_version.specs.SetVersioned.{Project}
+use Rattle.edit_set_version.specs.declared.plan.SetVersionPlan.{SetVersionPlan}
+
+-- the plan is one for this target and selection, over a project and the inputs with its manifests
+pub record IsPlan (t : Target) (a : Asked) (inputs : List Input) (plan : SetVersionPlan) (p : Project)
+    : Type 0 where
+  -- into each input the literals of its bumped versions and of its requirements on bumped crates are written,
+  -- and no other byte
+  pub outputs : All (HasSetOutputs t a plan.outputs.items p) inputs
+  pub in_order : OutputsInOrder inputs plan.outputs.items
+  pub lines : told_lines plan ≡ lines t a p
+  pub changed : plan.changed ≡ has_lines plan
+  -- nothing stands against it: no unknown name, excluded member, refused version, missing literal, and no
+  -- requirement that cannot be raised
+  pub clear : IsClear t a inputs p
+  -- in what stands after it, each requirement on a bumped crate admits the crate's next version
+  pub admits : IsReadableTarget t → All (λ m. IsReadable m.version) p.members
+      → All (HasAdmitted t a plan.outputs.items p) inputs
