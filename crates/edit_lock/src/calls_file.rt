@@ -51,8 +51,10 @@ fn calls_of(alloc: Global, lines: &[&str]) -> Result<Vec<Vec<String>>, AllocErro
 /// Reads the file of calls that `upgrade --update-calls` writes: one argument a line, and an empty line
 /// behind each call. Arguments behind the last empty line are left out.
 pub fn read_calls(alloc: Global, text: &str) -> Result<Vec<Vec<String>>, AllocError>
-    ensures { IfOk result (λ v. (calls : List Call) → All HasTexts calls → lines text.now ≡ file_lines calls
-        → calls_seen v.items ≡ calls) }
+    ensures read { IfOk result (λ v. calls_seen v.items ≡ calls_behind [] (lines text.now)) }
+    // what was written is read back
+    ensures written { IfOk result (λ v. (calls : List Call) → All HasTexts calls
+        → lines text.now ≡ file_lines calls → calls_seen v.items ≡ calls) }
 {
     let lines = lines_of(alloc, text)?;
     calls_of(alloc, &lines)

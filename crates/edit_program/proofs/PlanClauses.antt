@@ -11,7 +11,7 @@ use Rattle.edit_upgrade.specs.Inputs.{EachInput, OutputsInOrder, RowsInOrder, Wa
 use Rattle.edit_upgrade.specs.Lines.{line_of}
 use Rattle.edit_upgrade.specs.Lists.{Tells}
 use Rattle.edit_upgrade.specs.Missing.{TellsMissing}
-use Rattle.edit_upgrade.specs.Plans.{HasLooks, IsPlan}
+use Rattle.edit_upgrade.specs.Plans.{HasLooks, IsPlan, LooksInOrder}
 use Rattle.edit_upgrade.specs.Upgraded.{HasItsOutputs, HasItsRows, HasItsWarnings}
 use Rattle.edit_upgrade.specs.declared.decision.options.Options.{Options}
 use Rattle.edit_upgrade.specs.declared.upgrade.UpgradePlan.{UpgradePlan}
@@ -25,10 +25,12 @@ pub one_plan : (o : Options) (inputs : List Input) (configs : List (Vec Config))
     → IfOk r (λ p. All Reaches (map line_of p.rows.items))
     → IfOk r (λ p. All LatestIsNotLess (map line_of p.rows.items)) → IfOk r (NeverLowers o)
     → IfOk r (EachInput o inputs configs IsSettled) → IfOk r (EachInput o inputs configs NeedsAsBefore)
-    → IfOk r (TellsMissing o inputs) → IfOk r (HasLooks inputs configs old new) → IfOk r Tells
+    → IfOk r (TellsMissing o inputs) → IfOk r (HasLooks inputs configs old new)
+    → IfOk r (LooksInOrder inputs configs) → IfOk r Tells
     → IfOk r (IsPlan o inputs configs old new)
 one_plan o inputs configs old new (Ok p) rows rows_in_order outputs outputs_in_order warnings
-    warnings_in_order narrowing reach latest never_lower fixed_point needs missing looks lists = record {
+    warnings_in_order narrowing reach latest never_lower fixed_point needs missing looks looks_in_order
+    lists = record {
       rows = rows;
       rows_in_order = rows_in_order;
       outputs = outputs;
@@ -43,7 +45,9 @@ one_plan o inputs configs old new (Ok p) rows rows_in_order outputs outputs_in_o
       needs = needs;
       missing = missing;
       looks = looks;
+      looks_in_order = looks_in_order;
       lists = lists;
     }
 one_plan o inputs configs old new (Err e) rows rows_in_order outputs outputs_in_order warnings
-    warnings_in_order narrowing reach latest never_lower fixed_point needs missing looks lists = tt
+    warnings_in_order narrowing reach latest never_lower fixed_point needs missing looks looks_in_order
+    lists = tt

@@ -44,6 +44,7 @@ answers_count o inputs configs old now view p h = record {
   needs = h.needs;
   missing = h.missing;
   looks = h.looks;
+  looks_in_order = h.looks_in_order;
   lists = h.lists;
 }
 

@@ -4,6 +4,7 @@ use Rattle.std.specs.List.{flat_map}
 use Rattle.edit_program.specs.LookLines.{look_line}
 use Rattle.edit_program.specs.Needed.{AreNeeded}
 use Rattle.edit_store.specs.Store.{Files}
+use Rattle.edit_upgrade.specs.Plans.{LooksInOrder}
 use Rattle.edit_upgrade.specs.Upgraded.{IsNeeded}
 use Rattle.edit_upgrade.specs.declared.decision.options.Options.{Options}
 use Rattle.edit_upgrade.specs.declared.upgrade.UpgradePlan.{UpgradePlan}
@@ -16,13 +17,14 @@ use Rattle.edit_steps.specs.declared.upgrade_read.sources.Sources.{Sources}
 use Rattle.edit_program.specs.Planned.{IsPlanned, asking_for_looks}
 use Rattle.edit_program.specs.declared.upgrade_run.words.UpgradeWords.{UpgradeWords}
 
--- the lines of the lookups that a plan for these inputs makes over an index that has no name, in their order:
--- one for each address and name that is needed
+-- the lines of the lookups that a plan for these inputs makes over an index that has no name, in the order in
+-- which the inputs need them: one for each address and name that is needed
 pub record AreLinesOf (o : Options) (inputs : List Input) (configs : List (Vec Config)) (text : List ℕ)
     : Type 0 where
   pub plan : UpgradePlan
   pub planned : IsPlanned o inputs configs no_view plan
   pub needed : AreNeeded (IsNeeded inputs configs) plan.looks.items
+  pub in_order : LooksInOrder inputs configs plan
   pub is : text ≡ flat_map look_line plan.looks.items
 
 -- what the arguments name was read, but for an index, and the lines of the lookups that it needs are shown

@@ -15,9 +15,10 @@ use Rattle.edit_metadata.specs.Inputs.{path_of}
 use Rattle.edit_upgrade.specs.Inputs.{EachInput, Setting, below, outputs_at, rows_of, setting_of}
 use Rattle.edit_upgrade.specs.Lines.{line_of}
 use Rattle.edit_upgrade.specs.Lists.{Tells, warning_view}
+use Rattle.edit_upgrade.specs.LookOrder.{AreInOrder}
 use Rattle.edit_upgrade.specs.Looks.{AreLooks}
 use Rattle.edit_upgrade.specs.Missing.{TellsMissing}
-use Rattle.edit_upgrade.specs.Plans.{HasLooks, IsPlan}
+use Rattle.edit_upgrade.specs.Plans.{HasLooks, IsPlan, LooksInOrder}
 use Rattle.edit_upgrade.specs.Records.{seen}
 use Rattle.edit_upgrade.specs.Rows.{Line}
 use Rattle.edit_upgrade.specs.Upgraded.{HasItsOutputs, HasItsRows, HasItsWarnings, HasRows, IsNeeded}
@@ -31,12 +32,14 @@ use Rattle.edit_upgrade.proofs.HeadlineRows.{rows-floor, rows-latest, rows-narro
 use Rattle.edit_upgrade.proofs.PlannedAgain.{need-same, settled}
 use Rattle.edit_upgrade.proofs.WalkLemmas.{rows-told}
 
--- a plan that has all that was planned of the inputs, and the looks that they need, from a cache to another
+-- a plan that has all that was planned of the inputs, and the looks that they need in their order, from a
+-- cache to another
 pub record IsFinished (o : Options) (inputs : List Input) (configs : List (Vec Config)) (old new : CacheView)
     (plan : UpgradePlan) : Type 0 where
   pub planned : ArePlanned o new.kept inputs configs (map line_of plan.rows.items) plan.outputs.items
       (map warning_view plan.warnings.items)
   pub looks : HasLooks inputs configs old new plan
+  pub in_order : LooksInOrder inputs configs plan
 
 -- the plan that a draft has
 pub finished-draft : (o : Options) (inputs : List Input) (configs : List (Vec Config)) (old new : CacheView)
@@ -53,6 +56,7 @@ finished-draft o inputs configs old new d plan h a b = record {
       d.outputs.items (map warning_view warnings.items)) (sym b.1) h.planned));
   looks = subst (λ (looks : Vec Look). AreLooks (IsNeeded inputs configs) old.gives old.kept new.kept
       looks.items) (sym a.1) h.so_far.looked;
+  in_order = subst (λ (looks : Vec Look). AreInOrder inputs configs looks.items) (sym a.1) h.ordered.looked;
 }
 
 module _ (o : Options) (inputs : List Input) (configs : List (Vec Config)) (old new : CacheView)
@@ -143,5 +147,6 @@ module _ (o : Options) (inputs : List Input) (configs : List (Vec Config)) (old 
     needs = all-needs;
     missing = missing;
     looks = h.looks;
+    looks_in_order = h.in_order;
     lists = lists;
   }

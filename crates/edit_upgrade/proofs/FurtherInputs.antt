@@ -29,6 +29,7 @@ use Rattle.edit_upgrade.specs.declared.decision.options.Options.{Options}
 use Rattle.edit_upgrade.specs.declared.upgrade.Warning.{Warning}
 use Rattle.edit_upgrade.proofs.DraftLemmas.{planned-more}
 use Rattle.edit_upgrade.proofs.EndLemmas.{get-at, get-cases, get-front, get-last, get-of-taken}
+use Rattle.edit_upgrade.proofs.LookOrderLemmas.{order-more, order-start}
 use Rattle.edit_upgrade.proofs.LookUpLemmas.{leaves-more, so-far-idle, so-far-start}
 use Rattle.edit_upgrade.proofs.PlannedLemmas.{of-manifest}
 use Rattle.edit_upgrade.proofs.StepLemmas.{Also, steps-so-far}
@@ -68,6 +69,7 @@ draft-start o gives old d looks pairs outputs rows warnings = record {
   kept = λ a n h. cc (sym (pairs a n) ∙ h);
   so_far = so-far-start (IsNeeded [] []) gives old d.books.looks.items (holds_pair d.books.pairs) looks
       nothing-needed pairs;
+  ordered = order-start d.books.looks.items (holds_pair d.books.pairs) looks pairs;
   planned = planned-start o old d.rows.items d.outputs.items d.warnings.items rows outputs warnings;
 }
 
@@ -150,6 +152,8 @@ module _ (o : Options) (xs : List Input) (cs : List (Vec Config)) (x : Input) (o
         so_far = so-far-idle (Also (IsNeeded xs cs) own.items es)
             (IsNeeded (xs ++ x ∷ []) (cs ++ own ∷ [])) first old next next e_looks e_looks e_pairs e_pairs
             needs-also also-needs refl refl refl walked;
+        ordered = order-more xs cs x own last now next d_looks e_looks d_pairs e_pairs long draft.ordered
+            adds.walked.form adds.walked.manifest adds.walked.steps;
         planned = subst (λ (l : List Line). ArePlanned o next (xs ++ x ∷ []) (cs ++ own ∷ []) l
             e.outputs.items (map warning_view e.warnings.items)) (sym adds.rows_are)
             (subst (λ (q : List Output). ArePlanned o next (xs ++ x ∷ []) (cs ++ own ∷ [])

@@ -20,6 +20,7 @@ pub mod InputLemmas
 pub mod RankedLemmas
 pub mod SeenFacts
 pub mod StepLemmas
+pub mod LookOrderLemmas
 pub mod WalkLemmas
 pub mod EndLemmas
 pub mod InputRows

@@ -51,10 +51,10 @@ nothing-in configs a n h = none-below h.among.0 h.among.1
     none-below k h = omega arith
 
 -- where the crate of an entry comes from
-abbrev IsFrom : Source → Type 0
+abbrev pub IsFrom : Source → Type 0
 IsFrom source = ((named : Option (List ℕ)) × (source ≡ at_registry named)) ⊎ (is_elsewhere source ≡ true)
 
-source-cases : (source : Source) → IsFrom source
+pub source-cases : (source : Source) → IsFrom source
 source-cases (at_registry named) = inl (named, refl)
 source-cases at_repository = inr refl
 source-cases at_folder = inr refl

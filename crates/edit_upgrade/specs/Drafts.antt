@@ -17,6 +17,7 @@ use Rattle.edit_metadata.specs.Inputs.{path_of}
 use Rattle.edit_upgrade.specs.Inputs.{below, output_path}
 use Rattle.edit_upgrade.specs.Lines.{line_of}
 use Rattle.edit_upgrade.specs.Lists.{Told, warning_view}
+use Rattle.edit_upgrade.specs.LookOrder.{AreInOrderSoFar}
 use Rattle.edit_upgrade.specs.Looked.{AreKept, IsSoFar}
 use Rattle.edit_upgrade.specs.Looks.{Kept, kept_basis}
 use Rattle.edit_upgrade.specs.Outputs.{HasOutputs}
@@ -76,12 +77,13 @@ pub record ArePlanned (o : Options) (kept : Kept) (inputs : List Input) (configs
   pub told_below : All (λ t. t.input < length inputs) told
   pub paths_among : All (λ output. IsPathAmong inputs (output_path output)) outputs
 
--- what a draft has: the looks that these inputs need, and what is planned of them (own)
+-- what a draft has: the looks that these inputs need, in their order, and what is planned of them (own)
 pub record IsDraft (o : Options) (inputs : List Input) (configs : List (Vec Config)) (gives : Outcomes)
     (old now : Kept) (draft : Draft) : Type 0 where
   pub kept : AreKept (holds_pair draft.books.pairs) now
   pub so_far : IsSoFar (IsNeeded inputs configs) gives old now draft.books.looks.items
       (holds_pair draft.books.pairs)
+  pub ordered : AreInOrderSoFar inputs configs draft.books.looks.items (holds_pair draft.books.pairs)
   pub planned : ArePlanned o now inputs configs (map line_of draft.rows.items) draft.outputs.items
       (map warning_view draft.warnings.items)
 

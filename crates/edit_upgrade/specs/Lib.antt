@@ -7,6 +7,7 @@ pub mod Looks
 pub mod Inputs
 pub mod Looked
 pub mod Upgraded
+pub mod LookOrder
 pub mod Causes
 pub mod Lists
 pub mod Outputs

@@ -8,6 +8,7 @@ use Rattle.edit_upgrade.specs.Headline.{IsSettled, LatestIsNotLess, Narrows, Nee
 use Rattle.edit_upgrade.specs.Inputs.{EachInput, OutputsInOrder, RowsInOrder, WarningsInOrder}
 use Rattle.edit_upgrade.specs.Lines.{line_of}
 use Rattle.edit_upgrade.specs.Lists.{Tells}
+use Rattle.edit_upgrade.specs.LookOrder.{AreInOrder}
 use Rattle.edit_upgrade.specs.Looks.{AreLooks}
 use Rattle.edit_upgrade.specs.Missing.{TellsMissing}
 use Rattle.edit_upgrade.specs.Upgraded.{HasItsOutputs, HasItsRows, HasItsWarnings, IsNeeded}
@@ -18,6 +19,10 @@ use Rattle.edit_upgrade.specs.declared.upgrade.UpgradePlan.{UpgradePlan}
 abbrev pub HasLooks : List Input → List (Vec Config) → CacheView → CacheView → UpgradePlan → Type 0
 HasLooks inputs configs old new p =
     AreLooks (IsNeeded inputs configs) old.gives old.kept new.kept p.looks.items
+
+-- the looks of a plan stand in the order in which the inputs need them (own)
+abbrev pub LooksInOrder : List Input → List (Vec Config) → UpgradePlan → Type 0
+LooksInOrder inputs configs p = AreInOrder inputs configs p.looks.items
 
 -- what a plan of inputs is, from this cache to that: each promise on it by its name, as the clauses of
 -- `plan_upgrade` have them (own)
@@ -37,4 +42,5 @@ pub record IsPlan (o : Options) (inputs : List Input) (configs : List (Vec Confi
   pub needs : EachInput o inputs configs NeedsAsBefore p
   pub missing : TellsMissing o inputs p
   pub looks : HasLooks inputs configs old new p
+  pub looks_in_order : LooksInOrder inputs configs p
   pub lists : Tells p

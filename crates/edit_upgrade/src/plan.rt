@@ -16,7 +16,7 @@ ghost use Rattle.edit_upgrade.specs.Looked.{AreKept};
 ghost use Rattle.edit_upgrade.specs.Looks.{AddsNeeded, kept_by};
 ghost use Rattle.edit_upgrade.specs.Missing.{AddsNames, AreKnown, TellsMissing};
 ghost use Rattle.edit_upgrade.specs.PairSets.{holds_pair};
-ghost use Rattle.edit_upgrade.specs.Plans.{HasLooks, IsPlan};
+ghost use Rattle.edit_upgrade.specs.Plans.{HasLooks, IsPlan, LooksInOrder};
 ghost use Rattle.edit_upgrade.specs.WordCauses.{IsRefusedFor};
 ghost use Rattle.edit_upgrade.specs.Upgraded.{HasItsOutputs, HasItsRows, HasItsWarnings, IsNeeded, IsNeededBy};
 
@@ -221,6 +221,8 @@ pub fn plan_upgrade<I: Index>(
     // each look that is needed, and no other
     ensures looks { IfOk result (HasLooks inputs.now configs.now
         (cache_view I.view index.old) (cache_view I.view index.new)) }
+    // one input after another, in the order of its entries, each at the first entry that needs it
+    ensures looks_in_order { IfOk result (LooksInOrder inputs.now configs.now) }
     ensures lists { IfOk result Tells }
     // also a refused plan adds to the answers that are kept only what is needed, as the index gives it
     ensures kept { AddsNeeded (IsNeeded inputs.now configs.now) (I.view (index_of index.old)).gives

@@ -116,8 +116,7 @@ fn entry_row<I: Index>(
 }
 
 /// The looks that entries need, each once, added to those that were made; and the rows of the entries over
-/// the
-/// answers that are kept.
+/// the answers that are kept.
 pub(crate) fn walk<I: Index>(
     alloc: Global,
     job: Job<'_>,

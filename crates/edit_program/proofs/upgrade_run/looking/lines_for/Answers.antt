@@ -15,6 +15,7 @@ returns-clause-lines c =
       planned = c.in_ok-plan.ensures.planned;
       needed = looks_needed c.args.options.now c.args.target.now.inputs.items c.args.configs.now
           c.in_ok-plan.plan c.in_ok-plan.ensures.planned;
+      in_order = c.in_ok-plan.ensures.planned.is.looks_in_order;
       is = is;
     })
     (subst (λ looks. IfOk c.looks_text.result (λ s. string_bytes s ≡ flat_map look_line looks))

@@ -21,7 +21,7 @@ returns-then-is_empty-clause-planned g c =
     (one_plan o is c.args.configs.now (cache_view g.I.Index.view c.new-cache.result)
     (cache_view g.I.Index.view c.plan_upgrade.new.index) c.plan_upgrade.result e.rows e.rows_in_order
     e.outputs e.outputs_in_order e.warnings e.warnings_in_order e.narrowing e.reach e.latest e.never_lower
-    e.fixed_point e.needs e.missing e.looks e.lists))
+    e.fixed_point e.needs e.missing e.looks e.looks_in_order e.lists))
 
 pub returns-then-is_empty-clause-refused : goal.returns-then-is_empty-clause-refused
 returns-then-is_empty-clause-refused g c =
