@@ -1,5 +1,6 @@
 //! A TOML document that keeps its bytes, and its edits.
 
 pub use edit_changes::DocumentExt;
-pub use edit_document::{Document, Item, Keys, NewItem, NewValue};
-pub use edit_document::{Place, Step, copied_place, member_place};
+pub use edit_document::{
+    Document, Item, Keys, NewItem, NewValue, Place, Step, copied_place, member_place,
+};

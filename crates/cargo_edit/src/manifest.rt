@@ -1,6 +1,8 @@
 //! A `Cargo.toml`, its dependency tables and their entries.
 
 pub use edit_manifest::entries::{Entry, Said, entries, literal_place};
-pub use edit_manifest::{DepKind, DepTable, LocalManifest, Manifest};
-pub use edit_manifest::{dependency_tables, find, get_dep_version, set_dep_version};
+pub use edit_manifest::{
+    DepKind, DepTable, LocalManifest, Manifest, dependency_tables, find, get_dep_version,
+    set_dep_version,
+};
 pub use edit_update::ManifestExt;

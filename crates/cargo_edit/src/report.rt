@@ -1,4 +1,5 @@
 //! The rows of a report, the table that shows them, and new texts written to files.
 
-pub use edit_report::{Change, Output, Reason, Row, apply};
-pub use edit_report::{name_text, reason_text, shown, table_text, write_table};
+pub use edit_report::{
+    Change, Output, Reason, Row, apply, name_text, reason_text, shown, table_text, write_table,
+};

@@ -11,6 +11,7 @@ ghost use Rattle.edit_tree.specs.RemovedBytes.{removed_text};
 ghost use Rattle.edit_tree.specs.Shown.{tree_of};
 ghost use Rattle.edit_tree.specs.Supported.{IsManifest};
 ghost use Rattle.edit_tree.specs.Tree.{is_value_at};
+ghost use Rattle.edit_document.specs.Forms.{Becomes, IfDocument};
 ghost use Rattle.edit_document.specs.Items.{place_seen};
 ghost use Rattle.edit_document.specs.NewItemViews.{HasRoom, item_seen, value_seen};
 ghost use Rattle.edit_tree.specs.EditBytes.{is_one_statement};
@@ -58,12 +59,7 @@ pub trait DocumentExt {
     /// Replaces the entry at a place that one pair names and no header: behind the part of the pair's key
     /// that names the place, all up to the value's end gives way to ` = ` and the entry, or to
     /// `.workspace = true` for a dotted one. After a refusal the document is as it was.
-    fn replace_entry(
-        &mut self,
-        alloc: Global,
-        place: &[Step],
-        item: &NewItem,
-    ) -> CargoResult<()>
+    fn replace_entry(&mut self, alloc: Global, place: &[Step], item: &NewItem) -> CargoResult<()>
         requires { can_replace self.old (place_seen place.now) (item_seen item.now) };
 
     /// Writes the literal of another value in the place of a value, and nothing else; what stood inside the
@@ -78,11 +74,11 @@ impl DocumentExt for Document {
     ghost can_remove = { λ document place. (place ≡ [] → ⊥) × (tree_of document place ≡ None → ⊥) };
 
     ghost can_replace = { λ document place entry.
-        ((form : Text) → IsManifest document.bytes form → is_one_statement form place ≡ true)
+        IfDocument document.bytes (λ form. is_one_statement form place ≡ true)
         × (length place ≤ 70) × IsEntry entry };
 
     ghost can_set = { λ document place value.
-        ((form : Text) → IsManifest document.bytes form → is_value_at form place ≡ true)
+        IfDocument document.bytes (λ form. is_value_at form place ≡ true)
         × HasRoom place value };
 
     fn insert(
@@ -93,8 +89,8 @@ impl DocumentExt for Document {
         value: &NewValue,
     ) -> CargoResult<()>
         requires absent { tree_of self.old (at (place_seen place.now) (key_step key.now)) ≡ None }
-        ensures bytes { IfOk result (λ _. (form : Text) → IsManifest self.old.bytes form
-            → self.new.bytes ≡ inserted_text (place_seen place.now) key.now (value_seen value.now) form) }
+        ensures bytes { IfOk result (λ _. Becomes self.old.bytes (inserted_text (place_seen place.now)
+            key.now (value_seen value.now)) self.new.bytes) }
         ensures tree { IfOk result (λ _. Inserted (place_seen place.now) key.now (value_seen value.now)
             (tree_of self.old) (tree_of self.new)) }
         ensures pieces { IfOk result (λ _. length self.new.pieces ≤ length self.old.pieces + 2) }
@@ -110,11 +106,11 @@ impl DocumentExt for Document {
         requires inner { place_seen place.now ≡ [] → ⊥ }
         requires item { tree_of self.old (place_seen place.now) ≡ None → ⊥ }
         // Statements go with their lines, and elements and members with a comma.
-        ensures bytes { IfOk result (λ _. (form : Text) → IsManifest self.old.bytes form
-            → self.new.bytes ≡ removed_text (place_seen place.now) form) }
+        ensures bytes { IfOk result (λ _. Becomes self.old.bytes (removed_text (place_seen place.now))
+            self.new.bytes) }
         // All else shows what it did, but for the tables and arrays around the item that vanish with it.
-        ensures tree { IfOk result (λ _. (form : Text) → IsManifest self.old.bytes form
-            → Removed form (place_seen place.now) (tree_of self.old) (tree_of self.new)) }
+        ensures tree { IfOk result (λ _. IfDocument self.old.bytes (λ form. Removed form
+            (place_seen place.now) (tree_of self.old) (tree_of self.new))) }
         ensures err { IfErr result (λ _. self.new ≡ self.old) }
         // Where memory does not run out, the text without the item reads otherwise than that.
         ensures refused { IfErr result (λ e. IsMemory e ⊎ ((e ≡ EditRefused)
@@ -124,18 +120,13 @@ impl DocumentExt for Document {
         take_removed(self, alloc, text.as_str(), place)
     }
 
-    fn replace_entry(
-        &mut self,
-        alloc: Global,
-        place: &[Step],
-        item: &NewItem,
-    ) -> CargoResult<()>
-        requires one { (form : Text) → IsManifest self.old.bytes form
-            → is_one_statement form (place_seen place.now) ≡ true }
+    fn replace_entry(&mut self, alloc: Global, place: &[Step], item: &NewItem) -> CargoResult<()>
+        requires one { IfDocument self.old.bytes (λ form. is_one_statement form (place_seen place.now)
+            ≡ true) }
         requires room { length place.now ≤ 70 }
         requires entry { IsEntry (item_seen item.now) }
-        ensures bytes { IfOk result (λ _. (form : Text) → IsManifest self.old.bytes form
-            → self.new.bytes ≡ replaced_text (place_seen place.now) (item_seen item.now) form) }
+        ensures bytes { IfOk result (λ _. Becomes self.old.bytes (replaced_text (place_seen place.now)
+            (item_seen item.now)) self.new.bytes) }
         ensures tree { IfOk result (λ _. HasReplaced (place_seen place.now) (item_seen item.now)
             (tree_of self.old) (tree_of self.new)) }
         ensures pieces { IfOk result (λ _. length self.new.pieces ≤ length self.old.pieces + 2) }
@@ -148,11 +139,11 @@ impl DocumentExt for Document {
     }
 
     fn set_value(&mut self, alloc: Global, place: &[Step], value: &NewValue) -> CargoResult<()>
-        requires is_value { (form : Text) → IsManifest self.old.bytes form
-            → is_value_at form (place_seen place.now) ≡ true }
+        requires is_value { IfDocument self.old.bytes (λ form. is_value_at form (place_seen place.now)
+            ≡ true) }
         requires room { HasRoom (place_seen place.now) (value_seen value.now) }
-        ensures bytes { IfOk result (λ _. (form : Text) → IsManifest self.old.bytes form
-            → self.new.bytes ≡ set_text (place_seen place.now) (value_seen value.now) form) }
+        ensures bytes { IfOk result (λ _. Becomes self.old.bytes (set_text (place_seen place.now)
+            (value_seen value.now)) self.new.bytes) }
         ensures tree { IfOk result (λ _.
             HasSet (place_seen place.now) (value_seen value.now) (tree_of self.old) (tree_of self.new)) }
         ensures pieces { IfOk result (λ _. length self.new.pieces ≤ length self.old.pieces + 2) }

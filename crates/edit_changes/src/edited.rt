@@ -5,6 +5,7 @@ ghost use Rattle.edit_base.specs.declared.errors.Error.TheVariants.{EditRefused}
 ghost use Rattle.edit_syntax.specs.Grammar.{Text};
 ghost use Rattle.edit_tree.specs.Assertions.{at, key as key_step};
 ghost use Rattle.edit_tree.specs.EditBytes.{inserted_text, replaced_text};
+ghost use Rattle.edit_document.specs.Forms.{Becomes, IfDocument};
 ghost use Rattle.edit_document.specs.Items.{place_seen};
 ghost use Rattle.edit_tree.specs.Meant.{Inserted, InsertFails, HasReplaced, ReplaceFails, Removed, RemoveFails};
 ghost use Rattle.edit_document.specs.NewItemViews.{value_seen, item_seen};
@@ -12,15 +13,15 @@ ghost use Rattle.edit_tree.specs.RemovedBytes.{removed_text};
 ghost use Rattle.edit_tree.specs.Shown.{tree_of, ShowsTree};
 ghost use Rattle.edit_tree.specs.Supported.{IsManifest};
 
+use edit_base::errors::{CargoResult, Error};
 use edit_compare::{has_grown, has_lost, has_replaced};
 use edit_document::{Document, NewItem, NewValue, Step};
-use edit_base::errors::{CargoResult, Error};
 use std::alloc::Global;
 
 /// Reads the text that an edit leaves. Where it is no document, the edit is refused.
 pub(crate) fn read_edited(alloc: Global, text: &str) -> CargoResult<Document>
     ensures bytes { IfOk result (λ d. d.bytes ≡ text.now) }
-    ensures shows { IfOk result (λ d. (form : Text) → IsManifest text.now form → ShowsTree d form) }
+    ensures shows { IfOk result (λ d. IfDocument text.now (λ form. ShowsTree d form)) }
     ensures pieces { IfOk result (λ d. length d.pieces ≤ 1) }
     ensures refused { IfErr result (λ e. IsMemory e
         ⊎ ((e ≡ EditRefused) × ((form : Text) → IsManifest text.now form → ⊥))) }
@@ -45,11 +46,11 @@ pub(crate) fn take_inserted(
     key: &str,
     value: &NewValue,
 ) -> CargoResult<()>
-    requires written { (form : Text) → IsManifest document.old.bytes form
-        → text.now ≡ inserted_text (place_seen place.now) key.now (value_seen value.now) form }
+    requires written { Becomes document.old.bytes (inserted_text (place_seen place.now) key.now
+        (value_seen value.now)) text.now }
     requires absent { tree_of document.old (at (place_seen place.now) (key_step key.now)) ≡ None }
-    ensures bytes { IfOk result (λ _. (form : Text) → IsManifest document.old.bytes form
-        → document.new.bytes ≡ inserted_text (place_seen place.now) key.now (value_seen value.now) form) }
+    ensures bytes { IfOk result (λ _. Becomes document.old.bytes (inserted_text (place_seen place.now)
+        key.now (value_seen value.now)) document.new.bytes) }
     ensures tree { IfOk result (λ _. Inserted (place_seen place.now) key.now (value_seen value.now)
         (tree_of document.old) (tree_of document.new)) }
     ensures pieces { IfOk result (λ _. length document.new.pieces ≤ length document.old.pieces + 2) }
@@ -75,10 +76,10 @@ pub(crate) fn take_replaced(
     place: &[Step],
     item: &NewItem,
 ) -> CargoResult<()>
-    requires written { (form : Text) → IsManifest document.old.bytes form
-        → text.now ≡ replaced_text (place_seen place.now) (item_seen item.now) form }
-    ensures bytes { IfOk result (λ _. (form : Text) → IsManifest document.old.bytes form
-        → document.new.bytes ≡ replaced_text (place_seen place.now) (item_seen item.now) form) }
+    requires written { Becomes document.old.bytes (replaced_text (place_seen place.now)
+        (item_seen item.now)) text.now }
+    ensures bytes { IfOk result (λ _. Becomes document.old.bytes (replaced_text (place_seen place.now)
+        (item_seen item.now)) document.new.bytes) }
     ensures tree { IfOk result (λ _. HasReplaced (place_seen place.now) (item_seen item.now)
         (tree_of document.old) (tree_of document.new)) }
     ensures pieces { IfOk result (λ _. length document.new.pieces ≤ length document.old.pieces + 2) }
@@ -103,14 +104,13 @@ pub(crate) fn take_removed(
     text: &str,
     place: &[Step],
 ) -> CargoResult<()>
-    requires written { (form : Text) → IsManifest document.old.bytes form
-        → text.now ≡ removed_text (place_seen place.now) form }
+    requires written { Becomes document.old.bytes (removed_text (place_seen place.now)) text.now }
     requires inner { place_seen place.now ≡ [] → ⊥ }
     requires stands { tree_of document.old (place_seen place.now) ≡ None → ⊥ }
-    ensures bytes { IfOk result (λ _. (form : Text) → IsManifest document.old.bytes form
-        → document.new.bytes ≡ removed_text (place_seen place.now) form) }
-    ensures tree { IfOk result (λ _. (form : Text) → IsManifest document.old.bytes form
-        → Removed form (place_seen place.now) (tree_of document.old) (tree_of document.new)) }
+    ensures bytes { IfOk result (λ _. Becomes document.old.bytes (removed_text (place_seen place.now))
+        document.new.bytes) }
+    ensures tree { IfOk result (λ _. IfDocument document.old.bytes (λ form. Removed form
+        (place_seen place.now) (tree_of document.old) (tree_of document.new))) }
     ensures err { IfErr result (λ _. document.new ≡ document.old) }
     ensures refused { IfErr result (λ e. IsMemory e ⊎ ((e ≡ EditRefused)
         × RemoveFails (place_seen place.now) document.old.bytes)) }

@@ -34,7 +34,9 @@ pub(crate) fn leads(document: &Document, number: usize, index: usize, step: &Ste
         },
         None => match step {
             Step::Key(_) => false,
-            Step::Index(element) => { *element == index && part_at(document, number, index).is_some() }
+            Step::Index(element) => {
+                *element == index && part_at(document, number, index).is_some()
+            }
         },
     }
 }
@@ -60,7 +62,13 @@ pub(crate) fn counterpart(
 }
 
 /// Whether the same stands at a part as where its step leads to from a node of another document.
-fn same_part(document: &Document, number: usize, index: usize, other: &Document, there: usize) -> bool
+fn same_part(
+    document: &Document,
+    number: usize,
+    index: usize,
+    other: &Document,
+    there: usize,
+) -> bool
     requires here { number < length document.now.nodes }
     requires there { there < length other.now.nodes }
     ensures { Decides result (SamePart document.now number other.now there index) }
@@ -105,7 +113,9 @@ pub(crate) fn same_parts_but(
 {
     let count = document.member_count(number);
     'parts: for index in 0..count {
-        if !leads(document, number, index, step) && !same_part(document, number, index, other, there) {
+        if !leads(document, number, index, step)
+            && !same_part(document, number, index, other, there)
+        {
             return false;
         }
     }
@@ -142,7 +152,11 @@ pub(crate) fn same_around(
 }
 
 /// The numbers of a place in two documents that show the same but at this place and below it.
-pub(crate) fn beside(document: &Document, other: &Document, place: &[Step]) -> Option<(usize, usize)>
+pub(crate) fn beside(
+    document: &Document,
+    other: &Document,
+    place: &[Step],
+) -> Option<(usize, usize)>
     ensures { FindsBeside (place_seen place.now) document.now other.now result }
 {
     document.is_tree();

@@ -14,7 +14,13 @@ use edit_document::{Document, Step};
 
 /// Whether the same stands at a part as where its step leads to from a node of another document, but for
 /// the order of members.
-fn unordered_part(document: &Document, number: usize, index: usize, other: &Document, there: usize) -> bool
+fn unordered_part(
+    document: &Document,
+    number: usize,
+    index: usize,
+    other: &Document,
+    there: usize,
+) -> bool
     requires here { number < length document.now.nodes }
     requires there { there < length other.now.nodes }
     ensures { Decides result (UnorderedPart document.now number other.now there index) }
@@ -55,7 +61,13 @@ fn unordered_parts_but(
 
 /// Whether two nodes and what stands below them show the same but at one step below them, and but for
 /// the order of members.
-fn unordered_around(document: &Document, number: usize, other: &Document, there: usize, step: &Step) -> bool
+fn unordered_around(
+    document: &Document,
+    number: usize,
+    other: &Document,
+    there: usize,
+    step: &Step,
+) -> bool
     requires here { number < length document.now.nodes }
     requires there { there < length other.now.nodes }
     ensures same { Decides result (SameButOrderBeside (step_seen step.now ∷ [])

@@ -14,7 +14,12 @@ use crate::new_shown::shows_value;
 use edit_document::{Document, NewItem, NewValue, Step};
 
 /// Whether a member of a node has a name and shows a new value.
-fn shows_member(document: &Document, number: usize, index: usize, member: &(String, NewValue)) -> bool
+fn shows_member(
+    document: &Document,
+    number: usize,
+    index: usize,
+    member: &(String, NewValue),
+) -> bool
     requires { number < length document.now.nodes }
     ensures { Decides result
         ((slice_get (names_in (view_numbered document.now number)) index ≡ Some (string_bytes member.now.0))
@@ -42,7 +47,12 @@ pub(crate) fn is_apart(document: &Document, number: usize)
 }
 
 /// Whether a node shows a table of new values, an inline one or one by dotted keys.
-fn shows_members(document: &Document, number: usize, members: &[(String, NewValue)], is_inline: bool) -> bool
+fn shows_members(
+    document: &Document,
+    number: usize,
+    members: &[(String, NewValue)],
+    is_inline: bool,
+) -> bool
     requires { number < length document.now.nodes }
     ensures { Decides result (ShowsMembers document.now (place_numbered document.now number) is_inline
         (pairs_seen members.now)) }

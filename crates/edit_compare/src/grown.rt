@@ -32,7 +32,13 @@ fn name_index(document: &Document, number: usize, key: &str) -> Option<usize>
 }
 
 /// Whether a table of another document has one member more than this one, of a name that this one lacks.
-fn grown_names(document: &Document, number: usize, other: &Document, there: usize, key: &str) -> bool
+fn grown_names(
+    document: &Document,
+    number: usize,
+    other: &Document,
+    there: usize,
+    key: &str,
+) -> bool
     requires here { number < length document.now.nodes }
     requires there { there < length other.now.nodes }
     requires absent { tree_of document.now (at (place_numbered document.now number) (key_step key.now)) ≡ None }

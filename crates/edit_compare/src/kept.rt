@@ -2,6 +2,7 @@
 ghost use Rattle.std.specs.Prelude.{◌≡◌, ◌<◌, [], None, length};
 ghost use Rattle.edit_syntax.specs.Grammar.{Text};
 ghost use Rattle.edit_tree.specs.Assertions.{Step as StepSeen, at};
+ghost use Rattle.edit_document.specs.Forms.{IfDocument};
 ghost use Rattle.edit_document.specs.Items.{place_numbered, place_seen};
 ghost use Rattle.edit_document.specs.Lost.{is_named, IsKept, IsInnermost};
 ghost use Rattle.edit_tree.specs.Shown.{tree_of};
@@ -34,7 +35,7 @@ fn is_kept(document: &Document, number: usize) -> bool
 pub(crate) fn kept_steps(document: &Document, place: &[Step]) -> usize
     requires inner { place_seen place.now ≡ [] → ⊥ }
     requires stands { tree_of document.now (place_seen place.now) ≡ None → ⊥ }
-    ensures { (form : Text) → IsManifest document.now.bytes form → IsInnermost form place.now result }
+    ensures { IfDocument document.now.bytes (λ form. IsInnermost form place.now result) }
 {
     document.has_form();
     document.is_tree();

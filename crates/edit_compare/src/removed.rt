@@ -1,15 +1,14 @@
 //! Whether a document shows another without an item.
 ghost use Rattle.std.specs.Prelude.{◌≡◌, ◌<◌, ◌≤◌, [], None, Some, length, take};
 ghost use Rattle.std.specs.Bool.{Decides};
-ghost use Rattle.edit_syntax.specs.Grammar.{Text};
 ghost use Rattle.edit_tree.specs.Assertions.{Step as StepSeen, at, key as key_step};
+ghost use Rattle.edit_document.specs.Forms.{IfDocument};
 ghost use Rattle.edit_document.specs.Compared.{nth_part, tree_below};
 ghost use Rattle.edit_document.specs.Items.{place_numbered, view_numbered, place_seen, step_seen, Numbers};
 ghost use Rattle.edit_document.specs.Lost.{HasNamesBut, MovedPart, MovedParts, LosesPart, moved_place};
 ghost use Rattle.edit_document.specs.Lost as lost;
 ghost use Rattle.edit_tree.specs.Meant.{Loses, Removed};
 ghost use Rattle.edit_tree.specs.Shown.{tree_of};
-ghost use Rattle.edit_tree.specs.Supported.{IsManifest};
 
 use crate::beside::{leads, step_down};
 use crate::beside_unordered::beside_unordered;
@@ -93,7 +92,13 @@ fn moved_part(
 
 /// Whether the same stands at each part of a node but one as where it moved to in another document, but
 /// for the order of members.
-fn moved_parts(document: &Document, number: usize, other: &Document, there: usize, step: &Step) -> bool
+fn moved_parts(
+    document: &Document,
+    number: usize,
+    other: &Document,
+    there: usize,
+    step: &Step,
+) -> bool
     requires here { number < length document.now.nodes }
     requires there { there < length other.now.nodes }
     ensures { Decides result (MovedParts (step_seen step.now) document.now number other.now there) }
@@ -110,7 +115,13 @@ fn moved_parts(document: &Document, number: usize, other: &Document, there: usiz
 }
 
 /// Whether each name of a member of a node but one is one of another node's members too.
-fn has_names_but(document: &Document, number: usize, other: &Document, there: usize, step: &Step) -> bool
+fn has_names_but(
+    document: &Document,
+    number: usize,
+    other: &Document,
+    there: usize,
+    step: &Step,
+) -> bool
     requires here { number < length document.now.nodes }
     requires there { there < length other.now.nodes }
     ensures { Decides result (HasNamesBut (step_seen step.now) document.now number other.now there) }
@@ -140,7 +151,13 @@ fn lacks(document: &Document, number: usize, step: &Step) -> bool
 }
 
 /// Whether a node of another document shows what this one shows without a part.
-fn loses_view(document: &Document, number: usize, other: &Document, there: usize, step: &Step) -> bool
+fn loses_view(
+    document: &Document,
+    number: usize,
+    other: &Document,
+    there: usize,
+    step: &Step,
+) -> bool
     requires here { number < length document.now.nodes }
     requires there { there < length other.now.nodes }
     requires part { tree_of document.now (at (place_numbered document.now number) (step_seen step.now)) ≡ None
@@ -171,7 +188,13 @@ fn loses_view(document: &Document, number: usize, other: &Document, there: usize
 }
 
 /// Whether a node of another document and what stands below it show this node without a part.
-fn loses_part(document: &Document, number: usize, other: &Document, there: usize, step: &Step) -> bool
+fn loses_part(
+    document: &Document,
+    number: usize,
+    other: &Document,
+    there: usize,
+    step: &Step,
+) -> bool
     requires here { number < length document.now.nodes }
     requires there { there < length other.now.nodes }
     requires part { tree_of document.now (at (place_numbered document.now number) (step_seen step.now)) ≡ None
@@ -196,8 +219,8 @@ fn loses_part(document: &Document, number: usize, other: &Document, there: usize
 pub fn has_lost(document: &Document, other: &Document, place: &[Step]) -> bool
     requires inner { place_seen place.now ≡ [] → ⊥ }
     requires stands { tree_of document.now (place_seen place.now) ≡ None → ⊥ }
-    ensures { (form : Text) → IsManifest document.now.bytes form
-        → Decides result (Removed form (place_seen place.now) (tree_of document.now) (tree_of other.now)) }
+    ensures { IfDocument document.now.bytes (λ form. Decides result (Removed form (place_seen place.now)
+        (tree_of document.now) (tree_of other.now))) }
 {
     document.has_form();
     document.is_tree();

@@ -10,7 +10,12 @@ use crate::compare::{part_at, same_view};
 use edit_document::Document;
 
 /// Whether each name of a member of a node is one of another node's members too.
-pub(crate) fn has_names_of(document: &Document, number: usize, other: &Document, there: usize) -> bool
+pub(crate) fn has_names_of(
+    document: &Document,
+    number: usize,
+    other: &Document,
+    there: usize,
+) -> bool
     requires here { number < length document.now.nodes }
     requires there { there < length other.now.nodes }
     ensures { Decides result (HasNamesOf document.now number other.now there) }
@@ -28,7 +33,12 @@ pub(crate) fn has_names_of(document: &Document, number: usize, other: &Document,
 }
 
 /// Whether two nodes show the same, but for the order of members.
-pub(crate) fn same_but_order(document: &Document, number: usize, other: &Document, there: usize) -> bool
+pub(crate) fn same_but_order(
+    document: &Document,
+    number: usize,
+    other: &Document,
+    there: usize,
+) -> bool
     requires here { number < length document.now.nodes }
     requires there { there < length other.now.nodes }
     ensures { Decides result (SameButOrder (Some (view_numbered document.now number))

@@ -2,6 +2,7 @@
 ghost use Rattle.std.specs.Prelude.{◌≡◌, ◌<◌, [], length, option_map};
 ghost use Rattle.edit_syntax.specs.Grammar.{Text};
 ghost use Rattle.edit_document.specs.Compared.{IsWhole, kind_of, word_of};
+ghost use Rattle.edit_document.specs.Forms.{IfDocument};
 ghost use Rattle.edit_document.specs.Items.{place_numbered, view_numbered};
 ghost use Rattle.edit_document.specs.Lost.{is_named};
 ghost use Rattle.edit_tree.specs.Supported.{IsManifest};
@@ -70,8 +71,8 @@ impl Document {
     pub fn is_named(&self, number: usize) -> bool
         requires here { number < length self.now.nodes }
         requires inner { place_numbered self.now number ≡ [] → ⊥ }
-        ensures { (form : Text) → IsManifest self.now.bytes form
-            → result ≡ is_named form (place_numbered self.now number) }
+        ensures { IfDocument self.now.bytes (λ form. result
+            ≡ is_named form (place_numbered self.now number)) }
     {
         let _text = self.text.as_str();
         let node = &self.nodes[number];

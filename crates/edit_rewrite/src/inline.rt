@@ -14,8 +14,8 @@ ghost use Rattle.edit_tree.specs.Supported.{IsManifest};
 
 use crate::inside::{begins, behind_one, past_slot};
 use crate::spots::{with_swap, with_text};
-use edit_document::{Document, Step};
 use edit_base::errors::CargoResult;
+use edit_document::{Document, Step};
 use edit_syntax::read::gaps::past_gap;
 use edit_syntax::read::steps::past_blanks;
 use std::alloc::Global;

@@ -16,8 +16,8 @@ ghost use Rattle.edit_tree.specs.Statements.{Paired, paired_members, inner_pairs
 use crate::inline::{from_start, table_start, with_lead};
 use crate::inside::{begins, behind_one};
 use crate::way::{Way, along};
-use edit_document::{Document, Step};
 use edit_base::errors::CargoResult;
+use edit_document::{Document, Step};
 use edit_syntax::read::gaps::past_gap;
 use edit_syntax::read::steps::{past_name, past_value};
 use edit_tree::cut::between;
@@ -128,7 +128,11 @@ fn table_above(document: &Document, place: &[Step]) -> Option<(usize, usize)>
 }
 
 /// The last pair, of the inline tables of the text, whose key goes on behind a place.
-pub(crate) fn last_inner_of(document: &Document, alloc: Global, place: &[Step]) -> CargoResult<Option<Inner>>
+pub(crate) fn last_inner_of(
+    document: &Document,
+    alloc: Global,
+    place: &[Step],
+) -> CargoResult<Option<Inner>>
     ensures found { IfDocument document.now.bytes (λ form. IfOk result (λ o. o ≡ last_made
         (inner_seen.inner_of (place_seen place.now)) (inner_pairs form))) }
     ensures refused { IfErr result IsMemory }

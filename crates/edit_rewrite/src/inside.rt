@@ -15,8 +15,8 @@ ghost use Rattle.edit_tree.specs.SlotTexts.{AreSaid, StandsAt};
 ghost use Rattle.edit_rewrite.specs.Remainders.{Leaves, Keeps};
 ghost use Rattle.edit_tree.specs.WalkState.{SaysAt};
 
-use edit_document::Step;
 use edit_base::errors::CargoResult;
+use edit_document::Step;
 use edit_syntax::read::Mark;
 use edit_syntax::read::gaps::past_gap;
 use edit_syntax::read::steps::{past_blanks, past_name, past_value};

@@ -9,9 +9,11 @@ ghost use Rattle.edit_tree.specs.EditBytes.{is_pair};
 ghost use Rattle.edit_rewrite.specs.Standings.{StandsTo, IsTaken, is_table_header, is_element_header};
 ghost use Rattle.edit_rewrite.specs.Entries as entries_seen;
 
-use crate::way::{Way, along, count_on, first_from, has_come, heads_element, heads_table, is_at, step_index};
-use edit_document::Step;
+use crate::way::{
+    Way, along, count_on, first_from, has_come, heads_element, heads_table, is_at, step_index,
+};
 use edit_base::errors::{CargoResult, Error};
+use edit_document::Step;
 use edit_syntax::{Mark, first_line, next_line, past_mark};
 use std::alloc::Global;
 

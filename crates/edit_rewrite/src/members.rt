@@ -15,8 +15,8 @@ ghost use Rattle.edit_tree.specs.Written.{Valued};
 
 use crate::inside::{begins, behind_one};
 use crate::way::{Way, along, is_at, key_end};
-use edit_document::Step;
 use edit_base::errors::{CargoResult, Error};
+use edit_document::Step;
 use edit_syntax::Mark;
 use edit_syntax::read::gaps::past_gap;
 use edit_syntax::read::steps::{past_name, past_value};

@@ -14,8 +14,8 @@ ghost use Rattle.edit_tree.specs.Written.{Valued};
 
 use crate::inside::{begins, value_without};
 use crate::locate::entries;
-use edit_document::{Document, Step};
 use edit_base::errors::CargoResult;
+use edit_document::{Document, Step};
 use edit_syntax::past_mark;
 use edit_tree::cut::between;
 use std::alloc::Global;

@@ -6,6 +6,7 @@ ghost use Rattle.edit_base.specs.declared.errors.Error.TheVariants.{EditRefused}
 ghost use Rattle.edit_syntax.specs.Grammar.{Text};
 ghost use Rattle.edit_tree.specs.Assertions.{Place};
 ghost use Rattle.edit_tree.specs.EditBytes.{Splice, first_made, with_splice, replaced_text, is_one_statement};
+ghost use Rattle.edit_document.specs.Forms.{Becomes, IfDocument};
 ghost use Rattle.edit_rewrite.specs.Entries.{entry_of};
 ghost use Rattle.edit_rewrite.specs.EntrySpots.{within_entry, last_end, IsAround, Tells, TellsIn};
 ghost use Rattle.edit_document.specs.Items.{place_seen};
@@ -20,9 +21,9 @@ ghost use Rattle.edit_tree.specs.Supported.{IsManifest};
 use crate::locate::{Entry, entries};
 use crate::members::table_spots;
 use crate::way::{Way, key_end};
-use edit_document::{Document, NewItem, Step};
-use edit_document::new_item::push_entry;
 use edit_base::errors::{CargoResult, Error};
+use edit_document::new_item::push_entry;
+use edit_document::{Document, NewItem, Step};
 use edit_syntax::{Mark, first_line};
 use edit_tree::cut::between;
 use std::alloc::Global;
@@ -74,9 +75,8 @@ fn pair_spots(alloc: Global, text: &str, entry: Entry) -> CargoResult<(usize, us
 
 /// The same of the pair that is a statement and names the place, where there is one.
 fn line_spots(alloc: Global, text: &str, place: &[Step]) -> CargoResult<Option<(usize, usize)>>
-    ensures told { (form : Text) → IsManifest text.now form
-        → is_one_statement form (place_seen place.now) ≡ true
-        → IfOk result (Tells (place_seen place.now) (line_pairs form)) }
+    ensures told { IfDocument text.now (λ form. is_one_statement form (place_seen place.now) ≡ true
+        → IfOk result (Tells (place_seen place.now) (line_pairs form))) }
     ensures refused { IfErr result IsMemory }
 {
     let all = entries(alloc, text, place)?;
@@ -108,8 +108,8 @@ fn spots_in(
     end: usize,
 ) -> CargoResult<Option<(usize, usize)>>
     requires { end ≤ length place.now }
-    ensures told { (form : Text) → IsManifest document.now.bytes form
-        → IfOk result (TellsIn form (place_seen place.now) end) }
+    ensures told { IfDocument document.now.bytes (λ form. IfOk result (TellsIn form
+        (place_seen place.now) end)) }
     ensures refused { IfErr result IsMemory }
 {
     document.has_form();
@@ -124,9 +124,13 @@ fn spots_in(
 }
 
 /// The same in the inline tables of the whole text.
-fn inner_spots(document: &Document, alloc: Global, place: &[Step]) -> CargoResult<Option<(usize, usize)>>
-    ensures told { (form : Text) → IsManifest document.now.bytes form
-        → IfOk result (Tells (place_seen place.now) (inner_pairs form)) }
+fn inner_spots(
+    document: &Document,
+    alloc: Global,
+    place: &[Step],
+) -> CargoResult<Option<(usize, usize)>>
+    ensures told { IfDocument document.now.bytes (λ form. IfOk result (Tells (place_seen place.now)
+        (inner_pairs form))) }
     ensures refused { IfErr result IsMemory }
 {
     'ends: for end in 0..place.len() + 1 {
@@ -140,10 +144,10 @@ fn inner_spots(document: &Document, alloc: Global, place: &[Step]) -> CargoResul
 
 /// Where the pair is written that names a place, of which there is one.
 fn entry_spots(document: &Document, alloc: Global, place: &[Step]) -> CargoResult<(usize, usize)>
-    requires one { (form : Text) → IsManifest document.now.bytes form
-        → is_one_statement form (place_seen place.now) ≡ true }
-    ensures around { (form : Text) → IsManifest document.now.bytes form
-        → IfOk result (IsAround (place_seen place.now) (line_pairs form ++ inner_pairs form)) }
+    requires one { IfDocument document.now.bytes (λ form. is_one_statement form (place_seen place.now)
+        ≡ true) }
+    ensures around { IfDocument document.now.bytes (λ form. IfOk result (IsAround (place_seen place.now)
+        (line_pairs form ++ inner_pairs form))) }
     ensures refused { IfErr result IsMemory }
 {
     document.has_form();
@@ -157,11 +161,16 @@ fn entry_spots(document: &Document, alloc: Global, place: &[Step]) -> CargoResul
 }
 
 /// The document's text with another entry at a place.
-pub fn with_entry(document: &Document, alloc: Global, place: &[Step], item: &NewItem) -> CargoResult<String>
-    requires one { (form : Text) → IsManifest document.now.bytes form
-        → is_one_statement form (place_seen place.now) ≡ true }
-    ensures text { IfOk result (λ t. (form : Text) → IsManifest document.now.bytes form → string_bytes t
-        ≡ replaced_text (place_seen place.now) (item_seen item.now) form) }
+pub fn with_entry(
+    document: &Document,
+    alloc: Global,
+    place: &[Step],
+    item: &NewItem,
+) -> CargoResult<String>
+    requires one { IfDocument document.now.bytes (λ form. is_one_statement form (place_seen place.now)
+        ≡ true) }
+    ensures text { IfOk result (λ t. Becomes document.now.bytes (replaced_text (place_seen place.now)
+        (item_seen item.now)) (string_bytes t)) }
     ensures refused { IfErr result IsMemory }
 {
     let (from, to) = entry_spots(document, alloc, place)?;

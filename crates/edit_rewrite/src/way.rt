@@ -8,8 +8,8 @@ ghost use Rattle.edit_rewrite.specs.Standings as standings;
 ghost use Rattle.edit_rewrite.specs.Entries as entries_seen;
 ghost use Rattle.edit_rewrite.specs.EntrySpots as spots_seen;
 
-use edit_document::Step;
 use edit_base::errors::CargoResult;
+use edit_document::Step;
 use edit_syntax::{Mark, MarkKind};
 use edit_tree::nodes::words_in;
 use edit_tree::words::words_of;

@@ -182,7 +182,12 @@ fn joined_features(alloc: Global, entry: Item<'_>, new: &Vec<String>) -> CargoRe
 }
 
 /// Appends the members of the source and of other sources.
-fn push_sources(dependency: &Dependency, alloc: Global, root: &str, ends: &mut Vec<End>) -> CargoResult<()>
+fn push_sources(
+    dependency: &Dependency,
+    alloc: Global,
+    root: &str,
+    ends: &mut Vec<End>,
+) -> CargoResult<()>
     ensures ok { OnOk result (ends_seen ends.new.items
         ≡ ends_seen ends.old.items ++ source_ends root.now (record_view dependency.now).origin) }
     ensures refused { IfErr result IsMemory }
@@ -195,7 +200,11 @@ fn push_sources(dependency: &Dependency, alloc: Global, root: &str, ends: &mut V
 }
 
 /// Appends a member that goes with a source of the workspace.
-fn push_with_workspace(dependency: &Dependency, ends: &mut Vec<End>, name: &'static str) -> Result<(), AllocError>
+fn push_with_workspace(
+    dependency: &Dependency,
+    ends: &mut Vec<End>,
+    name: &'static str,
+) -> Result<(), AllocError>
     ensures { OnOk result (ends_seen ends.new.items
         ≡ ends_seen ends.old.items ++ workspace_end name.now (record_view dependency.now).origin) }
 {
@@ -216,7 +225,11 @@ fn ends_with_version(dependency: &Dependency, entry: Item<'_>) -> bool
 }
 
 /// Appends how `registry` ends: it stays beside a version alone.
-fn push_registry(dependency: &Dependency, ends: &mut Vec<End>, entry: Item<'_>) -> Result<(), AllocError>
+fn push_registry(
+    dependency: &Dependency,
+    ends: &mut Vec<End>,
+    entry: Item<'_>,
+) -> Result<(), AllocError>
     ensures { OnOk result (ends_seen ends.new.items ≡ ends_seen ends.old.items
         ++ (
           codes "registry",
@@ -242,7 +255,12 @@ fn push_package(dependency: &Dependency, ends: &mut Vec<End>) -> Result<(), Allo
 }
 
 /// Appends how `features` ends.
-fn push_features(dependency: &Dependency, alloc: Global, ends: &mut Vec<End>, entry: Item<'_>) -> CargoResult<()>
+fn push_features(
+    dependency: &Dependency,
+    alloc: Global,
+    ends: &mut Vec<End>,
+    entry: Item<'_>,
+) -> CargoResult<()>
     ensures ok { OnOk result (ends_seen ends.new.items ≡ ends_seen ends.old.items
         ++ (
           codes "features",
@@ -260,7 +278,12 @@ fn push_features(dependency: &Dependency, alloc: Global, ends: &mut Vec<End>, en
 }
 
 /// How the members of an entry end that is to say what the record says, in their order.
-pub(crate) fn ends(dependency: &Dependency, alloc: Global, root: &str, entry: Item<'_>) -> CargoResult<Vec<End>>
+pub(crate) fn ends(
+    dependency: &Dependency,
+    alloc: Global,
+    root: &str,
+    entry: Item<'_>,
+) -> CargoResult<Vec<End>>
     ensures ok { IfOk result (λ v. ends_seen v.items
         ≡ ends (shown_at entry.entry) root.now (record_view dependency.now)) }
     ensures refused { IfErr result IsMemory }

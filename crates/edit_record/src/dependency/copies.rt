@@ -63,10 +63,7 @@ pub(crate) fn copied_lists(
 }
 
 /// The first list, where there is one, and then the second.
-pub fn joined(
-    old: Option<Vec<String>>,
-    mut new: Vec<String>,
-) -> Result<Vec<String>, AllocError>
+pub fn joined(old: Option<Vec<String>>, mut new: Vec<String>) -> Result<Vec<String>, AllocError>
     ensures { IfOk result (λ v. texts_view v
         ≡ unwrap_or (option_map texts_view old) [] ++ texts_view new) }
 {

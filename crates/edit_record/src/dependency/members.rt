@@ -142,11 +142,7 @@ fn feature_texts(alloc: Global, dep: &str, item: Item<'_>) -> CargoResult<Vec<St
 }
 
 /// The texts of `features`, where it is there: it must be an array of strings.
-pub fn features_at(
-    alloc: Global,
-    dep: &str,
-    table: Item<'_>,
-) -> CargoResult<Option<Vec<String>>>
+pub fn features_at(alloc: Global, dep: &str, table: Item<'_>) -> CargoResult<Option<Vec<String>>>
     ensures ok { IfOk result (λ o. features_at (shown_at table.entry) dep.now
         ≡ Ok (option_map texts_view o)) }
     ensures refused { IfErr result (IsRefused (features_at (shown_at table.entry) dep.now)) }

@@ -21,7 +21,8 @@ const ROOT: &[u8] = b"[workspace]\nmembers = [\"a\", \"b\"]\n";
 const FIRST: &[u8] = b"[package]\nname = \"a\"\nversion = \"0.1.0\"\n";
 
 /// The manifest of the second member, which depends on the first.
-const SECOND: &[u8] = b"[package]\nname = \"b\"\nversion = \"0.5.0\"\n\n[dependencies]\na = { path = \"../a\", version = \"0.1\" }\n";
+const SECOND: &[u8] =
+    b"[package]\nname = \"b\"\nversion = \"0.5.0\"\n\n[dependencies]\na = { path = \"../a\", version = \"0.1\" }\n";
 
 /// Raises the minor version of one member, and the requirements of the members that depend on it.
 fn raise(alloc: Global, files: &mut MemoryStore, member: &str) -> CargoResult<()> {
