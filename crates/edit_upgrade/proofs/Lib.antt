@@ -22,6 +22,7 @@ pub mod SeenFacts
 pub mod StepLemmas
 pub mod WalkLemmas
 pub mod EndLemmas
+pub mod ConfigListLemmas
 pub mod InputRows
 pub mod DraftLemmas
 pub mod FurtherInputs

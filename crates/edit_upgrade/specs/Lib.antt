@@ -8,6 +8,7 @@ pub mod Inputs
 pub mod Looked
 pub mod Upgraded
 pub mod Causes
+pub mod ConfigLists
 pub mod Lists
 pub mod Outputs
 pub mod PlannedView
