@@ -1,6 +1,6 @@
 //! The configurations of inputs: a list for each of them, or lists that they share.
 ghost use Rattle.std.specs.Prelude.{◌≡◌, ◌<◌, length, slice_get};
-ghost use Rattle.edit_upgrade.specs.ConfigLists.{HasLists, lists_in};
+ghost use Rattle.edit_upgrade.specs.ConfigLists.{AreIndices, HasLists, chosen_lists, lists_in};
 
 use edit_sources::Config;
 
@@ -12,6 +12,15 @@ pub(crate) struct ConfigLists<'a> {
     pub(crate) which: Option<&'a [usize]>,
 }
 
+/// The list at the index that is given for an input.
+fn shared_list<'a>(lists: &'a [Vec<Config>], which: &[usize], i: usize) -> &'a Vec<Config>
+    requires lists { AreIndices lists.now which.now }
+    requires within { i < length which.now }
+    ensures { slice_get (chosen_lists lists.entry.now which.now) i ≡ Some result.now }
+{
+    &lists[which[i]]
+}
+
 /// The list of an input.
 pub(crate) fn list_of<'a>(configs: ConfigLists<'a>, i: usize) -> &'a Vec<Config>
     requires lists { HasLists configs }
@@ -19,7 +28,7 @@ pub(crate) fn list_of<'a>(configs: ConfigLists<'a>, i: usize) -> &'a Vec<Config>
     ensures { slice_get (lists_in configs.entry) i ≡ Some result.now }
 {
     match configs.which {
-        Some(which) => &configs.lists[which[i]],
+        Some(which) => shared_list(configs.lists, which, i),
         None => &configs.lists[i],
     }
 }
