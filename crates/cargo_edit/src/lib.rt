@@ -101,6 +101,7 @@ pub use edit_upgrade::Options;
 pub use edit_upgrade::UpgradePlan;
 pub use edit_upgrade::Warning;
 pub use edit_upgrade::plan_documents;
+pub use edit_upgrade::plan_shared;
 pub use edit_upgrade::plan_upgrade;
 pub use edit_upgrade::update::update_calls;
 pub use edit_upgrade::upgrade;

@@ -1,6 +1,7 @@
 //! Calls that are lent a cache.
 ghost use Rattle.std.specs.Prelude.{◌≡◌, IfOk, length};
 ghost use Rattle.edit_steps.specs.Workspaces.{HaveOwnPaths};
+ghost use Rattle.edit_steps.specs.Shared.{HasLists};
 ghost use Rattle.edit_steps.specs.Sources.{MayBePlanned};
 
 use crate::plans::show_outputs;
@@ -9,10 +10,12 @@ use edit_base::CargoResult;
 use edit_cache::IndexCache;
 use edit_metadata::Input;
 use edit_sources::registry::resolve;
-use edit_sources::{Config, FileIndex};
-use edit_steps::upgrade_read::{Asked, IndexSource, RustChoice, Sources, read_sources};
+use edit_sources::FileIndex;
+use edit_steps::upgrade_read::{
+    Asked, IndexSource, RustChoice, SharedConfigs, Sources, read_sources,
+};
 use edit_store::HostStore;
-use edit_upgrade::{Options, plan_upgrade};
+use edit_upgrade::{Options, plan_shared};
 use std::alloc::Global;
 use url::Url;
 
@@ -67,13 +70,16 @@ fn upgrade(
     rt: &HostRuntime,
     cache: &mut IndexCache<FileIndex>,
     inputs: &[Input],
-    configs: &[Vec<Config>],
+    configs: &SharedConfigs,
 ) -> CargoResult<()>
     requires paths { HaveOwnPaths inputs.now }
-    requires each { length configs.now ≡ length inputs.now }
+    requires each { length configs.now.which.items ≡ length inputs.now }
+    requires lists { HasLists configs.now }
 {
     let options = usual(rt.alloc());
-    let plan = plan_upgrade(rt.alloc(), &options, inputs, configs, cache)?;
+    let documents = Vec::new(rt.alloc());
+    let SharedConfigs { lists, which } = configs;
+    let plan = plan_shared(rt.alloc(), &options, inputs, &documents, lists, which, cache)?;
     show_outputs(rt, &plan.outputs);
     Ok(())
 }
@@ -83,12 +89,13 @@ fn once(
     rt: &HostRuntime,
     cache: &mut IndexCache<FileIndex>,
     inputs: &[Input],
-    configs: &[Vec<Config>],
+    configs: &SharedConfigs,
     registry: &Url,
     name: &str,
 ) -> CargoResult<()>
     requires paths { HaveOwnPaths inputs.now }
-    requires each { length configs.now ≡ length inputs.now }
+    requires each { length configs.now.which.items ≡ length inputs.now }
+    requires lists { HasLists configs.now }
 {
     if name.is_empty() {
         upgrade(rt, cache, inputs, configs)
@@ -102,12 +109,13 @@ fn twice(
     rt: &HostRuntime,
     cache: &mut IndexCache<FileIndex>,
     inputs: &[Input],
-    configs: &[Vec<Config>],
+    configs: &SharedConfigs,
     registry: &Url,
     name: &str,
 ) -> CargoResult<()>
     requires paths { HaveOwnPaths inputs.now }
-    requires each { length configs.now ≡ length inputs.now }
+    requires each { length configs.now.which.items ≡ length inputs.now }
+    requires lists { HasLists configs.now }
 {
     cache.fetch(rt.alloc(), registry, HELD)?;
     match once(rt, cache, inputs, configs, registry, name) {

@@ -1,5 +1,5 @@
 //! Lists of configurations that inputs share.
-ghost use Rattle.std.specs.Prelude.{◌≡◌, ◌+◌, [], IsTrue, OnOk, length, slice_get, Some};
+ghost use Rattle.std.specs.Prelude.{◌≡◌, ◌+◌, [], IsTrue, MatchOption, None, OnOk, Some, length, option_copied, slice_get};
 ghost use Rattle.std.specs.Global.{Vec};
 ghost use Rattle.edit_sources.specs.declared.config.Config.{Config};
 ghost use Rattle.edit_steps.specs.Shared.{AddsList, HasLists, paths_of};
@@ -51,6 +51,17 @@ impl SharedConfigs {
         SharedConfigs {
             lists: Vec::new(alloc),
             which: Vec::new(alloc),
+        }
+    }
+
+    /// The list of an input; none where there are fewer inputs.
+    pub fn list_of(&self, input: usize) -> Option<&Vec<Config>>
+        ensures { MatchOption (slice_get self.now.which.items input) (option_copied result ≡ None)
+            (λ j. option_copied result ≡ slice_get self.now.lists.items j) }
+    {
+        match self.which.get(input) {
+            Some(index) => self.lists.get(*index),
+            None => None,
         }
     }
 

@@ -47,7 +47,7 @@ fn put_files(rt: &impl Abort, alloc: Global, store: &mut MemoryStore) {
 fn inputs_shown(rt: &impl Abort, alloc: Global, sources: &Sources) -> String {
     let mut all = String::new(alloc);
     'inputs: for (i, input) in sources.target.inputs.iter().enumerate() {
-        let configs = match sources.configs.get(i) {
+        let configs = match sources.configs.list_of(i) {
             Some(own) => own.len(),
             None => 99,
         };
