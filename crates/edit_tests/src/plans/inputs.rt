@@ -111,7 +111,7 @@ fn addresses(rt: &impl Abort, alloc: Global, index: &mut IndexCache<FileIndex>) 
     let plan = must(rt, plan_shared(alloc, &options, &inputs, &[], &lists, &which, index));
     let mut all = String::new(alloc);
     for look in &plan.looks {
-        kept(rt, write!(all, "{} ", look.registry));
+        kept(rt, write!(all, "{} ", look.registry.as_str()));
     }
     all
 }

@@ -130,8 +130,8 @@ a /w/a/Cargo.toml 1.70.0 2 0; files, 1|- -|- -\
 ~virtual workspace /w/b/Cargo.toml 1.71.0 3 0; files, 1|../../b/Cargo.toml -|- -\
 ~a /w/a/Cargo.toml - 2 0; files, 1|- -|- !\
 ~virtual workspace /w/b/Cargo.toml 1.2.3 3 0; files, 1|/w/b -|- 1.2.3\
-~virtual workspace /w/Cargo.toml 1.72.0 2 0; of/w/a /w/a/Cargo.toml 1.72.0 2 0; of/w/b /w/b/Cargo.toml 1.72.0 3 1; \
-of/w/c /w/c/Cargo.toml 1.72.0 3 2; a file, 0|/nowhere ../../all.json|/w/index -\
+~virtual workspace /w/Cargo.toml 1.72.0 2 0; of/w/a /w/a/Cargo.toml 1.72.0 2 0; \
+of/w/b /w/b/Cargo.toml 1.72.0 3 1; of/w/c /w/c/Cargo.toml 1.72.0 3 2; a file, 0|/nowhere ../../all.json|/w/index -\
 ~virtual workspace /w/Cargo.toml - 2 0; of/w/a /w/a/Cargo.toml - 2 0; of/w/b /w/b/Cargo.toml - 3 1; \
 of/w/c /w/c/Cargo.toml - 3 2; files, 0|- /w/all.json|- !\
 ~a /w/a/Cargo.toml 1.70.0 2 0; /w/a/registries, 1|- -|- - ../registries\
