@@ -124,7 +124,8 @@ pub shared_refused : {I : Type 0} (view : I → IndexView) (index : I) (o : Opti
     → AreDocuments documents inputs
     → (length documents ≡ length inputs
     → IsRefusedFor o (StopsDocuments inputs configs (cache_view view old) (cache_view view new)) e)
-    → (documents ≡ [] → IsRefusedFor o (StopsInputs inputs configs (cache_view view old) (cache_view view new)) e)
+    → (documents ≡ []
+    → IsRefusedFor o (StopsInputs inputs configs (cache_view view old) (cache_view view new)) e)
     → IsMemory e ⊎ IsPlanCause o inputs configs (view index) e
 shared_refused view index o inputs configs documents old new e is empty (inl none) given read =
     bytes_refused view index o inputs configs old new e is empty (read none)

@@ -126,7 +126,8 @@ gathered_same files home pair one other a b left right same =
     let ends = parts_same (paths_of left.before) (paths_of left.own ++ paths_of left.behind)
     (paths_of right.before) (paths_of right.own ++ paths_of right.behind)
     (as_long IsReadFrom (option_to_list pair.first) left.before right.before left.first right.first) whole in
-    let behind = as_long IsReadFrom (option_to_list pair.last) left.behind right.behind left.last right.last in
+    let behind = as_long IsReadFrom (option_to_list pair.last) left.behind right.behind left.last
+    right.last in
     let sums = sym (length-append (paths_of left.own) (paths_of left.behind)) ∙ ap length ends.1
     ∙ length-append (paths_of right.own) (paths_of right.behind) in
     let own = parts_same (paths_of left.own) (paths_of left.behind) (paths_of right.own)

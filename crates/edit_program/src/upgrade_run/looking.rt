@@ -36,8 +36,8 @@ fn lines_for(
     requires each { length configs.now.which.items ≡ length target.now.inputs.items }
     requires lists { HasLists configs.now }
     requires documents { AreDocuments target.now.documents.items target.now.inputs.items }
-    ensures lines { IfOk result (λ text. AreLinesOf options.now target.now.inputs.items (lists_for configs.now)
-        (string_bytes text)) }
+    ensures lines { IfOk result (λ text. AreLinesOf options.now target.now.inputs.items
+        (lists_for configs.now) (string_bytes text)) }
     ensures refused { IfErr result (λ e. IsMemory e
         ⊎ IsPlanCause options.now target.now.inputs.items (lists_for configs.now) no_view e) }
 {

@@ -27,7 +27,8 @@ pub(crate) fn plan_over<I: Index + Drop>(
     requires each { length configs.now.which.items ≡ length target.now.inputs.items }
     requires lists { HasLists configs.now }
     requires documents { AreDocuments target.now.documents.items target.now.inputs.items }
-    ensures planned { IfOk result (IsPlanned options.now target.now.inputs.items (lists_for configs.now) (I.view index)) }
+    ensures planned { IfOk result (IsPlanned options.now target.now.inputs.items (lists_for configs.now)
+        (I.view index)) }
     ensures refused { IfErr result (λ e. IsMemory e
         ⊎ IsPlanCause options.now target.now.inputs.items (lists_for configs.now) (I.view index) e) }
 {

@@ -43,8 +43,8 @@ fn put_files(rt: &impl Abort, alloc: Global, store: &mut MemoryStore) {
     }
 }
 
-/// The inputs that were read: the name, the path and the Rust version of each, how many configurations it has,
-/// and the index of their list.
+/// The inputs that were read: the name, the path and the Rust version of each, how many configurations it
+/// has, and the index of their list.
 fn inputs_shown(rt: &impl Abort, alloc: Global, sources: &Sources) -> String {
     let mut all = String::new(alloc);
     'inputs: for (i, input) in sources.target.inputs.iter().enumerate() {
@@ -131,7 +131,8 @@ a /w/a/Cargo.toml 1.70.0 2 0; files, 1|- -|- -\
 ~a /w/a/Cargo.toml - 2 0; files, 1|- -|- !\
 ~virtual workspace /w/b/Cargo.toml 1.2.3 3 0; files, 1|/w/b -|- 1.2.3\
 ~virtual workspace /w/Cargo.toml 1.72.0 2 0; of/w/a /w/a/Cargo.toml 1.72.0 2 0; \
-of/w/b /w/b/Cargo.toml 1.72.0 3 1; of/w/c /w/c/Cargo.toml 1.72.0 3 2; a file, 0|/nowhere ../../all.json|/w/index -\
+of/w/b /w/b/Cargo.toml 1.72.0 3 1; \
+of/w/c /w/c/Cargo.toml 1.72.0 3 2; a file, 0|/nowhere ../../all.json|/w/index -\
 ~virtual workspace /w/Cargo.toml - 2 0; of/w/a /w/a/Cargo.toml - 2 0; of/w/b /w/b/Cargo.toml - 3 1; \
 of/w/c /w/c/Cargo.toml - 3 2; files, 0|- /w/all.json|- !\
 ~a /w/a/Cargo.toml 1.70.0 2 0; /w/a/registries, 1|- -|- - ../registries\

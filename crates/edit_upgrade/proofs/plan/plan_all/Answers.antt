@@ -19,7 +19,8 @@ returns-clause-plan g c =
     let old = cache_view g.I.Index.view c.args.index.now in
     let new = cache_view g.I.Index.view c.drafted.new.index in
     plan-of o c.args.inputs.now (lists_in c.args.configs) old new c.in_ok-plan.plan
-    (finished-draft o c.args.inputs.now (lists_in c.args.configs) old new c.in_ok-draft.draft c.in_ok-plan.plan
+    (finished-draft o c.args.inputs.now (lists_in c.args.configs) old new c.in_ok-draft.draft
+    c.in_ok-plan.plan
     c.in_ok-draft.ensures.drafted c.in_ok-plan.ensures.rows c.in_ok-plan.ensures.outputs)
     c.requires.configurations c.in_ok-plan.ensures.lists
     (missing-are o c.args.inputs.now (contains_text c.in_ok-draft.draft.known)

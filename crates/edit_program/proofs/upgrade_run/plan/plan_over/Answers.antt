@@ -46,7 +46,8 @@ returns-clause-refused g c =
     (λ e. IsMemory e ⊎ IsPlanCause o is (chosen_lists ls c.args.configs.now.which.items) view e))
     c.deref-3.ensures.value
     (subst (λ (js : List ℕ). IfErr r
-    (λ e. IsMemory e ⊎ IsPlanCause o is (chosen_lists c.deref-3.result.now js) view e)) c.deref-4.ensures.value
+    (λ e. IsMemory e ⊎ IsPlanCause o is (chosen_lists c.deref-3.result.now js) view e))
+    c.deref-4.ensures.value
     (both_causes r _ _ _ (λ e given read. shared_refused g.I.Index.view c.args.index o is
     (chosen_lists c.deref-3.result.now c.deref-4.result.now) docs c.new-cache.result c.plan_shared.new.index e
     c.new-cache.ensures.index c.new-cache.ensures.empty documents given read)

@@ -28,8 +28,8 @@ inputs-preserved g c =
     let shared = c.inputs.shared in
     let more = c.add.new.self in
     let one : old.tells ≡ true → IsListed old.file_at home pair c.as_str.result.now shared more
-    = λ t. listed old.file_at home pair c.as_str.result.now c.in-Ok.configs shared more c.in_ok-add.ensures.added
-    (c.inputs.invariant.others t)
+    = λ t. listed old.file_at home pair c.as_str.result.now c.in-Ok.configs shared more
+    c.in_ok-add.ensures.added (c.inputs.invariant.others t)
     (before (λ files. AreGathered files home pair c.as_str.result.now c.in-Ok.configs.items) old mid
     c.inputs.invariant.store (c.in-Ok.ensures.read c.inputs.invariant.kept) t) in
     record {
