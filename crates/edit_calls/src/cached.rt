@@ -9,8 +9,8 @@ use crate::said::say;
 use edit_base::CargoResult;
 use edit_cache::IndexCache;
 use edit_metadata::Input;
-use edit_sources::registry::resolve;
 use edit_sources::FileIndex;
+use edit_sources::registry::resolve;
 use edit_steps::upgrade_read::{
     Asked, IndexSource, RustChoice, SharedConfigs, Sources, read_sources,
 };
@@ -79,7 +79,15 @@ fn upgrade(
     let options = usual(rt.alloc());
     let documents = Vec::new(rt.alloc());
     let SharedConfigs { lists, which } = configs;
-    let plan = plan_shared(rt.alloc(), &options, inputs, &documents, lists, which, cache)?;
+    let plan = plan_shared(
+        rt.alloc(),
+        &options,
+        inputs,
+        &documents,
+        lists,
+        which,
+        cache,
+    )?;
     show_outputs(rt, &plan.outputs);
     Ok(())
 }

@@ -120,7 +120,7 @@ pub gathered_same : (files : Files) (home : Option (List ℕ)) (pair : Pair) (on
     → paths_of a ≡ paths_of b → AreGathered files home pair other a
 gathered_same files home pair one other a b left right same =
     let whole : paths_of left.before ++ (paths_of left.own ++ paths_of left.behind)
-        ≡ paths_of right.before ++ (paths_of right.own ++ paths_of right.behind)
+    ≡ paths_of right.before ++ (paths_of right.own ++ paths_of right.behind)
     = sym (paths_joined left.before left.own left.behind) ∙ ap paths_of (sym left.all) ∙ same
     ∙ ap paths_of right.all ∙ paths_joined right.before right.own right.behind in
     let ends = parts_same (paths_of left.before) (paths_of left.own ++ paths_of left.behind)
@@ -178,8 +178,11 @@ pub adds_again : (own list : Vec Config) (old new : SharedConfigs) (j : ℕ)
     → new.lists.items ≡ old.lists.items → new.which.items ≡ old.which.items ++ j ∷ []
     → AddsList own old new
 adds_again own list old new j is same lists which =
-    again list (j, slice_get_within old.lists.items j list is,
-    get_or_from_slice_get old.lists.items j list list is) same lists
+    again list (
+      j,
+      slice_get_within old.lists.items j list is,
+      get_or_from_slice_get old.lists.items j list list is,
+    ) same lists
     (ap (λ (xs : List (Vec Config)). filter_map (slice_get xs) new.which.items) lists
     ∙ ap (filter_map (slice_get old.lists.items)) which
     ∙ chosen_more old.lists.items old.which.items j list is)

@@ -108,7 +108,10 @@ fn addresses(rt: &impl Abort, alloc: Global, index: &mut IndexCache<FileIndex>) 
     ];
     let options = plain(alloc);
     let which = [1, 0];
-    let plan = must(rt, plan_shared(alloc, &options, &inputs, &[], &lists, &which, index));
+    let plan = must(
+        rt,
+        plan_shared(alloc, &options, &inputs, &[], &lists, &which, index),
+    );
     let mut all = String::new(alloc);
     for look in &plan.looks {
         kept(rt, write!(all, "{} ", look.registry.as_str()));

@@ -56,7 +56,11 @@ fn inputs_shown(rt: &impl Abort, alloc: Global, sources: &Sources) -> String {
         let rust = rust_shown(rt, alloc, input.rust_version);
         kept(
             rt,
-            write!(all, "{} {} {rust} {configs} {list}; ", input.name, input.path),
+            write!(
+                all,
+                "{} {} {rust} {configs} {list}; ",
+                input.name, input.path
+            ),
         );
     }
     all
