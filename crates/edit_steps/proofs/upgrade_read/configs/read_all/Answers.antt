@@ -1,10 +1,13 @@
-use Rattle.std.proofs.Common.{◌≡◌, ◌∙◌, ◌+◌, ap, arith, sym, true}
+use Rattle.std.proofs.Common.{◌≡◌, ◌∙◌, ◌+◌, ◌<◌, [], ap, arith, length, refl, subst, sym, true}
+use Rattle.std.specs.List.{filter_map}
+use Rattle.std.specs.Prelude.{All, slice_get}
+use Rattle.std.proofs.lemmas.List.Elements.{All-nil}
 use Rattle.std.proofs.lemmas.List.{length-take-le}
 use Rattle.edit_metadata.proofs.InputLemmas.{reads-on}
 use Rattle.edit_sources.specs.Configured.{given}
-use Rattle.edit_steps.specs.Named.{AreGathered, pair_of}
+use Rattle.edit_steps.specs.Named.{AreConfigured, AreGathered, pair_of}
 use Rattle.edit_steps.proofs.ReadLemmas.{among, before, configured_more, unconfigured}
-use Rattle.edit_steps.proofs.SharedLemmas.{IsListed, listed}
+use Rattle.edit_steps.proofs.SharedLemmas.{IsListed, IsOfSome, listed}
 use Rattle.edit_steps.specs.Shared.{lists_for}
 use Rattle.edit_steps.proofs.upgrade_read.configs.read_all.Goals as goal
 
@@ -17,7 +20,22 @@ returns-in-Err-clause-refused g c = unconfigured (g.S.Store.view c.args.files.no
     c.in-Err.ensures.refused
 
 pub inputs-init : goal.inputs-init
-inputs-init g c = ?
+inputs-init g c =
+    let files = g.S.Store.view c.args.files.now in
+    let home = given c.args.cargo_home in
+    let pair = pair_of c.args.named.now in
+    let shared = c.new-shared.result in
+    record {
+      store = record { tells = refl; files = λ path. refl; later = omega arith };
+      kept = c.new-cache.ensures files;
+      each = ap length c.new-shared.ensures.which;
+      lists = subst (λ js. All (λ j. j < length shared.lists.items) js) (sym c.new-shared.ensures.which)
+          (All-nil (λ j. j < length shared.lists.items));
+      read = λ t. subst (λ js. AreConfigured files.file_at home pair []
+          (filter_map (slice_get shared.lists.items) js)) (sym c.new-shared.ensures.which) tt;
+      others = λ t. subst (All (IsOfSome files.file_at home pair)) (sym c.new-shared.ensures.lists)
+          (All-nil (IsOfSome files.file_at home pair));
+    }
 
 pub inputs-preserved : goal.inputs-preserved
 inputs-preserved g c =
