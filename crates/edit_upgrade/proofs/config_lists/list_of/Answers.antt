@@ -1,4 +1,4 @@
-use Rattle.std.proofs.Common.{◌<◌, ◌≡◌, Bor, List, ℕ, Option, Some, arith, length, subst, sym}
+use Rattle.std.proofs.Common.{◌<◌, ◌≡◌, ◌∙◌, Bor, List, ℕ, Option, Some, ap, arith, get_or, length, subst, sym}
 use Rattle.std.specs.Prelude.{option_copied, slice_get}
 use Rattle.std.specs.Global.{Vec}
 use Rattle.edit_sources.specs.declared.config.Config.{Config}
@@ -34,6 +34,8 @@ bounds-configs-i c = subst (IsBelow c.args.configs.lists.now c.args.i) c.in-None
 
 pub returns-in-None : goal.returns-in-None
 returns-in-None c =
-    let low = subst (IsBelow c.args.configs.lists.now c.args.i) c.in-None.is c.requires.within in
-    subst (IsListAt c.args.configs.lists.now c.args.i c.index-configs-i.result) (sym c.in-None.is)
-    (get-at c.args.configs.lists.now c.args.i c.index-configs-i.result low c.index-configs-i.is)
+    let lists = c.args.configs.lists.now in
+    let own = c.index-configs-i.result in
+    let low = subst (IsBelow lists c.args.i) c.in-None.is c.requires.within in
+    subst (IsListAt lists c.args.i (get_or lists c.args.i own)) (sym c.in-None.is)
+    (get-at lists c.args.i own low c.index-configs-i.is ∙ ap Some c.index-configs-i.is)
