@@ -1,4 +1,4 @@
-use Rattle.std.proofs.Common.{◌∙◌, ℕ, get_or, sym}
+use Rattle.std.proofs.Common.{◌∙◌, get_or}
 use Rattle.std.proofs.lemmas.Option.{slice_get-get_or}
 use Rattle.edit_upgrade.proofs.ConfigListLemmas.{chosen-at}
 use Rattle.edit_upgrade.proofs.EndLemmas.{get-at}
