@@ -6,7 +6,6 @@ pub mod CommandLemmas
 pub mod RunLemmas
 pub mod ShownLemmas
 pub mod TwiceLemmas
-pub mod PlanClauses
 pub mod PlanLemmas
 pub mod OrderLemmas
 pub mod LockLemmas

@@ -6,6 +6,7 @@ ghost use Rattle.edit_program.specs.NoIndex.{no_view};
 ghost use Rattle.edit_sources.specs.Configured.{given};
 ghost use Rattle.edit_metadata.specs.Inputs.{HaveOwnPaths};
 ghost use Rattle.edit_store.specs.Store.{OnlyReads};
+ghost use Rattle.edit_steps.specs.Shared.{HasLists, lists_for};
 ghost use Rattle.edit_steps.specs.Sources.{AreDocuments};
 ghost use Rattle.edit_program.specs.UpgradeCauses.{IsLooksCause};
 ghost use Rattle.edit_program.specs.Looking.{AreLinesOf, AreLooksShown};
@@ -17,9 +18,8 @@ use crate::upgrade_run::words::UpgradeWords;
 use edit_base::CargoResult;
 use edit_diagnostics::explain_upgrade;
 use edit_report::shell_write_stdout;
-use edit_sources::Config;
 use edit_steps::RunResult;
-use edit_steps::upgrade_read::{Sources, Target, read_sources};
+use edit_steps::upgrade_read::{SharedConfigs, Sources, Target, read_sources};
 use edit_store::Store;
 use edit_upgrade::Options;
 use std::alloc::Global;
@@ -30,15 +30,16 @@ fn lines_for(
     alloc: Global,
     options: &Options,
     target: &Target,
-    configs: &[Vec<Config>],
+    configs: &SharedConfigs,
 ) -> CargoResult<String>
     requires paths { HaveOwnPaths target.now.inputs.items }
-    requires each { length configs.now ≡ length target.now.inputs.items }
+    requires each { length configs.now.which.items ≡ length target.now.inputs.items }
+    requires lists { HasLists configs.now }
     requires documents { AreDocuments target.now.documents.items target.now.inputs.items }
-    ensures lines { IfOk result (λ text. AreLinesOf options.now target.now.inputs.items configs.now
-        (string_bytes text)) }
+    ensures lines { IfOk result (λ text. AreLinesOf options.now target.now.inputs.items
+        (lists_for configs.now) (string_bytes text)) }
     ensures refused { IfErr result (λ e. IsMemory e
-        ⊎ IsPlanCause options.now target.now.inputs.items configs.now no_view e) }
+        ⊎ IsPlanCause options.now target.now.inputs.items (lists_for configs.now) no_view e) }
 {
     let plan = plan_over(alloc, options, target, configs, NoIndex {})?;
     looks_text(alloc, &plan.looks)

@@ -1,7 +1,6 @@
 use Rattle.std.proofs.Common.{◌≡◌, ◌∙◌, ap, inl, option_map, subst, sym, true}
 use Rattle.std.specs.Prelude.{◌⊎◌}
 use Rattle.std.specs.Io.KnownBytes.{Appends}
-use Rattle.edit_base.specs.Errors.{IsMemory}
 use Rattle.edit_sources.specs.Configured.{given}
 use Rattle.edit_steps.proofs.Refusals.{refusal_has}
 use Rattle.edit_report.specs.Applied.{HaveDistinctPaths}
@@ -13,7 +12,6 @@ use Rattle.edit_program.specs.Said.{AreWarningsInOrder}
 use Rattle.edit_program.specs.Tables.{AreInOrder}
 use Rattle.edit_program.specs.TellingCauses.{IsDeliveryCause}
 use Rattle.edit_program.specs.UpgradeCauses.{IsUpgradeCause}
-use Rattle.edit_program.specs.Planned.{IsPlanCause, IsPlanned, index_view}
 use Rattle.edit_lock.specs.Views.{packages_seen}
 use Rattle.edit_program.specs.LockRead.{IsLockRead}
 use Rattle.edit_program.specs.Upgrading.{IsPathOf, IsRead}
@@ -53,9 +51,7 @@ returns-in-Err-clause-why g c =
     (sym c.explain_upgrade.ensures.same)
     (plan_cause (Appends out out) words current home local old mid s c.in-Err.error
     (λ path. c.explain_upgrade.ensures.reads.files path ∙ c.in_ok-readings.ensures.store.files path) read
-    (subst (λ cs. IsMemory c.in-Err.error
-    ⊎ IsPlanCause words.options s.target.inputs.items cs (index_view s.index local) c.in-Err.error)
-    c.deref.ensures.value c.in-Err.ensures.refused))
+    c.in-Err.ensures.refused)
 
 pub returns-in-Err-clause-tells : goal.returns-in-Err-clause-tells
 returns-in-Err-clause-tells g c = c.explain_upgrade.ensures.reads.tells ∙ c.in_ok-readings.ensures.store.tells
@@ -71,8 +67,7 @@ deliver-requires-clause-outputs g c =
     let local = g.T.Store.view c.args.index_files in
     subst (λ p. HaveDistinctPaths p.outputs.items) (sym (ap (λ (d : Delivery). d.plan) c.delivery_task-task.ensures))
     (plan_paths words s local c.in-Ok.plan c.in_ok-readings.ensures.planned.paths
-    (subst (λ cs. IsPlanned words.options s.target.inputs.items cs (index_view s.index local) c.in-Ok.plan)
-    c.deref.ensures.value c.in-Ok.ensures.planned))
+    c.in-Ok.ensures.planned)
 
 pub deliver-requires-clause-rows : goal.deliver-requires-clause-rows
 deliver-requires-clause-rows g c =
@@ -102,8 +97,7 @@ returns-in-Ok-deliver-clause-done g c =
     let path = given c.as_deref-path.result in
     let read : old.tells ≡ true → IsRead words current home old.file_at s =
     c.in_ok-readings.ensures.read in
-    let planned = subst (λ cs. IsPlanned words.options s.target.inputs.items cs (index_view s.index local) plan)
-    c.deref.ensures.value c.in-Ok.ensures.planned in
+    let planned = c.in-Ok.ensures.planned in
     let at = subst (IsPathOf current (given words.update_calls)) (sym c.as_deref-path.ensures.value)
     c.in_ok-named.ensures.path in
     let lock = option_map (λ l. packages_seen l.now) c.as_ref-lock.result in
@@ -131,8 +125,7 @@ returns-clause-refused g c =
     let path = given c.as_deref-path.result in
     let read : old.tells ≡ true → IsRead words current home old.file_at s =
     c.in_ok-readings.ensures.read in
-    let planned = subst (λ cs. IsPlanned words.options s.target.inputs.items cs (index_view s.index local) plan)
-    c.deref.ensures.value c.in-Ok.ensures.planned in
+    let planned = c.in-Ok.ensures.planned in
     let at = subst (IsPathOf current (given words.update_calls)) (sym c.as_deref-path.ensures.value)
     c.in_ok-named.ensures.path in
     let lock = option_map (λ l. packages_seen l.now) c.as_ref-lock.result in
@@ -160,8 +153,7 @@ returns-clause-why g c =
     let path = given c.as_deref-path.result in
     let read : old.tells ≡ true → IsRead words current home old.file_at s =
     c.in_ok-readings.ensures.read in
-    let planned = subst (λ cs. IsPlanned words.options s.target.inputs.items cs (index_view s.index local) plan)
-    c.deref.ensures.value c.in-Ok.ensures.planned in
+    let planned = c.in-Ok.ensures.planned in
     let at = subst (IsPathOf current (given words.update_calls)) (sym c.as_deref-path.ensures.value)
     c.in_ok-named.ensures.path in
     let lock = option_map (λ l. packages_seen l.now) c.as_ref-lock.result in
