@@ -1,7 +1,6 @@
 //! New versions of the members of a workspace, written to files in memory.
 use crate::stop::{must, same, text};
 use cargo_edit::CargoResult;
-use cargo_edit::report::apply;
 use cargo_edit::set_version::{BumpLevel, Selection, TargetVersion, plan_set_version};
 use cargo_edit::store::{MemoryStore, Store};
 use cargo_edit::workspace::{Workspace, workspace_inputs};
@@ -38,7 +37,10 @@ fn raise(alloc: Global, files: &mut MemoryStore, member: &str) -> CargoResult<()
     };
     let target = TargetVersion::Relative(BumpLevel::Minor);
     let plan = plan_set_version(alloc, &target, &selection, &workspace, &inputs)?;
-    apply(alloc, &plan.outputs, files)
+    'outputs: for output in &plan.outputs {
+        files.write(alloc, output.path.as_str(), &output.bytes)?;
+    }
+    Ok(())
 }
 
 #[test]
