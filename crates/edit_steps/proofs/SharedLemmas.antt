@@ -1,6 +1,6 @@
 -- Lists of configurations that inputs share.
-use Rattle.std.proofs.Common.{◌≡◌, ◌∙◌, ◌<◌, ◌+◌, ◌++◌, ◌∷◌, [], ℕ, List, Option, Some, None, zero, suc, ap, arith, get_or, length, map, refl, subst, sym}
-use Rattle.std.specs.Prelude.{◌≤◌, All, codes, option_map, slice_get, string_bytes}
+use Rattle.std.proofs.Common.{◌≡◌, ◌∙◌, ◌<◌, ◌++◌, ◌∷◌, [], ℕ, List, Option, Some, None, zero, suc, ap, arith, length, map, refl, subst, sym}
+use Rattle.std.specs.Prelude.{All, codes, option_map, slice_get, string_bytes}
 use Rattle.std.specs.List.{AllZip, cons_option, filter_map}
 use Rattle.std.specs.Option.{option_to_list}
 use Rattle.std.specs.Global.{Vec}
@@ -197,15 +197,6 @@ adds_first own old new j within is lists which =
     (ap (slice_get (old.lists.items ++ own ∷ [])) is ∙ get_behind old.lists.items own)
     ∙ ap (λ (xs : List (Vec Config)). xs ++ own ∷ [])
     (chosen_stay old.lists.items (own ∷ []) old.which.items within))
-
--- each index stays that of a list, and one more is
-pub has_more : (old new : SharedConfigs) (j : ℕ) → HasLists old
-    → length old.lists.items ≤ length new.lists.items → j < length new.lists.items
-    → new.which.items ≡ old.which.items ++ j ∷ [] → HasLists new
-has_more old new j within le low which =
-    subst (λ (js : List ℕ). All (λ k. k < length new.lists.items) js) (sym which)
-    (All-push (λ k. k < length new.lists.items) old.which.items j
-    (λ k d h. omega (arith, within k d h, le)) low)
 
 -- ---- lists that are those of manifests
 

@@ -25,7 +25,7 @@ returns-clause-lines c =
 pub returns-clause-refused : goal.returns-clause-refused
 returns-clause-refused c =
     IfErr-weaker c.looks_text.result _ _
-    (λ e h. inl (lines_refused c.args.options.now c.args.target.now.inputs.items (lists_for c.args.configs.now)
-    c.in_ok-plan.plan e c.in_ok-plan.ensures.planned h))
+    (λ e h. inl (lines_refused c.args.options.now c.args.target.now.inputs.items
+    (lists_for c.args.configs.now) c.in_ok-plan.plan e c.in_ok-plan.ensures.planned h))
     (subst (λ looks. IfErr c.looks_text.result (λ e. IsMemory e ⊎ HasBadLook looks (number_of e)))
     c.deref.ensures.value c.looks_text.ensures.refused)

@@ -1,4 +1,4 @@
-use Rattle.std.proofs.Common.{List, ℕ, subst, sym}
+use Rattle.std.proofs.Common.{◌≡◌, List, ℕ, subst, sym}
 use Rattle.std.proofs.lemmas.Result.{IfOk-weaker}
 use Rattle.std.specs.Global.{Vec}
 use Rattle.std.specs.Prelude.{◌⊎◌, IfErr, IfOk}
@@ -8,10 +8,26 @@ use Rattle.edit_sources.specs.declared.config.Config.{Config}
 use Rattle.edit_tree.specs.Shown.{Shown}
 use Rattle.edit_steps.specs.Shared.{lists_for}
 use Rattle.edit_steps.specs.Sources.{AreDocuments}
-use Rattle.edit_upgrade.specs.ConfigLists.{chosen_lists}
+use Rattle.edit_upgrade.specs.ConfigLists.{AreIndices, chosen_lists}
 use Rattle.edit_program.specs.Planned.{IsPlanCause, IsPlanned}
 use Rattle.edit_program.proofs.PlanLemmas.{both_causes, planned, shared_refused}
 use Rattle.edit_program.proofs.upgrade_run.plan.plan_over.Goals as goal
+
+-- documents of inputs, as the slices of both have them
+documents_of : (all : List Shown) (inputs : List Input) (docs : List Shown) (is : List Input) → docs ≡ all
+    → is ≡ inputs → AreDocuments all inputs → AreDocuments docs is
+documents_of all inputs docs is one two h =
+    subst (AreDocuments docs) (sym two) (subst (λ (ds : List Shown). AreDocuments ds inputs) (sym one) h)
+
+pub plan_shared-requires-clause-documents : goal.plan_shared-requires-clause-documents
+plan_shared-requires-clause-documents g c =
+    documents_of c.args.target.now.documents.items c.args.target.now.inputs.items c.deref-2.result.now
+    c.deref.result.now c.deref-2.ensures.value c.deref.ensures.value c.requires.documents
+
+pub plan_shared-requires-clause-lists : goal.plan_shared-requires-clause-lists
+plan_shared-requires-clause-lists g c =
+    subst (λ (ls : List (Vec Config)). AreIndices ls c.deref-4.result.now) (sym c.deref-3.ensures.value)
+    (subst (AreIndices c.args.configs.now.lists.items) (sym c.deref-4.ensures.value) c.requires.lists)
 
 pub returns-clause-planned : goal.returns-clause-planned
 returns-clause-planned g c =
@@ -36,10 +52,8 @@ returns-clause-refused g c =
     let docs = c.deref-2.result.now in
     let view = g.I.Index.view c.args.index in
     let r = c.plan_shared.result in
-    let documents : AreDocuments docs is
-    = subst (AreDocuments docs) (sym c.deref.ensures.value)
-    (subst (λ (ds : List Shown). AreDocuments ds c.args.target.now.inputs.items) (sym c.deref-2.ensures.value)
-    c.requires.documents) in
+    let documents = documents_of c.args.target.now.documents.items c.args.target.now.inputs.items docs is
+    c.deref-2.ensures.value c.deref.ensures.value c.requires.documents in
     subst (λ (xs : List Input). IfErr r
     (λ e. IsMemory e ⊎ IsPlanCause o xs (lists_for c.args.configs.now) view e)) c.deref.ensures.value
     (subst (λ (ls : List (Vec Config)). IfErr r

@@ -14,8 +14,8 @@ use Rattle.edit_steps.proofs.upgrade_read.configs.read_all.Goals as goal
 pub returns-in-Err-clause-refused : goal.returns-in-Err-clause-refused
 returns-in-Err-clause-refused g c = unconfigured (g.S.Store.view c.args.files.now)
     (g.S.Store.view c.inputs.files) (g.S.Store.view c.gather.new.files) (given c.args.cargo_home)
-    (pair_of c.args.named.now) c.args.inputs.now c.input-item.result c.as_str.result.now c.in-Err.error c.inputs.invariant.store
-    c.as_str.ensures.value
+    (pair_of c.args.named.now) c.args.inputs.now c.input-item.result c.as_str.result.now c.in-Err.error
+    c.inputs.invariant.store c.as_str.ensures.value
     (among c.args.inputs.now c.inputs.input-index c.input-item.result c.inputs-test.true c.input-item.is)
     c.in-Err.ensures.refused
 
