@@ -12,3 +12,4 @@ pub mod NameLemmas
 pub mod OutcomeLemmas
 pub mod SameLookups
 pub mod SourceLemmas
+pub mod SplitLineLemmas
