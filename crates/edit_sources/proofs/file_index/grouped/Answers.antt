@@ -1,6 +1,3 @@
 use Rattle.std.proofs.Common.{arith}
 use Rattle.std.proofs.lemmas.Grind.{text_groups}
 use Rattle.edit_sources.proofs.file_index.grouped.Goals as goal
-
-pub loop-entry-preserved : goal.loop-entry-preserved
-loop-entry-preserved c = grind (arith, text_groups)
