@@ -1,13 +1,16 @@
 -- Groups of entries by name, to which runs of entries of one name are added.
-use Rattle.std.proofs.Common.{◌≡◌, ℕ, List, [], ◌∷◌, ◌++◌, true, false, cond, refl, sym, ap, ◌∙◌, append_assoc, append-nil, inl, inr, ⊎_elim}
+use Rattle.std.proofs.Common.{◌≡◌, ℕ, List, [], ◌∷◌, ◌++◌, true, false, cond, arith, ◌==◌, refl, sym, ap, subst, ◌∙◌, Option, None, Some, ◌⊎◌, append_assoc, append-nil, inl, inr, ⊎_elim}
 use Rattle.std.specs.Prelude.{String, Vec, string_bytes}
 use Rattle.std.specs.declared.alloc.Global.{Global}
 use Rattle.std.specs.List.{filter}
-use Rattle.std.specs.Option.{option_map_or}
+use Rattle.std.specs.Option.{option_map_or, UnwrapsOrElse}
 use Rattle.std.specs.Str.{bytes_eq}
+use Rattle.std.specs.Vec.{vec_len}
 use Rattle.std.specs.BTreeMap.{BTreeMap, get_by_text}
 use Rattle.std.proofs.lemmas.Bool.{cases_Bool}
+use Rattle.std.proofs.lemmas.List.{nil_from_length}
 use Rattle.std.proofs.lemmas.List.Elements.{All-head, All-tail, All-nil, All-push, filter-append}
+use Rattle.std.proofs.lemmas.Slice.Eq.{bytes_eq-Decides}
 use Rattle.edit_version.specs.declared.fetch.IndexVersion.{IndexVersion}
 use Rattle.edit_sources.specs.FileIndex.{AreNamed, IsAdded}
 
@@ -44,14 +47,38 @@ module _ (name q : List ℕ) where
   with_name-none e (x ∷ xs) h = with_name-step false e x xs h ∙
       with_name-none e xs (All-tail (λ v. string_bytes v.name ≡ name) x xs h)
 
+  -- so the test keeps all or none
+  pub with_name-is : (xs : List IndexVersion) → AreNamed name xs
+      → ((bytes_eq q name ≡ true) × (with_name q xs ≡ xs)) ⊎ ((bytes_eq q name ≡ false) × (with_name q xs ≡ []))
+  with_name-is xs h = ⊎_elim (λ e. inl (e, with_name-all e xs h)) (λ e. inr (e, with_name-none e xs h))
+      (cases_Bool (bytes_eq q name))
+
+-- a run joins the group of its name, and no other
+pub joined : (groups : Groups) (name : List ℕ) (run group : List IndexVersion) (q : List ℕ)
+    → AreNamed name run → group ≡ group_of groups name ++ run
+    → ((bytes_eq q name ≡ true) × (group ≡ group_of groups q ++ with_name q run))
+    ⊎ ((bytes_eq q name ≡ false) × (group_of groups q ≡ group_of groups q ++ with_name q run))
+joined groups name run group q named items = ⊎_elim
+    (λ t. inl (t.0, items ∙ ap (λ n. group_of groups n ++ run) (sym ((bytes_eq-Decides q name).0 t.0)) ∙
+    ap (λ xs. group_of groups q ++ xs) (sym t.1)))
+    (λ f. inr (f.0, sym (append-nil (group_of groups q)) ∙ ap (λ xs. group_of groups q ++ xs) (sym f.1)))
+    (with_name-is name q run named)
+
+-- what `or_default` gives for a name is its group
+pub defaulted : (found : Option (Vec IndexVersion Global)) (group : Vec IndexVersion Global)
+    → UnwrapsOrElse found (λ v. (v.items ≡ []) × (vec_len v ≡ 0)) group
+    → option_map_or (λ g. g.items) found [] ≡ group.items
+defaulted None group h = sym h.0
+defaulted (Some x) group h = ap (λ g. g.items) (sym h)
+
+-- a group of no length has no entries
+pub emptied : (group : Vec IndexVersion Global) → true ≡ (vec_len group == 0) → group.items ≡ []
+emptied group h = grind (arith, group.ok, nil_from_length)
+
 -- entries stand in the groups, but for the last ones, which are of one name
 abbrev pub HasGrouped : Groups → List IndexVersion → List IndexVersion → Type 0
 HasGrouped groups run entries = ((q : List ℕ) → group_of groups q ++ with_name q run ≡ with_name q entries)
     × ((name : List ℕ) × AreNamed name run)
-
--- at the beginning
-pub grouped-none : (groups : Groups) → ((q : List ℕ) → group_of groups q ≡ []) → HasGrouped groups [] []
-grouped-none groups none = (λ q. append-nil (group_of groups q) ∙ none q, ([], All-nil (λ v. string_bytes v.name ≡ [])))
 
 module _ (groups : Groups) (run entries : List IndexVersion) (has : HasGrouped groups run entries) where
   -- one entry more of the same name

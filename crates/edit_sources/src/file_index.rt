@@ -69,7 +69,9 @@ fn add_run(
     groups: &mut BTreeMap<String, Vec<IndexVersion>>,
     run: Vec<IndexVersion>,
 ) -> Result<(), AllocError>
-    ensures { IfOk result (λ _. (name : List ℕ) → AreNamed name run.items → IsAdded groups.old run.items groups.new) }
+    ensures { IfOk result (λ _. (name : List ℕ)
+        → AreNamed name run.items
+        → IsAdded groups.old run.items groups.new) }
 {
     let Some(first) = run.first() else {
         return Ok(());
@@ -80,7 +82,8 @@ fn add_run(
         return Ok(());
     }
     let mut run = run;
-    group.append(&mut run)
+    group.append(&mut run)?;
+    Ok(())
 }
 
 impl Index for FileIndex {
