@@ -1,13 +1,13 @@
 -- Groups of entries by name, to which runs of entries of one name are added.
 use Rattle.std.proofs.Common.{◌≡◌, ℕ, List, [], ◌∷◌, ◌++◌, true, false, cond, arith, ◌==◌, refl, sym, ap, subst, ◌∙◌, Option, None, Some, ◌⊎◌, append_assoc, append-nil, inl, inr, ⊎_elim}
-use Rattle.std.specs.Prelude.{String, Vec, string_bytes}
+use Rattle.std.specs.Prelude.{String, Vec, slice_get, string_bytes}
 use Rattle.std.specs.declared.alloc.Global.{Global}
 use Rattle.std.specs.List.{filter}
 use Rattle.std.specs.Option.{option_map_or, UnwrapsOrElse}
 use Rattle.std.specs.Str.{bytes_eq}
 use Rattle.std.specs.Vec.{vec_len}
 use Rattle.std.specs.BTreeMap.{BTreeMap, get_by_text}
-use Rattle.std.proofs.lemmas.Bool.{cases_Bool}
+use Rattle.std.proofs.lemmas.Bool.{cases_Bool, false≢true}
 use Rattle.std.proofs.lemmas.List.{nil_from_length}
 use Rattle.std.proofs.lemmas.List.Elements.{All-head, All-tail, All-nil, All-push, filter-append}
 use Rattle.std.proofs.lemmas.Slice.Eq.{bytes_eq-Decides}
@@ -49,7 +49,8 @@ module _ (name q : List ℕ) where
 
   -- so the test keeps all or none
   pub with_name-is : (xs : List IndexVersion) → AreNamed name xs
-      → ((bytes_eq q name ≡ true) × (with_name q xs ≡ xs)) ⊎ ((bytes_eq q name ≡ false) × (with_name q xs ≡ []))
+      → ((bytes_eq q name ≡ true) × (with_name q xs ≡ xs))
+      ⊎ ((bytes_eq q name ≡ false) × (with_name q xs ≡ []))
   with_name-is xs h = ⊎_elim (λ e. inl (e, with_name-all e xs h)) (λ e. inr (e, with_name-none e xs h))
       (cases_Bool (bytes_eq q name))
 
@@ -74,6 +75,14 @@ defaulted (Some x) group h = ap (λ g. g.items) (sym h)
 -- a group of no length has no entries
 pub emptied : (group : Vec IndexVersion Global) → true ≡ (vec_len group == 0) → group.items ≡ []
 emptied group h = grind (arith, group.ok, nil_from_length)
+
+-- an entry of the name of the first entry has the name of them all
+pub continued : (run : List IndexVersion) (x : IndexVersion)
+    → option_map_or (λ e. bytes_eq (string_bytes e.name) (string_bytes x.name)) (slice_get run 0) false ≡ true
+    → (name : List ℕ) → AreNamed name run → string_bytes x.name ≡ name
+continued [] x h name named = absurd (false≢true h)
+continued (e ∷ es) x h name named = sym ((bytes_eq-Decides (string_bytes e.name) (string_bytes x.name)).0 h) ∙
+    All-head (λ v. string_bytes v.name ≡ name) e es named
 
 -- entries stand in the groups, but for the last ones, which are of one name
 abbrev pub HasGrouped : Groups → List IndexVersion → List IndexVersion → Type 0
@@ -102,7 +111,8 @@ module _ (groups : Groups) (run entries : List IndexVersion) (has : HasGrouped g
       → HasGrouped after (x ∷ []) (entries ++ x ∷ [])
   grouped-anew after added x = (
     λ q. let test = λ (e : IndexVersion). bytes_eq q (string_bytes e.name) in
-        ap (λ t. t ++ with_name q (x ∷ [])) (grouped-all after added q) ∙ sym (filter-append test entries (x ∷ [])),
+        ap (λ t. t ++ with_name q (x ∷ [])) (grouped-all after added q) ∙
+        sym (filter-append test entries (x ∷ [])),
     (string_bytes x.name, All-push (λ v. string_bytes v.name ≡ string_bytes x.name) [] x
     (All-nil (λ v. string_bytes v.name ≡ string_bytes x.name)) refl),
   )

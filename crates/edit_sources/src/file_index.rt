@@ -1,5 +1,7 @@
 //! An index of one file, read once.
-ghost use Rattle.std.specs.Prelude.{◌≡◌, ℕ, List, true, IfOk, IfErr, string_bytes};
+ghost use Rattle.std.specs.Prelude.{◌≡◌, ℕ, List, false, IfOk, IfErr, slice_get, string_bytes};
+ghost use Rattle.std.specs.Option.{option_map_or};
+ghost use Rattle.std.specs.Str.{bytes_eq};
 ghost use Rattle.edit_sources.specs.FileIndex.{AreNamed, GroupsByName, IsAdded, HoldsLines, file_view};
 ghost use Rattle.edit_sources.specs.IndexLines.{RefusesLines, lines_of};
 
@@ -54,9 +56,12 @@ fn grouped(
     Ok(groups)
 }
 
-/// Whether an entry has the name of the entries of a run.
+/// Whether an entry has the name of the first entry of a run.
 fn continues(run: &[IndexVersion], entry: &IndexVersion) -> bool
-    ensures { result ≡ true → (name : List ℕ) → AreNamed name run.now → string_bytes entry.now.name ≡ name }
+    ensures { result ≡ option_map_or
+        (λ e. bytes_eq (string_bytes e.name) (string_bytes entry.now.name))
+        (slice_get run.now 0)
+        false }
 {
     match run.first() {
         Some(first) => first.name == entry.name,

@@ -14,7 +14,8 @@ behind later first = first ∙ later
 pub returns-then-is_empty : goal.returns-then-is_empty
 returns-then-is_empty c = λ name named q.
     let key : string_bytes c.in_ok-clone.field-0 ≡ name = grind (arith, named 0 c.in-Some.first.now) in
-    let found : group_of c.args.groups.now (string_bytes c.in_ok-clone.field-0) ≡ c.or_default-group.result.now.items =
+    let found : group_of c.args.groups.now (string_bytes c.in_ok-clone.field-0)
+    ≡ c.or_default-group.result.now.items =
     ap (λ o. option_map_or (λ g. g.items) o []) (sym c.in_ok-groups.ensures.value) ∙
     defaulted _ _ c.or_default-group.ensures.value in
     let empty = emptied c.or_default-group.result.now (c.if-is_empty.ensures) in
@@ -28,10 +29,12 @@ returns-then-is_empty c = λ name named q.
 pub returns : goal.returns
 returns c = λ name named q.
     let key : string_bytes c.in_ok-clone.field-0 ≡ name = grind (arith, named 0 c.in-Some.first.now) in
-    let found : group_of c.args.groups.now (string_bytes c.in_ok-clone.field-0) ≡ c.or_default-group.result.now.items =
+    let found : group_of c.args.groups.now (string_bytes c.in_ok-clone.field-0)
+    ≡ c.or_default-group.result.now.items =
     ap (λ o. option_map_or (λ g. g.items) o []) (sym c.in_ok-groups.ensures.value) ∙
     defaulted _ _ c.or_default-group.ensures.value in
-    let longer : c.append.new.self.items ≡ c.or_default-group.result.now.items ++ c.args.run.items = search rules in
+    let longer : c.append.new.self.items ≡ c.or_default-group.result.now.items ++ c.args.run.items =
+    search rules in
     ⊎_elim
     (λ t. behind t.1 (grind (arith, text_keys, t.0)))
     (λ f. behind f.1 (grind (arith, text_keys, f.0)))
