@@ -1,5 +1,5 @@
 -- Groups of entries by name, to which runs of entries of one name are added.
-use Rattle.std.proofs.Common.{◌≡◌, ℕ, List, [], ◌∷◌, ◌++◌, true, false, cond, arith, ◌==◌, refl, sym, ap, subst, ◌∙◌, Option, None, Some, ◌⊎◌, append_assoc, append-nil, inl, inr, ⊎_elim}
+use Rattle.std.proofs.Common.{◌≡◌, ℕ, List, [], ◌∷◌, ◌++◌, true, false, cond, arith, ◌==◌, refl, sym, ap, ◌∙◌, Option, None, Some, ◌⊎◌, append_assoc, append-nil, inl, inr, ⊎_elim}
 use Rattle.std.specs.Prelude.{String, Vec, slice_get, string_bytes}
 use Rattle.std.specs.declared.alloc.Global.{Global}
 use Rattle.std.specs.List.{filter}
@@ -60,8 +60,11 @@ pub joined : (groups : Groups) (name : List ℕ) (run group : List IndexVersion)
     → ((bytes_eq q name ≡ true) × (group ≡ group_of groups q ++ with_name q run))
     ⊎ ((bytes_eq q name ≡ false) × (group_of groups q ≡ group_of groups q ++ with_name q run))
 joined groups name run group q named items = ⊎_elim
-    (λ t. inl (t.0, items ∙ ap (λ n. group_of groups n ++ run) (sym ((bytes_eq-Decides q name).0 t.0)) ∙
-    ap (λ xs. group_of groups q ++ xs) (sym t.1)))
+    (λ t. inl (
+      t.0,
+      items ∙ ap (λ n. group_of groups n ++ run) (sym ((bytes_eq-Decides q name).0 t.0)) ∙
+          ap (λ xs. group_of groups q ++ xs) (sym t.1),
+    ))
     (λ f. inr (f.0, sym (append-nil (group_of groups q)) ∙ ap (λ xs. group_of groups q ++ xs) (sym f.1)))
     (with_name-is name q run named)
 
@@ -113,6 +116,9 @@ module _ (groups : Groups) (run entries : List IndexVersion) (has : HasGrouped g
     λ q. let test = λ (e : IndexVersion). bytes_eq q (string_bytes e.name) in
         ap (λ t. t ++ with_name q (x ∷ [])) (grouped-all after added q) ∙
         sym (filter-append test entries (x ∷ [])),
-    (string_bytes x.name, All-push (λ v. string_bytes v.name ≡ string_bytes x.name) [] x
-    (All-nil (λ v. string_bytes v.name ≡ string_bytes x.name)) refl),
+    (
+      string_bytes x.name,
+      All-push (λ v. string_bytes v.name ≡ string_bytes x.name) [] x
+          (All-nil (λ v. string_bytes v.name ≡ string_bytes x.name)) refl,
+    ),
   )

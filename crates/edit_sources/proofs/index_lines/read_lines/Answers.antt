@@ -1,7 +1,7 @@
-use Rattle.std.proofs.Common.{rules, ◌≡◌, ◌≤◌, ℕ, ◌+◌, length, List, [], ◌∷◌, ◌++◌, true, false, Some, None, map, ap, sym, ◌∙◌, subst, inl, inr, ⊎_elim, arith}
+use Rattle.std.proofs.Common.{rules, ◌≡◌, ◌≤◌, ◌+◌, length, [], ◌∷◌, ◌++◌, true, false, Some, map, ap, sym, ◌∙◌, subst, inl, inr, ⊎_elim, arith}
 use Rattle.std.proofs.lemmas.List.{map-append}
 use Rattle.edit_version.specs.IndexEntry.{entry_of}
-use Rattle.edit_sources.specs.IndexLines.{LinesSay, is_blank, length_left, lines_left}
+use Rattle.edit_sources.specs.IndexLines.{LinesSay, is_blank, lines_left}
 use Rattle.edit_sources.specs.IndexLines.LinesSay.{blank, entry}
 use Rattle.edit_sources.proofs.LineLemmas.{HasRead, read-none, read-parts, read-more, read-all}
 use Rattle.edit_sources.proofs.index_lines.read_lines.Goals as goal

@@ -1,4 +1,3 @@
-use Rattle.std.proofs.Common.{◌≡◌, ◌∷◌, sym, ap, ◌∙◌}
 use Rattle.std.proofs.lemmas.List.{take_rest}
 use Rattle.edit_sources.proofs.SplitLineLemmas.{lines_of-none, lines_of-some}
 use Rattle.edit_sources.proofs.index_lines.split_line.Goals as goal

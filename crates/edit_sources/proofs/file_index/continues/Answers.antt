@@ -1,1 +1,0 @@
-use Rattle.edit_sources.proofs.file_index.continues.Goals as goal
