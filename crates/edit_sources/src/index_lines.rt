@@ -4,6 +4,7 @@ ghost use Rattle.edit_base.specs.declared.errors.Error.TheVariants.{IndexLine};
 ghost use Rattle.edit_base.specs.Errors.{IsMemory};
 ghost use Rattle.edit_version.specs.IndexEntry.{entry_of};
 ghost use Rattle.edit_sources.specs.IndexLines.{IsIndexLine, LinesSay, RefusesLine, RefusesLines, is_blank, length_left, lines_left, lines_of, rust_version_of, shown, yanked_of};
+ghost use Rattle.memchr.specs.Find.{IsFirstByte, is_byte};
 ghost use Rattle.serde_json.specs.Find.{as_str};
 
 use crate::line_reader::read_fields;
@@ -138,12 +139,22 @@ fn entry_from_tree(alloc: Global, bytes: &[u8], line: usize) -> CargoResult<Inde
     })
 }
 
+/// The offset of the first line feed of a text. One at its beginning, as a blank line has, needs no search.
+fn line_end(text: &[u8]) -> Option<usize>
+    ensures { IsFirstByte (is_byte 10) text.now result }
+{
+    if !text.is_empty() && text[0] == b'\n' {
+        return Some(0);
+    }
+    memchr(b'\n', text)
+}
+
 /// The first line of a text, and what comes behind its line feed, where it has one.
 fn split_line(text: &[u8]) -> (&[u8], Option<&[u8]>)
     ensures lines { lines_of text.now ≡ result.0.now ∷ lines_left result.1 }
     ensures shorter { length_left result.1 ≤ length text.now }
 {
-    match memchr(b'\n', text) {
+    match line_end(text) {
         Some(end) => (&text[..end], Some(&text[end + 1..])),
         None => (text, None),
     }
