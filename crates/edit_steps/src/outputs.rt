@@ -2,7 +2,7 @@
 ghost use Rattle.std.specs.Prelude.{◌≡◌, ◌≢◌, ◌<◌, ◌≤◌, IfErr, OnErr, OnOk, length, true};
 ghost use Rattle.edit_base.specs.declared.errors.DeviceCall.TheVariants as call;
 ghost use Rattle.edit_report.specs.Applied.{AreWritten, HasStopped, HaveDistinctPaths, IsWhole, path_of};
-ghost use Rattle.edit_store.specs.Store.{OnlyReads, RefusesCall, SameBut, SameFiles};
+ghost use Rattle.edit_store.specs.Store.{IsWrittenAtMostOnce, IsWrittenOnce, OnlyReads, RefusesCall, SameBut, SameFiles};
 
 use crate::refusal::{Refusal, RunResult, at_file};
 use edit_report::Output;
@@ -14,6 +14,7 @@ fn stage_output<S: Store>(alloc: Global, output: &Output, files: &mut S) -> RunR
     ensures tells { (S.view files.new).tells ≡ (S.view files.old).tells }
     ensures later { (S.view files.old).faults ≤ (S.view files.new).faults }
     ensures files { SameFiles (S.view files.old).file_at (S.view files.new).file_at }
+    ensures writes { (S.view files.new).writes ≡ (S.view files.old).writes }
     ensures ready { OnOk result ((S.view files.new).stage_errors ≡ (S.view files.old).stage_errors) }
     ensures refused { IfErr result
         (λ r. RefusesCall call.Write (S.view files.old) (S.view files.new) r.error) }
@@ -30,6 +31,7 @@ fn verify_output<S: Store>(alloc: Global, output: &Output, files: &mut S) -> Run
     ensures tells { (S.view files.new).tells ≡ (S.view files.old).tells }
     ensures later { (S.view files.old).faults ≤ (S.view files.new).faults }
     ensures files { SameFiles (S.view files.old).file_at (S.view files.new).file_at }
+    ensures writes { (S.view files.new).writes ≡ (S.view files.old).writes }
     ensures ready { OnOk result ((S.view files.new).stage_errors ≡ (S.view files.old).stage_errors) }
     ensures refused { IfErr result
         (λ r. RefusesCall call.Write (S.view files.old) (S.view files.new) r.error) }
@@ -46,6 +48,7 @@ fn stage_all<S: Store>(alloc: Global, outputs: &[Output], files: &mut S) -> RunR
     ensures tells { (S.view files.new).tells ≡ (S.view files.old).tells }
     ensures later { (S.view files.old).faults ≤ (S.view files.new).faults }
     ensures files { SameFiles (S.view files.old).file_at (S.view files.new).file_at }
+    ensures writes { (S.view files.new).writes ≡ (S.view files.old).writes }
     ensures ready { OnOk result ((S.view files.new).stage_errors ≡ (S.view files.old).stage_errors) }
     ensures some { OnErr result (0 < length outputs.now) }
     ensures refused { IfErr result
@@ -62,6 +65,7 @@ fn verify_all<S: Store>(alloc: Global, outputs: &[Output], files: &mut S) -> Run
     ensures tells { (S.view files.new).tells ≡ (S.view files.old).tells }
     ensures later { (S.view files.old).faults ≤ (S.view files.new).faults }
     ensures files { SameFiles (S.view files.old).file_at (S.view files.new).file_at }
+    ensures writes { (S.view files.new).writes ≡ (S.view files.old).writes }
     ensures ready { OnOk result ((S.view files.new).stage_errors ≡ (S.view files.old).stage_errors) }
     ensures some { OnErr result (0 < length outputs.now) }
     ensures refused { IfErr result
@@ -80,6 +84,9 @@ fn write_output<S: Store>(alloc: Global, output: &Output, files: &mut S) -> RunR
     ensures written { OnOk result ((S.view files.old).tells ≡ true
         → IsWhole (S.view files.new).file_at output.now) }
     ensures others { SameBut (path_of output.now) (S.view files.old).file_at (S.view files.new).file_at }
+    ensures once { OnOk result (IsWrittenOnce (path_of output.now) (S.view files.old) (S.view files.new)) }
+    ensures at_most_once { OnErr result
+        (IsWrittenAtMostOnce (path_of output.now) (S.view files.old) (S.view files.new)) }
     ensures ready { (S.view files.new).stage_errors ≡ (S.view files.old).stage_errors }
     ensures refused { IfErr result
         (λ r. RefusesCall call.Write (S.view files.old) (S.view files.new) r.error) }
@@ -174,7 +181,7 @@ fn stage_and_write<S: Store>(alloc: Global, outputs: &[Output], files: &mut S) -
     write_all(alloc, outputs, files)
 }
 
-/// Writes the outputs in order, each to its own path, and stops at the first error: as `apply` does, but
+/// Writes each output once, in order, to its own path, and stops at the first error: as `apply` does, but
 /// that error has its place, the machine's reason, and which of the outputs were written.
 pub fn write_outputs<S: Store>(alloc: Global, outputs: &[Output], files: &mut S) -> RunResult<()>
     requires { HaveDistinctPaths outputs.now }
