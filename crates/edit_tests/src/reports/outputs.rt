@@ -70,3 +70,16 @@ fn applies_outputs(rt: HostRuntime) {
     let want = "3 Failed to write updated Cargo.toml; new a; old c";
     same(&rt, "the second write fails", seen.as_str(), want);
 }
+
+#[test]
+fn applies_each_output_once(rt: HostRuntime) {
+    // three outputs take three calls of the store, so that the fourth, which fails, is not among them
+    let mut files = files_failing(&rt, rt.alloc(), 3);
+    let answer = applied(&rt, rt.alloc(), &mut files);
+    let seen = ended(&rt, rt.alloc(), answer);
+    same(&rt, "three writes", seen.as_str(), "done");
+    let next = files.write(rt.alloc(), "/w/a/Cargo.toml", b"newer a");
+    let seen = ended(&rt, rt.alloc(), next);
+    let want = "3 Failed to write updated Cargo.toml";
+    same(&rt, "the fourth write", seen.as_str(), want);
+}
