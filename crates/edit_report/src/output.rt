@@ -30,6 +30,21 @@ fn stage_all<S: Store>(alloc: Global, outputs: &[Output], store: &mut S) -> Carg
     Ok(())
 }
 
+/// Brings the write of each output that is ready to the disk, in order. No file changes.
+fn flush_all<S: Store>(alloc: Global, outputs: &[Output], store: &mut S) -> CargoResult<()>
+    ensures tells { (S.view store.new).tells ≡ (S.view store.old).tells }
+    ensures files { SameFiles (S.view store.old).file_at (S.view store.new).file_at }
+    ensures writes { (S.view store.new).writes ≡ (S.view store.old).writes }
+    ensures cause { HasCause call.Write (S.view store.old) (S.view store.new) result }
+    ensures ready { OnOk result ((S.view store.new).stage_errors ≡ (S.view store.old).stage_errors) }
+    ensures some { OnErr result (0 < length outputs.now) }
+{
+    for output in outputs {
+        store.flush(alloc, output.path.as_str())?;
+    }
+    Ok(())
+}
+
 /// Compares the file of each output with what was read of it, in order. No file changes.
 fn verify_all<S: Store>(alloc: Global, outputs: &[Output], store: &mut S) -> CargoResult<()>
     ensures tells { (S.view store.new).tells ≡ (S.view store.old).tells }
@@ -86,6 +101,7 @@ fn stage_and_write<S: Store>(alloc: Global, outputs: &[Output], store: &mut S) -
     ensures cause { HasCause call.Write (S.view store.old) (S.view store.new) result }
 {
     stage_all(alloc, outputs, store)?;
+    flush_all(alloc, outputs, store)?;
     verify_all(alloc, outputs, store)?;
     write_all(alloc, outputs, store)
 }

@@ -138,6 +138,13 @@ impl<R: Files<File = File> + Alloc<A = Global> + Env + Eprint + Clone + Drop> St
         }
     }
 
+    fn flush(&mut self, _alloc: Global, path: &str) -> CargoResult<()> {
+        match self.work.flush(&self.rt, path) {
+            Ok(()) => Ok(()),
+            Err(reason) => Err(self.not_ready(reason)),
+        }
+    }
+
     fn verify(&mut self, alloc: Global, path: &str) -> CargoResult<()> {
         match self.work.verify(&self.rt, alloc, path) {
             Ok(()) => Ok(()),

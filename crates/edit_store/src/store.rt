@@ -19,9 +19,9 @@ pub enum Kind {
 ///
 /// A store that `tells` its files is a finite map from paths to bytes.
 ///
-/// A caller that writes several files calls `stage` for each of them, then `verify` for each, and then
-/// `write` for each: what the machine can refuse is then refused while every file is as it was. After an
-/// error it calls `unstage`.
+/// A caller that writes several files calls `stage` for each of them, then `flush` for each, then `verify`
+/// for each, and then `write` for each: what the machine can refuse is then refused while every file is as it
+/// was. After an error it calls `unstage`.
 pub trait Store {
     /// Whether it tells what its files hold, the bytes of the file at each path where it tells them, the
     /// paths written so far, how often its device has failed, and how often a write could not be made ready.
@@ -70,6 +70,19 @@ pub trait Store {
         Ok(())
     }
 
+    /// Brings the write that is staged for a path to the disk, so that a crash behind `write` loses none of
+    /// its bytes. Every file stays as it was.
+    fn flush(&mut self, _alloc: Global, _path: &str) -> CargoResult<()>
+        ensures tells { (view self.new).tells ≡ (view self.old).tells }
+        ensures files { SameFiles (view self.old).file_at (view self.new).file_at }
+        ensures writes { (view self.new).writes ≡ (view self.old).writes }
+        ensures cause { HasCause DeviceCall.Write (view self.old) (view self.new) result }
+        ensures ready { OnOk result ((view self.new).stage_errors ≡ (view self.old).stage_errors) }
+        ensures counted { OnErr result (raised (view self.old).stage_errors (view self.new).stage_errors) }
+    {
+        Ok(())
+    }
+
     /// Compares a file that is staged with what was read of it: an error where another program has changed it
     /// since.
     fn verify(&mut self, _alloc: Global, _path: &str) -> CargoResult<()>
@@ -83,7 +96,8 @@ pub trait Store {
         Ok(())
     }
 
-    /// Writes a whole file, which may be staged. After an error that file may hold anything.
+    /// Writes a whole file. What `stage`, `flush` and `verify` do is done now where it was not. After an
+    /// error that file may hold anything.
     fn write(&mut self, alloc: Global, path: &str, bytes: &[u8]) -> CargoResult<()>
         ensures tells { (view self.new).tells ≡ (view self.old).tells }
         ensures written { OnOk result ((view self.old).tells ≡ true
