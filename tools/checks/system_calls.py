@@ -2,7 +2,8 @@
 """system_calls.py PROGRAM: each system call of an `upgrade` and of a `set-version` over three members is failed in turn, by
 `strace -e inject`, and each is the moment of a kill. No manifest is ever cut. A run that a call fails ends with status 0 and
 each manifest new, or with status 1 (2 where the current folder cannot be had), says why, and the manifests are old but for a
-front of them that the renames made. Behind a kill the next run leaves no file of the killed one."""
+front of them that the renames made. Behind a kill the next run leaves no file of the killed one. In a run that nothing
+befalls every new file is flushed to the disk before the first of them is moved to its place."""
 
 import collections
 import concurrent.futures
@@ -27,6 +28,31 @@ def calls(words):
         seen[name] += 1
         numbered.append((name, seen[name]))
     return numbered[names.index("getcwd"):]
+
+
+def unflushed(words, members):
+    """What is wrong with how a run makes its new files: each is flushed before the first is moved to its place, and there is one
+    for each manifest."""
+    traced = run(["strace", "-f", "-y", "-e", "trace=fsync,rename,renameat,renameat2", "-o", "/dev/stdout", *words])
+    flushed, moved = set(), 0
+    for line in traced.stdout.decode(errors="replace").splitlines():
+        if found := re.search(r"fsync\(\d+<[^>]*/([^/>]*\.tmp)>\) += 0", line):
+            flushed.add(found[1])
+        elif found := re.search(r'rename\w*\([^"]*"[^"]*/([^"/]*\.tmp)",', line):
+            moved += 1
+            if found[1] not in flushed or len(flushed) < members:
+                yield f"the new file {found[1]} is moved where {len(flushed)} of {members} are flushed"
+    if moved != members:
+        yield f"{moved} of {members} new files are moved"
+
+
+def ordered():
+    """What is wrong with the order of flushing and moving, of both commands."""
+    for name in ("upgrade", "set-version"):
+        with tempfile.TemporaryDirectory() as room:
+            workspace = Workspace(sys.argv[1], room)
+            words = workspace.upgrade() if name == "upgrade" else workspace.set_version("0.2.0")
+            yield from (f"{name}: {text}" for text in unflushed(words, len(workspace.paths)))
 
 
 def inject(words, call, what):
@@ -88,7 +114,7 @@ def part(kind, name, number, counts):
 
 
 def main():
-    counts, wrong = collections.Counter(), []
+    counts, wrong = collections.Counter(), list(ordered())
     parts = [(kind, name, number) for number in range(WORKERS) for kind in (failed, killed) for name in ("upgrade", "set-version")]
     with concurrent.futures.ThreadPoolExecutor(WORKERS) as pool:
         for found in pool.map(lambda one: part(*one, counts), parts):
