@@ -9,6 +9,7 @@ pub mod TwiceLemmas
 pub mod PlanClauses
 pub mod PlanLemmas
 pub mod OrderLemmas
+pub mod CountLemmas
 pub mod LockLemmas
 pub mod LookLemmas
 mod StagingLemmas

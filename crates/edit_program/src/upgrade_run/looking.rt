@@ -1,9 +1,10 @@
 //! The lookups that an upgrade needs, found without an index.
-ghost use Rattle.std.specs.Prelude.{◌≡◌, ◌⊎◌, IfErr, IfOk, OnOk, length, string_bytes, true};
+ghost use Rattle.std.specs.Prelude.{◌≡◌, ◌≢◌, ◌⊎◌, IfErr, IfOk, OnOk, length, string_bytes, true};
 ghost use Rattle.std.specs.Io.KnownBytes.{Appends};
-ghost use Rattle.edit_base.specs.Errors.{IsMemory};
+ghost use Rattle.edit_base.specs.Errors.{IsMemory, number_of};
 ghost use Rattle.edit_program.specs.NoIndex.{no_view};
 ghost use Rattle.edit_sources.specs.Configured.{given};
+ghost use Rattle.edit_steps.specs.Faults.{CountsFault};
 ghost use Rattle.edit_steps.specs.Workspaces.{HaveOwnPaths};
 ghost use Rattle.edit_store.specs.Store.{OnlyReads};
 ghost use Rattle.edit_steps.specs.Sources.{AreDocuments};
@@ -39,6 +40,7 @@ fn lines_for(
         (string_bytes text)) }
     ensures refused { IfErr result (λ e. IsMemory e
         ⊎ IsPlanCause options.now target.now.inputs.items configs.now no_view e) }
+    ensures counted { IfErr result (λ e. number_of e ≢ 3) }
 {
     let plan = plan_over(alloc, options, target, configs, NoIndex {})?;
     looks_text(alloc, &plan.looks)
@@ -62,6 +64,8 @@ pub fn looks<S: Store, O: io::Write>(
     // each error has its cause
     ensures why { IfErr result (λ r. IsLooksCause words.now current.now (given cargo_home.entry)
         (S.view files.old) (S.view files.new) r.error) }
+    // over any store, an error of the device is counted
+    ensures counted { IfErr result (λ r. CountsFault (S.view files.old) (S.view files.new) r.error) }
 {
     let sources = read_sources(alloc, &words.asked_for_looks(), current, cargo_home, files)?;
     let Sources {

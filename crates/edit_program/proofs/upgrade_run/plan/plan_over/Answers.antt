@@ -4,6 +4,7 @@ use Rattle.std.specs.Prelude.{◌⊎◌, IfErr, IfOk}
 use Rattle.edit_base.specs.Errors.{IsMemory}
 use Rattle.edit_upgrade.specs.Caches.{cache_view}
 use Rattle.edit_program.specs.Planned.{IsPlanCause, IsPlanned}
+use Rattle.edit_program.proofs.CountLemmas.{bytes_count, documents_counted}
 use Rattle.edit_program.proofs.PlanClauses.{one_plan}
 use Rattle.edit_program.proofs.PlanLemmas.{bytes_refused, documents_refused, planned}
 use Rattle.edit_program.proofs.upgrade_run.plan.plan_over.Goals as goal
@@ -52,3 +53,16 @@ returns-clause-refused g c =
     (λ e h. documents_refused g.I.Index.view c.args.index o c.deref-2.result.now c.args.configs.now
     c.new-cache.result c.plan_documents.new.index e c.new-cache.ensures.index c.new-cache.ensures.empty h)
     c.plan_documents.ensures.refused)
+
+pub returns-then-is_empty-clause-counted : goal.returns-then-is_empty-clause-counted
+returns-then-is_empty-clause-counted g c =
+    IfErr-weaker c.plan_upgrade.result _ _
+    (λ e h. bytes_count g.I.Index.view c.args.index c.args.options.now c.deref.result.now c.args.configs.now
+    c.new-cache.result c.plan_upgrade.new.index e c.new-cache.ensures.index h) c.plan_upgrade.ensures.refused
+
+pub returns-clause-counted : goal.returns-clause-counted
+returns-clause-counted g c =
+    IfErr-weaker c.plan_documents.result _ _
+    (λ e h. documents_counted g.I.Index.view c.args.index c.args.options.now c.deref-2.result.now
+    c.args.configs.now c.new-cache.result c.plan_documents.new.index e c.new-cache.ensures.index h)
+    c.plan_documents.ensures.refused
