@@ -8,6 +8,7 @@ pub mod ShownLemmas
 pub mod TwiceLemmas
 pub mod PlanLemmas
 pub mod OrderLemmas
+pub mod CountLemmas
 pub mod LockLemmas
 pub mod LookLemmas
 mod StagingLemmas

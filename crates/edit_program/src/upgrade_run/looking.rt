@@ -1,10 +1,11 @@
 //! The lookups that an upgrade needs, found without an index.
-ghost use Rattle.std.specs.Prelude.{◌≡◌, ◌⊎◌, IfErr, IfOk, OnOk, length, string_bytes, true};
+ghost use Rattle.std.specs.Prelude.{◌≡◌, ◌≢◌, ◌⊎◌, IfErr, IfOk, OnOk, length, string_bytes, true};
 ghost use Rattle.std.specs.Io.KnownBytes.{Appends};
-ghost use Rattle.edit_base.specs.Errors.{IsMemory};
+ghost use Rattle.edit_base.specs.Errors.{IsMemory, number_of};
 ghost use Rattle.edit_program.specs.NoIndex.{no_view};
 ghost use Rattle.edit_sources.specs.Configured.{given};
 ghost use Rattle.edit_metadata.specs.Inputs.{HaveOwnPaths};
+ghost use Rattle.edit_steps.specs.Faults.{CountsFault};
 ghost use Rattle.edit_store.specs.Store.{OnlyReads};
 ghost use Rattle.edit_steps.specs.Shared.{HasLists, lists_for};
 ghost use Rattle.edit_steps.specs.Sources.{AreDocuments};
@@ -40,6 +41,7 @@ fn lines_for(
         (lists_for configs.now) (string_bytes text)) }
     ensures refused { IfErr result (λ e. IsMemory e
         ⊎ IsPlanCause options.now target.now.inputs.items (lists_for configs.now) no_view e) }
+    ensures counted { IfErr result (λ e. number_of e ≢ 3) }
 {
     let plan = plan_over(alloc, options, target, configs, NoIndex {})?;
     looks_text(alloc, &plan.looks)
@@ -63,6 +65,8 @@ pub fn looks<S: Store, O: io::Write>(
     // each error has its cause
     ensures why { IfErr result (λ r. IsLooksCause words.now current.now (given cargo_home.entry)
         (S.view files.old) (S.view files.new) r.error) }
+    // over any store, an error of the device is counted
+    ensures counted { IfErr result (λ r. CountsFault (S.view files.old) (S.view files.new) r.error) }
 {
     let sources = read_sources(alloc, &words.asked_for_looks(), current, cargo_home, files)?;
     let Sources {

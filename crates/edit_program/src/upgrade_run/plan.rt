@@ -4,6 +4,7 @@ ghost use Rattle.edit_base.specs.Errors.{IsMemory};
 ghost use Rattle.edit_metadata.specs.Inputs.{HaveOwnPaths};
 ghost use Rattle.edit_steps.specs.Shared.{HasLists, lists_for};
 ghost use Rattle.edit_steps.specs.Sources.{AreDocuments};
+ghost use Rattle.edit_program.specs.Counted.{CountsIndexFault, CountsStoreFault};
 ghost use Rattle.edit_program.specs.Planned.{IsPlanCause, IsPlanned, index_view};
 
 use edit_base::CargoResult;
@@ -31,6 +32,7 @@ pub(crate) fn plan_over<I: Index + Drop>(
         (I.view index)) }
     ensures refused { IfErr result (λ e. IsMemory e
         ⊎ IsPlanCause options.now target.now.inputs.items (lists_for configs.now) (I.view index) e) }
+    ensures counted { IfErr result (CountsIndexFault I.view index) }
 {
     let mut cache = IndexCache::new(alloc, index);
     let Target {
@@ -61,6 +63,7 @@ pub(crate) fn plan_for<T: Store + Drop>(
     ensures refused { IfErr result (λ e. IsMemory e
         ⊎ IsPlanCause options.now target.now.inputs.items (lists_for configs.now)
         (index_view index (T.view index_files)) e) }
+    ensures counted { IfErr result (CountsStoreFault T.view index_files) }
 {
     match index {
         IndexSource::Files => plan_over(

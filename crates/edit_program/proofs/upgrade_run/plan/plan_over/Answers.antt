@@ -10,6 +10,7 @@ use Rattle.edit_steps.specs.Shared.{lists_for}
 use Rattle.edit_steps.specs.Sources.{AreDocuments}
 use Rattle.edit_upgrade.specs.ConfigLists.{AreIndices, chosen_lists}
 use Rattle.edit_program.specs.Planned.{IsPlanCause, IsPlanned}
+use Rattle.edit_program.proofs.CountLemmas.{shared_count}
 use Rattle.edit_program.proofs.PlanLemmas.{both_causes, planned, shared_refused}
 use Rattle.edit_program.proofs.upgrade_run.plan.plan_over.Goals as goal
 
@@ -66,3 +67,14 @@ returns-clause-refused g c =
     (chosen_lists c.deref-3.result.now c.deref-4.result.now) docs c.new-cache.result c.plan_shared.new.index e
     c.new-cache.ensures.index c.new-cache.ensures.empty documents given read)
     c.plan_shared.ensures.given c.plan_shared.ensures.read)))
+
+pub returns-clause-counted : goal.returns-clause-counted
+returns-clause-counted g c =
+    let is = c.deref.result.now in
+    let docs = c.deref-2.result.now in
+    let documents = documents_of c.args.target.now.documents.items c.args.target.now.inputs.items docs is
+    c.deref-2.ensures.value c.deref.ensures.value c.requires.documents in
+    both_causes c.plan_shared.result _ _ _ (λ e given read. shared_count g.I.Index.view c.args.index
+    c.args.options.now is (chosen_lists c.deref-3.result.now c.deref-4.result.now) docs c.new-cache.result
+    c.plan_shared.new.index e c.new-cache.ensures.index documents given read)
+    c.plan_shared.ensures.given c.plan_shared.ensures.read

@@ -1,6 +1,7 @@
-use Rattle.std.proofs.Common.{◌≡◌, ◌∙◌, ap, inl, option_map, subst, sym, true}
+use Rattle.std.proofs.Common.{◌≡◌, ◌∙◌, ap, inl, inr, option_map, subst, sym, true}
 use Rattle.std.specs.Prelude.{◌⊎◌}
 use Rattle.std.specs.Io.KnownBytes.{Appends}
+use Rattle.edit_base.specs.Errors.{IsMemory, number_of}
 use Rattle.edit_sources.specs.Configured.{given}
 use Rattle.edit_steps.proofs.Refusals.{refusal_has}
 use Rattle.edit_report.specs.Applied.{HaveDistinctPaths}
@@ -15,6 +16,7 @@ use Rattle.edit_program.specs.UpgradeCauses.{IsUpgradeCause}
 use Rattle.edit_lock.specs.Views.{packages_seen}
 use Rattle.edit_program.specs.LockRead.{IsLockRead}
 use Rattle.edit_program.specs.Upgrading.{IsPathOf, IsRead}
+use Rattle.edit_program.proofs.CountLemmas.{delivery_counts, fault_before}
 use Rattle.edit_program.proofs.OrderLemmas.{rows_in_order, warnings_in_order}
 use Rattle.edit_program.proofs.UpgradeLemmas.{answered, broken, plan_cause, lock_cause, plan_paths, same_lock, stop_cause, upgraded}
 use Rattle.edit_program.proofs.upgrade_run.upgrading.upgrade.Goals as goal
@@ -166,3 +168,18 @@ returns-clause-why g c =
     c.in_ok-readings.ensures.store read planned at locked
     (subst (λ d. IsDeliveryCause Shows d mid new c.in-Err-deliver.error.error) c.delivery_task-task.ensures
     c.in-Err-deliver.ensures.cause))
+
+pub returns-in-Err-clause-counted : goal.returns-in-Err-clause-counted
+returns-in-Err-clause-counted g c device =
+    inr (c.in-Err.ensures.counted (sym (ap number_of c.explain_upgrade.ensures.same) ∙ device))
+
+pub returns-clause-counted : goal.returns-clause-counted
+returns-clause-counted g c device =
+    let old = g.S.Store.view c.args.files.now in
+    let mid = g.S.Store.view c.read.new.files in
+    let new = g.S.Store.view c.deliver.new.files in
+    let Shows = Appends (g.O.Write.contents c.args.out.now) (g.O.Write.contents c.deliver.new.out) in
+    let e = c.in-Err-deliver.error.error in
+    inl (fault_before old mid new e c.in_ok-readings.ensures.store.later
+    (delivery_counts Shows _ mid new e c.in-Err-deliver.ensures.cause)
+    (sym (ap number_of c.explain_delivery.ensures) ∙ device))
