@@ -302,8 +302,11 @@ row_signals() {
   for signal in HUP INT TERM; do
     mode gate
     rm -f "$room/open"
-    # (a shell has its background jobs ignore INT)
-    python3 -c 'import os, signal; signal.signal(signal.SIGINT, signal.SIG_DFL); os.setsid()
+    # (a shell has its background jobs ignore INT, and under nohup all ignore HUP)
+    python3 -c 'import os, signal
+for number in (signal.SIGHUP, signal.SIGINT, signal.SIGTERM):
+    signal.signal(number, signal.SIG_DFL)
+os.setsid()
 os.execvp("cargo-upgrade", ["cargo-upgrade", "upgrade"])' > "$room/out" 2> "$room/err" < /dev/null &
     # (this run's own folder shows that it fetches: a request may be one of the run before)
     while [ "$(requests)" -lt 1 ] || [ -z "$(find "$cache" -path '*/.run.*/curl' 2> /dev/null)" ]; do
