@@ -198,10 +198,10 @@ def workspaces():
     yield Family("members and registries", 1000, lambda n: upgrade(
         [PACKAGE + b'x={version="1.0",registry="r%d"}\n' % number for number in range(n)], versions(5),
                                                                    config=registries(n)),
-        ("time", "memory"))
+        ("time",))
     yield Family("members, and registries with addresses of 1 kB", 500, lambda n: upgrade(
         [PACKAGE + b'x="1.0"\n'] * n, versions(5), config=registries(n, b"file:///" + b"r" * 990)),
-                 ("time", "memory"))
+                 ("time",))
     yield Family("members in folders that lie deeper", 1000, lambda n: upgrade(
         [PACKAGE + b'x="1.0"\n'] * n, versions(5), deep="d/" * (n // 10)))
     yield Family("calls of cargo update: packages of one member", 10000, lambda n: upgrade(

@@ -157,13 +157,21 @@ row_userinfo() {
   ! grep -rl s3cret "$HOME" "$room/tmp" || fail 'a file has it'
 }
 row_prune() {
+  local used validator
   fill
-  cp -R "$(entry one ot)" "$room/ot"
+  used=$(entry one ot/he/other)
+  validator=$(entry one ot/he/other.etag)
+  cp "$validator" "$room/validator"
   mkdir -p "$(entry one ol)/d_" "$(entry one ol)/d2" "$cache/.run.left"
   touch -d '91 days ago' "$(entry one ol/d_/old_)" "$(entry one ol/d_/old_.etag)" "$(entry one ol/d2/old2)"
-  touch -d '91 days ago' "$(entry one ot/he/other)"
+  touch -d '91 days ago' "$used" "$validator"
   touch -d '2 days ago' "$cache/.run.left"
   run 0 upgrade -n
+  # (that a run used an entry shows only by its validator, which the run then wrote anew)
+  grep -q '^/one/ot/he/other kept ' "$room/asked" || fail 'the entry of other was sent again'
+  [ -e "$used" ] || fail 'an entry that this run used is gone'
+  [ -e "$validator" ] || fail 'the validator of an entry that this run used is gone'
+  same "$room/validator" "$validator"
   whole
   [ ! -e "$(entry one ol/d_/old_)" ] && [ ! -e "$(entry one ol/d_/old_.etag)" ] || fail 'an entry that was not used for 91 days'
   [ ! -e "$(entry one ol/d2/old2)" ] || fail 'an entry without a validator that was not used for 91 days'

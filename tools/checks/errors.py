@@ -31,7 +31,7 @@ NOT_SHOWN = {
     26: "`--rust-version` is refused as a usage error",
     38: "of manifest_from_pkgid, which no command calls",
     47: "usage errors print clap's own text",
-    48: "of the arguments, the environment and the current folder, before a workspace is read",
+    48: "of the arguments, which a machine that runs the program has",
     49: "an edit of a plan replaces literals alone, which is never refused",
 }
 # What the machine says of a link to itself.
@@ -280,6 +280,9 @@ def deliveries():
         }[command])
     with open("/dev/full", "wb") as full:
         upgrade(45, "Error: Failed to write message", "\n  at standard output\n", words=["--index-file", "ix", "-n", "--message-format", "json"], stdout=full)
+        with tempfile.TemporaryDirectory() as room:
+            check(45, ["fetch-plan", "--cache", room + "/cache", "--room", room, "--", "--metadata-json", "m.json"],
+                  "Error: Failed to write message", "\n  at standard output\n", stdout=full)
     put(WORKSPACE + "/ix", INDEX * 400000)
     upgrade(46, "Error: out of memory", limit=30000)
 

@@ -111,7 +111,7 @@ def metadata_rows():
     for what, status, said, config in (
             ("100 kB of comments", 0, CHECKING, lambda: b"# a line of a configuration\n" * 3600),
             ("400 registries", 0, CHECKING, lambda: registries(400)),
-            ("6,000 registries", 1, b"Error: out of memory\n", lambda: registries(6000))):
+            ("1,000 registries", 0, CHECKING, lambda: registries(1000))):
         yield metadata(f"1,000 members under one configuration: {what}", thousand, status, said,
                        lambda config=config: {".cargo/config.toml": config(), **manifests()})
     for second in ("/w/./a/Cargo.toml", "/w//a/Cargo.toml", "/w/b/../a/Cargo.toml", "//w/a//Cargo.toml", "/../w/a/./Cargo.toml",

@@ -1,4 +1,6 @@
 //! The plan of an upgrade, and the calls of `cargo update` that follow.
 
 pub use edit_upgrade::update::update_calls;
-pub use edit_upgrade::{Look, Options, UpgradePlan, Warning, plan_documents, plan_upgrade};
+pub use edit_upgrade::{
+    Look, Options, UpgradePlan, Warning, plan_documents, plan_shared, plan_upgrade,
+};

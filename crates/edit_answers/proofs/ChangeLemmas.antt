@@ -243,6 +243,10 @@ pub on-ok : {T : Type 0} (P P' : T → Type 0) (r : Result T Error) → ((v : T)
 on-ok P P' (Ok v) f h = f v h
 on-ok P P' (Err e) f h = tt
 
+pub on-done : {T : Type 0} (A B : Type 0) (r : Result T Error) → (A → B) → OnOk r A → OnOk r B
+on-done A B (Ok v) f h = f h
+on-done A B (Err e) f h = tt
+
 -- the same with what is known where files are told
 pub weakened-told : {T : Type 0} (P P' : T → List ℕ → List ℕ → Type 0) (Q Q' : List ℕ → List ℕ → Type 0)
     (a b : StoreView) (r : Result T Error)

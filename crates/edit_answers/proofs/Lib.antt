@@ -8,6 +8,7 @@ pub mod LineLemmas
 mod LinkLemmas
 mod PruneLemmas
 pub mod PutLemmas
+mod ReportLemmas
 pub mod SettleLemmas
 pub mod TableLemmas
 pub mod TextLemmas

@@ -29,6 +29,17 @@ pub linked-gone : (from to : List ℕ) (old new : Files) (b : Bool) → IsLinked
 linked-gone from to old new true is gone = absurd (not-none (old from) is.0 (sym is.1 ∙ gone))
 linked-gone from to old new false is gone = is.1
 
+-- a file that stands is put at the other path
+pub linked-stands : (from to at path : List ℕ) (old new : Files) (b : Bool) (bytes : List ℕ) → from ≡ at
+    → to ≡ path → IsLinked from to old new b → old at ≡ Some bytes → new path ≡ Some bytes
+linked-stands from to at path old new true bytes e f is stands =
+    ap new (sym f) ∙ (is.1 ∙ (ap old e ∙ stands))
+linked-stands from to at path old new false bytes e f is stands =
+    absurd (none-some (old from) bytes is.0 (ap old e ∙ stands))
+  where
+    none-some : (o : Option (List ℕ)) (bytes : List ℕ) → o ≡ None → o ≡ Some bytes → ⊥
+    none-some o bytes a b = cc
+
 module _ {T : Type 0} (P : T → List ℕ → List ℕ → Type 0) (Q : List ℕ → List ℕ → Type 0) where
   -- a link, where anything may stand at its path
   pub links-changes : (from to : List ℕ) (a b : StoreView) (had : Bool) (v : T) → Links from to a b (Ok had)

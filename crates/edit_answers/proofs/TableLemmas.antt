@@ -3,8 +3,8 @@ use Rattle.std.proofs.Common.{◌≡◌, ℕ, zero, suc, ◌+◌, ◌-◌, ◌<�
 use Rattle.std.specs.Prelude.{◌⊎◌, slice_get, slice_set}
 use Rattle.std.specs.Option.{is_some}
 use Rattle.edit_lookups.specs.Lookups.{HasNo}
-use Rattle.edit_answers.specs.Answers.{AreFound, AreSaid, HasLine, HasOne, SaysAnswer}
-use Rattle.edit_answers.specs.Answers.HasLine.{first, later}
+use Rattle.edit_answers.specs.Answers.{AreFirst, AreFound, HasLine, HasOne, IsFirst, SaysAnswer}
+use Rattle.edit_answers.specs.Answers.IsFirst.{at_head, behind}
 use Rattle.edit_answers.specs.declared.answers.Answer.{Answer}
 use Rattle.edit_answers.proofs.LineLemmas.{line-cases, no-line}
 
@@ -12,16 +12,18 @@ use Rattle.edit_answers.proofs.LineLemmas.{line-cases, no-line}
 abbrev pub IsFound : List ℕ → List (Option Answer) → Type 0
 IsFound line table = (k : ℕ) (a : Answer) → k < length table → SaysAnswer line (k + 1) a → HasOne table k
 
--- the lines of a rest are lines of the text, and what the other lines of the text say is found
+-- where a place is free, the first answer in a rest is the first in the text, and what the lines of the text
+-- in front of the rest say is found
 pub record IsRest (text rest : List ℕ) (table : List (Option Answer)) : Type 0 where
-  pub lines : (line : List ℕ) → HasLine line rest → HasLine line text
+  pub firsts : (k : ℕ) (a : Answer) → slice_get table k ≡ Some None → IsFirst (k + 1) a rest
+      → IsFirst (k + 1) a text
   pub found : (line : List ℕ) → HasLine line text → HasLine line rest ⊎ IsFound line table
 
 pub rest-begins : (text : List ℕ) (table : List (Option Answer)) → IsRest text text table
-rest-begins text table = record { lines = λ line h. h; found = λ line h. inl h }
+rest-begins text table = record { firsts = λ k a free h. h; found = λ line h. inl h }
 
 -- a table without answers has none
-pub none-said : (text : List ℕ) (n : ℕ) → AreSaid text (replicate n None)
+pub none-said : (text : List ℕ) (n : ℕ) → AreFirst text (replicate n None)
 none-said text n k a e = absurd (never n k e)
   where
     never : (n k : ℕ) → slice_get (replicate n (let o : Option Answer = None in o)) k ≡ Some (Some a) → ⊥
@@ -29,37 +31,73 @@ none-said text n k a e = absurd (never n k e)
     never (suc n) zero e = cc
     never (suc n) (suc k) e = never n k e
 
+within-got : (xs : List (Option Answer)) (k : ℕ) (x : Option Answer) → slice_get xs k ≡ Some x
+    → k < length xs
+within-got [] k x e = cc
+within-got (y ∷ xs) zero x e = omega arith
+within-got (y ∷ xs) (suc k) x e = let w = within-got xs k x e in omega (arith, w)
+
+got-within : (xs : List (Option Answer)) (k : ℕ) → slice_get xs k ≡ None → k < length xs → ⊥
+got-within [] k e w = absurd (omega arith)
+got-within (y ∷ xs) zero e w = cc
+got-within (y ∷ xs) (suc k) e w = got-within xs k e (omega arith)
+
+one-answer : (o : Option (Option Answer)) (a b : Answer) → o ≡ Some (Some a) → o ≡ Some (Some b) → a ≡ b
+one-answer o a b e f = cc
+
+taken-free : (o : Option (Option Answer)) (a : Answer) → o ≡ Some (Some a) → o ≡ Some None → ⊥
+taken-free o a e f = cc
+
+-- a place of a table that has no answer now had none before
+free-before : (old new : List (Option Answer)) (k : ℕ) → length new ≡ length old
+    → ((k : ℕ) (a : Answer) → slice_get old k ≡ Some (Some a) → slice_get new k ≡ Some (Some a))
+    → slice_get new k ≡ Some None → slice_get old k ≡ Some None
+free-before old new k count kept free = cases (slice_get old k) refl
+  where
+    cases : (o : Option (Option Answer)) → slice_get old k ≡ o → slice_get old k ≡ Some None
+    cases None is = absurd (got-within old k is (subst (λ n. k < n) count (within-got new k None free)))
+    cases (Some None) is = is
+    cases (Some (Some a)) is = absurd (taken-free (slice_get new k) a (kept k a is) free)
+
 -- an answer more
-pub one-said : (text line : List ℕ) (old new : List (Option Answer)) (number : ℕ) (answer : Answer)
-    → HasLine line text → SaysAnswer line number answer
+pub one-first : (text rest line after : List ℕ) (old new : List (Option Answer)) (number : ℕ)
+    (answer : Answer)
+    → IsRest text rest old → rest ≡ line ++ 10 ∷ after → HasNo 10 line → SaysAnswer line number answer
     → ((k : ℕ) (a : Answer) → slice_get new k ≡ Some (Some a)
     → (slice_get old k ≡ Some (Some a)) ⊎ ((k + 1 ≡ number) × (a ≡ answer)))
-    → AreSaid text old → AreSaid text new
-one-said text line old new number answer whole says put said k a e =
-    ⊎_elim (λ was. said k a was)
-    (λ is. record {
-      line = line;
-      whole = whole;
-      says = subst (λ x. SaysAnswer line (k + 1) x) (sym is.1)
-          (subst (λ n. SaysAnswer line n answer) (sym is.0) says);
-    }) (put k a e)
-
--- the first line of a rest is a line of the text
-pub first-line : (text rest line after : List ℕ) (table : List (Option Answer)) → IsRest text rest table
-    → rest ≡ line ++ 10 ∷ after → HasNo 10 line → HasLine line text
-first-line text rest line after table so cut none =
-    so.lines line (subst (HasLine line) (sym cut) (first after none))
+    → ((k : ℕ) (a : Answer) → slice_get old k ≡ Some (Some a) → slice_get new k ≡ Some (Some a))
+    → length new ≡ length old → AreFirst text old → AreFirst text new
+one-first text rest line after old new number answer so cut none says put kept count firsts k a e =
+    ⊎_elim (λ was. firsts k a was) (λ is. cases is (slice_get old k) refl) (put k a e)
+  where
+    cases : (k + 1 ≡ number) × (a ≡ answer) → (o : Option (Option Answer)) → slice_get old k ≡ o
+        → IsFirst (k + 1) a text
+    cases is None was =
+        absurd (got-within old k was (subst (λ n. k < n) count (within-got new k (Some a) e)))
+    cases is (Some None) was =
+        so.firsts k a was (subst (IsFirst (k + 1) a) (sym cut) (at_head line after none
+        (subst (λ x. SaysAnswer line (k + 1) x) (sym is.1)
+        (subst (λ n. SaysAnswer line n answer) (sym is.0) says))))
+    cases is (Some (Some b)) was =
+        firsts k a (subst (λ x. slice_get old k ≡ Some (Some x))
+        (one-answer (slice_get new k) b a (kept k b was) e) was)
 
 -- a line further, which is found
 pub line-on : (text rest line after : List ℕ) (old new : List (Option Answer)) → IsRest text rest old
     → rest ≡ line ++ 10 ∷ after → HasNo 10 line → length new ≡ length old
-    → ((k : ℕ) → HasOne old k → HasOne new k) → IsFound line new → IsRest text after new
+    → ((k : ℕ) (a : Answer) → slice_get old k ≡ Some (Some a) → slice_get new k ≡ Some (Some a))
+    → IsFound line new → IsRest text after new
 line-on text rest line after old new so cut none count kept is = record {
-  lines = λ l h. so.lines l (subst (HasLine l) (sym cut) (later line after none h));
+  firsts = λ k a free h. so.firsts k a (free-before old new k count kept free)
+      (subst (IsFirst (k + 1) a) (sym cut) (behind line after none
+      (λ b says.
+      let one = is k b (within-got new k None free) says in
+      taken-free (slice_get new k) one.0 one.1 free) h));
   found = λ l h. ⊎_elim
       (λ in_rest. ⊎_elim (λ same. inr (subst (λ x. IsFound x new) (sym same) is)) (λ in_after. inl in_after)
       (line-cases l line after none (subst (HasLine l) cut in_rest)))
-      (λ was. inr (λ k a w says. kept k (was k a (subst (λ n. k < n) count w) says)))
+      (λ was. inr (λ k a w says.
+      let one = was k a (subst (λ n. k < n) count w) says in (one.0, kept k one.0 one.1)))
       (so.found l h);
 }
 

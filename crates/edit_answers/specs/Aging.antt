@@ -4,7 +4,10 @@ use Rattle.std.specs.List.{ends_with, list_any}
 use Rattle.std.specs.Str.{bytes_eq}
 use Rattle.std.specs.declared.alloc.Global.{Global}
 use Rattle.std.specs.Prelude.{Vec}
+use Rattle.edit_base.specs.declared.errors.DeviceCall.{DeviceCall}
 use Rattle.edit_base.specs.declared.errors.Error.{Error}
+use Rattle.edit_base.specs.declared.errors.Error.TheVariants.{Device}
+use Rattle.edit_base.specs.Errors.{IsMemory}
 use Rattle.edit_store.specs.Store.{raised}
 use Rattle.edit_answers.specs.Changes.{Fails}
 use Rattle.edit_answers.specs.declared.aging_store.Aged.{Aged}
@@ -83,7 +86,14 @@ pub record RemovesUnused (is_used : Bool) (a : AgedText) (old new : AgingView) (
       → (new.files ≡ old.files) ⊎ (new.files ≡ filter (λ b. not (is_same a b)) old.files)
   pub gone : is_used ≡ false → OnOk result (old.tells ≡ true → (raised old.faults new.faults → ⊥)
       → new.files ≡ filter (λ b. not (is_same a b)) old.files)
-  pub refused : IfErr result (Fails old.faults new.faults)
+  pub refused : IfErr result IsMemory
+
+-- a cache is not pruned: for want of memory, or because the machine does not list its files, of which then
+-- none has gone
+abbrev pub FailsToPrune : AgingView → AgingView → Error → Type 0
+FailsToPrune old new e =
+    IsMemory e ⊎ ((call : DeviceCall) × (e ≡ Device call) × raised old.faults new.faults
+    × (old.tells ≡ true → new.files ≡ old.files))
 
 -- how a cache is pruned: whatever fails, each file that is to stay stays; where the device did not fail, no
 -- other one is left
@@ -93,7 +103,7 @@ pub record Prunes (old new : AgingView) (result : Result Unit Error) : Type 0 wh
   pub stays : old.tells ≡ true → staying old.files new.files ≡ staying old.files old.files
   pub gone : OnOk result (old.tells ≡ true → (raised old.faults new.faults → ⊥)
       → new.files ≡ staying old.files old.files)
-  pub refused : IfErr result (Fails old.faults new.faults)
+  pub refused : IfErr result (FailsToPrune old new)
 
 -- what contracts see of a cache in memory
 abbrev pub memory_aging : MemoryCache → AgingView

@@ -26,15 +26,21 @@ pub record HasAnswer (text : List ℕ) (number : ℕ) (a : Answer) : Type 0 wher
   pub whole : HasLine line text
   pub says : SaysAnswer line number a
 
--- each answer of a table was said of the transfer of its number, from 1
-abbrev pub AreSaid : List ℕ → List (Option Answer) → Type 0
-AreSaid text table =
-    (k : ℕ) (a : Answer) → slice_get table k ≡ Some (Some a) → HasAnswer text (k + 1) a
+-- the first whole line of a text that says an answer to the transfer of a number says this one
+pub data IsFirst (number : ℕ) (a : Answer) : List ℕ → Type 0 where
+  at_head : (line after : List ℕ) → HasNo 10 line → SaysAnswer line number a
+      → IsFirst number a (line ++ 10 ∷ after)
+  behind : (other after : List ℕ) → HasNo 10 other → ((b : Answer) → SaysAnswer other number b → ⊥)
+      → IsFirst number a after → IsFirst number a (other ++ 10 ∷ after)
+
+-- each answer of a table is the first that was said of the transfer of its number, from 1
+abbrev pub AreFirst : List ℕ → List (Option Answer) → Type 0
+AreFirst text table = (k : ℕ) (a : Answer) → slice_get table k ≡ Some (Some a) → IsFirst (k + 1) a text
 
 -- a table has an answer to the transfer of a number, from 0
 abbrev pub HasOne : List (Option Answer) → ℕ → Type 0
 HasOne table k = (a : Answer) × (slice_get table k ≡ Some (Some a))
 
--- an answer that was said is found: that one, or another one to the same transfer
+-- where an answer to a transfer was said, one is found
 abbrev pub AreFound : List ℕ → List (Option Answer) → Type 0
 AreFound text table = (k : ℕ) (a : Answer) → k < length table → HasAnswer text (k + 1) a → HasOne table k

@@ -93,6 +93,11 @@ abbrev pub error_text : List GroupText → Option (List ℕ)
 error_text [] = None
 error_text (g ∷ rest) = Some (error_head ++ flat_map (line_of Missing) (g ∷ rest))
 
+-- what is said of a run whose lookups are malformed
+pub record IsUnreadable (r : Report) : Type 0 where
+  pub warnings : string_bytes r.warnings ≡ []
+  pub error : option_map string_bytes r.error ≡ Some (codes "the lookups of this run are malformed")
+
 -- what is said of lookups with these outcomes
 pub record IsReport (cache : List ℕ) (is_offline : Bool) (pairs : List (Lookup × Outcome)) (r : Report)
     : Type 0 where

@@ -1,9 +1,18 @@
--- What a run may write.
-use Rattle.std.specs.Prelude.{ℕ, List, [], ◌∷◌, ◌++◌, Option, Some, None, codes}
+-- What a run may write, and what it says.
+use Rattle.std.specs.Prelude.{◌≡◌, ℕ, List, [], ◌∷◌, ◌++◌, Option, Some, None, codes, length, map}
 use Rattle.std.specs.Str.Lossy.{utf8_lossy}
 use Rattle.edit_store.specs.Store.{Files}
-use Rattle.edit_lookups.specs.Lookups.{LookupText, SaysLookups}
+use Rattle.edit_lookups.specs.Lookups.{LookupText, SaysLookups, lookup_text}
+use Rattle.edit_lookups.specs.declared.lookups.Lookup.{Lookup}
+use Rattle.edit_answers.specs.Answers.{AreFirst, AreFound}
+use Rattle.edit_answers.specs.Followed.{AllFollow}
+use Rattle.edit_answers.specs.Groups.{upgraded}
+use Rattle.edit_answers.specs.Messages.{IsReport, IsUnreadable}
 use Rattle.edit_answers.specs.Outcomes.{PutsSome}
+use Rattle.edit_answers.specs.declared.answers.Answer.{Answer}
+use Rattle.edit_answers.specs.declared.meaning.Outcome.{Outcome}
+use Rattle.edit_answers.specs.declared.messages.Report.{Report}
+use Rattle.edit_answers.specs.declared.messages.StoreOptions.{StoreOptions}
 use Rattle.edit_answers.specs.declared.places.Places.{Places}
 
 -- the text of a file; empty where no file stands
@@ -11,8 +20,41 @@ abbrev pub text_of : Option (List ℕ) → List ℕ
 text_of None = []
 text_of (Some bytes) = utf8_lossy bytes
 
+-- the text of the file in which a run has its lookups
+abbrev pub lookups_text : Places → Files → List ℕ
+lookups_text p files = text_of (files (p.room.now ++ 47 ∷ codes "lookups"))
+
+-- the text of the file in which curl says of each transfer how it ended
+abbrev pub answers_text : Places → Files → List ℕ
+answers_text p files = text_of (files (p.room.now ++ 47 ∷ codes "answers"))
+
 -- what may be written for the lookups of a run
 pub record PutsOf (p : Places) (files : Files) (path bytes : List ℕ) : Type 0 where
   pub lookups : List LookupText
-  pub say : SaysLookups (text_of (files (p.room.now ++ 47 ∷ codes "lookups"))) lookups
+  pub say : SaysLookups (lookups_text p files) lookups
   pub puts : PutsSome p lookups path bytes
+
+-- an outcome of each lookup follows from what curl says of its transfer
+pub record HasOutcomes (p : Places) (options : StoreOptions) (files : Files) (ls : List Lookup)
+    (outcomes : List Outcome)
+    : Type 0 where
+  pub answers : List (Option Answer)
+  pub are_first : AreFirst (answers_text p files) answers
+  pub are_found : AreFound (answers_text p files) answers
+  pub all_answers : length answers ≡ length ls
+  pub all_outcomes : length outcomes ≡ length ls
+  pub follow : AllFollow p (map lookup_text ls) options.offline answers files outcomes
+
+-- what is said of lookups is what is said of such outcomes, those of excluded crates left out
+pub record ReportsOn (p : Places) (options : StoreOptions) (files : Files) (ls : List Lookup) (r : Report)
+    : Type 0 where
+  pub outcomes : List Outcome
+  pub by_answers : HasOutcomes p options files ls outcomes
+  pub says : IsReport p.cache.now options.offline (upgraded options.excluded.now ls outcomes) r
+
+-- what is said of a run: of all its lookups, or that they are malformed
+pub data Reports (p : Places) (options : StoreOptions) (files : Files) (r : Report) : Type 0 where
+  readable : (ls : List Lookup) → SaysLookups (lookups_text p files) (map lookup_text ls)
+      → ReportsOn p options files ls r → Reports p options files r
+  malformed : ((ls : List LookupText) → SaysLookups (lookups_text p files) ls → ⊥) → IsUnreadable r
+      → Reports p options files r

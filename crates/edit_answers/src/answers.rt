@@ -1,6 +1,6 @@
 //! What curl says of its transfers.
 ghost use Rattle.std.specs.Prelude.{◌≡◌, ◌⊎◌, ◌+◌, ◌<◌, ℕ, Some, None, IfNone, IfOk, IfSome, length, replicate, slice_get};
-ghost use Rattle.edit_answers.specs.Answers.{AreFound, AreSaid, HasOne, SaysAnswer};
+ghost use Rattle.edit_answers.specs.Answers.{AreFirst, AreFound, HasOne, SaysAnswer};
 ghost use Rattle.edit_answers.specs.declared.answers.Answer.{Answer};
 
 use std::alloc::{AllocError, Global};
@@ -62,7 +62,8 @@ fn no_answers<'a>(alloc: Global, count: usize) -> Result<Vec<Option<Answer<'a>>>
 fn put<'a>(table: &mut Vec<Option<Answer<'a>>>, number: usize, answer: Answer<'a>)
     ensures put { (k : ℕ) (a : Answer) → slice_get table.new.items k ≡ Some (Some a)
         → (slice_get table.old.items k ≡ Some (Some a)) ⊎ ((k + 1 ≡ number) × (a ≡ answer.entry)) }
-    ensures kept { (k : ℕ) → HasOne table.old.items k → HasOne table.new.items k }
+    ensures kept { (k : ℕ) (a : Answer) → slice_get table.old.items k ≡ Some (Some a)
+        → slice_get table.new.items k ≡ Some (Some a) }
     ensures has { (k : ℕ) → k + 1 ≡ number → k < length table.old.items → HasOne table.new.items k }
     ensures count { length table.new.items ≡ length table.old.items }
 {
@@ -74,14 +75,14 @@ fn put<'a>(table: &mut Vec<Option<Answer<'a>>>, number: usize, answer: Answer<'a
     }
 }
 
-/// What curl says of its transfers number 1 to `count`, by the lines that it wrote. A line without a line end
-/// was cut, and is not read.
+/// What curl says of its transfers number 1 to `count`, by the lines that it wrote: of more lines for one
+/// transfer the first counts. A line without a line end was cut, and is not read.
 pub fn read_answers<'a>(
     alloc: Global,
     text: &'a str,
     count: usize,
 ) -> Result<Vec<Option<Answer<'a>>>, AllocError>
-    ensures said { IfOk result (λ v. AreSaid text.now v.items) }
+    ensures first { IfOk result (λ v. AreFirst text.now v.items) }
     ensures found { IfOk result (λ v. AreFound text.now v.items) }
     ensures count { IfOk result (λ v. length v.items ≡ count) }
 {

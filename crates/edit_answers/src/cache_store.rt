@@ -1,6 +1,6 @@
 //! The files of the machine below a cache.
-ghost use Rattle.std.specs.Prelude.{◌≡◌};
-ghost use Rattle.edit_answers.specs.CacheStore.{cache_faults, cache_view};
+ghost use Rattle.std.specs.Prelude.{◌≡◌, []};
+ghost use Rattle.edit_answers.specs.CacheStore.{cache_faults, cache_view, cache_writes};
 ghost use Rattle.edit_store.specs.Host.{IsRefusal};
 
 use crate::link_store::{LinkStore, copy};
@@ -20,14 +20,23 @@ pub struct CacheStore<R> {
     rt: R,
     run: u32,
     failed: u64,
+    /// The path of each write that was begun, in order: contracts count the writes by it.
+    writes: Vec<String>,
 }
 
 impl<R: Files<File = File> + Alloc<A = Global> + Drop> CacheStore<R> {
     /// The files that the runtime reaches; `run` is the number of the process, for the names of new files.
     pub fn new(rt: R, run: u32) -> CacheStore<R>
-        ensures { cache_faults result ≡ 0 }
+        ensures faults { cache_faults result ≡ 0 }
+        ensures writes { cache_writes result ≡ [] }
     {
-        CacheStore { rt, run, failed: 0 }
+        let writes = Vec::new(rt.alloc());
+        CacheStore {
+            rt,
+            run,
+            failed: 0,
+            writes,
+        }
     }
 }
 
@@ -133,6 +142,7 @@ impl<R: Files<File = File> + Alloc<A = Global> + Drop> Store for CacheStore<R> {
     }
 
     fn write(&mut self, alloc: Global, path: &str, bytes: &[u8]) -> CargoResult<()> {
+        self.writes.push(String::from_str(alloc, path)?)?;
         match replace(&self.rt, alloc, path, bytes, self.run) {
             Ok(()) => Ok(()),
             Err(error) => Err(refused(&mut self.failed, DeviceCall::Write, error)),

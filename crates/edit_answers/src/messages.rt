@@ -1,9 +1,9 @@
 //! What is said of entries that were not had.
-ghost use Rattle.std.specs.Prelude.{◌≡◌, ◌++◌, [], Some, IfOk, OnOk, codes, length, map, option_map, string_bytes};
+ghost use Rattle.std.specs.Prelude.{◌≡◌, ◌++◌, IfOk, OnOk, codes, length, map, option_map, string_bytes};
 ghost use Rattle.std.specs.Fmt.{decimal};
 ghost use Rattle.std.specs.List.{flat_map};
 ghost use Rattle.edit_answers.specs.Groups.{GroupText, group_text, upgraded};
-ghost use Rattle.edit_answers.specs.Messages.{IsReport, cached_line, cached_text, damage_line, damage_text, error_text, left_line, line_of, missing_line, names_text, shown_text, unfetched_text};
+ghost use Rattle.edit_answers.specs.Messages.{IsReport, IsUnreadable, cached_line, cached_text, damage_line, damage_text, error_text, left_line, line_of, missing_line, names_text, shown_text, unfetched_text};
 ghost use Rattle.edit_lookups.specs.Escaped.{escaped};
 
 use crate::bodies::Damage;
@@ -169,8 +169,7 @@ fn push_lines(
 
 /// The report of a run whose lookups are malformed.
 pub fn unreadable(alloc: Global) -> Result<Report, AllocError>
-    ensures { IfOk result (λ r. (string_bytes r.warnings ≡ [])
-        × (option_map string_bytes r.error ≡ Some (codes "the lookups of this run are malformed"))) }
+    ensures { IfOk result IsUnreadable }
 {
     Ok(Report {
         warnings: String::new(alloc),

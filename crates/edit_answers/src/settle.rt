@@ -4,6 +4,7 @@ ghost use Rattle.edit_answers.specs.Bodies.{IsWholeIndex};
 ghost use Rattle.edit_answers.specs.Changes.{Changes, Fails};
 ghost use Rattle.edit_answers.specs.Meanings.{new_meaning};
 ghost use Rattle.edit_answers.specs.Outcomes.{FromCache, HasDamage, Puts, PutsIndexed, Settles, by_cached, by_link, stored};
+ghost use Rattle.edit_answers.specs.Places.{index_path};
 ghost use Rattle.edit_lookups.specs.Cached.{cached_path};
 ghost use Rattle.edit_lookups.specs.Lookups.{lookup_text};
 ghost use Rattle.edit_store.specs.Store.{OnlyReads};
@@ -89,6 +90,9 @@ fn link_cached<'a, S: LinkStore>(
     ensures told { IfOk result (λ o. (S.view files.old).tells ≡ true → o ≡ by_cached
         ((S.view files.old).file_at (cached_path places.now.cache.now (lookup_text lookup.now)))
         had.entry lost.entry) }
+    ensures linked { IfOk result (λ _. (S.view files.old).tells ≡ true → (bytes : List ℕ)
+        → (S.view files.old).file_at (cached_path places.now.cache.now (lookup_text lookup.now)) ≡ Some bytes
+        → (S.view files.new).file_at (index_path places.now.room.now (lookup_text lookup.now)) ≡ Some bytes) }
 {
     let entry = cached_path(alloc, places.cache, lookup)?;
     let indexed = index_path(alloc, places.room, lookup)?;

@@ -2,7 +2,7 @@
 ghost use Rattle.std.specs.Prelude.{◌≡◌, ◌∷◌, ◌++◌, true, IfErr, IfOk, map, string_bytes};
 ghost use Rattle.edit_answers.specs.Changes.{Changes, Fails};
 ghost use Rattle.edit_answers.specs.Outcomes.{PutsSome};
-ghost use Rattle.edit_answers.specs.Stored.{PutsOf, text_of};
+ghost use Rattle.edit_answers.specs.Stored.{PutsOf, Reports, ReportsOn, text_of};
 ghost use Rattle.edit_lookups.specs.Lookups.{lookup_text};
 ghost use Rattle.edit_store.specs.Store.{OnlyReads};
 
@@ -54,8 +54,10 @@ fn store_lookups<S: LinkStore>(
     lookups: &[Lookup<'_>],
     options: &StoreOptions<'_>,
 ) -> CargoResult<Report>
-    ensures { Changes (λ _. PutsSome places.now (map lookup_text lookups.now))
+    ensures changes { Changes (λ _. PutsSome places.now (map lookup_text lookups.now))
         (PutsSome places.now (map lookup_text lookups.now)) (S.view files.old) (S.view files.new) result }
+    ensures report { IfOk result (λ r. (S.view files.old).tells ≡ true
+        → ReportsOn places.now options.now (S.view files.old).file_at lookups.now r) }
 {
     let text = match read_from_room(alloc, files, places.room, "answers") {
         Ok(text) => text,
@@ -77,8 +79,10 @@ pub fn store_answers<S: LinkStore>(
     places: &Places,
     options: &StoreOptions<'_>,
 ) -> CargoResult<Report>
-    ensures { Changes (λ _. PutsOf places.now (S.view files.old).file_at)
+    ensures changes { Changes (λ _. PutsOf places.now (S.view files.old).file_at)
         (PutsOf places.now (S.view files.old).file_at) (S.view files.old) (S.view files.new) result }
+    ensures report { IfOk result (λ r. (S.view files.old).tells ≡ true
+        → Reports places.now options.now (S.view files.old).file_at r) }
 {
     let text = match read_from_room(alloc, files, places.room, "lookups") {
         Ok(text) => text,

@@ -1,10 +1,12 @@
 //! The validators beside the entries of a cache.
-ghost use Rattle.std.specs.Prelude.{◌≡◌, ◌∷◌, ◌++◌, List, ℕ, [], IfNone, IfSome};
+ghost use Rattle.std.specs.Prelude.{◌≡◌, ◌∷◌, ◌++◌, List, ℕ, [], true, IfNone, IfSome, IsSome, OnOk};
 ghost use Rattle.std.specs.Str.{IsUtf8};
 ghost use Rattle.edit_answers.specs.Changes.{Changes};
 ghost use Rattle.edit_answers.specs.Outcomes.{PutsDirect, PutsValidator};
+ghost use Rattle.edit_lookups.specs.Cached.{validator_path};
 ghost use Rattle.edit_lookups.specs.Lookups.{HasNo};
 ghost use Rattle.edit_lookups.specs.Validators.{IsEtag};
+ghost use Rattle.edit_store.specs.Store.{IsWrittenOnce};
 
 use edit_base::CargoResult;
 use edit_lookups::{validator_line, validator_path};
@@ -79,7 +81,10 @@ pub(crate) fn renew_validator<S: Store>(
     files: &mut S,
     entry: &str,
 ) -> CargoResult<()>
-    ensures { Changes (λ _ _ _. ⊥) (λ _ _. ⊥) (S.view files.old) (S.view files.new) result }
+    ensures changes { Changes (λ _ _ _. ⊥) (λ _ _. ⊥) (S.view files.old) (S.view files.new) result }
+    ensures written { OnOk result ((S.view files.old).tells ≡ true
+        → IsSome ((S.view files.old).file_at (validator_path entry.now))
+        → IsWrittenOnce (validator_path entry.now) (S.view files.old) (S.view files.new)) }
 {
     let path = validator_path(alloc, entry)?;
     match files.read(alloc, path.as_str()) {

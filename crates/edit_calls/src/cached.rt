@@ -1,6 +1,7 @@
 //! Calls that are lent a cache.
 ghost use Rattle.std.specs.Prelude.{◌≡◌, IfOk, length};
 ghost use Rattle.edit_metadata.specs.Inputs.{HaveOwnPaths};
+ghost use Rattle.edit_steps.specs.Shared.{HasLists};
 ghost use Rattle.edit_steps.specs.Sources.{MayBePlanned};
 
 use crate::counted::CountedIndex;
@@ -9,11 +10,13 @@ use crate::said::say;
 use edit_base::CargoResult;
 use edit_cache::IndexCache;
 use edit_metadata::Input;
+use edit_sources::FileIndex;
 use edit_sources::registry::resolve;
-use edit_sources::{Config, FileIndex};
-use edit_steps::upgrade_read::{Asked, IndexSource, RustChoice, Sources, read_sources};
+use edit_steps::upgrade_read::{
+    Asked, IndexSource, RustChoice, SharedConfigs, Sources, read_sources,
+};
 use edit_store::HostStore;
-use edit_upgrade::{Options, plan_upgrade};
+use edit_upgrade::{Options, plan_shared};
 use std::alloc::Global;
 use std::cell::Cell;
 use url::Url;
@@ -89,10 +92,11 @@ impl<'a> CacheCall<'a> {
         rt: &HostRuntime,
         cache: &mut Cache<'_>,
         inputs: &[Input],
-        configs: &[Vec<Config>],
+        configs: &SharedConfigs,
     ) -> CargoResult<()>
         requires paths { HaveOwnPaths inputs.now }
-        requires each { length configs.now ≡ length inputs.now }
+        requires each { length configs.now.which.items ≡ length inputs.now }
+        requires lists { HasLists configs.now }
     {
         match self.what {
             "ranked" => self.ranking(rt, cache),
@@ -107,10 +111,11 @@ impl<'a> CacheCall<'a> {
         rt: &HostRuntime,
         cache: &mut Cache<'_>,
         inputs: &[Input],
-        configs: &[Vec<Config>],
+        configs: &SharedConfigs,
     ) -> CargoResult<()>
         requires paths { HaveOwnPaths inputs.now }
-        requires each { length configs.now ≡ length inputs.now }
+        requires each { length configs.now.which.items ≡ length inputs.now }
+        requires lists { HasLists configs.now }
     {
         cache.fetch(rt.alloc(), self.registry, HELD)?;
         match self.once(rt, cache, inputs, configs) {
@@ -144,13 +149,24 @@ fn upgrade(
     rt: &HostRuntime,
     cache: &mut Cache<'_>,
     inputs: &[Input],
-    configs: &[Vec<Config>],
+    configs: &SharedConfigs,
 ) -> CargoResult<()>
     requires paths { HaveOwnPaths inputs.now }
-    requires each { length configs.now ≡ length inputs.now }
+    requires each { length configs.now.which.items ≡ length inputs.now }
+    requires lists { HasLists configs.now }
 {
     let options = usual(rt.alloc());
-    let plan = plan_upgrade(rt.alloc(), &options, inputs, configs, cache)?;
+    let documents = Vec::new(rt.alloc());
+    let SharedConfigs { lists, which } = configs;
+    let plan = plan_shared(
+        rt.alloc(),
+        &options,
+        inputs,
+        &documents,
+        lists,
+        which,
+        cache,
+    )?;
     show_outputs(rt, &plan.outputs);
     Ok(())
 }

@@ -41,7 +41,7 @@ pub trait DocumentExt {
     ghost can_set: { Self → Place → Value → Type 0 };
 
     /// Adds a member to the table at a place, which has none of this name; every other byte stays. It is
-    /// refused, but for want of memory, only where the new text would not read as meant. After a refusal the
+    /// an error, but for want of memory, only where the new text would not read as meant. After an error the
     /// document is as it was.
     fn insert(
         &mut self,
@@ -52,13 +52,13 @@ pub trait DocumentExt {
     ) -> CargoResult<()>
         requires { can_insert self.old (place_seen place.now) key.now };
 
-    /// Removes the item at a place, which is not the root. After a refusal the document is as it was.
+    /// Removes the item at a place, which is not the root. After an error the document is as it was.
     fn remove(&mut self, alloc: Global, place: &[Step]) -> CargoResult<()>
         requires { can_remove self.old (place_seen place.now) };
 
     /// Replaces the entry at a place that one pair names and no header: behind the part of the pair's key
     /// that names the place, all up to the value's end gives way to ` = ` and the entry, or to
-    /// `.workspace = true` for a dotted one. After a refusal the document is as it was.
+    /// `.workspace = true` for a dotted one. After an error the document is as it was.
     fn replace_entry(&mut self, alloc: Global, place: &[Step], item: &NewItem) -> CargoResult<()>
         requires { can_replace self.old (place_seen place.now) (item_seen item.now) };
 

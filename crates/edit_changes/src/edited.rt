@@ -36,8 +36,8 @@ pub(crate) fn read_edited(alloc: Global, text: &str) -> CargoResult<Document>
     }
 }
 
-/// Takes the text of this document with a member inserted, where it reads as that is meant. After a
-/// refusal the document is as it was.
+/// Takes the text of this document with a member inserted, where it reads as that is meant. After an
+/// error the document is as it was.
 pub(crate) fn take_inserted(
     document: &mut Document,
     alloc: Global,
@@ -68,7 +68,7 @@ pub(crate) fn take_inserted(
 }
 
 /// Takes the text of this document with another entry at a place, where it reads as that is meant. After
-/// a refusal the document is as it was.
+/// an error the document is as it was.
 pub(crate) fn take_replaced(
     document: &mut Document,
     alloc: Global,
@@ -96,8 +96,8 @@ pub(crate) fn take_replaced(
     Ok(())
 }
 
-/// Takes the text of this document without the item at a place, where it reads as that is meant. After a
-/// refusal the document is as it was.
+/// Takes the text of this document without the item at a place, where it reads as that is meant. After an
+/// error the document is as it was.
 pub(crate) fn take_removed(
     document: &mut Document,
     alloc: Global,

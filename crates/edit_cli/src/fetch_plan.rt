@@ -8,7 +8,7 @@ mod unread;
 use crate::fetch_arguments::{
     FetchArguments, excluded_names, metadata_file, print_usage, read_arguments, upgrade_matches,
 };
-use crate::machine::{machine_error, variable};
+use crate::machine::variable;
 use crate::parsing::words_of;
 use clap::ArgMatches;
 use configurations::{all_configs, write_configurations};
@@ -140,10 +140,10 @@ fn plan_lookups(
 /// Prints the count of transfers, and answers the status; none is an error.
 fn print_count<E: Write>(rt: &HostRuntime, count: Option<usize>, err: &mut E) -> CargoResult<u8> {
     match count {
-        Some(count) => {
-            writeln!(rt.stdout(), "{count}").map_err(machine_error)?;
-            Ok(0)
-        }
+        Some(count) => match writeln!(rt.stdout(), "{count}") {
+            Ok(()) => Ok(0),
+            Err(_) => Err(Error::Output),
+        },
         None => {
             let _ = writeln!(err, "Error: the lookups cannot be read");
             Ok(1)

@@ -49,11 +49,23 @@ fn main(rt: HostRuntime) -> ExitCode {
     }
 }
 
-/// Prints the error that ends the program; where there is no memory for its stream, that.
+/// What an error is about that arose outside of a subcommand, where it is one place.
+fn place_of(error: &Error) -> Option<&'static str> {
+    match error {
+        Error::Output => Some("standard output"),
+        Error::Io(_) => Some("the arguments"),
+        _ => None,
+    }
+}
+
+/// Prints the error that ends the program, with its place; where there is no memory for its stream, that.
 fn print_start_error(rt: &HostRuntime, error: &Error) {
     match errors(rt) {
         Ok(mut err) => {
             let _ = writeln!(err, "Error: {error}");
+            if let Some(place) = place_of(error) {
+                let _ = writeln!(err, "  at {place}");
+            }
         }
         Err(_) => {
             let _ = writeln!(rt.stderr(), "Error: {}", Error::Memory);

@@ -9,6 +9,7 @@ use edit_metadata::Input;
 use edit_sources::Config;
 use edit_sources::index_dir::{layout_path, registry_folder};
 use edit_sources::registry::Definitions;
+use edit_steps::upgrade_read::SharedConfigs;
 use percent_encoding::percent_decode;
 use std::alloc::{AllocError, Global};
 use std::collections::BTreeSet;
@@ -96,11 +97,14 @@ pub(crate) fn index_files(
     alloc: Global,
     dir: Option<&str>,
     inputs: &[Input],
-    configs: &[Vec<Config>],
+    configs: &SharedConfigs,
 ) -> Vec<String> {
     let mut seen = BTreeSet::new(alloc);
     let mut paths = Vec::new(alloc);
-    for (input, own) in inputs.iter().zip(configs.iter()) {
+    for (i, input) in inputs.iter().enumerate() {
+        let Some(own) = configs.list_of(i) else {
+            return paths;
+        };
         if push_files(alloc, dir, input, own, &mut seen, &mut paths).is_err() {
             return paths;
         }

@@ -11,6 +11,7 @@ use edit_metadata::Input;
 use edit_record::Source;
 use edit_sources::Config;
 use edit_sources::registry::Definitions;
+use edit_steps::upgrade_read::SharedConfigs;
 use std::alloc::Global;
 
 /// What an entry of a registry is looked up by.
@@ -102,9 +103,10 @@ pub(crate) fn first_fault(
     alloc: Global,
     error: &Error,
     inputs: &[Input],
-    configs: &[Vec<Config>],
+    configs: &SharedConfigs,
 ) -> Option<Fault> {
-    for (input, own) in inputs.iter().zip(configs.iter()) {
+    for (i, input) in inputs.iter().enumerate() {
+        let own = configs.list_of(i)?;
         if let Some(fault) = fault_in(alloc, error, input, own) {
             return Some(fault);
         }

@@ -7,8 +7,7 @@ use crate::registries::first_fault;
 use crate::sources::registry_help;
 use edit_base::Error;
 use edit_metadata::Input;
-use edit_sources::Config;
-use edit_steps::upgrade_read::Asked;
+use edit_steps::upgrade_read::{Asked, SharedConfigs};
 use edit_steps::{Refusal, absolute, at_first, at_input};
 use edit_store::Store;
 use std::alloc::Global;
@@ -22,7 +21,7 @@ fn at_index<S: Store>(
     error: Error,
     dir: Option<&str>,
     inputs: &[Input],
-    configs: &[Vec<Config>],
+    configs: &SharedConfigs,
     files: &mut S,
 ) -> Refusal
     ensures same { result.error ≡ error }
@@ -39,7 +38,7 @@ fn at_index<S: Store>(
 }
 
 /// An error of an entry that is looked up, with its place.
-fn at_entry(alloc: Global, error: Error, inputs: &[Input], configs: &[Vec<Config>]) -> Refusal
+fn at_entry(alloc: Global, error: Error, inputs: &[Input], configs: &SharedConfigs) -> Refusal
     ensures { result.error ≡ error }
 {
     let help = registry_help(alloc, &error);
@@ -73,7 +72,7 @@ pub fn explain_upgrade<S: Store>(
     asked: &Asked<'_>,
     current: &str,
     inputs: &[Input],
-    configs: &[Vec<Config>],
+    configs: &SharedConfigs,
     files: &mut S,
 ) -> Refusal
     ensures same { result.error ≡ error }

@@ -1,8 +1,8 @@
 //! A manifest with the path of its file.
-ghost use Rattle.std.specs.Prelude.{◌≡◌, ◌⊎◌, Some, true, false, IfErr, IfOk, OnOk, option_map, string_bytes};
+ghost use Rattle.std.specs.Prelude.{◌≡◌, ◌⊎◌, Some, true, false, IfErr, IfOk, OnErr, OnOk, option_map, string_bytes};
 ghost use Rattle.edit_base.specs.Errors.{IsMemory};
 ghost use Rattle.edit_base.specs.declared.errors.DeviceCall.TheVariants as call;
-ghost use Rattle.edit_store.specs.Store.{HasCause, OnlyReads, SameBut};
+ghost use Rattle.edit_store.specs.Store.{HasCause, IsWrittenAtMostOnce, IsWrittenOnce, OnlyReads, SameBut};
 ghost use Rattle.edit_manifest.specs.Finding.{IsFound, IsUnfoundOrUnread};
 ghost use Rattle.edit_manifest.specs.Loaded.{IsReadError, IsUnloaded, IsUnread, NamesPath, is_absolute};
 ghost use Rattle.edit_manifest.specs.Located.{IsFault, NamesStart};
@@ -109,6 +109,10 @@ impl LocalManifest {
             ≡ Some self.now.manifest.document.bytes) }
         ensures others { SameBut (string_bytes self.now.path) (S.view store.old).file_at
             (S.view store.new).file_at }
+        ensures once { OnOk result
+            (IsWrittenOnce (string_bytes self.now.path) (S.view store.old) (S.view store.new)) }
+        ensures at_most_once { OnErr result
+            (IsWrittenAtMostOnce (string_bytes self.now.path) (S.view store.old) (S.view store.new)) }
         ensures cause { HasCause call.Write (S.view store.old) (S.view store.new) result }
     {
         let text = self.manifest.document.as_str();

@@ -161,12 +161,13 @@ pub no-input-among : (old new : StoreView) (ms ns : List ManifestSaid) (e : Erro
     → ((m : ManifestSaid) → Contains ms m → Contains ns m) → IsNoInput old new ms e → IsNoInput old new ns e
 no-input-among old new ms ns e =
     no-input-later old old new ms ns e
-    (record { tells = refl; files = λ path. refl; later = omega arith })
+    (record { tells = refl; files = λ path. refl; writes = refl; later = omega arith })
 
 -- reading on
 pub reads-on : (first old new : StoreView) → OnlyReads first old → OnlyReads old new → OnlyReads first new
 reads-on first old new before after = record {
   tells = after.tells ∙ before.tells;
   files = λ path. after.files path ∙ before.files path;
+  writes = after.writes ∙ before.writes;
   later = omega (arith, before.later, after.later);
 }

@@ -34,6 +34,15 @@ pub dry_after : (rows : List Row) (due : Bool) (s : ℕ) → s ≡ status_after 
 dry_after rows due s is one =
     dry_by (is_given (codes "dry-run") rows) (is_given (codes "check") rows) due s is one
 
+-- and a check is asked for
+check_by : (check due : Bool) (s : ℕ) → s ≡ (if check && due then 1 else 0) → s ≡ 1 → check ≡ true
+check_by true due s is one = refl
+check_by false due s is one = let bad : 1 ≡ 0 = sym one ∙ is in absurd (omega (arith, bad))
+
+pub check_after : (rows : List Row) (due : Bool) (s : ℕ) → s ≡ status_after rows due → s ≡ 1
+    → is_given (codes "check") rows ≡ true
+check_after rows due s is one = check_by (is_given (codes "check") rows) due s is one
+
 -- an upgrade at a dry run leaves each file as it was
 pub dry_upgrade : (due : Bool) (Shows Says : List ℕ → Type 0) (words : UpgradeWords) (run : Run)
     → words.options.dry_run ≡ true → IsUpgraded due Shows Says words run

@@ -6,9 +6,10 @@ pub mod CommandLemmas
 pub mod RunLemmas
 pub mod ShownLemmas
 pub mod TwiceLemmas
-pub mod PlanClauses
 pub mod PlanLemmas
 pub mod OrderLemmas
+pub mod CountLemmas
+pub mod IndexFaults
 pub mod LockLemmas
 pub mod LookLemmas
 mod StagingLemmas

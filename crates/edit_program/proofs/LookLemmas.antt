@@ -19,6 +19,7 @@ use Rattle.edit_upgrade.specs.declared.upgrade.Look.{Look}
 use Rattle.edit_upgrade.specs.declared.upgrade.UpgradePlan.{UpgradePlan}
 use Rattle.edit_store.specs.Store.{StoreView}
 use Rattle.edit_steps.specs.Causes.{IsReadCause}
+use Rattle.edit_steps.specs.Shared.{lists_for}
 use Rattle.edit_steps.specs.Sources.{AreRead}
 use Rattle.edit_steps.specs.declared.upgrade_read.sources.Sources.{Sources}
 use Rattle.edit_program.specs.UpgradeCauses.{IsLooksCause}
@@ -66,7 +67,7 @@ unread_cause words current home old new e (inr wrong) = inr (inr (λ t. inl (wro
 pub unplanned_cause : (words : UpgradeWords) (current : List ℕ) (home : Option (List ℕ)) (old new : StoreView)
     (s : Sources) (e : Error)
     → (old.tells ≡ true → AreRead old.file_at current home (asking_for_looks words) s)
-    → IsMemory e ⊎ IsPlanCause words.options s.target.inputs.items s.configs.items no_view e
+    → IsMemory e ⊎ IsPlanCause words.options s.target.inputs.items (lists_for s.configs) no_view e
     → IsLooksCause words current home old new e
 unplanned_cause words current home old new s e read (inl memory) = inl (inl (inl memory))
 unplanned_cause words current home old new s e read (inr wrong) = inr (inr (λ t. inr (record {

@@ -1,12 +1,15 @@
 -- A plan over a cache that kept nothing before.
-use Rattle.std.proofs.Common.{◌≡◌, ℕ, List, None, ap, inl, inr, option_map, subst}
+use Rattle.std.proofs.Common.{◌≡◌, ◌∙◌, [], ℕ, List, None, Result, Ok, Err, ap, inl, inr, length, option_map, subst, sym}
 use Rattle.std.proofs.Math.Path.{fun_ext}
 use Rattle.std.specs.Global.{Vec}
-use Rattle.std.specs.Prelude.{◌⊎◌}
+use Rattle.std.proofs.lemmas.List.{length-map}
+use Rattle.std.specs.Prelude.{◌⊎◌, IfErr}
 use Rattle.edit_base.specs.Errors.{IsMemory}
 use Rattle.edit_base.specs.declared.errors.Error.{Error}
 use Rattle.edit_metadata.specs.declared.input.Input.{Input}
 use Rattle.edit_sources.specs.Index.{IndexView, answer_of}
+use Rattle.edit_tree.specs.Shown.{Shown}
+use Rattle.edit_steps.specs.Sources.{AreDocuments}
 use Rattle.edit_cache.specs.IndexCache.{index_of, kept_at}
 use Rattle.edit_cache.specs.declared.cache.IndexCache.{IndexCache}
 use Rattle.edit_sources.specs.declared.config.Config.{Config}
@@ -80,7 +83,7 @@ input_stops {I} view index inputs configs old new e is empty h = record {
 }
 
 -- a plan of bytes that is refused
-pub bytes_refused : {I : Type 0} (view : I → IndexView) (index : I) (o : Options) (inputs : List Input)
+bytes_refused : {I : Type 0} (view : I → IndexView) (index : I) (o : Options) (inputs : List Input)
     (configs : List (Vec Config)) (old new : IndexCache I) (e : Error) → index_of old ≡ index
     → ((address name : List ℕ) → kept_at old address name ≡ None)
     → IsRefusedFor o (StopsInputs inputs configs (cache_view view old) (cache_view view new)) e
@@ -90,7 +93,7 @@ bytes_refused view index o inputs configs old new e is empty (inr (words, cause)
     inr (inr (words, input_stops view index inputs configs old new e is empty cause))
 
 -- and one of documents
-pub documents_refused : {I : Type 0} (view : I → IndexView) (index : I) (o : Options) (inputs : List Input)
+documents_refused : {I : Type 0} (view : I → IndexView) (index : I) (o : Options) (inputs : List Input)
     (configs : List (Vec Config)) (old new : IndexCache I) (e : Error) → index_of old ≡ index
     → ((address name : List ℕ) → kept_at old address name ≡ None)
     → IsRefusedFor o (StopsDocuments inputs configs (cache_view view old) (cache_view view new)) e
@@ -108,3 +111,26 @@ documents_refused view index o inputs configs old new e is empty (inr (words, in
       stops = inr first.stops;
     } in
     inr (inr (words, input_stops view index inputs configs old new e is empty stops))
+
+-- a cause that follows from two that an error has
+pub both_causes : {T E : Type 0} (r : Result T E) (P Q R : E → Type 0) → ((e : E) → P e → Q e → R e)
+    → IfErr r P → IfErr r Q → IfErr r R
+both_causes (Ok x) P Q R both p q = tt
+both_causes (Err e) P Q R both p q = both e p q
+
+-- a plan of inputs that is refused: of their documents where those are given, else of their bytes
+pub shared_refused : {I : Type 0} (view : I → IndexView) (index : I) (o : Options) (inputs : List Input)
+    (configs : List (Vec Config)) (documents : List Shown) (old new : IndexCache I) (e : Error)
+    → index_of old ≡ index → ((address name : List ℕ) → kept_at old address name ≡ None)
+    → AreDocuments documents inputs
+    → (length documents ≡ length inputs
+    → IsRefusedFor o (StopsDocuments inputs configs (cache_view view old) (cache_view view new)) e)
+    → (documents ≡ []
+    → IsRefusedFor o (StopsInputs inputs configs (cache_view view old) (cache_view view new)) e)
+    → IsMemory e ⊎ IsPlanCause o inputs configs (view index) e
+shared_refused view index o inputs configs documents old new e is empty (inl none) given read =
+    bytes_refused view index o inputs configs old new e is empty (read none)
+shared_refused view index o inputs configs documents old new e is empty (inr same) given read =
+    documents_refused view index o inputs configs old new e is empty
+    (given (sym (length-map documents (λ (d : Shown). d.bytes)) ∙ ap length same
+    ∙ length-map inputs (λ (input : Input). input.bytes.items)))

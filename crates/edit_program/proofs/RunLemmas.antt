@@ -1,13 +1,14 @@
 -- What a subcommand comes to is what the words that name it come to.
-use Rattle.std.proofs.Common.{◌≡◌, ◌≤◌, ◌≢◌, ℕ, zero, suc, List, Result, Ok, Err, arith, inl, inr, refl}
+use Rattle.std.proofs.Common.{◌≡◌, ◌≤◌, ◌≢◌, ℕ, zero, suc, List, Result, Ok, Err, arith, codes, inl, inr, refl, true}
 use Rattle.std.specs.Prelude.{◌⊎◌, IfErr, IfOk, OnErr}
 use Rattle.clap.specs.Words.{Row, Text}
 use Rattle.edit_base.specs.Errors.{IsMemory}
 use Rattle.edit_steps.specs.declared.refusal.Refusal.{Refusal}
 use Rattle.edit_store.specs.Store.{SameFiles}
+use Rattle.edit_program.specs.Asked.{is_given}
 use Rattle.edit_program.specs.Commands.{IsAtFault, IsBrokenBy, IsCauseBy, IsDoneBy}
 use Rattle.edit_program.specs.Run.{Run}
-use Rattle.edit_program.specs.Runs.{AreAtFault, HasFound, HaveEntered, IsDone, IsEnded, IsRefused, IsRunCause}
+use Rattle.edit_program.specs.Runs.{AreAtFault, AskToCheck, HasFound, HaveEntered, IsDone, IsEnded, IsRefused, IsRunCause}
 
 -- a fault of the subcommand is one of the words
 pub command_fault : (words : List Text) (name : Text) (rows : List Row) (r : Result ℕ Refusal)
@@ -68,6 +69,14 @@ command_why words name rows Shows run (Ok s) entered why = tt
 command_why words name rows Shows run (Err x) entered (inl memory) = inl memory
 command_why words name rows Shows run (Err x) entered (inr cause) =
     inr (inr (record { name = name; rows = rows; entered = entered; holds = cause }))
+
+-- a subcommand that asks to check is a run that does
+pub command_asked : (words : List Text) (name : Text) (rows : List Row) (r : Result ℕ Refusal)
+    → HaveEntered words name rows → IfOk r (λ s. s ≡ 1 → is_given (codes "check") rows ≡ true)
+    → IfOk r (λ s. s ≡ 1 → AskToCheck words)
+command_asked words name rows (Ok s) entered asked =
+    λ one. record { name = name; rows = rows; entered = entered; holds = asked one }
+command_asked words name rows (Err x) entered asked = tt
 
 -- a run that ends with 0 is done
 pub ended_done : (words : List Text) (s : ℕ) (Shows Tells : List ℕ → Type 0) (run : Run)

@@ -23,11 +23,17 @@ shown_is app words e (Ok s) is passes kinds memory same =
     answered app words e s is passes kinds (λ no_memory. memory no_memory) same
 shown_is app words e (Err x) is passes kinds memory same = tt
 
--- its status is 0 or 2
+-- its status is 0 or 2, never 1
 pub shown_small : (r : Result ℕ Refusal) → IfOk r (λ s. (s ≡ 0) ⊎ (s ≡ 2)) → IfOk r (λ s. s ≤ 2)
 shown_small (Ok s) (inl zero) = omega (arith, zero)
 shown_small (Ok s) (inr two) = omega (arith, two)
 shown_small (Err x) small = tt
+
+pub shown_unasked : (r : Result ℕ Refusal) (P : Type 0) → IfOk r (λ s. (s ≡ 0) ⊎ (s ≡ 2))
+    → IfOk r (λ s. s ≡ 1 → P)
+shown_unasked (Ok s) P (inl zero) = λ one. absurd (omega (arith, zero, one))
+shown_unasked (Ok s) P (inr two) = λ one. absurd (omega (arith, two, one))
+shown_unasked (Err x) P small = tt
 
 fault_in : (words : List Text) (r : Result ℕ Refusal) → IfOk r (IsAnswered words)
     → IfOk r (λ s. s ≡ 2 → AreAtFault words)

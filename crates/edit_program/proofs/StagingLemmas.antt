@@ -1,5 +1,5 @@
 -- Outputs that are written behind steps that only read.
-use Rattle.std.proofs.Common.{◌∙◌, List, [], ◌∷◌, arith, inl, inr}
+use Rattle.std.proofs.Common.{◌≡◌, ◌∙◌, List, [], ◌∷◌, append-nil, arith, inl, inr, sym}
 use Rattle.edit_report.specs.Applied.{AreWritten, HasStopped}
 use Rattle.edit_report.specs.declared.output.Output.{Output}
 use Rattle.edit_steps.proofs.Written.{nothing_written, stopped_after, written_after}
@@ -8,9 +8,10 @@ use Rattle.edit_program.specs.Delivered.{HaveStopped, IsBehind}
 
 -- outputs that are written stay so
 pub written_still : (outputs : List Output) (old mid new : StoreView) → SameFiles mid.file_at new.file_at
-    → AreWritten outputs old mid → AreWritten outputs old new
-written_still outputs old mid new same are = record {
+    → new.writes ≡ mid.writes → AreWritten outputs old mid → AreWritten outputs old new
+written_still outputs old mid new same writes are = record {
   whole = λ t k d within. same _ ∙ are.whole t k d within;
+  once = writes ∙ are.once;
   others = λ path none. same path ∙ are.others path none;
 }
 
@@ -42,6 +43,10 @@ stopped_before [] last old new reads = inr (inl (nothing_written old new reads))
 stopped_before (o ∷ rest) last old new reads = inl record {
   at = 0;
   within = omega arith;
+  begun = 0;
+  begun_before = omega arith;
+  begun_last = omega arith;
+  once = reads.writes ∙ sym (append-nil old.writes);
   whole = λ _ k d within. absurd (omega (arith, within));
   untouched = λ k d within. reads.files _;
   others = λ path none. reads.files path;

@@ -21,6 +21,7 @@ use Rattle.edit_upgrade.specs.Inputs.{outputs_at}
 use Rattle.edit_upgrade.specs.declared.upgrade.UpgradePlan.{UpgradePlan}
 use Rattle.edit_steps.proofs.ReadLemmas.{refused_on}
 use Rattle.edit_steps.specs.Causes.{IsReadCause}
+use Rattle.edit_steps.specs.Shared.{lists_for}
 use Rattle.edit_steps.specs.declared.upgrade_read.sources.Sources.{Sources}
 use Rattle.edit_steps.specs.declared.upgrade_read.target.Target.{Target}
 use Rattle.edit_program.proofs.StagingLemmas.{all_stopped_after, behind_after}
@@ -200,7 +201,7 @@ lock_cause Shows words current home local old new e same (inr none) =
 pub plan_cause : (Shows : List ℕ → Type 0) (words : UpgradeWords) (current : List ℕ) (home : Option (List ℕ))
     (local old new : StoreView) (s : Sources) (e : Error) → SameFiles old.file_at new.file_at
     → (old.tells ≡ true → IsRead words current home old.file_at s)
-    → IsMemory e ⊎ IsPlanCause words.options s.target.inputs.items s.configs.items
+    → IsMemory e ⊎ IsPlanCause words.options s.target.inputs.items (lists_for s.configs)
     (index_view s.index local) e
     → IsUpgradeCause Shows words (run_at current home local old new) e
 plan_cause Shows words current home local old new s e same read (inl memory) = inl memory

@@ -26,3 +26,4 @@ pub mod CallsFile
 pub mod Said
 pub mod Delivered
 pub mod TellingCauses
+pub mod Counted

@@ -12,6 +12,7 @@ use Rattle.edit_metadata.specs.declared.input.Input.{Input}
 use Rattle.edit_sources.specs.declared.config.Config.{Config}
 use Rattle.std.specs.Global.{Vec}
 use Rattle.edit_program.specs.NoIndex.{no_view}
+use Rattle.edit_steps.specs.Shared.{lists_for}
 use Rattle.edit_steps.specs.Sources.{AreRead}
 use Rattle.edit_steps.specs.declared.upgrade_read.sources.Sources.{Sources}
 use Rattle.edit_program.specs.Planned.{IsPlanned, asking_for_looks}
@@ -33,5 +34,5 @@ pub record AreLooksShown (Shows : List ℕ → Type 0) (words : UpgradeWords) (c
   pub sources : Sources
   pub text : List ℕ
   pub read : AreRead files current home (asking_for_looks words) sources
-  pub lines : AreLinesOf words.options sources.target.inputs.items sources.configs.items text
+  pub lines : AreLinesOf words.options sources.target.inputs.items (lists_for sources.configs) text
   pub shows : Shows text

@@ -1,6 +1,6 @@
 -- What a run of the program answers, and what it leaves of the files. Its words are those that were
 -- given, with the values that are left out of them.
-use Rattle.std.specs.Prelude.{◌≡◌, ◌⊎◌, ℕ, List, [], Option, Some, None, true}
+use Rattle.std.specs.Prelude.{◌≡◌, ◌⊎◌, ℕ, List, [], Option, Some, None, codes, true}
 use Rattle.clap.specs.Words.{IsAmong, Row, Text, fault_of, subcommand_of, takes}
 use Rattle.clap.specs.declared.error.kind.ErrorKind.{ErrorKind}
 use Rattle.clap.specs.declared.error.kind.ErrorKind.TheVariants.{DisplayHelp, DisplayVersion}
@@ -10,6 +10,7 @@ use Rattle.edit_base.specs.declared.errors.Error.TheVariants.{Merged, Output}
 use Rattle.edit_base.specs.declared.errors.details.MergedCommand.{MergedCommand}
 use Rattle.edit_store.specs.Store.{SameFiles}
 use Rattle.edit_words.specs.CommandLine.{edit_app}
+use Rattle.edit_program.specs.Asked.{is_given}
 use Rattle.edit_program.specs.Merged.{merged_of}
 use Rattle.edit_program.specs.Run.{Run}
 use Rattle.edit_program.specs.Commands.{IsAtFault, IsBrokenBy, IsCauseBy, IsDoneBy}
@@ -65,6 +66,15 @@ pub record HasFound (words : List (List ℕ)) (Shows Tells : List ℕ → Type 0
   pub kept : SameFiles run.old.file_at run.new.file_at
   pub found : Enter words (λ name rows. IsDoneBy name rows 1 Shows Tells run)
 
+-- the words name a subcommand, and ask to check what it would change
+abbrev pub AskToCheck : List (List ℕ) → Type 0
+AskToCheck words = Enter words (λ name rows. is_given (codes "check") rows ≡ true)
+
+-- a check that the words ask for found what is to be changed
+abbrev pub IsChecked : List (List ℕ) → (List ℕ → Type 0) → (List ℕ → Type 0) → Run → Type 0
+IsChecked words Shows Tells run =
+    AskToCheck words × (run.old.tells ≡ true → HasFound words Shows Tells run)
+
 -- a run that ends with a status of its own: it is done, or a check found what is to be changed
 abbrev pub IsEnded : List (List ℕ) → ℕ → (List ℕ → Type 0) → (List ℕ → Type 0) → Run → Type 0
 IsEnded words status Shows Tells run =
@@ -96,10 +106,12 @@ IsRunCause words Shows run e =
     ⊎ ((SameFiles run.old.file_at run.new.file_at × IsCauseAtOnce words e)
     ⊎ Enter words (λ name rows. IsCauseBy name rows Shows run e))
 
--- a run ended with an error: why, and what standard error and the files had before it was printed
+-- a run ended with an error: why, whether it is counted, and what standard error and the files had before it
+-- was printed
 pub record HasFailed (words : List (List ℕ)) (Shows : List ℕ → Type 0)
-    (Grows : Option (List ℕ) → List ℕ → Type 0) (run : Run) : Type 0 where
+    (Grows : Option (List ℕ) → List ℕ → Type 0) (Counts : Error → Type 0) (run : Run) : Type 0 where
   pub error : Error
   pub cause : IsRunCause words Shows run error
+  pub counted : Counts error
   pub printed : Option (List ℕ)
   pub left : run.old.tells ≡ true → IsRefused words Shows (Grows printed) run

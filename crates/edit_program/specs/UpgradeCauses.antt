@@ -12,6 +12,7 @@ use Rattle.edit_store.specs.Store.{Files, RefusesCall, SameFiles, StoreView}
 use Rattle.edit_upgrade.specs.declared.decision.options.Options.{Options}
 use Rattle.edit_steps.specs.Asking.{Asking}
 use Rattle.edit_steps.specs.Causes.{IsFailure, IsWrong}
+use Rattle.edit_steps.specs.Shared.{lists_for}
 use Rattle.edit_steps.specs.Sources.{AreRead}
 use Rattle.edit_steps.specs.declared.upgrade_read.sources.Sources.{Sources}
 use Rattle.edit_program.specs.Planned.{IsPlanCause, asking, asking_for_looks, index_view}
@@ -25,7 +26,7 @@ pub record HasNoPlan (options : Options) (view : Sources → IndexView) (asked :
     (home : Option (List ℕ)) (files : Files) (e : Error) : Type 0 where
   pub sources : Sources
   pub read : AreRead files current home asked sources
-  pub cause : IsPlanCause options sources.target.inputs.items sources.configs.items (view sources) e
+  pub cause : IsPlanCause options sources.target.inputs.items (lists_for sources.configs) (view sources) e
 
 -- there is no plan for what the arguments name: the lock file or something else is not read, or the plan is
 -- refused

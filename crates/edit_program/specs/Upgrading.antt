@@ -8,6 +8,7 @@ use Rattle.edit_sources.specs.Configured.{given}
 use Rattle.edit_steps.specs.Absolute.{IsAbsoluteOf}
 use Rattle.edit_store.specs.Store.{Files, StoreView}
 use Rattle.edit_upgrade.specs.declared.upgrade.UpgradePlan.{UpgradePlan}
+use Rattle.edit_steps.specs.Shared.{lists_for}
 use Rattle.edit_steps.specs.Sources.{AreRead}
 use Rattle.edit_steps.specs.declared.upgrade_read.sources.Sources.{Sources}
 use Rattle.edit_steps.specs.declared.upgrade_read.target.Target.{Target}
@@ -26,7 +27,7 @@ IsRead words current home files s = AreRead files current home (asking words) s
 -- the plan for what was read, over its index
 abbrev pub IsPlannedFor : UpgradeWords → Sources → StoreView → UpgradePlan → Type 0
 IsPlannedFor words s local plan =
-    IsPlanned words.options s.target.inputs.items s.configs.items (index_view s.index local) plan
+    IsPlanned words.options s.target.inputs.items (lists_for s.configs) (index_view s.index local) plan
 
 -- the absolute path of a file that is named; none where none is
 abbrev pub IsPathOf : List ℕ → Option (List ℕ) → Option (List ℕ) → Type 0

@@ -1,11 +1,14 @@
 //! What each subcommand comes to, by its matches.
-ghost use Rattle.std.specs.Prelude.{◌≡◌, ◌≢◌, ◌⊎◌, ◌≤◌, IfErr, IfOk, OnErr, true};
+ghost use Rattle.std.specs.Prelude.{◌≡◌, ◌≢◌, ◌⊎◌, ◌≤◌, IfErr, IfOk, OnErr, codes, true};
 ghost use Rattle.std.specs.Io.KnownBytes.{Appends};
 ghost use Rattle.clap.specs.Words.{found_of, rows_of};
 ghost use Rattle.edit_base.specs.Errors.{IsMemory};
 ghost use Rattle.edit_sources.specs.Configured.{given};
+ghost use Rattle.edit_steps.specs.Faults.{CountsFault};
 ghost use Rattle.edit_store.specs.Store.{SameFiles};
+ghost use Rattle.edit_program.specs.Asked.{is_given};
 ghost use Rattle.edit_program.specs.Commands.{HasBroken, HasLooked, HasLooksCause, HasSetVersionCause, HasSetVersions, HasStoppedSetting, HasUpgradeCause, HasUpgraded, IsAtFault, IsBrokenBy, IsCauseBy, IsDoneBy};
+ghost use Rattle.edit_program.specs.Counted.{CountsEitherFault};
 ghost use Rattle.edit_program.specs.Run.{run_at};
 ghost use Rattle.edit_program.specs.UpgradeAsked.{HaveUpgradeFault};
 ghost use Rattle.edit_program.specs.VersionWords.{HaveVersionFault};
@@ -54,6 +57,10 @@ fn upgrade_asked<S: Store, T: Store + Drop, O: io::Write, E: io::Write>(
         (Appends (O.contents out.old) (O.contents out.new))
         (run_at place.now.current.now (given place.now.cargo_home)
         (T.view index_files) (S.view files.old) (S.view files.new)) r.error) }
+    ensures counted { IfErr result (λ r. CountsEitherFault T.view index_files
+        (S.view files.old) (S.view files.new) r.error) }
+    ensures asked { IfOk result (λ s. s ≡ 1
+        → is_given (codes "check") (rows_of (found_of matches.now)) ≡ true) }
 {
     let words = match upgrade_words(alloc, matches) {
         Ok(words) => words,
@@ -84,6 +91,8 @@ fn looks_asked<S: Store, O: io::Write, E: io::Write>(
         (S.view files.old) (S.view files.new)) }
     ensures why { IfErr result (λ r. IsMemory r.error ⊎ HasLooksCause (rows_of (found_of matches.now))
         current.now (given cargo_home.entry) (S.view files.old) (S.view files.new) r.error) }
+    ensures counted { IfErr result (λ r. CountsFault (S.view files.old) (S.view files.new) r.error) }
+    ensures asked { IfOk result (λ s. s ≢ 1) }
 {
     let words = match upgrade_words(alloc, matches) {
         Ok(words) => words,
@@ -121,6 +130,9 @@ fn versions_asked<S: Store, O: io::Write, E: io::Write>(
         current.now (S.view files.old) (S.view files.new)) }
     ensures why { IfErr result (λ r. IsMemory r.error ⊎ HasSetVersionCause (rows_of (found_of matches.now))
         current.now (S.view files.old) (S.view files.new) r.error) }
+    ensures counted { IfErr result (λ r. CountsFault (S.view files.old) (S.view files.new) r.error) }
+    ensures asked { IfOk result (λ s. s ≡ 1
+        → is_given (codes "check") (rows_of (found_of matches.now)) ≡ true) }
 {
     let words = match version_words(alloc, matches) {
         Ok(words) => words,
@@ -165,6 +177,10 @@ pub(crate) fn subcommand_asked<S: Store, T: Store + Drop, O: io::Write, E: io::W
         (Appends (O.contents out.old) (O.contents out.new))
         (run_at place.now.current.now (given place.now.cargo_home)
         (T.view index_files) (S.view files.old) (S.view files.new)) r.error) }
+    ensures counted { IfErr result (λ r. CountsEitherFault T.view index_files
+        (S.view files.old) (S.view files.new) r.error) }
+    ensures asked { IfOk result (λ s. s ≡ 1
+        → is_given (codes "check") (rows_of (found_of subcommand.entry.1.now)) ≡ true) }
 {
     let (name, matches) = subcommand;
     match name {

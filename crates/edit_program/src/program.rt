@@ -4,9 +4,10 @@ ghost use Rattle.std.specs.Io.KnownBytes.{Appends};
 ghost use Rattle.edit_sources.specs.Configured.{given};
 ghost use Rattle.edit_base.specs.declared.errors.details.MergedCommand.{MergedCommand};
 ghost use Rattle.edit_words.specs.Filled.{filled};
+ghost use Rattle.edit_program.specs.Counted.{CountsEitherFault};
 ghost use Rattle.edit_program.specs.Merged.{merged_of};
 ghost use Rattle.edit_program.specs.Run.{run_at};
-ghost use Rattle.edit_program.specs.Runs.{AreAtFault, HasFailed, HasFound, IsDone, IsEnded, IsRefused, IsRunCause};
+ghost use Rattle.edit_program.specs.Runs.{AreAtFault, AskToCheck, HasFailed, IsChecked, IsDone, IsEnded, IsRefused, IsRunCause};
 
 use crate::commands::subcommand_asked;
 use crate::faults::{refuse, shown};
@@ -48,6 +49,9 @@ fn answer<S: Store, T: Store + Drop, O: io::Write, E: io::Write>(
         (Appends (O.contents out.old) (O.contents out.new))
         (run_at place.now.current.now (given place.now.cargo_home)
         (T.view index_files) (S.view files.old) (S.view files.new)) r.error) }
+    ensures counted { IfErr result (λ r. CountsEitherFault T.view index_files
+        (S.view files.old) (S.view files.new) r.error) }
+    ensures asked { IfOk result (λ s. s ≡ 1 → AskToCheck (map (λ w. w.now) words.now)) }
 {
     if let Some(command) = merged_of(words) {
         return Err(Refusal::from(Error::Merged(command)));
@@ -95,6 +99,9 @@ fn answer_given<S: Store, T: Store + Drop, O: io::Write, E: io::Write>(
         (Appends (O.contents out.old) (O.contents out.new))
         (run_at place.now.current.now (given place.now.cargo_home)
         (T.view index_files) (S.view files.old) (S.view files.new)) r.error) }
+    ensures counted { IfErr result (λ r. CountsEitherFault T.view index_files
+        (S.view files.old) (S.view files.new) r.error) }
+    ensures asked { IfOk result (λ s. s ≡ 1 → AskToCheck (filled (map (λ w. w.now) words.now))) }
 {
     let words = filled_words(alloc, words)?;
     answer(alloc, words.as_slice(), place, files, index_files, out, err)
@@ -129,14 +136,16 @@ pub fn run<S: Store, T: Store + Drop, O: io::Write, E: io::Write>(
         (Appends (E.contents err.old) (E.contents err.new))
         (run_at current.now (given cargo_home.entry)
         (T.view index_files) (S.view files.old) (S.view files.new)) }
-    // a check found what is to be changed, or there is an error, with its cause
-    ensures failed { result ≡ 1 → ((S.view files.old).tells ≡ true
-        → HasFound (filled (map (λ w. w.now) words.now)) (Appends (O.contents out.old) (O.contents out.new))
+    // a check found what is to be changed, or there is an error, with its cause; over any stores, an error of
+    // a device is counted
+    ensures failed { result ≡ 1
+        → IsChecked (filled (map (λ w. w.now) words.now)) (Appends (O.contents out.old) (O.contents out.new))
         (Appends (E.contents err.old) (E.contents err.new))
         (run_at current.now (given cargo_home.entry)
-        (T.view index_files) (S.view files.old) (S.view files.new)))
+        (T.view index_files) (S.view files.old) (S.view files.new))
         ⊎ HasFailed (filled (map (λ w. w.now) words.now))
         (Appends (O.contents out.old) (O.contents out.new)) (Appends (E.contents err.old))
+        (CountsEitherFault T.view index_files (S.view files.old) (S.view files.new))
         (run_at current.now (given cargo_home.entry)
         (T.view index_files) (S.view files.old) (S.view files.new)) }
 {

@@ -1,21 +1,94 @@
 -- Files to which outputs are written one by one.
-use Rattle.std.proofs.Common.{◌≡◌, ◌≢◌, ℕ, ◌+◌, ◌<◌, ◌≤◌, List, [], true, length, take, get_or, refl, sym, ◌∙◌, arith, subst}
+use Rattle.std.proofs.Common.{◌≡◌, ◌≢◌, ℕ, ◌+◌, ◌<◌, ◌≤◌, List, [], ◌∷◌, ◌++◌, true, length, map, take, get_or, append-nil, append_assoc, ap, inl, inr, refl, sym, ◌∙◌, arith, subst}
 use Rattle.std.specs.Prelude.{Result, Ok, Err, OnErr}
 use Rattle.std.specs.List.{All}
-use Rattle.std.proofs.lemmas.List.{get_or_default, get_or-drop, get_or-take, length-drop, length-take}
+use Rattle.std.proofs.lemmas.List.{get_or_default, get_or-drop, get_or-take, length-drop, length-take, map_more}
 use Rattle.std.proofs.lemmas.List.Elements.{All-more}
-use Rattle.edit_report.specs.Applied.{AreWritten, HasStopped, HaveDistinctPaths, IsWhole, KeepsOthers, path_of}
+use Rattle.edit_report.specs.Applied.{AreWritten, AreWrittenOnce, HasStopped, HaveDistinctPaths, IsWhole, KeepsOthers, path_of}
 use Rattle.edit_report.specs.declared.output.Output.{Output}
-use Rattle.edit_store.specs.Store.{Files, SameBut, StoreView}
+use Rattle.edit_store.specs.Store.{Files, IsWrittenAtMostOnce, IsWrittenOnce, SameBut, SameFiles, StoreView}
 
 -- what holds anyway holds of a refusal
 pub on_refusal : {T E : Type 0} (r : Result T E) (P : Type 0) → P → OnErr r P
 on_refusal (Ok x) P p = tt
 on_refusal (Err e) P p = p
 
+-- what follows where a call is refused
+pub on_refusal_more : {T E : Type 0} (r : Result T E) (P Q : Type 0) → (P → Q) → OnErr r P → OnErr r Q
+on_refusal_more (Ok x) P Q f p = tt
+on_refusal_more (Err e) P Q f p = f p
+
+-- writing stopped before the first output where nothing is written
+pub stopped_early : (outputs : List Output) (old new : StoreView) → 0 < length outputs
+    → new.writes ≡ old.writes → SameFiles old.file_at new.file_at → HasStopped outputs old new
+stopped_early outputs old new some writes files = record {
+  at = 0;
+  within = some;
+  begun = 0;
+  begun_before = omega arith;
+  begun_last = omega arith;
+  once = writes ∙ sym (append-nil old.writes);
+  whole = λ _ k d lt. absurd (omega arith);
+  untouched = λ k d lt. files _;
+  others = λ path _. files path;
+}
+
+-- it stopped as well since a time before, from which on nothing was written
+pub stopped_since : (outputs : List Output) (old mid new : StoreView) → mid.tells ≡ old.tells
+    → mid.writes ≡ old.writes → SameFiles old.file_at mid.file_at → HasStopped outputs mid new
+    → HasStopped outputs old new
+stopped_since outputs old mid new tells writes files stopped = record {
+  at = stopped.at;
+  within = stopped.within;
+  begun = stopped.begun;
+  begun_before = stopped.begun_before;
+  begun_last = stopped.begun_last;
+  once = stopped.once ∙ ap (λ ws. ws ++ map path_of (take stopped.begun outputs)) writes;
+  whole = λ t. stopped.whole (tells ∙ t);
+  untouched = λ k d lt. stopped.untouched k d lt ∙ files _;
+  others = λ path away. stopped.others path away ∙ files path;
+}
+
+-- it stopped as well where nothing is written afterwards
+pub stopped_still : (outputs : List Output) (old mid new : StoreView) → new.writes ≡ mid.writes
+    → SameFiles mid.file_at new.file_at → HasStopped outputs old mid → HasStopped outputs old new
+stopped_still outputs old mid new writes files stopped = record {
+  at = stopped.at;
+  within = stopped.within;
+  begun = stopped.begun;
+  begun_before = stopped.begun_before;
+  begun_last = stopped.begun_last;
+  once = writes ∙ stopped.once;
+  whole = λ t k d lt. files _ ∙ stopped.whole t k d lt;
+  untouched = λ k d lt. files _ ∙ stopped.untouched k d lt;
+  others = λ path away. files path ∙ stopped.others path away;
+}
+
 -- before the first write
 pub written_none : (old : StoreView) → AreWritten [] old old
-written_none old = record { whole = λ _ k d lt. absurd (omega arith); others = λ path _. refl }
+written_none old = record {
+  whole = λ _ k d lt. absurd (omega arith);
+  once = sym (append-nil old.writes);
+  others = λ path _. refl;
+}
+
+-- one write more is one output more that is written once
+once_more : (outputs : List Output) (i : ℕ) (d : Output) (old mid new : StoreView) → i < length outputs
+    → AreWrittenOnce (take i outputs) old mid → IsWrittenOnce (path_of (get_or outputs i d)) mid new
+    → AreWrittenOnce (take (i + 1) outputs) old new
+once_more outputs i d old mid new within before once =
+    let path = path_of (get_or outputs i d) in
+    once ∙ ap (λ ws. ws ++ path ∷ []) before
+    ∙ append_assoc old.writes (map path_of (take i outputs)) (path ∷ [])
+    ∙ ap (λ ws. old.writes ++ ws) (sym (map_more path_of outputs i d within))
+
+-- how many writes were begun where one of them failed, which may have been begun
+begun_at : (outputs : List Output) (i : ℕ) (d : Output) (old mid new : StoreView) → i < length outputs
+    → AreWrittenOnce (take i outputs) old mid → IsWrittenAtMostOnce (path_of (get_or outputs i d)) mid new
+    → (n : ℕ) × (i ≤ n) × (n ≤ i + 1) × AreWrittenOnce (take n outputs) old new
+begun_at outputs i d old mid new within before (inl same) = (i, omega arith, omega arith, same ∙ before)
+begun_at outputs i d old mid new within before (inr once) =
+    (i + 1, omega arith, omega arith, once_more outputs i d old mid new within before once)
 
 -- two outputs go elsewhere
 apart : (outputs : List Output) (k j : ℕ) (d e : Output) → HaveDistinctPaths outputs
@@ -62,11 +135,13 @@ pub written_more : (outputs : List Output) (i : ℕ) (d : Output) (old mid new :
     → mid.tells ≡ old.tells → AreWritten (take i outputs) old mid
     → (mid.tells ≡ true → IsWhole new.file_at (get_or outputs i d))
     → SameBut (path_of (get_or outputs i d)) mid.file_at new.file_at
+    → IsWrittenOnce (path_of (get_or outputs i d)) mid new
     → AreWritten (take (i + 1) outputs) old new
-written_more outputs i d old mid new distinct within tells before written others = record {
+written_more outputs i d old mid new distinct within tells before written others once = record {
   whole = λ t. All-more (IsWhole new.file_at) outputs i d within
       (whole_still outputs i d mid.file_at new.file_at distinct within others (before.whole t))
       (written (tells ∙ t));
+  once = once_more outputs i d old mid new within before.once once;
   others = keeps_more outputs i d old.file_at mid.file_at new.file_at within before.others others;
 }
 
@@ -74,12 +149,18 @@ written_more outputs i d old mid new distinct within tells before written others
 pub stopped_at : (outputs : List Output) (i : ℕ) (d : Output) (old mid new : StoreView)
     → HaveDistinctPaths outputs → i < length outputs → AreWritten (take i outputs) old mid
     → SameBut (path_of (get_or outputs i d)) mid.file_at new.file_at
+    → IsWrittenAtMostOnce (path_of (get_or outputs i d)) mid new
     → HasStopped outputs old new
-stopped_at outputs i d old mid new distinct within before others =
+stopped_at outputs i d old mid new distinct within before others at_most_once =
+    let begun = begun_at outputs i d old mid new within before.once at_most_once in
     let kept = keeps_more outputs i d old.file_at mid.file_at new.file_at within before.others others in
     record {
       at = i;
       within = within;
+      begun = begun.0;
+      begun_before = begun.1;
+      begun_last = begun.2;
+      once = begun.3;
       whole = λ t. whole_still outputs i d mid.file_at new.file_at distinct within others (before.whole t);
       untouched = λ k e lt. kept _ (λ m f front.
           let first : m < i + 1 = omega (arith, length-take (i + 1) outputs) in

@@ -1,5 +1,5 @@
 -- What becomes of files when outputs are written to them.
-use Rattle.std.specs.Prelude.{◌≡◌, ◌≢◌, ℕ, ◌+◌, ◌<◌, List, Some, true, length, take, drop, string_bytes}
+use Rattle.std.specs.Prelude.{◌≡◌, ◌≢◌, ℕ, ◌+◌, ◌<◌, ◌≤◌, List, ◌++◌, Some, true, length, map, take, drop, string_bytes}
 use Rattle.std.specs.List.{All, AllPairs}
 use Rattle.edit_report.specs.declared.output.Output.{Output}
 use Rattle.edit_store.specs.Store.{Files, StoreView}
@@ -24,16 +24,26 @@ IsUntouched old new o = new (path_of o) ≡ old (path_of o)
 abbrev pub KeepsOthers : List Output → Files → Files → Type 0
 KeepsOthers outputs old new = (path : List ℕ) → All (λ o. path ≢ path_of o) outputs → new path ≡ old path
 
--- outputs are written: each file whole, where the store tells its files, and no other file changed (own)
+-- each of these outputs is written once, in order, and no other file is written (own)
+abbrev pub AreWrittenOnce : List Output → StoreView → StoreView → Type 0
+AreWrittenOnce outputs old new = new.writes ≡ old.writes ++ map path_of outputs
+
+-- outputs are written, each once: each file whole, where the store tells its files, and no other file
+-- changed (own)
 pub record AreWritten (outputs : List Output) (old new : StoreView) : Type 0 where
   pub whole : old.tells ≡ true → All (IsWhole new.file_at) outputs
+  pub once : AreWrittenOnce outputs old new
   pub others : KeepsOthers outputs old.file_at new.file_at
 
--- writing stopped at an output: the files of those before it are whole, those behind it are untouched, and
--- no other file changed but perhaps its own (own)
+-- writing stopped at an output: those before it are written, each once, and their files are whole; those
+-- behind it are untouched; and no other file is written but perhaps its own, once (own)
 pub record HasStopped (outputs : List Output) (old new : StoreView) : Type 0 where
   pub at : ℕ
   pub within : at < length outputs
+  pub begun : ℕ
+  pub begun_before : at ≤ begun
+  pub begun_last : begun ≤ at + 1
+  pub once : AreWrittenOnce (take begun outputs) old new
   pub whole : old.tells ≡ true → All (IsWhole new.file_at) (take at outputs)
   pub untouched : All (IsUntouched old.file_at new.file_at) (drop (at + 1) outputs)
   pub others : KeepsOthers (take (at + 1) outputs) old.file_at new.file_at

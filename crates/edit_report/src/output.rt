@@ -2,7 +2,7 @@
 ghost use Rattle.std.specs.Prelude.{◌≡◌, ◌≢◌, ◌<◌, OnErr, OnOk, length, true};
 ghost use Rattle.edit_base.specs.declared.errors.DeviceCall.TheVariants as call;
 ghost use Rattle.edit_report.specs.Applied.{AreWritten, HasStopped, HaveDistinctPaths, IsWhole, path_of};
-ghost use Rattle.edit_store.specs.Store.{HasCause, SameBut, SameFiles};
+ghost use Rattle.edit_store.specs.Store.{HasCause, IsWrittenAtMostOnce, IsWrittenOnce, SameBut, SameFiles};
 
 use edit_base::CargoResult;
 use edit_store::Store;
@@ -19,6 +19,7 @@ pub struct Output {
 fn stage_all<S: Store>(alloc: Global, outputs: &[Output], store: &mut S) -> CargoResult<()>
     ensures tells { (S.view store.new).tells ≡ (S.view store.old).tells }
     ensures files { SameFiles (S.view store.old).file_at (S.view store.new).file_at }
+    ensures writes { (S.view store.new).writes ≡ (S.view store.old).writes }
     ensures cause { HasCause call.Write (S.view store.old) (S.view store.new) result }
     ensures ready { OnOk result ((S.view store.new).stage_errors ≡ (S.view store.old).stage_errors) }
     ensures some { OnErr result (0 < length outputs.now) }
@@ -29,10 +30,26 @@ fn stage_all<S: Store>(alloc: Global, outputs: &[Output], store: &mut S) -> Carg
     Ok(())
 }
 
+/// Brings the write of each output that is ready to the disk, in order. No file changes.
+fn flush_all<S: Store>(alloc: Global, outputs: &[Output], store: &mut S) -> CargoResult<()>
+    ensures tells { (S.view store.new).tells ≡ (S.view store.old).tells }
+    ensures files { SameFiles (S.view store.old).file_at (S.view store.new).file_at }
+    ensures writes { (S.view store.new).writes ≡ (S.view store.old).writes }
+    ensures cause { HasCause call.Write (S.view store.old) (S.view store.new) result }
+    ensures ready { OnOk result ((S.view store.new).stage_errors ≡ (S.view store.old).stage_errors) }
+    ensures some { OnErr result (0 < length outputs.now) }
+{
+    for output in outputs {
+        store.flush(alloc, output.path.as_str())?;
+    }
+    Ok(())
+}
+
 /// Compares the file of each output with what was read of it, in order. No file changes.
 fn verify_all<S: Store>(alloc: Global, outputs: &[Output], store: &mut S) -> CargoResult<()>
     ensures tells { (S.view store.new).tells ≡ (S.view store.old).tells }
     ensures files { SameFiles (S.view store.old).file_at (S.view store.new).file_at }
+    ensures writes { (S.view store.new).writes ≡ (S.view store.old).writes }
     ensures cause { HasCause call.Write (S.view store.old) (S.view store.new) result }
     ensures ready { OnOk result ((S.view store.new).stage_errors ≡ (S.view store.old).stage_errors) }
     ensures some { OnErr result (0 < length outputs.now) }
@@ -49,6 +66,9 @@ fn write_output<S: Store>(alloc: Global, output: &Output, store: &mut S) -> Carg
     ensures written { OnOk result ((S.view store.old).tells ≡ true
         → IsWhole (S.view store.new).file_at output.now) }
     ensures others { SameBut (path_of output.now) (S.view store.old).file_at (S.view store.new).file_at }
+    ensures once { OnOk result (IsWrittenOnce (path_of output.now) (S.view store.old) (S.view store.new)) }
+    ensures at_most_once { OnErr result
+        (IsWrittenAtMostOnce (path_of output.now) (S.view store.old) (S.view store.new)) }
     ensures cause { HasCause call.Write (S.view store.old) (S.view store.new) result }
     ensures ready { (S.view store.new).stage_errors ≡ (S.view store.old).stage_errors }
 {
@@ -81,11 +101,12 @@ fn stage_and_write<S: Store>(alloc: Global, outputs: &[Output], store: &mut S) -
     ensures cause { HasCause call.Write (S.view store.old) (S.view store.new) result }
 {
     stage_all(alloc, outputs, store)?;
+    flush_all(alloc, outputs, store)?;
     verify_all(alloc, outputs, store)?;
     write_all(alloc, outputs, store)
 }
 
-/// Writes the outputs in order, each to its own path, and stops at the first error. The file that was being
+/// Writes each output once, in order, to its own path, and stops at the first error. The file that was being
 /// written may then hold anything.
 ///
 /// Before the first of them is written all are made ready: where that fails, each file is as it was.

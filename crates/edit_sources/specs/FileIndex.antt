@@ -1,6 +1,6 @@
 -- What a look in an index of one file gives (own).
-use Rattle.std.specs.Prelude.{◌≡◌, ℕ, List, [], ◌∷◌, Option, Some, None, Ok, Err, true, false, map, ◌⊎◌, String, Vec, string_bytes}
-use Rattle.std.specs.List.{filter}
+use Rattle.std.specs.Prelude.{◌≡◌, ℕ, List, [], ◌∷◌, ◌++◌, Option, Some, None, Ok, Err, true, false, map, ◌⊎◌, String, Vec, string_bytes}
+use Rattle.std.specs.List.{All, filter}
 use Rattle.std.specs.Option.{option_map_or}
 use Rattle.std.specs.Str.{bytes_eq}
 use Rattle.std.specs.BTreeMap.{BTreeMap, get_by_text}
@@ -28,6 +28,19 @@ GroupsByName groups entries =
     (name : List ℕ)
     → option_map_or (λ g. g.items) (get_by_text groups name) []
     ≡ filter (λ e. bytes_eq name (string_bytes e.name)) entries
+
+-- entries are of one name (own)
+abbrev pub AreNamed : List ℕ → List IndexVersion → Type 0
+AreNamed name entries = All (λ e. string_bytes e.name ≡ name) entries
+
+-- each name has its entries among these behind those that it had (own)
+abbrev pub IsAdded : BTreeMap (String Global) (Vec IndexVersion Global) → List IndexVersion
+    → BTreeMap (String Global) (Vec IndexVersion Global) → Type 0
+IsAdded before entries after =
+    (name : List ℕ)
+    → option_map_or (λ g. g.items) (get_by_text after name) []
+    ≡ option_map_or (λ g. g.items) (get_by_text before name) []
+    ++ filter (λ e. bytes_eq name (string_bytes e.name)) entries
 
 -- none where there are none (own)
 abbrev pub if_any : List IndexEntry → Option (List IndexEntry)

@@ -1,6 +1,7 @@
 -- The lines of an index file, one JSON object each (Cargo reference, "Registries", index format).
 use Rattle.std.specs.Prelude.{◌≡◌, ℕ, ◌+◌, ◌⊎◌, List, [], ◌∷◌, ◌++◌, Option, Some, None, option_and_then, option_map, Bool, true, false, codes, length, ◌==◌, ◌||◌}
 use Rattle.std.specs.List.{slice_split, list_all}
+use Rattle.std.specs.Option.{option_map_or}
 use Rattle.std.specs.Str.{IsUtf8}
 use Rattle.serde_json.specs.Data.{Data, null, boolean, number, string, array, object}
 use Rattle.serde_json.specs.Read.{read}
@@ -63,6 +64,14 @@ pub data LinesSay : List (List ℕ) → List IndexEntry → Type 0 where
 -- the lines of a file, which end with a line feed (own)
 abbrev pub lines_of : List ℕ → List (List ℕ)
 lines_of bytes = slice_split (λ b. b == 10) bytes
+
+-- the lines of what is left of a file, of which nothing is left behind its last line (own)
+abbrev pub lines_left : Option (Bor (List ℕ)) → List (List ℕ)
+lines_left rest = option_map_or (λ text. lines_of text.now) rest []
+
+-- how long what is left of a file is, counted with the line feed before it (own)
+abbrev pub length_left : Option (Bor (List ℕ)) → ℕ
+length_left rest = option_map_or (λ text. length text.now + 1) rest 0
 
 -- the number, from 1, of the first line that says no entry and is not blank (own)
 pub record IsBadLine (lines : List (List ℕ)) (number : ℕ) : Type 0 where

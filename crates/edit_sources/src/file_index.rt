@@ -1,6 +1,8 @@
 //! An index of one file, read once.
-ghost use Rattle.std.specs.Prelude.{IfOk, IfErr};
-ghost use Rattle.edit_sources.specs.FileIndex.{GroupsByName, HoldsLines, file_view};
+ghost use Rattle.std.specs.Prelude.{◌≡◌, ℕ, List, false, IfOk, IfErr, slice_get, string_bytes};
+ghost use Rattle.std.specs.Option.{option_map_or};
+ghost use Rattle.std.specs.Str.{bytes_eq};
+ghost use Rattle.edit_sources.specs.FileIndex.{AreNamed, GroupsByName, IsAdded, HoldsLines, file_view};
 ghost use Rattle.edit_sources.specs.IndexLines.{RefusesLines, lines_of};
 
 use crate::crate_name::is_crate_name;
@@ -10,6 +12,7 @@ use edit_base::errors::{CargoResult, Error};
 use edit_version::fetch::IndexVersion;
 use std::alloc::{AllocError, Global};
 use std::collections::BTreeMap;
+use std::mem;
 use url::Url;
 
 /// An index of one file, read once. It answers every address alike.
@@ -39,15 +42,53 @@ fn grouped(
 ) -> Result<BTreeMap<String, Vec<IndexVersion>>, AllocError>
     ensures { IfOk result (λ m. GroupsByName m entries.items) }
 {
-    let mut groups: BTreeMap<String, Vec<IndexVersion>> = BTreeMap::new(alloc);
+    let mut groups = BTreeMap::new(alloc);
+    let mut run: Vec<IndexVersion> = Vec::new(alloc);
     for entry in entries {
-        let group = groups.entry(entry.name.clone()?)?.or_default();
-        if group.is_empty() {
-            group.reserve_exact(1)?;
+        if !continues(&run, &entry) {
+            let ended = mem::replace(&mut run, Vec::new(alloc));
+            add_run(&mut groups, ended)?;
+            run.reserve_exact(1)?;
         }
-        group.push(entry)?;
+        run.push(entry)?;
     }
+    add_run(&mut groups, run)?;
     Ok(groups)
+}
+
+/// Whether an entry has the name of the first entry of a run.
+fn continues(run: &[IndexVersion], entry: &IndexVersion) -> bool
+    ensures { result ≡ option_map_or
+        (λ e. bytes_eq (string_bytes e.name) (string_bytes entry.now.name))
+        (slice_get run.now 0)
+        false }
+{
+    match run.first() {
+        Some(first) => first.name == entry.name,
+        None => false,
+    }
+}
+
+/// Adds a run, which is of entries of one name, to the group of the name.
+fn add_run(
+    groups: &mut BTreeMap<String, Vec<IndexVersion>>,
+    run: Vec<IndexVersion>,
+) -> Result<(), AllocError>
+    ensures { IfOk result (λ _. (name : List ℕ)
+        → AreNamed name run.items
+        → IsAdded groups.old run.items groups.new) }
+{
+    let Some(first) = run.first() else {
+        return Ok(());
+    };
+    let group = groups.entry(first.name.clone()?)?.or_default();
+    if group.is_empty() {
+        *group = run;
+        return Ok(());
+    }
+    let mut run = run;
+    group.append(&mut run)?;
+    Ok(())
 }
 
 impl Index for FileIndex {

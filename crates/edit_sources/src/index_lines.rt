@@ -1,15 +1,17 @@
 //! The lines of an index file.
-ghost use Rattle.std.specs.Prelude.{◌≡◌, ◌==◌, ◌+◌, Ok, Err, IfOk, IfErr, IfSome, map, MatchResult, string_bytes, option_map, option_and_then};
+ghost use Rattle.std.specs.Prelude.{◌≡◌, ◌==◌, ◌+◌, Ok, Err, IfOk, IfErr, IfSome, map, MatchResult, length, string_bytes, option_map, option_and_then, ◌≤◌, ◌∷◌};
 ghost use Rattle.edit_base.specs.declared.errors.Error.TheVariants.{IndexLine};
 ghost use Rattle.edit_base.specs.Errors.{IsMemory};
 ghost use Rattle.edit_version.specs.IndexEntry.{entry_of};
-ghost use Rattle.edit_sources.specs.IndexLines.{IsIndexLine, LinesSay, RefusesLine, RefusesLines, is_blank, lines_of, rust_version_of, shown, yanked_of};
+ghost use Rattle.edit_sources.specs.IndexLines.{IsIndexLine, LinesSay, RefusesLine, RefusesLines, is_blank, length_left, lines_left, lines_of, rust_version_of, shown, yanked_of};
+ghost use Rattle.memchr.specs.Find.{IsFirstByte, is_byte};
 ghost use Rattle.serde_json.specs.Find.{as_str};
 
 use crate::line_reader::read_fields;
 use edit_base::errors::{CargoResult, Error};
 use edit_version::fetch::IndexVersion;
 use json::Scratch;
+use memchr::memchr;
 use serde_json::Value;
 use std::alloc::{AllocError, Global};
 
@@ -137,6 +139,27 @@ fn entry_from_tree(alloc: Global, bytes: &[u8], line: usize) -> CargoResult<Inde
     })
 }
 
+/// The offset of the first line feed of a text. One at its beginning, as a blank line has, needs no search.
+fn line_end(text: &[u8]) -> Option<usize>
+    ensures { IsFirstByte (is_byte 10) text.now result }
+{
+    if !text.is_empty() && text[0] == b'\n' {
+        return Some(0);
+    }
+    memchr(b'\n', text)
+}
+
+/// The first line of a text, and what comes behind its line feed, where it has one.
+fn split_line(text: &[u8]) -> (&[u8], Option<&[u8]>)
+    ensures lines { lines_of text.now ≡ result.0.now ∷ lines_left result.1 }
+    ensures shorter { length_left result.1 ≤ length text.now }
+{
+    match line_end(text) {
+        Some(end) => (&text[..end], Some(&text[end + 1..])),
+        None => (text, None),
+    }
+}
+
 /// The entries of an index file, one for each line that is not blank, in order.
 ///
 /// A line is a JSON object with texts `name` and `vers`, `yanked` absent or a boolean, and
@@ -147,11 +170,16 @@ pub fn read_lines(alloc: Global, bytes: &[u8]) -> CargoResult<Vec<IndexVersion>>
 {
     let mut scratch = Scratch::new(alloc);
     let mut entries = Vec::new(alloc);
-    'lines: for (i, line) in bytes.split(|b| *b == b'\n').enumerate() {
+    let mut number = 0;
+    let mut rest = Some(bytes);
+    'lines: while let Some(text) = rest {
+        let (line, after) = split_line(text);
+        number += 1;
+        rest = after;
         if blank(line) {
             continue;
         }
-        match read_line(alloc, line, i + 1, &mut scratch) {
+        match read_line(alloc, line, number, &mut scratch) {
             Ok(entry) => entries.push(entry)?,
             Err(error) => return Err(error),
         }

@@ -6,4 +6,5 @@ pub mod Written
 pub mod FoundLemmas
 pub mod ReadLemmas
 pub mod NamedLemmas
+pub mod SharedLemmas
 pub mod TargetLemmas

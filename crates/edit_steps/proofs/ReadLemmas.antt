@@ -3,7 +3,7 @@ use Rattle.std.proofs.Common.{◌≡◌, ◌∙◌, ◌<◌, ◌^◌, ◌+◌, �
 use Rattle.std.specs.Global.{Vec}
 use Rattle.std.specs.List.{AllZip}
 use Rattle.std.specs.Prelude.{◌⊎◌, Contains, string_bytes}
-use Rattle.std.proofs.lemmas.List.{length_push, take_more}
+use Rattle.std.proofs.lemmas.List.{take_more}
 use Rattle.std.proofs.lemmas.Slice.Zip.{all_zipped_more}
 use Rattle.edit_base.specs.Errors.{IsMemory}
 use Rattle.edit_base.specs.declared.errors.DeviceCall.{DeviceCall}
@@ -64,32 +64,22 @@ unconfigured_before old mid new home pair inputs e told reads bound same why =
 pub among : {X : Type 0} (xs : List X) (i : ℕ) (x : X) → i < length xs → x ≡ get_or xs i x → Contains xs x
 among xs i x within is = (i, within, sym is)
 
--- one list more
-pub each_more : {X Y : Type 0} (xs : List X) (i : ℕ) (x : X) (all more : List Y) (own : Y) → i < length xs
-    → more ≡ all ++ own ∷ [] → length all ≡ length (take i xs) → length more ≡ length (take (i + 1) xs)
-each_more xs i x all more own within pushed front =
-    ap length pushed ∙ length_push all own ∙ ap (λ n. n + 1) front
-    ∙ sym (ap length (take_more xs i x within) ∙ length_push (take i xs) (get_or xs i x))
-
 -- the configurations of one input more
-pub configured_more : (old mid : StoreView) (home : Option (List ℕ)) (pair : Pair) (inputs : List Input)
+pub configured_more : (files : Files) (home : Option (List ℕ)) (pair : Pair) (inputs : List Input)
     (i : ℕ) (input : Input) (all more : List (Vec Config)) (own : Vec Config) (path : List ℕ)
-    → OnlyReads old mid → i < length inputs → input ≡ get_or inputs i input → path ≡ string_bytes input.path
-    → more ≡ all ++ own ∷ []
-    → (old.tells ≡ true → AreConfigured old.file_at home pair (take i inputs) all)
-    → (mid.tells ≡ true → AreGathered mid.file_at home pair path own.items)
-    → old.tells ≡ true → AreConfigured old.file_at home pair (take (i + 1) inputs) more
-configured_more old mid home pair inputs i input all more own path reads within is here pushed front one t =
+    → i < length inputs → input ≡ get_or inputs i input → path ≡ string_bytes input.path
+    → more ≡ all ++ own ∷ [] → AreConfigured files home pair (take i inputs) all
+    → AreGathered files home pair path own.items → AreConfigured files home pair (take (i + 1) inputs) more
+configured_more files home pair inputs i input all more own path within is here pushed front one =
     let R : Input → Vec Config → Type 0
-    = λ x configs. AreGathered old.file_at home pair (string_bytes x.path) configs.items in
-    let configs : AreGathered old.file_at home pair (string_bytes input.path) own.items
-    = subst (λ at. AreGathered old.file_at home pair at own.items) here
-    (before (λ files. AreGathered files home pair path own.items) old mid reads one t) in
+    = λ x configs. AreGathered files home pair (string_bytes x.path) configs.items in
+    let configs : AreGathered files home pair (string_bytes input.path) own.items
+    = subst (λ at. AreGathered files home pair at own.items) here one in
     let taken : take (i + 1) inputs ≡ take i inputs ++ input ∷ []
     = take_more inputs i input within ∙ ap (λ x. take i inputs ++ x ∷ []) (sym is) in
     subst (λ xs. AllZip R xs more) (sym taken)
     (subst (λ ys. AllZip R (take i inputs ++ input ∷ []) ys) (sym pushed)
-    (all_zipped_more R (take i inputs) all input own (front t) configs))
+    (all_zipped_more R (take i inputs) all input own front configs))
 
 -- a file that is no configuration is there
 pub unread_there : (file : Option PathAndBytes) (e : Error) → IsUnreadFile file e

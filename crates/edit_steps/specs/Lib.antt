@@ -5,5 +5,6 @@ pub mod Faults
 pub mod Named
 pub mod Own
 pub mod Printed
+pub mod Shared
 pub mod Sources
 pub mod Workspaces

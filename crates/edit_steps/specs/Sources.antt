@@ -13,6 +13,7 @@ use Rattle.edit_tree.specs.Shown.{Shown}
 use Rattle.edit_steps.specs.Asking.{Asking}
 use Rattle.edit_steps.specs.Named.{AreConfigured, ArePairRead, Pair}
 use Rattle.edit_steps.specs.Own.{IsManifestRead}
+use Rattle.edit_steps.specs.Shared.{HasLists, lists_for}
 use Rattle.edit_steps.specs.declared.upgrade_read.index.IndexSource.{IndexSource}
 use Rattle.edit_steps.specs.declared.upgrade_read.index.IndexSource.TheVariants as source
 use Rattle.edit_steps.specs.declared.upgrade_read.sources.Sources.{Sources}
@@ -66,11 +67,12 @@ pub record AreRead (files : Files) (current : List ℕ) (home : Option (List ℕ
   pub target : IsTargetRead files current asking s.target
   pub pair : Pair
   pub named : ArePairRead files current asking pair
-  pub configured : AreConfigured files home pair s.target.inputs.items s.configs.items
+  pub configured : AreConfigured files home pair s.target.inputs.items (lists_for s.configs)
   pub indexed : IsIndexRead files current asking s.index
 
 -- a plan may be made: each input has a path of its own, and a list of configurations
 pub record MayBePlanned (s : Sources) : Type 0 where
   pub paths : HaveOwnPaths s.target.inputs.items
-  pub each : length s.configs.items ≡ length s.target.inputs.items
+  pub each : length s.configs.which.items ≡ length s.target.inputs.items
+  pub lists : HasLists s.configs
   pub documents : AreDocuments s.target.documents.items s.target.inputs.items

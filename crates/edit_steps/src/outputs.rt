@@ -2,7 +2,7 @@
 ghost use Rattle.std.specs.Prelude.{◌≡◌, ◌≢◌, ◌<◌, ◌≤◌, IfErr, OnErr, OnOk, length, true};
 ghost use Rattle.edit_base.specs.declared.errors.DeviceCall.TheVariants as call;
 ghost use Rattle.edit_report.specs.Applied.{AreWritten, HasStopped, HaveDistinctPaths, IsWhole, path_of};
-ghost use Rattle.edit_store.specs.Store.{OnlyReads, RefusesCall, SameBut, SameFiles};
+ghost use Rattle.edit_store.specs.Store.{IsWrittenAtMostOnce, IsWrittenOnce, OnlyReads, RefusesCall, SameBut, SameFiles};
 
 use crate::refusal::{Refusal, RunResult, at_file};
 use edit_report::Output;
@@ -14,6 +14,7 @@ fn stage_output<S: Store>(alloc: Global, output: &Output, files: &mut S) -> RunR
     ensures tells { (S.view files.new).tells ≡ (S.view files.old).tells }
     ensures later { (S.view files.old).faults ≤ (S.view files.new).faults }
     ensures files { SameFiles (S.view files.old).file_at (S.view files.new).file_at }
+    ensures writes { (S.view files.new).writes ≡ (S.view files.old).writes }
     ensures ready { OnOk result ((S.view files.new).stage_errors ≡ (S.view files.old).stage_errors) }
     ensures refused { IfErr result
         (λ r. RefusesCall call.Write (S.view files.old) (S.view files.new) r.error) }
@@ -25,11 +26,29 @@ fn stage_output<S: Store>(alloc: Global, output: &Output, files: &mut S) -> RunR
     }
 }
 
+/// Brings the write of an output that is ready to the disk. No file changes.
+fn flush_output<S: Store>(alloc: Global, output: &Output, files: &mut S) -> RunResult<()>
+    ensures tells { (S.view files.new).tells ≡ (S.view files.old).tells }
+    ensures later { (S.view files.old).faults ≤ (S.view files.new).faults }
+    ensures files { SameFiles (S.view files.old).file_at (S.view files.new).file_at }
+    ensures writes { (S.view files.new).writes ≡ (S.view files.old).writes }
+    ensures ready { OnOk result ((S.view files.new).stage_errors ≡ (S.view files.old).stage_errors) }
+    ensures refused { IfErr result
+        (λ r. RefusesCall call.Write (S.view files.old) (S.view files.new) r.error) }
+{
+    let path = output.path.as_str();
+    match files.flush(alloc, path) {
+        Ok(()) => Ok(()),
+        Err(error) => Err(at_file(alloc, error, path, files.reason(alloc))),
+    }
+}
+
 /// Compares the file of an output with what was read of it. No file changes.
 fn verify_output<S: Store>(alloc: Global, output: &Output, files: &mut S) -> RunResult<()>
     ensures tells { (S.view files.new).tells ≡ (S.view files.old).tells }
     ensures later { (S.view files.old).faults ≤ (S.view files.new).faults }
     ensures files { SameFiles (S.view files.old).file_at (S.view files.new).file_at }
+    ensures writes { (S.view files.new).writes ≡ (S.view files.old).writes }
     ensures ready { OnOk result ((S.view files.new).stage_errors ≡ (S.view files.old).stage_errors) }
     ensures refused { IfErr result
         (λ r. RefusesCall call.Write (S.view files.old) (S.view files.new) r.error) }
@@ -46,6 +65,7 @@ fn stage_all<S: Store>(alloc: Global, outputs: &[Output], files: &mut S) -> RunR
     ensures tells { (S.view files.new).tells ≡ (S.view files.old).tells }
     ensures later { (S.view files.old).faults ≤ (S.view files.new).faults }
     ensures files { SameFiles (S.view files.old).file_at (S.view files.new).file_at }
+    ensures writes { (S.view files.new).writes ≡ (S.view files.old).writes }
     ensures ready { OnOk result ((S.view files.new).stage_errors ≡ (S.view files.old).stage_errors) }
     ensures some { OnErr result (0 < length outputs.now) }
     ensures refused { IfErr result
@@ -57,11 +77,44 @@ fn stage_all<S: Store>(alloc: Global, outputs: &[Output], files: &mut S) -> RunR
     Ok(())
 }
 
+/// Brings the writes of the outputs that are ready to the disk, in order. No file changes.
+fn flush_all<S: Store>(alloc: Global, outputs: &[Output], files: &mut S) -> RunResult<()>
+    ensures tells { (S.view files.new).tells ≡ (S.view files.old).tells }
+    ensures later { (S.view files.old).faults ≤ (S.view files.new).faults }
+    ensures files { SameFiles (S.view files.old).file_at (S.view files.new).file_at }
+    ensures writes { (S.view files.new).writes ≡ (S.view files.old).writes }
+    ensures ready { OnOk result ((S.view files.new).stage_errors ≡ (S.view files.old).stage_errors) }
+    ensures some { OnErr result (0 < length outputs.now) }
+    ensures refused { IfErr result
+        (λ r. RefusesCall call.Write (S.view files.old) (S.view files.new) r.error) }
+{
+    for output in outputs {
+        flush_output(alloc, output, files)?;
+    }
+    Ok(())
+}
+
+/// Makes the writes of the outputs ready, and then brings them to the disk. No file changes.
+fn make_ready<S: Store>(alloc: Global, outputs: &[Output], files: &mut S) -> RunResult<()>
+    ensures tells { (S.view files.new).tells ≡ (S.view files.old).tells }
+    ensures later { (S.view files.old).faults ≤ (S.view files.new).faults }
+    ensures files { SameFiles (S.view files.old).file_at (S.view files.new).file_at }
+    ensures writes { (S.view files.new).writes ≡ (S.view files.old).writes }
+    ensures ready { OnOk result ((S.view files.new).stage_errors ≡ (S.view files.old).stage_errors) }
+    ensures some { OnErr result (0 < length outputs.now) }
+    ensures refused { IfErr result
+        (λ r. RefusesCall call.Write (S.view files.old) (S.view files.new) r.error) }
+{
+    stage_all(alloc, outputs, files)?;
+    flush_all(alloc, outputs, files)
+}
+
 /// Compares the files of the outputs with what was read of them, in order. No file changes.
 fn verify_all<S: Store>(alloc: Global, outputs: &[Output], files: &mut S) -> RunResult<()>
     ensures tells { (S.view files.new).tells ≡ (S.view files.old).tells }
     ensures later { (S.view files.old).faults ≤ (S.view files.new).faults }
     ensures files { SameFiles (S.view files.old).file_at (S.view files.new).file_at }
+    ensures writes { (S.view files.new).writes ≡ (S.view files.old).writes }
     ensures ready { OnOk result ((S.view files.new).stage_errors ≡ (S.view files.old).stage_errors) }
     ensures some { OnErr result (0 < length outputs.now) }
     ensures refused { IfErr result
@@ -80,6 +133,9 @@ fn write_output<S: Store>(alloc: Global, output: &Output, files: &mut S) -> RunR
     ensures written { OnOk result ((S.view files.old).tells ≡ true
         → IsWhole (S.view files.new).file_at output.now) }
     ensures others { SameBut (path_of output.now) (S.view files.old).file_at (S.view files.new).file_at }
+    ensures once { OnOk result (IsWrittenOnce (path_of output.now) (S.view files.old) (S.view files.new)) }
+    ensures at_most_once { OnErr result
+        (IsWrittenAtMostOnce (path_of output.now) (S.view files.old) (S.view files.new)) }
     ensures ready { (S.view files.new).stage_errors ≡ (S.view files.old).stage_errors }
     ensures refused { IfErr result
         (λ r. RefusesCall call.Write (S.view files.old) (S.view files.new) r.error) }
@@ -169,12 +225,12 @@ fn stage_and_write<S: Store>(alloc: Global, outputs: &[Output], files: &mut S) -
     ensures refused { IfErr result
         (λ r. RefusesCall call.Write (S.view files.old) (S.view files.new) r.error) }
 {
-    stage_all(alloc, outputs, files)?;
+    make_ready(alloc, outputs, files)?;
     verify_all(alloc, outputs, files)?;
     write_all(alloc, outputs, files)
 }
 
-/// Writes the outputs in order, each to its own path, and stops at the first error: as `apply` does, but
+/// Writes each output once, in order, to its own path, and stops at the first error: as `apply` does, but
 /// that error has its place, the machine's reason, and which of the outputs were written.
 pub fn write_outputs<S: Store>(alloc: Global, outputs: &[Output], files: &mut S) -> RunResult<()>
     requires { HaveDistinctPaths outputs.now }
@@ -204,7 +260,7 @@ pub fn stage_outputs<S: Store>(alloc: Global, outputs: &[Output], files: &mut S)
     ensures refused { IfErr result
         (λ r. RefusesCall call.Write (S.view files.old) (S.view files.new) r.error) }
 {
-    match stage_all(alloc, outputs, files) {
+    match make_ready(alloc, outputs, files) {
         Ok(()) => Ok(()),
         Err(refusal) => {
             files.unstage(alloc);

@@ -8,10 +8,12 @@ mod index;
 mod locate;
 mod named;
 mod own;
+mod shared;
 mod sources;
 mod target;
 
 pub use asked::{Asked, RustChoice};
 pub use index::IndexSource;
+pub use shared::SharedConfigs;
 pub use sources::{Sources, read_sources};
 pub use target::Target;

@@ -1,5 +1,5 @@
 -- What a store of the machine's files counts (own).
-use Rattle.std.specs.Prelude.{◌≡◌, ◌⊎◌, ℕ, None, false}
+use Rattle.std.specs.Prelude.{◌≡◌, ◌⊎◌, ℕ, List, None, false, map, string_bytes}
 use Rattle.edit_base.specs.declared.errors.DeviceCall.{DeviceCall}
 use Rattle.edit_base.specs.declared.errors.Error.{Error}
 use Rattle.edit_base.specs.declared.errors.Error.TheVariants.{Device}
@@ -15,11 +15,16 @@ host_faults store = store.failed
 abbrev pub host_stage_errors : {R : Type 0} → HostStore R → ℕ
 host_stage_errors store = store.stage_errors
 
--- the machine's files are not told (own)
+-- the paths written so far, one for each write in order (own)
+abbrev pub host_writes : {R : Type 0} → HostStore R → List (List ℕ)
+host_writes store = map string_bytes store.writes.items
+
+-- the machine's files are not told, but which of them were written (own)
 abbrev pub host_view : {R : Type 0} → HostStore R → StoreView
 host_view store = record {
   tells = false;
   file_at = λ _. None;
+  writes = host_writes store;
   faults = host_faults store;
   stage_errors = host_stage_errors store;
 }

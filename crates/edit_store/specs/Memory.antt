@@ -1,5 +1,5 @@
 -- The files that a store in memory holds (own).
-use Rattle.std.specs.Prelude.{◌≡◌, ℕ, ◌++◌, List, ◌∷◌, true, IsSome, option_map}
+use Rattle.std.specs.Prelude.{◌≡◌, ℕ, ◌++◌, List, ◌∷◌, true, IsSome, map, option_map, string_bytes}
 use Rattle.std.specs.BTreeMap.{get_by_text}
 use Rattle.edit_store.specs.Store.{Files, StoreView}
 use Rattle.edit_store.specs.declared.memory_store.MemoryStore.{MemoryStore}
@@ -8,9 +8,19 @@ use Rattle.edit_store.specs.declared.memory_store.MemoryStore.{MemoryStore}
 abbrev pub files_in : MemoryStore → Files
 files_in store path = option_map (λ v. v.items) (get_by_text store.files path)
 
+-- the paths written so far, one for each write in order (own)
+abbrev pub writes_in : MemoryStore → List (List ℕ)
+writes_in store = map string_bytes store.writes.items
+
 -- a store in memory tells its files, and never fails (own)
 abbrev pub memory_view : MemoryStore → StoreView
-memory_view store = record { tells = true; file_at = files_in store; faults = 0; stage_errors = 0 }
+memory_view store = record {
+  tells = true;
+  file_at = files_in store;
+  writes = writes_in store;
+  faults = 0;
+  stage_errors = 0;
+}
 
 -- a file's path is this one, a `/`, and more (own)
 abbrev pub IsFrontOf : MemoryStore → List ℕ → Type 0

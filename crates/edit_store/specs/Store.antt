@@ -1,5 +1,5 @@
--- What a store promises: files as a map from paths to bytes, and a count of faults (own).
-use Rattle.std.specs.Prelude.{◌≡◌, ◌≢◌, ℕ, ◌-◌, ◌^◌, ◌<◌, ◌≤◌, ◌⊎◌, ◌++◌, List, ◌∷◌, Option, Bool, IsSome, IsNone, Result, IfErr, codes}
+-- What a store promises: files as a map from paths to bytes, the writes made, and a count of faults (own).
+use Rattle.std.specs.Prelude.{◌≡◌, ◌≢◌, ℕ, ◌-◌, ◌^◌, ◌<◌, ◌≤◌, ◌⊎◌, ◌++◌, List, [], ◌∷◌, Option, Bool, IsSome, IsNone, Result, IfErr, codes}
 use Rattle.edit_base.specs.declared.errors.DeviceCall.{DeviceCall}
 use Rattle.edit_base.specs.declared.errors.Error.{Error}
 use Rattle.edit_base.specs.declared.errors.Error.TheVariants.{Device}
@@ -11,11 +11,12 @@ use Rattle.edit_store.specs.declared.store.Kind.TheVariants.{File, Folder, Absen
 abbrev pub Files : Type 0
 Files = List ℕ → Option (List ℕ)
 
--- a store as contracts see it: whether it tells its files, what they hold, how often its device has failed,
--- and how often a write could not be made ready (own)
+-- a store as contracts see it: whether it tells its files, what they hold, the paths written so far, one for
+-- each write in order, how often its device has failed, and how often a write could not be made ready (own)
 pub record StoreView : Type 0 where
   pub tells : Bool
   pub file_at : Files
+  pub writes : List (List ℕ)
   pub faults : ℕ
   pub stage_errors : ℕ
 
@@ -37,11 +38,20 @@ pub record HasCause {T : Type 0} (call : DeviceCall) (old new : StoreView) (resu
 abbrev pub SameFiles : Files → Files → Type 0
 SameFiles old new = (path : List ℕ) → new path ≡ old path
 
--- the files are only read (own)
+-- the files are only read: none is written, not even with the bytes that it has (own)
 pub record OnlyReads (old new : StoreView) : Type 0 where
   pub tells : new.tells ≡ old.tells
   pub files : SameFiles old.file_at new.file_at
+  pub writes : new.writes ≡ old.writes
   pub later : old.faults ≤ new.faults
+
+-- a path is written once more (own)
+abbrev pub IsWrittenOnce : List ℕ → StoreView → StoreView → Type 0
+IsWrittenOnce path old new = new.writes ≡ old.writes ++ path ∷ []
+
+-- a path is written once more, or no path is (own)
+abbrev pub IsWrittenAtMostOnce : List ℕ → StoreView → StoreView → Type 0
+IsWrittenAtMostOnce path old new = (new.writes ≡ old.writes) ⊎ IsWrittenOnce path old new
 
 -- each path but one has what it had (own)
 abbrev pub SameBut : List ℕ → Files → Files → Type 0

@@ -5,7 +5,7 @@ use Rattle.edit_base.specs.declared.errors.DeviceCall.TheVariants.{Kind, Read, W
 use Rattle.edit_base.specs.declared.errors.Error.{Error}
 use Rattle.edit_base.specs.declared.errors.Error.TheVariants.{Device}
 use Rattle.edit_base.specs.Errors.{IsMemory}
-use Rattle.edit_store.specs.Memory.{files_in}
+use Rattle.edit_store.specs.Memory.{files_in, writes_in}
 use Rattle.edit_store.specs.Store.{StoreView, raised}
 use Rattle.edit_store.specs.declared.fault_store.FaultStore.{FaultStore}
 
@@ -29,7 +29,13 @@ one_less (Some (suc n)) = Some n
 
 -- it tells its files, and counts its one fault (own)
 abbrev pub fault_view : FaultStore → StoreView
-fault_view store = record { tells = true; file_at = files_in store.inner; faults = faults_of store; stage_errors = 0 }
+fault_view store = record {
+  tells = true;
+  file_at = files_in store.inner;
+  writes = writes_in store.inner;
+  faults = faults_of store;
+  stage_errors = 0;
+}
 
 -- a write that fails leaves a front of its bytes, but for want of memory (own)
 abbrev pub LeavesFront : FaultStore → FaultStore → List ℕ → List ℕ → Error → Type 0

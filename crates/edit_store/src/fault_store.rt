@@ -1,7 +1,7 @@
 //! Files in memory, one call of which fails.
-ghost use Rattle.std.specs.Prelude.{◌≡◌, ◌↔◌, Some, true, IsTrue, IfOk, IfErr, OnOk, option_map};
-ghost use Rattle.edit_store.specs.Store.{HasCause, SameFiles, SameBut, StandsAt, raised};
-ghost use Rattle.edit_store.specs.Memory.{files_in};
+ghost use Rattle.std.specs.Prelude.{◌≡◌, ◌↔◌, Some, true, IsTrue, IfOk, IfErr, OnErr, OnOk, option_map};
+ghost use Rattle.edit_store.specs.Store.{HasCause, IsWrittenAtMostOnce, IsWrittenOnce, SameFiles, SameBut, StandsAt, raised};
+ghost use Rattle.edit_store.specs.Memory.{files_in, writes_in};
 ghost use Rattle.edit_store.specs.Turns.{LeavesFront, TakesTurn, bytes_left, calls_left, fault_view, faults_of, one_less};
 
 use crate::memory_store::MemoryStore;
@@ -70,6 +70,7 @@ impl Store for FaultStore {
 
     fn kind(&mut self, alloc: Global, path: &str) -> CargoResult<Kind>
         ensures files { SameFiles (files_in self.old.inner) (files_in self.new.inner) }
+        ensures writes { writes_in self.new.inner ≡ writes_in self.old.inner }
         ensures stands { IfOk result (λ k. StandsAt (files_in self.old.inner) path.now k) }
         ensures cause { HasCause DeviceCall.Kind (fault_view self.old) (fault_view self.new) result }
         ensures turn { TakesTurn DeviceCall.Kind self.old self.new result }
@@ -82,6 +83,7 @@ impl Store for FaultStore {
 
     fn read(&mut self, alloc: Global, path: &str) -> CargoResult<Option<Vec<u8>>>
         ensures files { SameFiles (files_in self.old.inner) (files_in self.new.inner) }
+        ensures writes { writes_in self.new.inner ≡ writes_in self.old.inner }
         ensures bytes { IfOk result (λ r. option_map (λ v. v.items) r ≡ files_in self.old.inner path.now) }
         ensures cause { HasCause DeviceCall.Read (fault_view self.old) (fault_view self.new) result }
         ensures turn { TakesTurn DeviceCall.Read self.old self.new result }
@@ -94,6 +96,7 @@ impl Store for FaultStore {
 
     fn read_stream(&mut self, alloc: Global, path: &str) -> CargoResult<Option<Vec<u8>>>
         ensures files { SameFiles (files_in self.old.inner) (files_in self.new.inner) }
+        ensures writes { writes_in self.new.inner ≡ writes_in self.old.inner }
         ensures bytes { IfOk result (λ r. option_map (λ v. v.items) r ≡ files_in self.old.inner path.now) }
         ensures cause { HasCause DeviceCall.Read (fault_view self.old) (fault_view self.new) result }
         ensures turn { TakesTurn DeviceCall.Read self.old self.new result }
@@ -104,6 +107,9 @@ impl Store for FaultStore {
     fn write(&mut self, alloc: Global, path: &str, bytes: &[u8]) -> CargoResult<()>
         ensures written { OnOk result (files_in self.new.inner path.now ≡ Some bytes.now) }
         ensures others { SameBut path.now (files_in self.old.inner) (files_in self.new.inner) }
+        ensures once { OnOk result (IsWrittenOnce path.now (fault_view self.old) (fault_view self.new)) }
+        ensures at_most_once { OnErr result
+            (IsWrittenAtMostOnce path.now (fault_view self.old) (fault_view self.new)) }
         ensures cause { HasCause DeviceCall.Write (fault_view self.old) (fault_view self.new) result }
         ensures turn { TakesTurn DeviceCall.Write self.old self.new result }
         ensures torn { calls_left self.old ≡ Some 0

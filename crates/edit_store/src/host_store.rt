@@ -1,6 +1,6 @@
 //! The files of the machine.
-ghost use Rattle.std.specs.Prelude.{◌≡◌};
-ghost use Rattle.edit_store.specs.Host.{IsRefusal, host_faults, host_stage_errors, host_view};
+ghost use Rattle.std.specs.Prelude.{◌≡◌, []};
+ghost use Rattle.edit_store.specs.Host.{IsRefusal, host_faults, host_stage_errors, host_view, host_writes};
 ghost use Rattle.edit_store.specs.Store.{raised};
 
 use crate::reading::{read_regular, read_stream};
@@ -16,12 +16,14 @@ use std::fs;
 use std::fs::{File, Files};
 use std::io::{Eprint, ErrorKind};
 
-/// The files of the machine. No clause can say what they hold.
+/// The files of the machine. No clause can say what they hold; which of them were written, it counts.
 #[derive(Debug, Drop)]
 pub struct HostStore<R> {
     rt: R,
     failed: u64,
     stage_errors: u64,
+    /// The path of each write that was begun, in order: contracts count the writes by it.
+    writes: Vec<String>,
     /// Why the last call failed.
     reason: Option<Reason>,
     work: Work,
@@ -32,6 +34,7 @@ impl<R: Files<File = File> + Alloc<A = Global> + Drop> HostStore<R> {
     pub fn new(rt: R) -> HostStore<R>
         ensures faults { host_faults result ≡ 0 }
         ensures ready { host_stage_errors result ≡ 0 }
+        ensures writes { host_writes result ≡ [] }
     {
         HostStore::for_process(rt, 0)
     }
@@ -40,12 +43,15 @@ impl<R: Files<File = File> + Alloc<A = Global> + Drop> HostStore<R> {
     pub fn for_process(rt: R, process: u32) -> HostStore<R>
         ensures faults { host_faults result ≡ 0 }
         ensures ready { host_stage_errors result ≡ 0 }
+        ensures writes { host_writes result ≡ [] }
     {
         let work = Work::new(rt.alloc(), process);
+        let writes = Vec::new(rt.alloc());
         HostStore {
             rt,
             failed: 0,
             stage_errors: 0,
+            writes,
             reason: None,
             work,
         }
@@ -55,6 +61,7 @@ impl<R: Files<File = File> + Alloc<A = Global> + Drop> HostStore<R> {
     fn refused(&mut self, call: DeviceCall, reason: Reason) -> Error
         ensures cause { IsRefusal call self.old.failed self.new.failed result }
         ensures ready { host_stage_errors self.new ≡ host_stage_errors self.old }
+        ensures writes { host_writes self.new ≡ host_writes self.old }
     {
         if reason.is_memory() {
             return Error::Memory;
@@ -68,6 +75,7 @@ impl<R: Files<File = File> + Alloc<A = Global> + Drop> HostStore<R> {
     fn not_ready(&mut self, reason: Reason) -> Error
         ensures cause { IsRefusal DeviceCall.Write self.old.failed self.new.failed result }
         ensures counted { raised (host_stage_errors self.old) (host_stage_errors self.new) }
+        ensures writes { host_writes self.new ≡ host_writes self.old }
     {
         self.stage_errors = self.stage_errors.saturating_add(1);
         self.refused(DeviceCall::Write, reason)
@@ -130,6 +138,13 @@ impl<R: Files<File = File> + Alloc<A = Global> + Env + Eprint + Clone + Drop> St
         }
     }
 
+    fn flush(&mut self, _alloc: Global, path: &str) -> CargoResult<()> {
+        match self.work.flush(&self.rt, path) {
+            Ok(()) => Ok(()),
+            Err(reason) => Err(self.not_ready(reason)),
+        }
+    }
+
     fn verify(&mut self, alloc: Global, path: &str) -> CargoResult<()> {
         match self.work.verify(&self.rt, alloc, path) {
             Ok(()) => Ok(()),
@@ -138,6 +153,7 @@ impl<R: Files<File = File> + Alloc<A = Global> + Env + Eprint + Clone + Drop> St
     }
 
     fn write(&mut self, alloc: Global, path: &str, bytes: &[u8]) -> CargoResult<()> {
+        self.writes.push(String::from_str(alloc, path)?)?;
         match self.work.write(&self.rt, alloc, path, bytes) {
             Ok(()) => Ok(()),
             Err(reason) => Err(self.refused(DeviceCall::Write, reason)),

@@ -1,6 +1,6 @@
 //! Files in memory.
-ghost use Rattle.std.specs.Prelude.{◌≡◌, ◌↔◌, ℕ, List, Option, Some, None, IsTrue};
-ghost use Rattle.edit_store.specs.Memory.{files_in, memory_view, IsBelow, IsFrontOf};
+ghost use Rattle.std.specs.Prelude.{◌≡◌, ◌↔◌, ℕ, List, [], Option, Some, None, IsTrue};
+ghost use Rattle.edit_store.specs.Memory.{files_in, memory_view, writes_in, IsBelow, IsFrontOf};
 
 use crate::store::{Kind, Store};
 use edit_base::errors::CargoResult;
@@ -13,15 +13,19 @@ use std::collections::BTreeMap;
 #[derive(Debug, Drop)]
 pub struct MemoryStore {
     files: BTreeMap<String, Vec<u8>>,
+    /// The path of each write that was begun, in order: contracts count the writes by it.
+    writes: Vec<String>,
 }
 
 impl MemoryStore {
     /// A store without files.
     pub fn new(alloc: Global) -> MemoryStore
-        ensures { (path : List ℕ) → files_in result path ≡ None }
+        ensures files { (path : List ℕ) → files_in result path ≡ None }
+        ensures writes { writes_in result ≡ [] }
     {
         MemoryStore {
             files: BTreeMap::new(alloc),
+            writes: Vec::new(alloc),
         }
     }
 
@@ -66,6 +70,7 @@ impl Store for MemoryStore {
     fn write(&mut self, alloc: Global, path: &str, bytes: &[u8]) -> CargoResult<()> {
         let text = bytes.to_vec(alloc)?;
         let name = String::from_str(alloc, path)?;
+        self.writes.push(String::from_str(alloc, path)?)?;
         self.files.insert(name, text)?;
         Ok(())
     }

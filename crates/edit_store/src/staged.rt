@@ -37,8 +37,8 @@ pub(crate) struct Staged {
     pub(crate) verified: bool,
 }
 
-/// Makes a write ready: the bytes are on the disk, in a file with the owner and the permissions of the old
-/// one, or a copy of the old text is.
+/// Makes a write ready: the bytes are in a new file with the owner and the permissions of the old one, which
+/// is still to be flushed, or a copy of the old text is on the disk.
 pub(crate) fn prepare<R: Files<File = File> + Alloc<A = Global> + Env>(
     rt: &R,
     alloc: Global,
@@ -114,7 +114,7 @@ fn prepare_new<R: Files<File = File>>(
     if fs::symlink_metadata(rt, path).is_ok() {
         return Ok(make_staged(name, same, Way::Append, None, bytes));
     }
-    let Some((mut file, temporary)) = make_temporary(
+    let Some((mut file, mut temporary)) = make_temporary(
         rt,
         alloc,
         folder(path),
@@ -125,10 +125,11 @@ fn prepare_new<R: Files<File = File>>(
     else {
         return Err(Reason::from(io::Error::from(ErrorKind::PermissionDenied)));
     };
-    if let Err(error) = fill(&mut file, bytes) {
+    if let Err(error) = file.write_all(bytes) {
         temporary.remove(rt);
         return Err(Reason::from(error));
     }
+    temporary.hold(file);
     Ok(make_staged(name, same, Way::Rename(temporary), None, bytes))
 }
 
@@ -151,9 +152,12 @@ fn way_over<R: Files<File = File> + Alloc<A = Global> + Env>(
 ) -> Answer<Way> {
     may_write(rt, target, old)?;
     let made = make_temporary(rt, alloc, folder(target), process, 0o600, "tmp")?;
-    if let Some((mut file, temporary)) = made {
+    if let Some((mut file, mut temporary)) = made {
         match fill_like(&mut file, old, bytes) {
-            Ok(true) => return Ok(Way::Rename(temporary)),
+            Ok(true) => {
+                temporary.hold(file);
+                return Ok(Way::Rename(temporary));
+            }
             Ok(false) => temporary.remove(rt),
             Err(error) => {
                 temporary.remove(rt);
@@ -173,8 +177,8 @@ fn may_write<R: Files>(rt: &R, path: &str, old: &Metadata) -> io::Result<()> {
     Ok(())
 }
 
-/// Writes bytes to the disk in a file that gets the owner, the group and then the permissions of the old one;
-/// answers whether it could. Each is set on the open file, so that no link can lead elsewhere.
+/// Writes bytes to a file that gets the owner, the group and then the permissions of the old one; answers
+/// whether it could. Each is set on the open file, so that no link can lead elsewhere.
 fn fill_like(file: &mut File, old: &Metadata, bytes: &[u8]) -> io::Result<bool> {
     let new = file.metadata()?;
     if new.uid() != old.uid() || new.gid() != old.gid() {
@@ -185,7 +189,6 @@ fn fill_like(file: &mut File, old: &Metadata, bytes: &[u8]) -> io::Result<bool> 
     }
     file.write_all(bytes)?;
     file.set_permissions(old.permissions())?;
-    file.sync_all()?;
     Ok(true)
 }
 
@@ -231,6 +234,22 @@ impl Staged {
         match &self.way {
             Way::Rename(file) | Way::InPlace(file) => file.stands(rt),
             Way::Append => true,
+        }
+    }
+
+    /// Whether the bytes are still to be flushed to the disk.
+    pub(crate) fn is_open(&self) -> bool {
+        match &self.way {
+            Way::Rename(file) => file.is_open(),
+            Way::InPlace(_) | Way::Append => false,
+        }
+    }
+
+    /// Flushes the bytes to the disk, where that is still to be done.
+    pub(crate) fn flush(&mut self) -> io::Result<()> {
+        match &mut self.way {
+            Way::Rename(file) => file.flush(),
+            Way::InPlace(_) | Way::Append => Ok(()),
         }
     }
 

@@ -1,7 +1,7 @@
 //! Files that may fail.
 ghost use Rattle.std.specs.Prelude.{◌≡◌, Some, true, IfOk, OnErr, OnOk, option_map};
 ghost use Rattle.edit_base.specs.declared.errors.DeviceCall.TheVariants as call;
-ghost use Rattle.edit_store.specs.Store.{HasCause, OnlyReads, SameFiles, SameBut, StandsAt, StoreView, raised};
+ghost use Rattle.edit_store.specs.Store.{HasCause, IsWrittenAtMostOnce, IsWrittenOnce, OnlyReads, SameFiles, SameBut, StandsAt, StoreView, raised};
 
 use edit_base::errors::{CargoResult, DeviceCall};
 use std::alloc::Global;
@@ -19,18 +19,19 @@ pub enum Kind {
 ///
 /// A store that `tells` its files is a finite map from paths to bytes.
 ///
-/// A caller that writes several files calls `stage` for each of them, then `verify` for each, and then
-/// `write` for each: what the machine can refuse is then refused while every file is as it was. After an
-/// error it calls `unstage`.
+/// A caller that writes several files calls `stage` for each of them, then `flush` for each, then `verify`
+/// for each, and then `write` for each: what the machine can refuse is then refused while every file is as it
+/// was. After an error it calls `unstage`.
 pub trait Store {
-    /// Whether it tells what its files hold, the bytes of the file at each path where it tells them, how
-    /// often its device has failed, and how often a write could not be made ready.
+    /// Whether it tells what its files hold, the bytes of the file at each path where it tells them, the
+    /// paths written so far, how often its device has failed, and how often a write could not be made ready.
     ghost view: { Self → StoreView };
 
     /// What stands at a path, links followed.
     fn kind(&mut self, alloc: Global, path: &str) -> CargoResult<Kind>
         ensures tells { (view self.new).tells ≡ (view self.old).tells }
         ensures files { SameFiles (view self.old).file_at (view self.new).file_at }
+        ensures writes { (view self.new).writes ≡ (view self.old).writes }
         ensures stands { IfOk result (λ k. (view self.old).tells ≡ true
             → StandsAt (view self.old).file_at path.now k) }
         ensures cause { HasCause DeviceCall.Kind (view self.old) (view self.new) result };
@@ -39,6 +40,7 @@ pub trait Store {
     fn read(&mut self, alloc: Global, path: &str) -> CargoResult<Option<Vec<u8>>>
         ensures tells { (view self.new).tells ≡ (view self.old).tells }
         ensures files { SameFiles (view self.old).file_at (view self.new).file_at }
+        ensures writes { (view self.new).writes ≡ (view self.old).writes }
         ensures bytes { IfOk result (λ r. (view self.old).tells ≡ true
             → option_map (λ v. v.items) r ≡ (view self.old).file_at path.now) }
         ensures cause { HasCause DeviceCall.Read (view self.old) (view self.new) result };
@@ -48,6 +50,7 @@ pub trait Store {
     fn read_stream(&mut self, alloc: Global, path: &str) -> CargoResult<Option<Vec<u8>>>
         ensures tells { (view self.new).tells ≡ (view self.old).tells }
         ensures files { SameFiles (view self.old).file_at (view self.new).file_at }
+        ensures writes { (view self.new).writes ≡ (view self.old).writes }
         ensures bytes { IfOk result (λ r. (view self.old).tells ≡ true
             → option_map (λ v. v.items) r ≡ (view self.old).file_at path.now) }
         ensures cause { HasCause DeviceCall.Read (view self.old) (view self.new) result }
@@ -59,6 +62,20 @@ pub trait Store {
     fn stage(&mut self, _alloc: Global, _path: &str, _bytes: &[u8]) -> CargoResult<()>
         ensures tells { (view self.new).tells ≡ (view self.old).tells }
         ensures files { SameFiles (view self.old).file_at (view self.new).file_at }
+        ensures writes { (view self.new).writes ≡ (view self.old).writes }
+        ensures cause { HasCause DeviceCall.Write (view self.old) (view self.new) result }
+        ensures ready { OnOk result ((view self.new).stage_errors ≡ (view self.old).stage_errors) }
+        ensures counted { OnErr result (raised (view self.old).stage_errors (view self.new).stage_errors) }
+    {
+        Ok(())
+    }
+
+    /// Brings the write that is staged for a path to the disk, so that a crash behind `write` loses none of
+    /// its bytes. Every file stays as it was.
+    fn flush(&mut self, _alloc: Global, _path: &str) -> CargoResult<()>
+        ensures tells { (view self.new).tells ≡ (view self.old).tells }
+        ensures files { SameFiles (view self.old).file_at (view self.new).file_at }
+        ensures writes { (view self.new).writes ≡ (view self.old).writes }
         ensures cause { HasCause DeviceCall.Write (view self.old) (view self.new) result }
         ensures ready { OnOk result ((view self.new).stage_errors ≡ (view self.old).stage_errors) }
         ensures counted { OnErr result (raised (view self.old).stage_errors (view self.new).stage_errors) }
@@ -71,6 +88,7 @@ pub trait Store {
     fn verify(&mut self, _alloc: Global, _path: &str) -> CargoResult<()>
         ensures tells { (view self.new).tells ≡ (view self.old).tells }
         ensures files { SameFiles (view self.old).file_at (view self.new).file_at }
+        ensures writes { (view self.new).writes ≡ (view self.old).writes }
         ensures cause { HasCause DeviceCall.Write (view self.old) (view self.new) result }
         ensures ready { OnOk result ((view self.new).stage_errors ≡ (view self.old).stage_errors) }
         ensures counted { OnErr result (raised (view self.old).stage_errors (view self.new).stage_errors) }
@@ -78,12 +96,15 @@ pub trait Store {
         Ok(())
     }
 
-    /// Writes a whole file, which may be staged. After an error that file may hold anything.
+    /// Writes a whole file. What `stage`, `flush` and `verify` do is done now where it was not. After an
+    /// error that file may hold anything.
     fn write(&mut self, alloc: Global, path: &str, bytes: &[u8]) -> CargoResult<()>
         ensures tells { (view self.new).tells ≡ (view self.old).tells }
         ensures written { OnOk result ((view self.old).tells ≡ true
             → (view self.new).file_at path.now ≡ Some bytes.now) }
         ensures others { SameBut path.now (view self.old).file_at (view self.new).file_at }
+        ensures once { OnOk result (IsWrittenOnce path.now (view self.old) (view self.new)) }
+        ensures at_most_once { OnErr result (IsWrittenAtMostOnce path.now (view self.old) (view self.new)) }
         ensures cause { HasCause DeviceCall.Write (view self.old) (view self.new) result }
         ensures ready { (view self.new).stage_errors ≡ (view self.old).stage_errors };
 
@@ -91,6 +112,7 @@ pub trait Store {
     fn unstage(&mut self, _alloc: Global)
         ensures tells { (view self.new).tells ≡ (view self.old).tells }
         ensures files { SameFiles (view self.old).file_at (view self.new).file_at }
+        ensures writes { (view self.new).writes ≡ (view self.old).writes }
         ensures faults { (view self.new).faults ≡ (view self.old).faults }
         ensures ready { (view self.new).stage_errors ≡ (view self.old).stage_errors }
     {}

@@ -13,6 +13,8 @@ pub(crate) struct Temporary {
     pub(crate) path: String,
     device: u64,
     inode: u64,
+    /// The file itself, open until what was written to it is flushed to the disk.
+    open: Option<File>,
 }
 
 /// Makes an empty file in a folder, with this mode and this end of its name; none where none may be made
@@ -89,10 +91,29 @@ fn rename_by_number<R: Files<File = File>>(
         path,
         device: metadata.dev(),
         inode,
+        open: None,
     })
 }
 
 impl Temporary {
+    /// Holds the file, to be flushed later.
+    pub(crate) fn hold(&mut self, file: File) {
+        self.open = Some(file);
+    }
+
+    /// Whether it is still to be flushed.
+    pub(crate) fn is_open(&self) -> bool {
+        self.open.is_some()
+    }
+
+    /// Flushes it to the disk and closes it, where that is still to be done.
+    pub(crate) fn flush(&mut self) -> io::Result<()> {
+        match self.open.take() {
+            Some(file) => file.sync_all(),
+            None => Ok(()),
+        }
+    }
+
     /// Whether its name still leads to it.
     pub(crate) fn stands<R: Files<File = File>>(&self, rt: &R) -> bool {
         match fs::symlink_metadata(rt, self.path.as_str()) {

@@ -74,7 +74,11 @@ impl Watched {
     ) -> Answer<()> {
         let bytes = self.bytes(alloc)?;
         let path = self.path.as_str();
-        let staged = prepare(rt, alloc, path, &bytes, process)?;
+        let mut staged = prepare(rt, alloc, path, &bytes, process)?;
+        if let Err(error) = staged.flush() {
+            staged.give_up(rt);
+            return Err(Reason::from(error));
+        }
         commit(rt, alloc, &staged, &bytes, process)
     }
 }

@@ -11,6 +11,9 @@ use std::env::Env;
 use std::fs::{File, Files, TryLockError};
 use std::io::Eprint;
 
+/// How many new files wait open to be flushed together at most: each takes one of the process's open files.
+const OPEN: usize = 400;
+
 /// What a store of the machine's files has read, made ready and written in a run.
 #[derive(Debug, Drop)]
 pub(crate) struct Work {
@@ -20,6 +23,8 @@ pub(crate) struct Work {
     texts: BTreeMap<String, Fingerprint>,
     /// The writes that are ready, by their paths.
     staged: BTreeMap<String, Staged>,
+    /// How many of them are still to be flushed to the disk.
+    open: usize,
     /// How many of them were compared with what was read.
     verified: usize,
     /// The path that is staged for each file, by the file's device and number.
@@ -38,6 +43,7 @@ impl Work {
             process,
             texts: BTreeMap::new(alloc),
             staged: BTreeMap::new(alloc),
+            open: 0,
             verified: 0,
             paths: BTreeMap::new(alloc),
             watched: Vec::new(alloc),
@@ -80,10 +86,16 @@ impl Work {
             return Ok(());
         }
         self.give_up(rt, path);
-        let staged = prepare(rt, alloc, path, bytes, self.process)?;
+        let staged = self.prepare_write(rt, alloc, path, bytes)?;
+        let is_open = staged.is_open();
         match self.put(alloc, path, &staged) {
             Ok(name) => match self.staged.insert(name, staged) {
-                Ok(_) => Ok(()),
+                Ok(_) => {
+                    if is_open {
+                        self.open = self.open.saturating_add(1);
+                    }
+                    Ok(())
+                }
                 Err(failed) => {
                     let (_name, staged) = failed.value;
                     staged.give_up(rt);
@@ -95,6 +107,24 @@ impl Work {
                 Err(reason)
             }
         }
+    }
+
+    /// A write made ready. It is flushed at once where many others wait for that.
+    fn prepare_write<R: Files<File = File> + Alloc<A = Global> + Env>(
+        &self,
+        rt: &R,
+        alloc: Global,
+        path: &str,
+        bytes: &[u8],
+    ) -> Answer<Staged> {
+        let mut staged = prepare(rt, alloc, path, bytes, self.process)?;
+        if self.open >= OPEN
+            && let Err(error) = staged.flush()
+        {
+            staged.give_up(rt);
+            return Err(Reason::from(error));
+        }
+        Ok(staged)
     }
 
     /// Notes the path of a write that is ready, and answers a copy of it; an error where another path of the
@@ -120,7 +150,29 @@ impl Work {
             if staged.verified {
                 self.verified = self.verified.saturating_sub(1);
             }
+            if staged.is_open() {
+                self.open = self.open.saturating_sub(1);
+            }
             staged.give_up(rt);
+        }
+    }
+
+    /// Flushes what is staged for a path to the disk. After an error it is staged no more.
+    pub(crate) fn flush<R: Files<File = File>>(&mut self, rt: &R, path: &str) -> Answer<()> {
+        let Some(staged) = self.staged.get_mut(path) else {
+            return Ok(());
+        };
+        if !staged.is_open() {
+            return Ok(());
+        }
+        let done = staged.flush();
+        self.open = self.open.saturating_sub(1);
+        match done {
+            Ok(()) => Ok(()),
+            Err(error) => {
+                self.give_up(rt, path);
+                Err(Reason::from(error))
+            }
         }
     }
 
@@ -163,6 +215,7 @@ impl Work {
         bytes: &[u8],
     ) -> Answer<()> {
         self.stage(rt, alloc, path, bytes)?;
+        self.flush(rt, path)?;
         if let Err(reason) = self.verify(rt, alloc, path) {
             self.give_up(rt, path);
             return Err(reason);
@@ -219,6 +272,7 @@ impl Work {
         }
         self.staged = BTreeMap::new(alloc);
         self.paths = BTreeMap::new(alloc);
+        self.open = 0;
         self.verified = 0;
         let _ = self.settle(rt, alloc);
     }

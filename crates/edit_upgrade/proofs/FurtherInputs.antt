@@ -190,9 +190,14 @@ pub record IsInputAt (inputs : List Input) (configs : List (Vec Config)) (k : �
 
 pub input-at : {inputs : List Input} {configs : List (Vec Config)} {k : ℕ} {x : Input} {own : Vec Config}
     {here : List Config} → k < length inputs → length configs ≡ length inputs → x ≡ get_or inputs k x
-    → own ≡ get_or configs k own → here ≡ own.items → IsInputAt inputs configs k x own here
-input-at low long is own_is here_is =
-    record { low = low; own_low = omega (arith, low, long); is = is; own_is = own_is; here_is = here_is }
+    → slice_get configs k ≡ Some own → here ≡ own.items → IsInputAt inputs configs k x own here
+input-at {inputs} {configs} {k} {x} {own} low long is own_at here_is = record {
+  low = low;
+  own_low = omega (arith, low, long);
+  is = is;
+  own_is = sym (get_or_from_slice_get configs k own own own_at);
+  here_is = here_is;
+}
 
 -- the draft with it
 pub draft-next : (o : Options) {inputs : List Input} {configs : List (Vec Config)} {k : ℕ} {x : Input}

@@ -23,6 +23,7 @@ pub mod StepLemmas
 pub mod LookOrderLemmas
 pub mod WalkLemmas
 pub mod EndLemmas
+pub mod ConfigListLemmas
 pub mod InputRows
 pub mod DraftLemmas
 pub mod FurtherInputs

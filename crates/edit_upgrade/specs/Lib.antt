@@ -9,6 +9,7 @@ pub mod Looked
 pub mod Upgraded
 pub mod LookOrder
 pub mod Causes
+pub mod ConfigLists
 pub mod Lists
 pub mod Outputs
 pub mod PlannedView

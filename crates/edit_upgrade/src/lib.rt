@@ -3,6 +3,7 @@
 
 mod addresses;
 mod asked;
+mod config_lists;
 pub mod decision;
 mod draft;
 mod lists;
@@ -20,5 +21,5 @@ mod walk;
 mod writes;
 
 pub use decision::Options;
-pub use plan::{plan_documents, plan_upgrade};
+pub use plan::{plan_documents, plan_shared, plan_upgrade};
 pub use upgrade::{Look, UpgradePlan, Warning};

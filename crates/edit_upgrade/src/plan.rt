@@ -6,6 +6,7 @@ ghost use Rattle.edit_manifest.specs.Loaded.{IsBadManifest};
 ghost use Rattle.edit_sources.specs.Index.{SameOutcomes};
 ghost use Rattle.edit_cache.specs.IndexCache.{index_of};
 ghost use Rattle.edit_upgrade.specs.Caches.{LeavesCache, StopsDocuments, StopsInputs, StopsManifest, cache_view};
+ghost use Rattle.edit_upgrade.specs.ConfigLists.{AreIndices, HasLists, chosen_lists, lists_in};
 ghost use Rattle.edit_upgrade.specs.Drafts.{AddsInput, AreGiven, IsDraft};
 ghost use Rattle.edit_upgrade.specs.Headline.{IsSettled, LatestIsNotLess, Narrows, NeedsAsBefore, NeverLowers, Reaches};
 ghost use Rattle.edit_metadata.specs.Inputs.{HaveOwnPaths};
@@ -21,6 +22,7 @@ ghost use Rattle.edit_upgrade.specs.WordCauses.{IsRefusedFor};
 ghost use Rattle.edit_upgrade.specs.Upgraded.{HasItsOutputs, HasItsRows, HasItsWarnings, IsNeeded, IsNeededBy};
 
 use crate::asked::Asked;
+use crate::config_lists::{ConfigLists, list_of};
 use crate::decision::options::Options;
 use crate::draft::{Draft, add_input, finished};
 use crate::missing::unknown;
@@ -90,30 +92,31 @@ fn drafted<I: Index>(
     asked: Asked<'_>,
     inputs: &[Input],
     documents: &[Document],
-    configs: &[Vec<Config>],
+    configs: ConfigLists<'_>,
     index: &mut IndexCache<I>,
 ) -> CargoResult<Draft>
     requires documents { AreGiven inputs.now documents.now }
-    requires configurations { length configs.now ≡ length inputs.now }
+    requires configurations { length (lists_in configs) ≡ length inputs.now }
+    requires lists { HasLists configs }
     requires paths { HaveOwnPaths inputs.now }
-    ensures drafted { IfOk result (IsDraft asked.entry.options.now inputs.now configs.now
+    ensures drafted { IfOk result (IsDraft asked.entry.options.now inputs.now (lists_in configs.entry)
         (I.view (index_of index.old)).gives
         (kept_by index.old) (kept_by index.new)) }
     ensures known { IfOk result (λ d. AreKnown asked.entry.options.now inputs.now (contains_text d.known)) }
     ensures utf8 { OnOk result (documents.now ≡ [] → All (λ x. IsUtf8 x.bytes.items) inputs.now) }
-    ensures left { LeavesCache (IsNeeded inputs.now configs.now)
+    ensures left { LeavesCache (IsNeeded inputs.now (lists_in configs.entry))
         (cache_view I.view index.old) (cache_view I.view index.new) }
     ensures given { IfErr result (λ e. length documents.now ≡ length inputs.now
-        → StopsDocuments inputs.now configs.now
+        → StopsDocuments inputs.now (lists_in configs.entry)
         (cache_view I.view index.old) (cache_view I.view index.new) e) }
     ensures read { IfErr result (λ e. documents.now ≡ []
-        → StopsInputs inputs.now configs.now
+        → StopsInputs inputs.now (lists_in configs.entry)
         (cache_view I.view index.old) (cache_view I.view index.new) e) }
 {
     let mut draft = Draft::new(alloc);
     'inputs: for (i, input) in inputs.iter().enumerate() {
         let document = document_at(documents, i);
-        let own = &configs[i];
+        let own = list_of(configs, i);
         add_read(alloc, i, asked, input, document, own, &mut draft, index)?;
     }
     Ok(draft)
@@ -125,21 +128,22 @@ fn plan_all<I: Index>(
     options: &Options,
     inputs: &[Input],
     documents: &[Document],
-    configs: &[Vec<Config>],
+    configs: ConfigLists<'_>,
     index: &mut IndexCache<I>,
 ) -> CargoResult<UpgradePlan>
     requires documents { AreGiven inputs.now documents.now }
-    requires configurations { length configs.now ≡ length inputs.now }
+    requires configurations { length (lists_in configs) ≡ length inputs.now }
+    requires lists { HasLists configs }
     requires paths { HaveOwnPaths inputs.now }
-    ensures plan { IfOk result (IsPlan options.now inputs.now configs.now
+    ensures plan { IfOk result (IsPlan options.now inputs.now (lists_in configs.entry)
         (cache_view I.view index.old) (cache_view I.view index.new)) }
-    ensures left { LeavesCache (IsNeeded inputs.now configs.now)
+    ensures left { LeavesCache (IsNeeded inputs.now (lists_in configs.entry))
         (cache_view I.view index.old) (cache_view I.view index.new) }
     ensures given { IfErr result (λ e. length documents.now ≡ length inputs.now
-        → IsRefusedFor options.now (StopsDocuments inputs.now configs.now
+        → IsRefusedFor options.now (StopsDocuments inputs.now (lists_in configs.entry)
         (cache_view I.view index.old) (cache_view I.view index.new)) e) }
     ensures read { IfErr result (λ e. documents.now ≡ []
-        → IsRefusedFor options.now (StopsInputs inputs.now configs.now
+        → IsRefusedFor options.now (StopsInputs inputs.now (lists_in configs.entry)
         (cache_view I.view index.old) (cache_view I.view index.new)) e) }
 {
     let picks = picks_of(alloc, options)?;
@@ -175,7 +179,47 @@ pub fn plan_documents<I: Index>(
     ensures refused { IfErr result (IsRefusedFor options.now (StopsDocuments inputs.now configs.now
         (cache_view I.view index.old) (cache_view I.view index.new))) }
 {
+    let configs = ConfigLists {
+        lists: configs,
+        which: None,
+    };
     plan_all(alloc, options, inputs, documents, configs, index)
+}
+
+/// What an upgrade of manifests gives, whose lists of configurations are shared: as `plan_upgrade` where no
+/// documents are given, else as `plan_documents`. `which` has for each input the index of its list.
+pub fn plan_shared<I: Index>(
+    alloc: Global,
+    options: &Options,
+    inputs: &[Input],
+    documents: &[Document],
+    lists: &[Vec<Config>],
+    which: &[usize],
+    index: &mut IndexCache<I>,
+) -> CargoResult<UpgradePlan>
+    requires documents { AreGiven inputs.now documents.now }
+    requires configurations { length which.now ≡ length inputs.now }
+    requires lists { AreIndices lists.now which.now }
+    requires paths { HaveOwnPaths inputs.now }
+    // each promise that `plan_upgrade` makes on its plan, by the same name
+    ensures plan { IfOk result (IsPlan options.now inputs.now (chosen_lists lists.now which.now)
+        (cache_view I.view index.old) (cache_view I.view index.new)) }
+    // also a refused plan adds to the answers that are kept only what is needed, as the index gives it
+    ensures left { LeavesCache (IsNeeded inputs.now (chosen_lists lists.now which.now))
+        (cache_view I.view index.old) (cache_view I.view index.new) }
+    // for the options, else for the first input and its first entry that stops the plan
+    ensures given { IfErr result (λ e. length documents.now ≡ length inputs.now
+        → IsRefusedFor options.now (StopsDocuments inputs.now (chosen_lists lists.now which.now)
+        (cache_view I.view index.old) (cache_view I.view index.new)) e) }
+    ensures read { IfErr result (λ e. documents.now ≡ []
+        → IsRefusedFor options.now (StopsInputs inputs.now (chosen_lists lists.now which.now)
+        (cache_view I.view index.old) (cache_view I.view index.new)) e) }
+{
+    let shared = ConfigLists {
+        lists,
+        which: Some(which),
+    };
+    plan_all(alloc, options, inputs, documents, shared, index)
 }
 
 /// What an upgrade of manifests gives: their new bytes, a row for each entry that is seen, and the looks.
@@ -234,5 +278,9 @@ pub fn plan_upgrade<I: Index>(
         (cache_view I.view index.old) (cache_view I.view index.new))) }
 {
     let documents = Vec::new(alloc);
+    let configs = ConfigLists {
+        lists: configs,
+        which: None,
+    };
     plan_all(alloc, options, inputs, &documents, configs, index)
 }

@@ -1,6 +1,7 @@
 //! The command `set-version`: reads, plans, prints, then writes.
 ghost use Rattle.std.specs.Prelude.{◌≡◌, ◌⊎◌, IfErr, IfOk, OnErr, true};
 ghost use Rattle.std.specs.Io.KnownBytes.{Appends};
+ghost use Rattle.edit_steps.specs.Faults.{CountsFault};
 ghost use Rattle.edit_store.specs.Store.{SameFiles};
 ghost use Rattle.edit_program.specs.SetVersionCauses.{IsSetVersionCause};
 ghost use Rattle.edit_program.specs.SetVersions.{AreVersionsSet, IsCutShort};
@@ -41,6 +42,8 @@ pub fn set_version<S: Store, O: io::Write, E: io::Write>(
     // and each refusal has its cause
     ensures why { IfErr result (λ r. IsSetVersionCause words.now current.now
         (S.view files.old) (S.view files.new) r.error) }
+    // over any store, an error of the device is counted
+    ensures counted { IfErr result (λ r. CountsFault (S.view files.old) (S.view files.new) r.error) }
 {
     let writes = !words.dry_run;
     let read = read_workspace(

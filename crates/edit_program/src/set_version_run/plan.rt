@@ -1,5 +1,6 @@
 //! The plan for the workspace that was read.
-ghost use Rattle.std.specs.Prelude.{◌≡◌, All, IfErr, IfOk};
+ghost use Rattle.std.specs.Prelude.{◌≡◌, ◌≢◌, All, IfErr, IfOk};
+ghost use Rattle.edit_base.specs.Errors.{number_of};
 ghost use Rattle.edit_metadata.specs.Inputs.{AreInputs};
 ghost use Rattle.edit_metadata.specs.Workspaces.{HasOwnFolders, workspace_said};
 ghost use Rattle.edit_set_version.specs.Bumps.{target_of};
@@ -30,6 +31,7 @@ pub(crate) fn plan_for(
         (asked_of words.now.selection) (workspace_said read.now.workspace) read.now.inputs.items) }
     ensures refused { IfErr result (λ r. IsCauseOf (target_of words.now.target)
         (asked_of words.now.selection) (workspace_said read.now.workspace) read.now.inputs.items r.error) }
+    ensures counted { IfErr result (λ r. number_of r.error ≢ 3) }
 {
     let ReadWorkspace { workspace, inputs } = read;
     match plan_set_version(

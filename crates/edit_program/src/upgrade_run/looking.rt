@@ -1,11 +1,13 @@
 //! The lookups that an upgrade needs, found without an index.
-ghost use Rattle.std.specs.Prelude.{◌≡◌, ◌⊎◌, IfErr, IfOk, OnOk, length, string_bytes, true};
+ghost use Rattle.std.specs.Prelude.{◌≡◌, ◌≢◌, ◌⊎◌, IfErr, IfOk, OnOk, length, string_bytes, true};
 ghost use Rattle.std.specs.Io.KnownBytes.{Appends};
-ghost use Rattle.edit_base.specs.Errors.{IsMemory};
+ghost use Rattle.edit_base.specs.Errors.{IsMemory, number_of};
 ghost use Rattle.edit_program.specs.NoIndex.{no_view};
 ghost use Rattle.edit_sources.specs.Configured.{given};
 ghost use Rattle.edit_metadata.specs.Inputs.{HaveOwnPaths};
+ghost use Rattle.edit_steps.specs.Faults.{CountsFault};
 ghost use Rattle.edit_store.specs.Store.{OnlyReads};
+ghost use Rattle.edit_steps.specs.Shared.{HasLists, lists_for};
 ghost use Rattle.edit_steps.specs.Sources.{AreDocuments};
 ghost use Rattle.edit_program.specs.UpgradeCauses.{IsLooksCause};
 ghost use Rattle.edit_program.specs.Looking.{AreLinesOf, AreLooksShown};
@@ -17,9 +19,8 @@ use crate::upgrade_run::words::UpgradeWords;
 use edit_base::CargoResult;
 use edit_diagnostics::explain_upgrade;
 use edit_report::shell_write_stdout;
-use edit_sources::Config;
 use edit_steps::RunResult;
-use edit_steps::upgrade_read::{Sources, Target, read_sources};
+use edit_steps::upgrade_read::{SharedConfigs, Sources, Target, read_sources};
 use edit_store::Store;
 use edit_upgrade::Options;
 use std::alloc::Global;
@@ -30,15 +31,17 @@ fn lines_for(
     alloc: Global,
     options: &Options,
     target: &Target,
-    configs: &[Vec<Config>],
+    configs: &SharedConfigs,
 ) -> CargoResult<String>
     requires paths { HaveOwnPaths target.now.inputs.items }
-    requires each { length configs.now ≡ length target.now.inputs.items }
+    requires each { length configs.now.which.items ≡ length target.now.inputs.items }
+    requires lists { HasLists configs.now }
     requires documents { AreDocuments target.now.documents.items target.now.inputs.items }
-    ensures lines { IfOk result (λ text. AreLinesOf options.now target.now.inputs.items configs.now
-        (string_bytes text)) }
+    ensures lines { IfOk result (λ text. AreLinesOf options.now target.now.inputs.items
+        (lists_for configs.now) (string_bytes text)) }
     ensures refused { IfErr result (λ e. IsMemory e
-        ⊎ IsPlanCause options.now target.now.inputs.items configs.now no_view e) }
+        ⊎ IsPlanCause options.now target.now.inputs.items (lists_for configs.now) no_view e) }
+    ensures counted { IfErr result (λ e. number_of e ≢ 3) }
 {
     let plan = plan_over(alloc, options, target, configs, NoIndex {})?;
     looks_text(alloc, &plan.looks)
@@ -62,6 +65,8 @@ pub fn looks<S: Store, O: io::Write>(
     // each error has its cause
     ensures why { IfErr result (λ r. IsLooksCause words.now current.now (given cargo_home.entry)
         (S.view files.old) (S.view files.new) r.error) }
+    // over any store, an error of the device is counted
+    ensures counted { IfErr result (λ r. CountsFault (S.view files.old) (S.view files.new) r.error) }
 {
     let sources = read_sources(alloc, &words.asked_for_looks(), current, cargo_home, files)?;
     let Sources {

@@ -2,16 +2,18 @@
 ghost use Rattle.std.specs.Prelude.{◌≡◌, ◌⊎◌, IfErr, IfOk, length};
 ghost use Rattle.edit_base.specs.Errors.{IsMemory};
 ghost use Rattle.edit_metadata.specs.Inputs.{HaveOwnPaths};
+ghost use Rattle.edit_steps.specs.Shared.{HasLists, lists_for};
 ghost use Rattle.edit_steps.specs.Sources.{AreDocuments};
+ghost use Rattle.edit_program.specs.Counted.{CountsIndexFault, CountsStoreFault};
 ghost use Rattle.edit_program.specs.Planned.{IsPlanCause, IsPlanned, index_view};
 
 use edit_base::CargoResult;
 use edit_cache::IndexCache;
 use edit_sources::index_dir::DirIndex;
-use edit_sources::{Config, Index, LocalIndex};
-use edit_steps::upgrade_read::{IndexSource, Target};
+use edit_sources::{Index, LocalIndex};
+use edit_steps::upgrade_read::{IndexSource, SharedConfigs, Target};
 use edit_store::Store;
-use edit_upgrade::{Options, UpgradePlan, plan_documents, plan_upgrade};
+use edit_upgrade::{Options, UpgradePlan, plan_shared};
 use std::alloc::Global;
 
 /// The plan for manifests over an index, by their documents where those were read.
@@ -19,15 +21,18 @@ pub(crate) fn plan_over<I: Index + Drop>(
     alloc: Global,
     options: &Options,
     target: &Target,
-    configs: &[Vec<Config>],
+    configs: &SharedConfigs,
     index: I,
 ) -> CargoResult<UpgradePlan>
     requires paths { HaveOwnPaths target.now.inputs.items }
-    requires each { length configs.now ≡ length target.now.inputs.items }
+    requires each { length configs.now.which.items ≡ length target.now.inputs.items }
+    requires lists { HasLists configs.now }
     requires documents { AreDocuments target.now.documents.items target.now.inputs.items }
-    ensures planned { IfOk result (IsPlanned options.now target.now.inputs.items configs.now (I.view index)) }
+    ensures planned { IfOk result (IsPlanned options.now target.now.inputs.items (lists_for configs.now)
+        (I.view index)) }
     ensures refused { IfErr result (λ e. IsMemory e
-        ⊎ IsPlanCause options.now target.now.inputs.items configs.now (I.view index) e) }
+        ⊎ IsPlanCause options.now target.now.inputs.items (lists_for configs.now) (I.view index) e) }
+    ensures counted { IfErr result (CountsIndexFault I.view index) }
 {
     let mut cache = IndexCache::new(alloc, index);
     let Target {
@@ -35,10 +40,8 @@ pub(crate) fn plan_over<I: Index + Drop>(
         documents,
         ..
     } = target;
-    if documents.is_empty() {
-        return plan_upgrade(alloc, options, inputs, configs, &mut cache);
-    }
-    plan_documents(alloc, options, inputs, documents, configs, &mut cache)
+    let SharedConfigs { lists, which } = configs;
+    plan_shared(alloc, options, inputs, documents, lists, which, &mut cache)
 }
 
 /// The plan for manifests over the lines that were read, over the folder that is named, or over the index in
@@ -47,18 +50,20 @@ pub(crate) fn plan_for<T: Store + Drop>(
     alloc: Global,
     options: &Options,
     target: &Target,
-    configs: &[Vec<Config>],
+    configs: &SharedConfigs,
     index: IndexSource,
     index_files: T,
 ) -> CargoResult<UpgradePlan>
     requires paths { HaveOwnPaths target.now.inputs.items }
-    requires each { length configs.now ≡ length target.now.inputs.items }
+    requires each { length configs.now.which.items ≡ length target.now.inputs.items }
+    requires lists { HasLists configs.now }
     requires documents { AreDocuments target.now.documents.items target.now.inputs.items }
-    ensures planned { IfOk result (IsPlanned options.now target.now.inputs.items configs.now
+    ensures planned { IfOk result (IsPlanned options.now target.now.inputs.items (lists_for configs.now)
         (index_view index (T.view index_files))) }
     ensures refused { IfErr result (λ e. IsMemory e
-        ⊎ IsPlanCause options.now target.now.inputs.items configs.now
+        ⊎ IsPlanCause options.now target.now.inputs.items (lists_for configs.now)
         (index_view index (T.view index_files)) e) }
+    ensures counted { IfErr result (CountsStoreFault T.view index_files) }
 {
     match index {
         IndexSource::Files => plan_over(

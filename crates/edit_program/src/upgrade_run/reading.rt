@@ -4,6 +4,7 @@ ghost use Rattle.edit_base.specs.declared.errors.DeviceCall.TheVariants as call;
 ghost use Rattle.edit_lock.specs.Views.{packages_seen};
 ghost use Rattle.edit_sources.specs.Configured.{given};
 ghost use Rattle.edit_steps.specs.Causes.{IsReadCause};
+ghost use Rattle.edit_steps.specs.Faults.{CountsFault};
 ghost use Rattle.edit_steps.specs.Sources.{MayBePlanned};
 ghost use Rattle.edit_store.specs.Store.{OnlyReads, RefusesCall};
 ghost use Rattle.edit_program.specs.LockRead.{HasNoLock, IsLockAt, IsLockRead};
@@ -36,6 +37,7 @@ fn read_lock_at<S: Store>(
     ensures refused { IfErr result (λ r. RefusesCall call.Read (S.view files.old) (S.view files.new) r.error
         ⊎ ((S.view files.old).tells ≡ true
         → HasNoLock (S.view files.old).file_at current.now (Some named.now) r.error)) }
+    ensures counted { IfErr result (λ r. CountsFault (S.view files.old) (S.view files.new) r.error) }
 {
     let path = absolute(alloc, current, named)?;
     let bytes = match files.read(alloc, path.as_str()) {
@@ -62,6 +64,7 @@ fn read_lock<S: Store>(
     ensures refused { IfErr result (λ r. RefusesCall call.Read (S.view files.old) (S.view files.new) r.error
         ⊎ ((S.view files.old).tells ≡ true
         → HasNoLock (S.view files.old).file_at current.now (given named.entry) r.error)) }
+    ensures counted { IfErr result (λ r. CountsFault (S.view files.old) (S.view files.new) r.error) }
 {
     let Some(named) = named else {
         return Ok(None);
@@ -91,6 +94,7 @@ pub(crate) fn read<S: Store>(
         (S.view files.old) (S.view files.new) r.error
         ⊎ ((S.view files.old).tells ≡ true
         → HasNoLock (S.view files.old).file_at current.now (given words.now.lock_file) r.error)) }
+    ensures counted { IfErr result (λ r. CountsFault (S.view files.old) (S.view files.new) r.error) }
 {
     let lock = read_lock(alloc, words.lock_file, current, files)?;
     let sources = read_sources(alloc, &words.asked(), current, cargo_home, files)?;

@@ -3,6 +3,7 @@ ghost use Rattle.std.specs.Prelude.{◌≡◌, ◌⊎◌, IfErr, IfOk, OnErr, tr
 ghost use Rattle.std.specs.Io.KnownBytes.{Appends};
 ghost use Rattle.edit_sources.specs.Configured.{given};
 ghost use Rattle.edit_store.specs.Store.{SameFiles};
+ghost use Rattle.edit_program.specs.Counted.{CountsEitherFault};
 ghost use Rattle.edit_program.specs.Run.{run_at};
 ghost use Rattle.edit_program.specs.UpgradeCauses.{IsUpgradeCause};
 ghost use Rattle.edit_program.specs.Upgrading.{IsBroken, IsUpgraded};
@@ -49,6 +50,9 @@ pub fn upgrade<S: Store, T: Store + Drop, O: io::Write, E: io::Write>(
         words.now
         (run_at place.now.current.now (given place.now.cargo_home)
         (T.view index_files) (S.view files.old) (S.view files.new)) r.error) }
+    // over any stores, an error of a device is counted
+    ensures counted { IfErr result (λ r. CountsEitherFault T.view index_files
+        (S.view files.old) (S.view files.new) r.error) }
 {
     let current = place.current;
     let named = path_of(alloc, current, words.update_calls)?;

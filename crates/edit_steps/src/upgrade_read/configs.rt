@@ -9,15 +9,18 @@ ghost use Rattle.edit_store.specs.Store.{OnlyReads, RefusesCall};
 ghost use Rattle.edit_steps.specs.Causes.{IsUnconfigured};
 ghost use Rattle.edit_steps.specs.Faults.{CountsFault};
 ghost use Rattle.edit_steps.specs.Named.{AreConfigured, AreGathered, IsUnreadFile, pair_of};
+ghost use Rattle.edit_steps.specs.Shared.{HasLists, lists_for};
 
 use crate::RunResult;
 use crate::upgrade_read::config_faults::at_config;
 use crate::upgrade_read::named::{NamedFiles, configs_in};
+use crate::upgrade_read::shared::SharedConfigs;
 use edit_base::CargoResult;
 use edit_metadata::Input;
 use edit_sources::{Config, ConfigCache};
 use edit_store::Store;
 use std::alloc::Global;
+use std::collections::BTreeMap;
 
 /// The configurations of a manifest, the first one first, between those of the files that are named.
 fn gather<S: Store>(
@@ -57,18 +60,20 @@ fn read_all<S: Store>(
     inputs: &[Input],
     cargo_home: Option<&str>,
     files: &mut S,
-) -> CargoResult<Vec<Vec<Config>>>
+) -> CargoResult<SharedConfigs>
     ensures store { OnlyReads (S.view files.old) (S.view files.new) }
-    ensures read { IfOk result (λ v. (S.view files.old).tells ≡ true → AreConfigured
-        (S.view files.old).file_at (given cargo_home.entry) (pair_of named.now) inputs.now v.items) }
-    ensures each { IfOk result (λ v. length v.items ≡ length inputs.now) }
+    ensures read { IfOk result (λ s. (S.view files.old).tells ≡ true → AreConfigured
+        (S.view files.old).file_at (given cargo_home.entry) (pair_of named.now) inputs.now (lists_for s)) }
+    ensures each { IfOk result (λ s. length s.which.items ≡ length inputs.now) }
+    ensures lists { IfOk result HasLists }
     ensures refused { IfErr result (λ e. RefusesCall call.Read (S.view files.old) (S.view files.new) e
         ⊎ ((S.view files.old).tells ≡ true → IsUnconfigured (S.view files.old).file_at
         (given cargo_home.entry) (pair_of named.now) inputs.now e)) }
     ensures counted { IfErr result (λ e. CountsFault (S.view files.old) (S.view files.new) e) }
 {
     let mut cache = ConfigCache::new(alloc);
-    let mut all = Vec::new(alloc);
+    let mut known = BTreeMap::new(alloc);
+    let mut shared = SharedConfigs::new(alloc);
     'inputs: for input in inputs {
         let configs = match gather(
             alloc,
@@ -81,9 +86,9 @@ fn read_all<S: Store>(
             Ok(configs) => configs,
             Err(error) => return Err(error),
         };
-        all.push(configs)?;
+        shared.add(alloc, configs, &mut known)?;
     }
-    Ok(all)
+    Ok(shared)
 }
 
 /// The same, where an error has the configuration file that it is about.
@@ -93,11 +98,12 @@ pub(crate) fn read_configurations<S: Store>(
     inputs: &[Input],
     cargo_home: Option<&str>,
     files: &mut S,
-) -> RunResult<Vec<Vec<Config>>>
+) -> RunResult<SharedConfigs>
     ensures store { OnlyReads (S.view files.old) (S.view files.new) }
-    ensures read { IfOk result (λ v. (S.view files.old).tells ≡ true → AreConfigured
-        (S.view files.old).file_at (given cargo_home.entry) (pair_of named.now) inputs.now v.items) }
-    ensures each { IfOk result (λ v. length v.items ≡ length inputs.now) }
+    ensures read { IfOk result (λ s. (S.view files.old).tells ≡ true → AreConfigured
+        (S.view files.old).file_at (given cargo_home.entry) (pair_of named.now) inputs.now (lists_for s)) }
+    ensures each { IfOk result (λ s. length s.which.items ≡ length inputs.now) }
+    ensures lists { IfOk result HasLists }
     ensures refused { IfErr result (λ r. RefusesCall call.Read (S.view files.old) (S.view files.new) r.error
         ⊎ ((S.view files.old).tells ≡ true → IsUnconfigured (S.view files.old).file_at
         (given cargo_home.entry) (pair_of named.now) inputs.now r.error)) }

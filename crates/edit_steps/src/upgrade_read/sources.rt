@@ -12,8 +12,8 @@ use crate::upgrade_read::asked::Asked;
 use crate::upgrade_read::configs::read_configurations;
 use crate::upgrade_read::index::{IndexSource, read_index};
 use crate::upgrade_read::named::read_named;
+use crate::upgrade_read::shared::SharedConfigs;
 use crate::upgrade_read::target::{Target, read_target};
-use edit_sources::Config;
 use edit_store::Store;
 use std::alloc::Global;
 
@@ -21,8 +21,8 @@ use std::alloc::Global;
 #[derive(Drop)]
 pub struct Sources {
     pub target: Target,
-    /// The configurations of each input.
-    pub configs: Vec<Vec<Config>>,
+    /// The configurations of the inputs.
+    pub configs: SharedConfigs,
     /// The index to plan over.
     pub index: IndexSource,
 }

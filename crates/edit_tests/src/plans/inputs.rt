@@ -1,11 +1,11 @@
 //! A plan of two manifests of distinct folders.
 ghost use Rattle.std.specs.Prelude.{◌≡◌, string_bytes};
 
-use crate::stop::{kept, must, same, text};
-use cargo_edit::upgrade::{Options, UpgradePlan, plan_upgrade};
+use crate::stop::{kept, must, push, same, text};
+use cargo_edit::upgrade::{Options, UpgradePlan, plan_shared, plan_upgrade};
 use cargo_edit::workspace::Input;
 use edit_cache::IndexCache;
-use edit_sources::FileIndex;
+use edit_sources::{Config, FileIndex};
 use std::alloc::Global;
 use std::process::Abort;
 
@@ -78,5 +78,58 @@ fn a_crate_that_two_manifests_have(rt: HostRuntime) {
         "two manifests",
         seen.as_str(),
         "2 outputs, 3 rows, 2 looks",
+    );
+}
+
+/// A list of one configuration, which gives the registry `r` this address.
+fn list_at(rt: &impl Abort, alloc: Global, address: &str) -> Vec<Config> {
+    let mut registries = Vec::new(alloc);
+    let named = (text(rt, alloc, "r"), Some(text(rt, alloc, address)));
+    push(rt, &mut registries, named);
+    let config = Config {
+        path: text(rt, alloc, "/w/.cargo/config.toml"),
+        registries,
+        sources: Vec::new(alloc),
+    };
+    let mut list = Vec::new(alloc);
+    push(rt, &mut list, config);
+    list
+}
+
+/// The addresses of the lookups of two manifests, of which the first one has the second list.
+fn addresses(rt: &impl Abort, alloc: Global, index: &mut IndexCache<FileIndex>) -> String {
+    let manifest = b"[dependencies]\nx = { version = \"1.0\", registry = \"r\" }\n";
+    let inputs = [
+        input_at(rt, alloc, "/w/a/Cargo.toml", manifest),
+        input_at(rt, alloc, "/w/b/Cargo.toml", manifest),
+    ];
+    let lists = [
+        list_at(rt, alloc, "https://one.example/"),
+        list_at(rt, alloc, "https://two.example/"),
+    ];
+    let options = plain(alloc);
+    let which = [1, 0];
+    let plan = must(
+        rt,
+        plan_shared(alloc, &options, &inputs, &[], &lists, &which, index),
+    );
+    let mut all = String::new(alloc);
+    for look in &plan.looks {
+        kept(rt, write!(all, "{} ", look.registry.as_str()));
+    }
+    all
+}
+
+#[test]
+fn lists_that_two_manifests_choose(rt: HostRuntime) {
+    let alloc = rt.alloc();
+    let lines = must(&rt, FileIndex::read(alloc, INDEX.as_bytes()));
+    let mut index = IndexCache::new(alloc, lines);
+    let seen = addresses(&rt, alloc, &mut index);
+    same(
+        &rt,
+        "two lists",
+        seen.as_str(),
+        "https://two.example/ https://one.example/ ",
     );
 }

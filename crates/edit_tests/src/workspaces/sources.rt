@@ -17,6 +17,7 @@ const FILES: &str = "\
 ~/w/c/Cargo.toml = no manifest@\
 ~/w/.cargo/config.toml [source]@\
 ~/w/b/.cargo/config [source]@\
+~/w/c/.cargo/config.toml [source]@\
 ~/h/config.toml [source]@\
 ~/w/near.toml [source.near]@\
 ~/w/far.toml [source.far]@\
@@ -42,19 +43,24 @@ fn put_files(rt: &impl Abort, alloc: Global, store: &mut MemoryStore) {
     }
 }
 
-/// The inputs that were read: the name, the path and the Rust version of each, and how many configurations
-/// it has.
+/// The inputs that were read: the name, the path and the Rust version of each, how many configurations it
+/// has, and the index of their list.
 fn inputs_shown(rt: &impl Abort, alloc: Global, sources: &Sources) -> String {
     let mut all = String::new(alloc);
     'inputs: for (i, input) in sources.target.inputs.iter().enumerate() {
-        let configs = match sources.configs.get(i) {
+        let configs = match sources.configs.list_of(i) {
             Some(own) => own.len(),
             None => 99,
         };
+        let list = sources.configs.which.get(i).copied().unwrap_or(99);
         let rust = rust_shown(rt, alloc, input.rust_version);
         kept(
             rt,
-            write!(all, "{} {} {rust} {configs}; ", input.name, input.path),
+            write!(
+                all,
+                "{} {} {rust} {configs} {list}; ",
+                input.name, input.path
+            ),
         );
     }
     all
@@ -123,21 +129,22 @@ fn read(rt: &impl Abort, alloc: Global, target: &str, more: &str) -> String {
 /// What is read; the manifest and the metadata that are named; the index, the Rust version, the folder, and
 /// the two configuration files.
 const READ: &str = "\
-a /w/a/Cargo.toml 1.70.0 2; files, 1|- -|- -\
-~virtual workspace /w/Cargo.toml - 2; a file, 1|/w -|../../index -\
-~virtual workspace /w/b/Cargo.toml 1.71.0 3; files, 1|../../b/Cargo.toml -|- -\
-~a /w/a/Cargo.toml - 2; files, 1|- -|- !\
-~virtual workspace /w/b/Cargo.toml 1.2.3 3; files, 1|/w/b -|- 1.2.3\
-~virtual workspace /w/Cargo.toml 1.72.0 2; of/w/a /w/a/Cargo.toml 1.72.0 2; of/w/b /w/b/Cargo.toml 1.72.0 3; \
-of/w/c /w/c/Cargo.toml 1.72.0 2; a file, 0|/nowhere ../../all.json|/w/index -\
-~virtual workspace /w/Cargo.toml - 2; of/w/a /w/a/Cargo.toml - 2; of/w/b /w/b/Cargo.toml - 3; \
-of/w/c /w/c/Cargo.toml - 2; files, 0|- /w/all.json|- !\
-~a /w/a/Cargo.toml 1.70.0 2; /w/a/registries, 1|- -|- - ../registries\
-~a /w/a/Cargo.toml 1.70.0 2; /r, 1|- -|- - /r/\
-~virtual workspace /w/Cargo.toml - 2; a file, 1|/w -|../../index - /r\
+a /w/a/Cargo.toml 1.70.0 2 0; files, 1|- -|- -\
+~virtual workspace /w/Cargo.toml - 2 0; a file, 1|/w -|../../index -\
+~virtual workspace /w/b/Cargo.toml 1.71.0 3 0; files, 1|../../b/Cargo.toml -|- -\
+~a /w/a/Cargo.toml - 2 0; files, 1|- -|- !\
+~virtual workspace /w/b/Cargo.toml 1.2.3 3 0; files, 1|/w/b -|- 1.2.3\
+~virtual workspace /w/Cargo.toml 1.72.0 2 0; of/w/a /w/a/Cargo.toml 1.72.0 2 0; \
+of/w/b /w/b/Cargo.toml 1.72.0 3 1; \
+of/w/c /w/c/Cargo.toml 1.72.0 3 2; a file, 0|/nowhere ../../all.json|/w/index -\
+~virtual workspace /w/Cargo.toml - 2 0; of/w/a /w/a/Cargo.toml - 2 0; of/w/b /w/b/Cargo.toml - 3 1; \
+of/w/c /w/c/Cargo.toml - 3 2; files, 0|- /w/all.json|- !\
+~a /w/a/Cargo.toml 1.70.0 2 0; /w/a/registries, 1|- -|- - ../registries\
+~a /w/a/Cargo.toml 1.70.0 2 0; /r, 1|- -|- - /r/\
+~virtual workspace /w/Cargo.toml - 2 0; a file, 1|/w -|../../index - /r\
 ~30 Invalid index line 1|- -|/w/bad_index - /r\
-~a /w/a/Cargo.toml 1.70.0 4; files, 1|- -|- - - /w/near.toml ../../far.toml\
-~a /w/a/Cargo.toml 1.70.0 3; files, 1|- -|- - - - ../../far.toml\
+~a /w/a/Cargo.toml 1.70.0 4 0; files, 1|- -|- - - /w/near.toml ../../far.toml\
+~a /w/a/Cargo.toml 1.70.0 3 0; files, 1|- -|- - - - ../../far.toml\
 ~6 Failed to get cargo file metadata|- -|- - - /w/none.toml ../../far.toml\
 ~31 invalid cargo config at /w/c/Cargo.toml|- -|- - - - /w/c/Cargo.toml";
 

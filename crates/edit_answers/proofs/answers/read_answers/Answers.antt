@@ -1,7 +1,7 @@
 use Rattle.std.proofs.Common.{lit<, ◌∙◌, refl, rules}
 use Rattle.edit_lookups.proofs.CutLemmas.{cut-first, cut-none, cut-whole}
 use Rattle.edit_answers.proofs.LineLemmas.{one-number}
-use Rattle.edit_answers.proofs.TableLemmas.{all-found, first-line, line-on, one-said, says-none, says-one}
+use Rattle.edit_answers.proofs.TableLemmas.{all-found, line-on, one-first, says-none, says-one}
 use Rattle.edit_answers.proofs.answers.read_answers.Goals as goal
 
 pub loop-line-preserved : goal.loop-line-preserved
@@ -11,7 +11,7 @@ loop-line-preserved c =
       search rules,
       c.loop-line.invariant.1,
       c.loop-line.invariant.2,
-      line-on _ _ _ _ _ _ c.loop-line.invariant.3 cut none refl (λ k h. h)
+      line-on _ _ _ _ _ _ c.loop-line.invariant.3 cut none refl (λ k a h. h)
           (says-none _ _ c.in_default-read_answer.ensures.none),
     )
 
@@ -22,9 +22,9 @@ loop-line-preserved-in-Some-read_answer c =
     let says = c.in-Some-read_answer.ensures.some in (
       search rules,
       c.put.ensures.count ∙ c.loop-line.invariant.1,
-      one-said _ c.in-Some.line.now _ _ c.in-Some-read_answer.number c.in-Some-read_answer.answer
-          (first-line _ _ _ _ _ c.loop-line.invariant.3 cut none) says c.put.ensures.put
-          c.loop-line.invariant.2,
+      one-first _ _ c.in-Some.line.now _ _ _ c.in-Some-read_answer.number c.in-Some-read_answer.answer
+          c.loop-line.invariant.3 cut none says c.put.ensures.put c.put.ensures.kept
+          c.put.ensures.count c.loop-line.invariant.2,
       line-on _ _ _ _ _ _ c.loop-line.invariant.3 cut none c.put.ensures.count c.put.ensures.kept
           (says-one _ _ _ _ _ says (one-number _) c.put.ensures.count c.put.ensures.has),
     )

@@ -31,8 +31,8 @@ returns-in-Ok-Some-read-clause-changes g c =
     (record {
       tells = c.read.ensures.tells;
       files = c.read.ensures.files;
-      later =
-          c.read.ensures.cause.later;
+      writes = c.read.ensures.writes;
+      later = c.read.ensures.cause.later;
     })
     c.put_local.ensures.changes)
 

@@ -1,9 +1,19 @@
-use Rattle.std.proofs.Common.{◌≡◌, ◌<◌, ◌∙◌, ap, arith, get_or, length, map, sym, true}
+use Rattle.std.proofs.Common.{◌≡◌, ◌<◌, ◌∙◌, ap, arith, get_or, inl, inr, length, map, sym, true, ⊎_elim}
 use Rattle.std.proofs.lemmas.List.{length-map}
 use Rattle.edit_answers.specs.Aging.{aged_text, is_used, owner_of, staying}
-use Rattle.edit_answers.proofs.ChangeLemmas.{fails-later, raised-later}
+use Rattle.edit_answers.proofs.ChangeLemmas.{raised-later}
 use Rattle.edit_answers.proofs.PruneLemmas.{all-gone, at-place, gone-step, none-gone, raised-on, stays-step}
 use Rattle.edit_answers.proofs.pruning.prune.Goals as goal
+
+pub returns-in-Err : goal.returns-in-Err
+returns-in-Err g c = record {
+  tells = c.list.ensures.tells;
+  later = c.list.ensures.later;
+  stays = λ t. ap (staying (g.S.AgingStore.aging c.args.cache.now).files) (c.list.ensures.files t);
+  gone = tt;
+  refused = ⊎_elim (λ memory. inl memory)
+      (λ failed. inr (failed.0, failed.1, failed.2, c.list.ensures.files)) c.in-Err.ensures.refused;
+}
 
 pub loop-i-init : goal.loop-i-init
 loop-i-init g c =
@@ -80,8 +90,7 @@ returns-in-Err-remove_unused g c =
           (place t).1 c.in_ok-is_used.is_used mid new
           c.remove_unused.result step (used t) (inv.tells ∙ t) ∙ inv.stays t;
       gone = tt;
-      refused = fails-later old.faults mid.faults new.faults _ inv.later
-          c.in-Err-remove_unused.ensures.refused;
+      refused = inl c.in-Err-remove_unused.ensures.refused;
     }
 
 pub returns : goal.returns

@@ -24,7 +24,7 @@ returns-in-Ok-renew_validator-clause-changes g c =
     (λ t. indexed-puts p l c.in-Ok.outcome)
     (then may _ _ _ _ _ c.in-Ok.ensures.changes
     (weakened _ (λ _. may) _ may _ _ _ (λ t v q bytes x. absurd x) (λ q bytes x. absurd x)
-    c.in-Ok-renew_validator.ensures))
+    c.in-Ok-renew_validator.ensures.changes))
 
 pub returns-in-Ok-renew_validator-clause-told : goal.returns-in-Ok-renew_validator-clause-told
 returns-in-Ok-renew_validator-clause-told g c t number =
@@ -38,4 +38,4 @@ returns-clause-changes g c =
     as-err {T = Unit {0}} (λ _. may) (Puts p l) may (Puts p l Fetched) _ _ _ (indexed-puts p l Fetched)
     (then may _ _ _ _ _ c.in-Ok.ensures.changes
     (weakened _ (λ _. may) _ may _ _ _ (λ t v q bytes x. absurd x) (λ q bytes x. absurd x)
-    c.in-Err-renew_validator.ensures))
+    c.in-Err-renew_validator.ensures.changes))

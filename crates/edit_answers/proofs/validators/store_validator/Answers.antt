@@ -10,8 +10,8 @@ returns g c =
     (record {
       tells = c.read.ensures.tells;
       files = c.read.ensures.files;
-      later =
-          c.read.ensures.cause.later;
+      writes = c.read.ensures.writes;
+      later = c.read.ensures.cause.later;
     })
     (write-changes (λ _. may) may _ _ _ _ _ _ c.write.ensures.tells c.write.ensures.written
     c.write.ensures.others c.write.ensures.cause

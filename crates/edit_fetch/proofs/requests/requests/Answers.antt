@@ -4,7 +4,7 @@ use Rattle.edit_fetch.proofs.requests.requests.Goals as goal
 
 pub loop-i-init : goal.loop-i-init
 loop-i-init g c = record {
-  store = record { tells = refl; files = λ path. refl; later = omega arith };
+  store = record { tells = refl; files = λ path. refl; writes = refl; later = omega arith };
   made = λ tells. none_yet _ _ _ c.new-requests.ensures.items;
 }
 
@@ -22,6 +22,7 @@ loop-i-preserved g c =
       store = record {
         tells = c.request.ensures.store.tells ∙ store.tells;
         files = λ path. c.request.ensures.store.files path ∙ store.files path;
+        writes = c.request.ensures.store.writes ∙ store.writes;
         later = omega (arith, store.later, c.request.ensures.store.later);
       };
       made = λ tells. fetched_more _ _ _ _ _ _ _ c.in-Ok.request _ c.loop-i-test.true

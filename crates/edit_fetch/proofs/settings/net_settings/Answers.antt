@@ -5,7 +5,7 @@ use Rattle.edit_fetch.proofs.settings.net_settings.Goals as goal
 
 pub loop-config-init : goal.loop-config-init
 loop-config-init g c = record {
-  store = record { tells = refl; files = λ path. refl; later = omega arith };
+  store = record { tells = refl; files = λ path. refl; writes = refl; later = omega arith };
   read = λ tells. read_none _ _;
 }
 
@@ -18,6 +18,7 @@ loop-config-preserved g c =
       store = record {
         tells = c.values_at.ensures.store.tells ∙ store.tells;
         files = λ path. c.values_at.ensures.store.files path ∙ store.files path;
+        writes = c.values_at.ensures.store.writes ∙ store.writes;
         later = omega (arith, store.later, c.values_at.ensures.store.later);
       };
       read = λ tells. read_more _ _ _ _ _ _ _ _ c.loop-config-test.true c.config-item.is

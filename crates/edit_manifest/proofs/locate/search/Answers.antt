@@ -20,6 +20,7 @@ folders-preserved g c =
       store = record {
         tells = c.manifest_at.ensures.store.tells ∙ before.store.tells;
         files = λ path. c.manifest_at.ensures.store.files path ∙ before.store.files path;
+        writes = c.manifest_at.ensures.store.writes ∙ before.store.writes;
         later = omega (arith, before.store.later, c.manifest_at.ensures.store.later);
       };
       passed = passed_more _ _ _ (g.S.Store.view c.folders.store).file_at _ c.folders.dir.now _

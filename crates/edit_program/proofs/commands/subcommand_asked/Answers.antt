@@ -65,3 +65,15 @@ returns-in_default-clause-fault g c two = inl (record {
 
 pub returns-in_default-clause-done : goal.returns-in_default-clause-done
 returns-in_default-clause-done g c other t = absurd (other refl)
+
+pub returns-in-looks-clause-counted : goal.returns-in-looks-clause-counted
+returns-in-looks-clause-counted g c = IfErr-weaker c.looks_asked.result _ _
+    (λ r h device. inl (h device)) c.looks_asked.ensures.counted
+
+pub returns-in-looks-clause-asked : goal.returns-in-looks-clause-asked
+returns-in-looks-clause-asked g c = IfOk-weaker c.looks_asked.result _ _
+    (λ s h one. absurd (h one)) c.looks_asked.ensures.asked
+
+pub returns-in-text-clause-counted : goal.returns-in-text-clause-counted
+returns-in-text-clause-counted g c = IfErr-weaker c.versions_asked.result _ _
+    (λ r h device. inl (h device)) c.versions_asked.ensures.counted

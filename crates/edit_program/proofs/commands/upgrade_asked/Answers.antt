@@ -1,7 +1,7 @@
 use Rattle.std.proofs.Common.{◌∙◌, ◌≤◌, arith, inr}
 use Rattle.clap.specs.Words.{found_of, rows_of}
 use Rattle.edit_steps.proofs.Refusals.{on_refusal, refusal_has}
-use Rattle.edit_program.proofs.CheckLemmas.{dry_after, dry_upgrade, small_after}
+use Rattle.edit_program.proofs.CheckLemmas.{check_after, dry_after, dry_upgrade, small_after}
 use Rattle.edit_program.proofs.CommandCases.{broken_for}
 use Rattle.edit_program.proofs.commands.upgrade_asked.Goals as goal
 
@@ -51,3 +51,7 @@ returns-clause-done g c other t = record {
   upgraded = c.in_ok-due.ensures.done t;
   ends = c.status_after.ensures;
 }
+
+pub returns-clause-asked : goal.returns-clause-asked
+returns-clause-asked g c one =
+    check_after (rows_of (found_of c.args.matches.now)) c.in_ok-due.due _ c.status_after.ensures one

@@ -1,8 +1,10 @@
 use Rattle.std.proofs.Common.{Bor, List, inl, inr, map, refl, ℕ}
 use Rattle.clap.specs.Words.{app_of, found_of, rows_of}
 use Rattle.edit_program.proofs.CommandLemmas.{entered_by, none_by}
-use Rattle.edit_program.proofs.RunLemmas.{command_ended, command_fault, command_refused, command_why}
-use Rattle.edit_program.proofs.ShownLemmas.{shown_ended, shown_fault, shown_small, shown_why}
+use Rattle.edit_program.proofs.RunLemmas.{command_asked, command_ended, command_fault, command_refused, command_why}
+use Rattle.edit_program.proofs.ShownLemmas.{shown_ended, shown_fault, shown_small, shown_unasked, shown_why}
+use Rattle.std.proofs.lemmas.Result.{IfErr-weaker}
+use Rattle.edit_program.proofs.CountLemmas.{shown_counts}
 use Rattle.edit_program.proofs.program.answer.Goals as goal
 
 pub returns-in-Err-clause-status : goal.returns-in-Err-clause-status
@@ -30,6 +32,19 @@ returns-in-Err-clause-why g c =
     c.in-Err.error c.shown.result _ _ _ _ _
     c.in_ok-command.ensures.app c.in-Err.ensures.passes
     (c.in-Err.ensures.kinds c.in_ok-command.ensures.free) c.shown.ensures.refused
+
+pub returns-in-Err-clause-asked : goal.returns-in-Err-clause-asked
+returns-in-Err-clause-asked g c = shown_unasked c.shown.result _ c.shown.ensures.small
+
+pub returns-in-Some-subcommand-clause-asked : goal.returns-in-Some-subcommand-clause-asked
+returns-in-Some-subcommand-clause-asked g c =
+    let words = map (λ (w : Bor (List ℕ)). w.now) c.args.words.now in
+    let met = c.in-Some-subcommand in
+    let entered = entered_by (app_of c.in_ok-command.command) words c.in-Ok.matches met.matches.now
+    met.name.now c.in_ok-command.ensures.app c.in_ok-command.ensures.simple c.in-Ok.ensures.matches
+    (c.in-Ok.ensures.kinds c.in_ok-command.ensures.free) met.ensures.name met.ensures.rows in
+    command_asked words met.name.now (rows_of (found_of met.matches.now)) c.subcommand_asked.result
+    entered c.subcommand_asked.ensures.asked
 
 pub returns-in-Some-subcommand-clause-fault : goal.returns-in-Some-subcommand-clause-fault
 returns-in-Some-subcommand-clause-fault g c =
@@ -77,3 +92,7 @@ returns-in-None-clause-fault g c two = inr (inl (none_by (app_of c.in_ok-command
 
 pub returns-in-None-clause-ended : goal.returns-in-None-clause-ended
 returns-in-None-clause-ended g c other t = absurd (other refl)
+
+pub returns-in-Err-clause-counted : goal.returns-in-Err-clause-counted
+returns-in-Err-clause-counted g c =
+    IfErr-weaker c.shown.result _ _ (λ x h. shown_counts x.error h) c.shown.ensures.refused

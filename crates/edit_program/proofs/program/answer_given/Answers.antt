@@ -4,7 +4,7 @@ use Rattle.std.specs.Io.KnownBytes.{Appends}
 use Rattle.edit_sources.specs.Configured.{given}
 use Rattle.edit_words.specs.Filled.{filled}
 use Rattle.edit_program.specs.Run.{run_at}
-use Rattle.edit_program.specs.Runs.{AreAtFault, IsEnded, IsRefused, IsRunCause}
+use Rattle.edit_program.specs.Runs.{AreAtFault, AskToCheck, IsEnded, IsRefused, IsRunCause}
 use Rattle.edit_program.proofs.program.answer_given.Goals as goal
 
 pub returns-clause-fault : goal.returns-clause-fault
@@ -47,3 +47,10 @@ returns-clause-why g c =
     (run_at c.args.place.now.current.now
     (given c.args.place.now.cargo_home) (g.T.Store.view c.args.index_files) (g.S.Store.view c.args.files.now)
     (g.S.Store.view c.answer.new.files)) r.error)) same c.answer.ensures.why
+
+pub returns-clause-asked : goal.returns-clause-asked
+returns-clause-asked g c =
+    let same : map (λ (w : Bor (List ℕ)). w.now) c.as_slice.result.now
+    ≡ filled (map (λ (w : Bor (List ℕ)). w.now) c.args.words.now) = search rules in
+    subst (λ (ws : List (List ℕ)). IfOk c.answer.result (λ s. s ≡ 1 → AskToCheck ws)) same
+    c.answer.ensures.asked

@@ -8,14 +8,16 @@ returns-in-Ok-clause-done g c zero t =
     (c.in-Ok.ensures.ended (λ two. omega (arith, zero, two)) t) zero
 
 pub returns-in-Ok-clause-failed : goal.returns-in-Ok-clause-failed
-returns-in-Ok-clause-failed g c one = inl (λ t.
-    ended_found _ c.in-Ok.status _ _ _
-    (c.in-Ok.ensures.ended (λ two. omega (arith, one, two)) t) one)
+returns-in-Ok-clause-failed g c one = inl (
+  c.in-Ok.ensures.asked one,
+  λ t. ended_found _ c.in-Ok.status _ _ _ (c.in-Ok.ensures.ended (λ two. omega (arith, one, two)) t) one,
+)
 
 pub returns-in-Err-clause-failed : goal.returns-in-Err-clause-failed
 returns-in-Err-clause-failed g c one = inr (record {
   error = c.in-Err.refusal.error;
   cause = c.in-Err.ensures.why;
+  counted = c.in-Err.ensures.counted;
   printed = g.E.Write.contents c.answer_given.new.err;
   left = c.in-Err.ensures.refused;
 })

@@ -1,9 +1,9 @@
 -- Each write makes one output more whole, and the first refused one stops.
-use Rattle.std.proofs.Common.{◌∙◌, arith, subst}
-use Rattle.edit_report.proofs.ApplyLemmas.{on_refusal, stopped_at, written_more}
+use Rattle.std.proofs.Common.{◌∙◌, arith, refl, subst}
+use Rattle.edit_report.proofs.ApplyLemmas.{on_refusal, stopped_at, written_more, written_none}
 use Rattle.edit_report.specs.Applied.{IsWhole, path_of}
 use Rattle.edit_report.specs.declared.output.Output.{Output}
-use Rattle.edit_store.specs.Store.{SameBut}
+use Rattle.edit_store.specs.Store.{IsWrittenAtMostOnce, IsWrittenOnce, SameBut}
 use Rattle.edit_report.proofs.output.write_all.Goals as goal
 
 pub returns-in_err-write_output-clause-stopped : goal.returns-in_err-write_output-clause-stopped
@@ -13,7 +13,17 @@ returns-in_err-write_output-clause-stopped g c =
     on_refusal _ _ (stopped_at c.args.outputs.now c.loop-output.output-index c.output-item.result
     (g.S.Store.view c.args.store.now) mid new c.requires (omega arith) c.loop-output.invariant.written
     (subst (λ (o : Output). SameBut (path_of o) mid.file_at new.file_at) c.output-item.is
-    c.write_output.ensures.others))
+    c.write_output.ensures.others)
+    (subst (λ (o : Output). IsWrittenAtMostOnce (path_of o) mid new) c.output-item.is
+    c.in_err-write_output.ensures.at_most_once))
+
+pub loop-output-init : goal.loop-output-init
+loop-output-init g c = record {
+  tells = refl;
+  later = omega arith;
+  written = written_none (g.S.Store.view c.args.store.now);
+  ready = refl;
+}
 
 pub loop-output-preserved : goal.loop-output-preserved
 loop-output-preserved g c =
@@ -27,6 +37,8 @@ loop-output-preserved g c =
           c.loop-output.invariant.written
           (λ t. subst (IsWhole new.file_at) c.output-item.is (c.in_ok-write_output.ensures.written t))
           (subst (λ (o : Output). SameBut (path_of o) mid.file_at new.file_at) c.output-item.is
-          c.write_output.ensures.others);
+          c.write_output.ensures.others)
+          (subst (λ (o : Output). IsWrittenOnce (path_of o) mid new) c.output-item.is
+          c.in_ok-write_output.ensures.once);
       ready = c.write_output.ensures.ready ∙ c.loop-output.invariant.ready;
     }

@@ -1,11 +1,6 @@
-use Rattle.std.proofs.Common.{◌≡◌, ℕ, List, []}
-use Rattle.std.specs.Prelude.{string_bytes}
-use Rattle.std.specs.List.{filter}
-use Rattle.std.specs.Option.{option_map_or}
-use Rattle.std.specs.Str.{bytes_eq}
-use Rattle.std.specs.BTreeMap.{get_by_text}
+use Rattle.edit_sources.proofs.RunLemmas.{HasGrouped}
 use Rattle.edit_sources.proofs.file_index.grouped.Given as goal
 
+-- the entries so far stand in the groups, but for the last ones, which are of one name
 abbrev pub invariant-loop-entry : goal.invariant-loop-entry
-invariant-loop-entry l = (q : List ℕ) → option_map_or (λ g. g.items) (get_by_text l.groups q) []
-    ≡ filter (λ e. bytes_eq q (string_bytes e.name)) l.yielded
+invariant-loop-entry l = HasGrouped l.groups l.run.items l.yielded

@@ -1,4 +1,4 @@
-use Rattle.std.proofs.Common.{◌≡◌, false, length, None, Some, refl, arith}
+use Rattle.std.proofs.Common.{◌≡◌, false, None, Some, refl, arith}
 use Rattle.json.specs.Json.{read_key}
 use Rattle.edit_json.proofs.MemberLoop.{begin, member-more, over}
 use Rattle.edit_sources.specs.LineFields.{Shows}

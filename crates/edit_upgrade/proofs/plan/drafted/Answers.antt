@@ -8,6 +8,7 @@ use Rattle.edit_tree.specs.Shown.{Shown}
 use Rattle.edit_metadata.specs.declared.input.Input.{Input}
 use Rattle.edit_cache.specs.IndexCache.{index_of}
 use Rattle.edit_sources.specs.declared.config.Config.{Config}
+use Rattle.edit_upgrade.specs.ConfigLists.{lists_in}
 use Rattle.edit_upgrade.specs.Drafts.{IsDraft}
 use Rattle.edit_upgrade.specs.Looks.{kept_by}
 use Rattle.edit_upgrade.specs.Missing.{AreKnown}
@@ -31,7 +32,7 @@ inputs-init g c = record {
   known = known-start c.args.asked.options.now (contains_text c.new-draft.result.known)
       c.new-draft.ensures.known;
   utf8 = λ e. All-nil (λ (x : Input). IsUtf8 x.bytes.items);
-  left = leaves-same (IsNeeded c.args.inputs.now c.args.configs.now)
+  left = leaves-same (IsNeeded c.args.inputs.now (lists_in c.args.configs))
       (g.I.Index.view (index_of c.args.index.now)).gives
       (g.I.Index.view (index_of c.args.index.now)).faults (kept_by c.args.index.now);
 }
@@ -49,7 +50,7 @@ inputs-preserved g c =
     let was = cache_view g.I.Index.view c.args.index.now in
     let now = cache_view g.I.Index.view c.inputs.index in
     let next = cache_view g.I.Index.view c.add_read.new.index in
-    let at = input-at c.inputs-test.true c.requires.configurations c.index-inputs-i.is c.index-configs-i.is
+    let at = input-at c.inputs-test.true c.requires.configurations c.index-inputs-i.is c.list_of-own.ensures
     c.deref.ensures.value in
     record {
       draft = draft-next c.args.asked.options.now was now next c.inputs.draft c.add_read.new.draft at
@@ -71,9 +72,9 @@ inputs-preserved g c =
 pub returns-clause-drafted : goal.returns-clause-drafted
 returns-clause-drafted g c =
     let whole = take_all c.inputs.i c.args.inputs.now (omega (arith, c.inputs-test.false)) in
-    let whole_configs = take_all c.inputs.i c.args.configs.now
+    let whole_configs = take_all c.inputs.i (lists_in c.args.configs)
     (omega (arith, c.inputs-test.false, c.requires.configurations)) in
-    subst (λ (xs : List Input). IsDraft c.args.asked.options.now xs c.args.configs.now
+    subst (λ (xs : List Input). IsDraft c.args.asked.options.now xs (lists_in c.args.configs)
     (g.I.Index.view (index_of c.args.index.now)).gives (kept_by c.args.index.now)
     (kept_by c.inputs.index) c.inputs.draft) whole
     (subst (λ (cs : List (Vec Config)). IsDraft c.args.asked.options.now
@@ -97,7 +98,7 @@ returns-in_err-add_read-clause-left g c =
     let was = cache_view g.I.Index.view c.args.index.now in
     let now = cache_view g.I.Index.view c.inputs.index in
     let next = cache_view g.I.Index.view c.add_read.new.index in
-    let at = input-at c.inputs-test.true c.requires.configurations c.index-inputs-i.is c.index-configs-i.is
+    let at = input-at c.inputs-test.true c.requires.configurations c.index-inputs-i.is c.list_of-own.ensures
     c.deref.ensures.value in
     left-next was now next at c.inputs.invariant.left c.in_err-add_read.ensures.left
 
@@ -106,7 +107,7 @@ returns-in_err-add_read-clause-given g c =
     let was = cache_view g.I.Index.view c.args.index.now in
     let now = cache_view g.I.Index.view c.inputs.index in
     let next = cache_view g.I.Index.view c.add_read.new.index in
-    let at = input-at c.inputs-test.true c.requires.configurations c.index-inputs-i.is c.index-configs-i.is
+    let at = input-at c.inputs-test.true c.requires.configurations c.index-inputs-i.is c.list_of-own.ensures
     c.deref.ensures.value in
     refusal-has c.from_residual.result c.in_err-add_read.field-0.0 _ c.from_residual.ensures.1
     (λ long. given-refused was now next c.in_err-add_read.field-0.0 at c.inputs.invariant.draft.planned
@@ -119,7 +120,7 @@ returns-in_err-add_read-clause-read g c =
     let was = cache_view g.I.Index.view c.args.index.now in
     let now = cache_view g.I.Index.view c.inputs.index in
     let next = cache_view g.I.Index.view c.add_read.new.index in
-    let at = input-at c.inputs-test.true c.requires.configurations c.index-inputs-i.is c.index-configs-i.is
+    let at = input-at c.inputs-test.true c.requires.configurations c.index-inputs-i.is c.list_of-own.ensures
     c.deref.ensures.value in
     refusal-has c.from_residual.result c.in_err-add_read.field-0.0 _ c.from_residual.ensures.1
     (λ e. read-refused was now next c.in_err-add_read.field-0.0 at c.inputs.invariant.draft.planned

@@ -2,6 +2,7 @@ use Rattle.std.proofs.Common.{◌≡◌, [], take}
 use Rattle.std.specs.Prelude.{All, IsUtf8}
 use Rattle.std.specs.BTreeSet.{contains_text}
 use Rattle.edit_cache.specs.IndexCache.{index_of}
+use Rattle.edit_upgrade.specs.ConfigLists.{lists_in}
 use Rattle.edit_upgrade.specs.Drafts.{IsDraft}
 use Rattle.edit_upgrade.specs.Looks.{kept_by}
 use Rattle.edit_upgrade.specs.Missing.{AreKnown}
@@ -11,11 +12,11 @@ use Rattle.edit_upgrade.proofs.plan.drafted.Given as goal
 
 abbrev pub invariant-inputs : goal.invariant-inputs
 invariant-inputs g l = record {
-  draft : IsDraft l.asked.options.now (take l.i l.inputs) (take l.i l.configs)
+  draft : IsDraft l.asked.options.now (take l.i l.inputs) (take l.i (lists_in l.configs))
       (g.I.Index.view (index_of l.fn.index)).gives
       (kept_by l.fn.index) (kept_by l.index) l.draft;
   utf8 : l.documents ≡ [] → All (λ x. IsUtf8 x.bytes.items) (take l.i l.inputs);
   known : AreKnown l.asked.options.now (take l.i l.inputs) (contains_text l.draft.known);
-  left : LeavesCache (IsNeeded l.inputs l.configs) (cache_view g.I.Index.view l.fn.index)
+  left : LeavesCache (IsNeeded l.inputs (lists_in l.configs)) (cache_view g.I.Index.view l.fn.index)
       (cache_view g.I.Index.view l.index);
 }

@@ -4,6 +4,7 @@ use Rattle.std.specs.BTreeSet.{contains_text}
 use Rattle.std.specs.Global.{Vec}
 use Rattle.std.specs.declared.alloc.Global.{Global}
 use Rattle.edit_upgrade.specs.Caches.{cache_view}
+use Rattle.edit_upgrade.specs.ConfigLists.{lists_in}
 use Rattle.edit_upgrade.specs.Words.{words_of}
 use Rattle.edit_upgrade.proofs.CauseLemmas.{finish-refused, rows-some}
 use Rattle.edit_upgrade.proofs.DraftedInputs.{finished-draft, plan-of}
@@ -17,8 +18,9 @@ returns-clause-plan g c =
     let o = c.args.options.now in
     let old = cache_view g.I.Index.view c.args.index.now in
     let new = cache_view g.I.Index.view c.drafted.new.index in
-    plan-of o c.args.inputs.now c.args.configs.now old new c.in_ok-plan.plan
-    (finished-draft o c.args.inputs.now c.args.configs.now old new c.in_ok-draft.draft c.in_ok-plan.plan
+    plan-of o c.args.inputs.now (lists_in c.args.configs) old new c.in_ok-plan.plan
+    (finished-draft o c.args.inputs.now (lists_in c.args.configs) old new c.in_ok-draft.draft
+    c.in_ok-plan.plan
     c.in_ok-draft.ensures.drafted c.in_ok-plan.ensures.rows c.in_ok-plan.ensures.outputs)
     c.requires.configurations c.in_ok-plan.ensures.lists
     (missing-are o c.args.inputs.now (contains_text c.in_ok-draft.draft.known)
@@ -42,7 +44,7 @@ returns-in_err-plan-clause-read g c =
     c.from_residual-in_err-plan.ensures.1
     (λ none. inr (
       c.in_ok-picks.ensures.ok.words.each,
-      finish-refused c.args.inputs.now c.args.configs.now (cache_view g.I.Index.view c.args.index.now)
+      finish-refused c.args.inputs.now (lists_in c.args.configs) (cache_view g.I.Index.view c.args.index.now)
           (cache_view g.I.Index.view c.drafted.new.index) c.in_err-plan.field-0.0
           c.in_ok-draft.ensures.drafted.planned c.requires.configurations
           (rows-some c.in_ok-draft.draft.rows.items c.in_err-plan.ensures.refused.1)

@@ -9,6 +9,9 @@ use Rattle.edit_program.specs.Printed.{shown}
 use Rattle.edit_program.specs.SetVersions.{AreDelivered, HasStoppedAt}
 use Rattle.edit_program.proofs.PrintedLemmas.{printed_all}
 use Rattle.edit_program.proofs.SetVersionLemmas.{plan_cause, planned_to, stream_cause, written_differ}
+use Rattle.edit_base.specs.declared.errors.DeviceCall.TheVariants as call
+use Rattle.edit_steps.specs.Faults.{CountsFault}
+use Rattle.edit_program.proofs.CountLemmas.{call_counts, fault_before}
 use Rattle.edit_program.proofs.set_version_run.command.set_version.Goals as goal
 
 pub returns-in_err-plan-clause-why : goal.returns-in_err-plan-clause-why
@@ -82,3 +85,14 @@ returns-in_err-write_outputs-clause-refused g c =
     (subst (λ os. HasStopped os old new) c.written.ensures
     (stopped_after _ old (g.S.Store.view c.read_workspace.new.files) new c.in_ok-read.ensures.reads
     c.in_err-write_outputs.ensures.stopped)) t))
+
+pub returns-in_err-write_outputs-clause-counted : goal.returns-in_err-write_outputs-clause-counted
+returns-in_err-write_outputs-clause-counted g c =
+    let old = g.S.Store.view c.args.files.now in
+    let mid = g.S.Store.view c.read_workspace.new.files in
+    let new = g.S.Store.view c.write_outputs.new.files in
+    let e = c.in_err-write_outputs.field-0.0 in
+    refusal_has c.from_residual-in_err-write_outputs.result e (λ error. CountsFault old new error)
+    c.from_residual-in_err-write_outputs.ensures.1
+    (fault_before old mid new e.error c.in_ok-read.ensures.reads.later
+    (call_counts call.Write mid new e.error c.in_err-write_outputs.ensures.refused))

@@ -1,5 +1,6 @@
-use Rattle.std.proofs.Common.{subst, sym}
+use Rattle.std.proofs.Common.{◌∙◌, ap, subst, sym}
 use Rattle.std.proofs.lemmas.List.Elements.{All-map}
+use Rattle.edit_base.specs.Errors.{number_of}
 use Rattle.edit_metadata.specs.Inputs.{AreInputs}
 use Rattle.edit_metadata.specs.Metadata.{PackageSaid}
 use Rattle.edit_metadata.specs.Workspaces.{package_said, workspace_said}
@@ -9,6 +10,7 @@ use Rattle.edit_set_version.specs.Selections.{asked_of}
 use Rattle.edit_version.specs.Laws.{IsReadable}
 use Rattle.edit_program.specs.Plans.{IsVersionPlan}
 use Rattle.edit_program.specs.SetVersions.{no_rust}
+use Rattle.edit_program.proofs.CountLemmas.{versions_count}
 use Rattle.edit_program.proofs.set_version_run.plan.plan_for.Goals as goal
 
 pub plan_set_version-requires-clause-inputs : goal.plan_set_version-requires-clause-inputs
@@ -37,3 +39,11 @@ returns-in-Err-clause-refused c =
     let w = workspace_said c.args.read.now.workspace in
     subst (λ is. IsCauseOf t a w is c.explain_set_version.result.error) c.as_slice.ensures.value
     (subst (λ e. IsCauseOf t a w c.as_slice.result.now e) (sym c.explain_set_version.ensures) c.in-Err.ensures.refused)
+
+pub returns-in-Err-clause-counted : goal.returns-in-Err-clause-counted
+returns-in-Err-clause-counted c device =
+    let t = target_of c.args.words.now.target in
+    let a = asked_of c.args.words.now.selection in
+    let w = workspace_said c.args.read.now.workspace in
+    versions_count t a w c.as_slice.result.now c.in-Err.error c.in-Err.ensures.refused
+    (sym (ap number_of c.explain_set_version.ensures) ∙ device)

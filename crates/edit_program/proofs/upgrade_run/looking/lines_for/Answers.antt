@@ -1,10 +1,15 @@
-use Rattle.std.proofs.Common.{◌≡◌, inl, subst}
+use Rattle.std.proofs.Common.{◌≡◌, ◌≢◌, inl, subst}
 use Rattle.std.proofs.lemmas.Result.{IfErr-weaker, IfOk-weaker}
 use Rattle.std.specs.List.{flat_map}
 use Rattle.std.specs.Prelude.{◌⊎◌, IfErr, IfOk, string_bytes}
 use Rattle.edit_base.specs.Errors.{IsMemory, number_of}
+use Rattle.edit_steps.specs.Shared.{lists_for}
+use Rattle.edit_base.specs.declared.errors.Error.{Error}
 use Rattle.edit_program.specs.LookLines.{HasBadLook, look_line}
+use Rattle.edit_upgrade.proofs.PlannedLemmas.{refusal-has}
 use Rattle.edit_program.proofs.LookLemmas.{lines_refused, looks_needed}
+use Rattle.edit_program.proofs.CountLemmas.{memory_counts}
+use Rattle.edit_program.proofs.IndexFaults.{none_raised}
 use Rattle.edit_program.proofs.upgrade_run.looking.lines_for.Goals as goal
 
 pub returns-clause-lines : goal.returns-clause-lines
@@ -13,7 +18,7 @@ returns-clause-lines c =
     (λ text is. record {
       plan = c.in_ok-plan.plan;
       planned = c.in_ok-plan.ensures.planned;
-      needed = looks_needed c.args.options.now c.args.target.now.inputs.items c.args.configs.now
+      needed = looks_needed c.args.options.now c.args.target.now.inputs.items (lists_for c.args.configs.now)
           c.in_ok-plan.plan c.in_ok-plan.ensures.planned;
       in_order = c.in_ok-plan.ensures.planned.is.looks_in_order;
       is = is;
@@ -24,7 +29,21 @@ returns-clause-lines c =
 pub returns-clause-refused : goal.returns-clause-refused
 returns-clause-refused c =
     IfErr-weaker c.looks_text.result _ _
-    (λ e h. inl (lines_refused c.args.options.now c.args.target.now.inputs.items c.args.configs.now
-    c.in_ok-plan.plan e c.in_ok-plan.ensures.planned h))
+    (λ e h. inl (lines_refused c.args.options.now c.args.target.now.inputs.items
+    (lists_for c.args.configs.now) c.in_ok-plan.plan e c.in_ok-plan.ensures.planned h))
     (subst (λ looks. IfErr c.looks_text.result (λ e. IsMemory e ⊎ HasBadLook looks (number_of e)))
     c.deref.ensures.value c.looks_text.ensures.refused)
+
+pub returns-clause-counted : goal.returns-clause-counted
+returns-clause-counted c =
+    IfErr-weaker c.looks_text.result _ _
+    (λ e h. memory_counts e (lines_refused c.args.options.now c.args.target.now.inputs.items
+    (lists_for c.args.configs.now) c.in_ok-plan.plan e c.in_ok-plan.ensures.planned h))
+    (subst (λ looks. IfErr c.looks_text.result (λ e. IsMemory e ⊎ HasBadLook looks (number_of e)))
+    c.deref.ensures.value c.looks_text.ensures.refused)
+
+pub returns-in_err-plan-clause-counted : goal.returns-in_err-plan-clause-counted
+returns-in_err-plan-clause-counted c =
+    refusal-has c.from_residual.result c.in_err-plan.field-0.0 (λ (e : Error). number_of e ≢ 3)
+    c.from_residual.ensures.1
+    (λ device. none_raised (c.in_err-plan.ensures.counted device).1)

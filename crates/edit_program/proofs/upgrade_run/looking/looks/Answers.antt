@@ -1,15 +1,11 @@
 use Rattle.std.proofs.Common.{subst, sym}
 use Rattle.std.specs.Io.KnownBytes.{Appends}
-use Rattle.std.specs.Prelude.{◌⊎◌, string_bytes}
-use Rattle.edit_base.specs.Errors.{IsMemory}
-use Rattle.edit_program.specs.NoIndex.{no_view}
+use Rattle.std.specs.Prelude.{string_bytes}
 use Rattle.edit_sources.specs.Configured.{given}
 use Rattle.edit_steps.proofs.Refusals.{refusal_has}
 use Rattle.edit_steps.specs.Causes.{IsReadCause}
 use Rattle.edit_steps.specs.Sources.{AreRead}
 use Rattle.edit_program.specs.UpgradeCauses.{IsLooksCause}
-use Rattle.edit_program.specs.Looking.{AreLinesOf}
-use Rattle.edit_program.specs.Planned.{IsPlanCause}
 use Rattle.edit_metadata.proofs.InputLemmas.{reads-on}
 use Rattle.edit_program.proofs.LookLemmas.{unplanned_cause, unread_cause}
 use Rattle.edit_program.proofs.upgrade_run.looking.looks.Goals as goal
@@ -40,9 +36,7 @@ returns-in-Err-clause-why g c =
     (unplanned_cause words current home old new s c.in-Err.error
     (λ t. subst (λ a. AreRead old.file_at current home a s) c.asked_for_looks.ensures
     (c.in_ok-sources.ensures.read t))
-    (subst (λ cs. IsMemory c.in-Err.error
-    ⊎ IsPlanCause words.options s.target.inputs.items cs no_view c.in-Err.error)
-    c.deref.ensures.value c.in-Err.ensures.refused))
+    c.in-Err.ensures.refused)
 
 pub returns-in-Err-clause-reads : goal.returns-in-Err-clause-reads
 returns-in-Err-clause-reads g c =
@@ -60,9 +54,7 @@ returns-clause-done g c = λ t.
       text = string_bytes c.in-Ok.lines;
       read = subst (λ a. AreRead old.file_at current home a s) c.asked_for_looks.ensures
           (c.in_ok-sources.ensures.read t);
-      lines = subst (λ cs. AreLinesOf c.args.words.now.options s.target.inputs.items cs
-          (string_bytes c.in-Ok.lines))
-          c.deref.ensures.value c.in-Ok.ensures.lines;
+      lines = c.in-Ok.ensures.lines;
       shows = subst (Appends (g.O.Write.contents c.args.out.now)
           (g.O.Write.contents c.shell_write_stdout.new.out)) c.as_str.ensures.value
           c.in_ok-shell_write_stdout.ensures.bytes;

@@ -1,54 +1,80 @@
-use Rattle.std.proofs.Common.{subst}
-use Rattle.std.proofs.lemmas.Result.{IfErr-weaker, IfOk-weaker}
+use Rattle.std.proofs.Common.{◌≡◌, List, ℕ, subst, sym}
+use Rattle.std.proofs.lemmas.Result.{IfOk-weaker}
+use Rattle.std.specs.Global.{Vec}
 use Rattle.std.specs.Prelude.{◌⊎◌, IfErr, IfOk}
 use Rattle.edit_base.specs.Errors.{IsMemory}
-use Rattle.edit_upgrade.specs.Caches.{cache_view}
+use Rattle.edit_metadata.specs.declared.input.Input.{Input}
+use Rattle.edit_sources.specs.declared.config.Config.{Config}
+use Rattle.edit_tree.specs.Shown.{Shown}
+use Rattle.edit_steps.specs.Shared.{lists_for}
+use Rattle.edit_steps.specs.Sources.{AreDocuments}
+use Rattle.edit_upgrade.specs.ConfigLists.{AreIndices, chosen_lists}
 use Rattle.edit_program.specs.Planned.{IsPlanCause, IsPlanned}
-use Rattle.edit_program.proofs.PlanClauses.{one_plan}
-use Rattle.edit_program.proofs.PlanLemmas.{bytes_refused, documents_refused, planned}
+use Rattle.edit_program.proofs.CountLemmas.{shared_count}
+use Rattle.edit_program.proofs.PlanLemmas.{both_causes, planned, shared_refused}
 use Rattle.edit_program.proofs.upgrade_run.plan.plan_over.Goals as goal
 
-pub returns-then-is_empty-clause-planned : goal.returns-then-is_empty-clause-planned
-returns-then-is_empty-clause-planned g c =
-    let o = c.args.options.now in
-    let is = c.deref.result.now in
-    let e = c.plan_upgrade.ensures in
-    subst (λ inputs. IfOk c.plan_upgrade.result
-    (IsPlanned o inputs c.args.configs.now (g.I.Index.view c.args.index))) c.deref.ensures.value
-    (IfOk-weaker c.plan_upgrade.result _ _
-    (λ p h. planned g.I.Index.view c.args.index o is c.args.configs.now c.new-cache.result
-    c.plan_upgrade.new.index p c.new-cache.ensures.index c.new-cache.ensures.empty h)
-    (one_plan o is c.args.configs.now (cache_view g.I.Index.view c.new-cache.result)
-    (cache_view g.I.Index.view c.plan_upgrade.new.index) c.plan_upgrade.result e.rows e.rows_in_order
-    e.outputs e.outputs_in_order e.warnings e.warnings_in_order e.narrowing e.reach e.latest e.never_lower
-    e.fixed_point e.needs e.missing e.looks e.looks_in_order e.lists))
+-- documents of inputs, as the slices of both have them
+documents_of : (all : List Shown) (inputs : List Input) (docs : List Shown) (is : List Input) → docs ≡ all
+    → is ≡ inputs → AreDocuments all inputs → AreDocuments docs is
+documents_of all inputs docs is one two h =
+    subst (AreDocuments docs) (sym two) (subst (λ (ds : List Shown). AreDocuments ds inputs) (sym one) h)
 
-pub returns-then-is_empty-clause-refused : goal.returns-then-is_empty-clause-refused
-returns-then-is_empty-clause-refused g c =
-    let o = c.args.options.now in
-    subst (λ inputs. IfErr c.plan_upgrade.result (λ e. IsMemory e
-    ⊎ IsPlanCause o inputs c.args.configs.now (g.I.Index.view c.args.index) e)) c.deref.ensures.value
-    (IfErr-weaker c.plan_upgrade.result _ _
-    (λ e h. bytes_refused g.I.Index.view c.args.index o c.deref.result.now c.args.configs.now
-    c.new-cache.result c.plan_upgrade.new.index e c.new-cache.ensures.index c.new-cache.ensures.empty h)
-    c.plan_upgrade.ensures.refused)
+pub plan_shared-requires-clause-documents : goal.plan_shared-requires-clause-documents
+plan_shared-requires-clause-documents g c =
+    documents_of c.args.target.now.documents.items c.args.target.now.inputs.items c.deref-2.result.now
+    c.deref.result.now c.deref-2.ensures.value c.deref.ensures.value c.requires.documents
+
+pub plan_shared-requires-clause-lists : goal.plan_shared-requires-clause-lists
+plan_shared-requires-clause-lists g c =
+    subst (λ (ls : List (Vec Config)). AreIndices ls c.deref-4.result.now) (sym c.deref-3.ensures.value)
+    (subst (AreIndices c.args.configs.now.lists.items) (sym c.deref-4.ensures.value) c.requires.lists)
 
 pub returns-clause-planned : goal.returns-clause-planned
 returns-clause-planned g c =
     let o = c.args.options.now in
-    subst (λ inputs. IfOk c.plan_documents.result
-    (IsPlanned o inputs c.args.configs.now (g.I.Index.view c.args.index))) c.deref-2.ensures.value
-    (IfOk-weaker c.plan_documents.result _ _
-    (λ p h. planned g.I.Index.view c.args.index o c.deref-2.result.now c.args.configs.now c.new-cache.result
-    c.plan_documents.new.index p c.new-cache.ensures.index c.new-cache.ensures.empty h)
-    c.plan_documents.ensures.plan)
+    let is = c.deref.result.now in
+    let view = g.I.Index.view c.args.index in
+    let r = c.plan_shared.result in
+    subst (λ (xs : List Input). IfOk r (IsPlanned o xs (lists_for c.args.configs.now) view))
+    c.deref.ensures.value
+    (subst (λ (ls : List (Vec Config)).
+    IfOk r (IsPlanned o is (chosen_lists ls c.args.configs.now.which.items) view)) c.deref-3.ensures.value
+    (subst (λ (js : List ℕ). IfOk r (IsPlanned o is (chosen_lists c.deref-3.result.now js) view))
+    c.deref-4.ensures.value
+    (IfOk-weaker r _ _ (λ p h. planned g.I.Index.view c.args.index o is
+    (chosen_lists c.deref-3.result.now c.deref-4.result.now) c.new-cache.result c.plan_shared.new.index p
+    c.new-cache.ensures.index c.new-cache.ensures.empty h) c.plan_shared.ensures.plan)))
 
 pub returns-clause-refused : goal.returns-clause-refused
 returns-clause-refused g c =
     let o = c.args.options.now in
-    subst (λ inputs. IfErr c.plan_documents.result (λ e. IsMemory e
-    ⊎ IsPlanCause o inputs c.args.configs.now (g.I.Index.view c.args.index) e)) c.deref-2.ensures.value
-    (IfErr-weaker c.plan_documents.result _ _
-    (λ e h. documents_refused g.I.Index.view c.args.index o c.deref-2.result.now c.args.configs.now
-    c.new-cache.result c.plan_documents.new.index e c.new-cache.ensures.index c.new-cache.ensures.empty h)
-    c.plan_documents.ensures.refused)
+    let is = c.deref.result.now in
+    let docs = c.deref-2.result.now in
+    let view = g.I.Index.view c.args.index in
+    let r = c.plan_shared.result in
+    let documents = documents_of c.args.target.now.documents.items c.args.target.now.inputs.items docs is
+    c.deref-2.ensures.value c.deref.ensures.value c.requires.documents in
+    subst (λ (xs : List Input). IfErr r
+    (λ e. IsMemory e ⊎ IsPlanCause o xs (lists_for c.args.configs.now) view e)) c.deref.ensures.value
+    (subst (λ (ls : List (Vec Config)). IfErr r
+    (λ e. IsMemory e ⊎ IsPlanCause o is (chosen_lists ls c.args.configs.now.which.items) view e))
+    c.deref-3.ensures.value
+    (subst (λ (js : List ℕ). IfErr r
+    (λ e. IsMemory e ⊎ IsPlanCause o is (chosen_lists c.deref-3.result.now js) view e))
+    c.deref-4.ensures.value
+    (both_causes r _ _ _ (λ e given read. shared_refused g.I.Index.view c.args.index o is
+    (chosen_lists c.deref-3.result.now c.deref-4.result.now) docs c.new-cache.result c.plan_shared.new.index e
+    c.new-cache.ensures.index c.new-cache.ensures.empty documents given read)
+    c.plan_shared.ensures.given c.plan_shared.ensures.read)))
+
+pub returns-clause-counted : goal.returns-clause-counted
+returns-clause-counted g c =
+    let is = c.deref.result.now in
+    let docs = c.deref-2.result.now in
+    let documents = documents_of c.args.target.now.documents.items c.args.target.now.inputs.items docs is
+    c.deref-2.ensures.value c.deref.ensures.value c.requires.documents in
+    both_causes c.plan_shared.result _ _ _ (λ e given read. shared_count g.I.Index.view c.args.index
+    c.args.options.now is (chosen_lists c.deref-3.result.now c.deref-4.result.now) docs c.new-cache.result
+    c.plan_shared.new.index e c.new-cache.ensures.index documents given read)
+    c.plan_shared.ensures.given c.plan_shared.ensures.read

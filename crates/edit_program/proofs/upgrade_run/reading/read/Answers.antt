@@ -5,6 +5,8 @@ use Rattle.edit_steps.proofs.Refusals.{refusal_has}
 use Rattle.edit_steps.specs.Causes.{IsReadCause}
 use Rattle.edit_program.specs.LockRead.{HasNoLock}
 use Rattle.edit_program.specs.Planned.{asking}
+use Rattle.edit_steps.specs.Faults.{CountsFault}
+use Rattle.edit_program.proofs.CountLemmas.{fault_before}
 use Rattle.edit_program.proofs.LockLemmas.{cause_after, lock_refused}
 use Rattle.edit_program.proofs.upgrade_run.reading.read.Goals as goal
 
@@ -36,3 +38,13 @@ returns-in_err-sources-clause-refused g c =
     c.from_residual-in_err-sources.ensures.1
     (inl (cause_after old mid new current home (asking words) e.error c.in_ok-lock.ensures.store
     (subst (λ a. IsReadCause current home a mid new e.error) c.asked.ensures c.in_err-sources.ensures.refused)))
+
+pub returns-in_err-sources-clause-counted : goal.returns-in_err-sources-clause-counted
+returns-in_err-sources-clause-counted g c =
+    let old = g.S.Store.view c.args.files.now in
+    let mid = g.S.Store.view c.read_lock.new.files in
+    let new = g.S.Store.view c.read_sources.new.files in
+    let e = c.in_err-sources.field-0.0 in
+    refusal_has c.from_residual-in_err-sources.result e (λ error. CountsFault old new error)
+    c.from_residual-in_err-sources.ensures.1
+    (fault_before old mid new e.error c.in_ok-lock.ensures.store.later c.in_err-sources.ensures.counted)

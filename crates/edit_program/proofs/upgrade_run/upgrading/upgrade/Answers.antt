@@ -1,7 +1,7 @@
-use Rattle.std.proofs.Common.{◌≡◌, ◌∙◌, ap, inl, option_map, subst, sym, true}
+use Rattle.std.proofs.Common.{◌≡◌, ◌∙◌, ap, inl, inr, option_map, subst, sym, true}
 use Rattle.std.specs.Prelude.{◌⊎◌}
 use Rattle.std.specs.Io.KnownBytes.{Appends}
-use Rattle.edit_base.specs.Errors.{IsMemory}
+use Rattle.edit_base.specs.Errors.{IsMemory, number_of}
 use Rattle.edit_sources.specs.Configured.{given}
 use Rattle.edit_steps.proofs.Refusals.{refusal_has}
 use Rattle.edit_report.specs.Applied.{HaveDistinctPaths}
@@ -13,12 +13,13 @@ use Rattle.edit_program.specs.Said.{AreWarningsInOrder}
 use Rattle.edit_program.specs.Tables.{AreInOrder}
 use Rattle.edit_program.specs.TellingCauses.{IsDeliveryCause}
 use Rattle.edit_program.specs.UpgradeCauses.{IsUpgradeCause}
-use Rattle.edit_program.specs.Planned.{IsPlanCause, IsPlanned, index_view}
 use Rattle.edit_lock.specs.Views.{packages_seen}
 use Rattle.edit_program.specs.LockRead.{IsLockRead}
 use Rattle.edit_program.specs.Upgrading.{IsPathOf, IsRead}
+use Rattle.edit_program.proofs.CountLemmas.{delivery_counts, fault_before}
 use Rattle.edit_program.proofs.OrderLemmas.{rows_in_order, warnings_in_order}
 use Rattle.edit_program.proofs.UpgradeLemmas.{answered, broken, plan_cause, lock_cause, plan_paths, same_lock, stop_cause, upgraded}
+use Rattle.edit_program.specs.Counted.{CountsEitherFault}
 use Rattle.edit_program.proofs.upgrade_run.upgrading.upgrade.Goals as goal
 
 pub returns-in_err-readings-clause-why : goal.returns-in_err-readings-clause-why
@@ -53,9 +54,7 @@ returns-in-Err-clause-why g c =
     (sym c.explain_upgrade.ensures.same)
     (plan_cause (Appends out out) words current home local old mid s c.in-Err.error
     (λ path. c.explain_upgrade.ensures.reads.files path ∙ c.in_ok-readings.ensures.store.files path) read
-    (subst (λ cs. IsMemory c.in-Err.error
-    ⊎ IsPlanCause words.options s.target.inputs.items cs (index_view s.index local) c.in-Err.error)
-    c.deref.ensures.value c.in-Err.ensures.refused))
+    c.in-Err.ensures.refused)
 
 pub returns-in-Err-clause-tells : goal.returns-in-Err-clause-tells
 returns-in-Err-clause-tells g c = c.explain_upgrade.ensures.reads.tells ∙ c.in_ok-readings.ensures.store.tells
@@ -71,8 +70,7 @@ deliver-requires-clause-outputs g c =
     let local = g.T.Store.view c.args.index_files in
     subst (λ p. HaveDistinctPaths p.outputs.items) (sym (ap (λ (d : Delivery). d.plan) c.delivery_task-task.ensures))
     (plan_paths words s local c.in-Ok.plan c.in_ok-readings.ensures.planned.paths
-    (subst (λ cs. IsPlanned words.options s.target.inputs.items cs (index_view s.index local) c.in-Ok.plan)
-    c.deref.ensures.value c.in-Ok.ensures.planned))
+    c.in-Ok.ensures.planned)
 
 pub deliver-requires-clause-rows : goal.deliver-requires-clause-rows
 deliver-requires-clause-rows g c =
@@ -102,8 +100,7 @@ returns-in-Ok-deliver-clause-done g c =
     let path = given c.as_deref-path.result in
     let read : old.tells ≡ true → IsRead words current home old.file_at s =
     c.in_ok-readings.ensures.read in
-    let planned = subst (λ cs. IsPlanned words.options s.target.inputs.items cs (index_view s.index local) plan)
-    c.deref.ensures.value c.in-Ok.ensures.planned in
+    let planned = c.in-Ok.ensures.planned in
     let at = subst (IsPathOf current (given words.update_calls)) (sym c.as_deref-path.ensures.value)
     c.in_ok-named.ensures.path in
     let lock = option_map (λ l. packages_seen l.now) c.as_ref-lock.result in
@@ -131,8 +128,7 @@ returns-clause-refused g c =
     let path = given c.as_deref-path.result in
     let read : old.tells ≡ true → IsRead words current home old.file_at s =
     c.in_ok-readings.ensures.read in
-    let planned = subst (λ cs. IsPlanned words.options s.target.inputs.items cs (index_view s.index local) plan)
-    c.deref.ensures.value c.in-Ok.ensures.planned in
+    let planned = c.in-Ok.ensures.planned in
     let at = subst (IsPathOf current (given words.update_calls)) (sym c.as_deref-path.ensures.value)
     c.in_ok-named.ensures.path in
     let lock = option_map (λ l. packages_seen l.now) c.as_ref-lock.result in
@@ -160,8 +156,7 @@ returns-clause-why g c =
     let path = given c.as_deref-path.result in
     let read : old.tells ≡ true → IsRead words current home old.file_at s =
     c.in_ok-readings.ensures.read in
-    let planned = subst (λ cs. IsPlanned words.options s.target.inputs.items cs (index_view s.index local) plan)
-    c.deref.ensures.value c.in-Ok.ensures.planned in
+    let planned = c.in-Ok.ensures.planned in
     let at = subst (IsPathOf current (given words.update_calls)) (sym c.as_deref-path.ensures.value)
     c.in_ok-named.ensures.path in
     let lock = option_map (λ l. packages_seen l.now) c.as_ref-lock.result in
@@ -174,3 +169,27 @@ returns-clause-why g c =
     c.in_ok-readings.ensures.store read planned at locked
     (subst (λ d. IsDeliveryCause Shows d mid new c.in-Err-deliver.error.error) c.delivery_task-task.ensures
     c.in-Err-deliver.ensures.cause))
+
+pub returns-in-Err-clause-counted : goal.returns-in-Err-clause-counted
+returns-in-Err-clause-counted g c device =
+    inr (c.in-Err.ensures.counted (sym (ap number_of c.explain_upgrade.ensures.same) ∙ device))
+
+pub returns-clause-counted : goal.returns-clause-counted
+returns-clause-counted g c device =
+    let old = g.S.Store.view c.args.files.now in
+    let mid = g.S.Store.view c.read.new.files in
+    let new = g.S.Store.view c.deliver.new.files in
+    let Shows = Appends (g.O.Write.contents c.args.out.now) (g.O.Write.contents c.deliver.new.out) in
+    let e = c.in-Err-deliver.error.error in
+    inl (fault_before old mid new e c.in_ok-readings.ensures.store.later
+    (delivery_counts Shows _ mid new e c.in-Err-deliver.ensures.cause)
+    (sym (ap number_of c.explain_delivery.ensures) ∙ device))
+
+pub returns-in_err-readings-clause-counted : goal.returns-in_err-readings-clause-counted
+returns-in_err-readings-clause-counted g c =
+    let old = g.S.Store.view c.args.files.now in
+    let mid = g.S.Store.view c.read.new.files in
+    let e = c.in_err-readings.field-0.0 in
+    refusal_has c.from_residual-in_err-readings.result e
+    (λ error. CountsEitherFault g.T.Store.view c.args.index_files old mid error)
+    c.from_residual-in_err-readings.ensures.1 (λ device. inl (c.in_err-readings.ensures.counted device))

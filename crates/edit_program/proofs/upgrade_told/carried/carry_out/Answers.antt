@@ -25,7 +25,7 @@ returns-in-Err-clause-stopped g c =
     (g.S.Store.view c.stage_outputs.new.files) (g.S.Store.view c.unstage.new.self) c.stage_outputs.ensures.reads
     (inr (inl (written_still c.args.outputs.now (g.S.Store.view c.stage_outputs.new.files)
     (g.S.Store.view c.write_outputs.new.files) (g.S.Store.view c.unstage.new.self) c.unstage.ensures.files
-    c.in_ok-write_outputs.ensures.written)))
+    c.unstage.ensures.writes c.in_ok-write_outputs.ensures.written)))
 
 pub returns-clause-written : goal.returns-clause-written
 returns-clause-written g c =

@@ -8,6 +8,7 @@ use Rattle.edit_steps.specs.Causes.{IsUnconfigured}
 use Rattle.edit_metadata.proofs.InputLemmas.{reads-on}
 use Rattle.edit_steps.proofs.ReadLemmas.{before}
 use Rattle.edit_steps.specs.Named.{AreConfigured, ArePairRead, pair_of}
+use Rattle.edit_steps.specs.Shared.{lists_for}
 use Rattle.edit_steps.specs.Sources.{IsIndexRead}
 use Rattle.edit_steps.proofs.ReadLemmas.{config_cause, index_cause, named_cause, target_cause}
 use Rattle.edit_steps.proofs.upgrade_read.sources.read_sources.Goals as goal
@@ -54,11 +55,11 @@ returns-in_err-index-clause-refused g c =
     (g.S.Store.view c.args.files.now) (g.S.Store.view c.read_target.new.files)
     (g.S.Store.view c.read_named.new.files) (g.S.Store.view c.read_configurations.new.files)
     (g.S.Store.view c.read_index.new.files) c.in_ok-target.target.workspace
-    c.in_ok-target.target.inputs.items (pair_of c.in_ok-named.named) c.in_ok-configs.configs.items
+    c.in_ok-target.target.inputs.items (pair_of c.in_ok-named.named) (lists_for c.in_ok-configs.configs)
     c.in_err-index.field-0.0.error c.in_ok-target.ensures.store c.in_ok-named.ensures.store
     c.in_ok-configs.ensures.store c.in_ok-target.ensures.read c.in_ok-named.ensures.read
     (λ t. subst (λ is. AreConfigured (g.S.Store.view c.read_named.new.files).file_at
-    (given c.args.cargo_home) (pair_of c.in_ok-named.named) is c.in_ok-configs.configs.items)
+    (given c.args.cargo_home) (pair_of c.in_ok-named.named) is (lists_for c.in_ok-configs.configs))
     c.deref.ensures.value (c.in_ok-configs.ensures.read t)) c.in_err-index.ensures.refused)
 
 pub returns-clause-read : goal.returns-clause-read
@@ -71,7 +72,7 @@ returns-clause-read g c = λ t.
     let home = given c.args.cargo_home in
     let asking = asking_of c.args.asked.now in
     let pair = pair_of c.in_ok-named.named in
-    let configs = c.in_ok-configs.configs.items in
+    let configs = lists_for c.in_ok-configs.configs in
     let upto : OnlyReads old named
     = reads-on old found named c.in_ok-target.ensures.store c.in_ok-named.ensures.store in
     record {

@@ -30,6 +30,7 @@ loop-place-preserved g c =
       store = record {
         tells = c.config_in.ensures.store.tells ∙ store.tells;
         files = λ path. c.config_in.ensures.store.files path ∙ store.files path;
+        writes = c.config_in.ensures.store.writes ∙ store.writes;
         later = omega (arith, store.later, c.config_in.ensures.store.later);
       };
       kept = λ kept. c.config_in.ensures.kept (c.loop-place.invariant.kept kept);

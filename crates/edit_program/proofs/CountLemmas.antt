@@ -1,0 +1,250 @@
+-- Which errors are the device's, and that those are counted.
+use Rattle.std.proofs.Common.{List, Option, [], ap, arith, inl, inr, length, subst, sym, ℕ, ◌∙◌, ◌≡◌, ◌≤◌}
+use Rattle.std.proofs.Math.Nat.{eq-or-lt_of_le}
+use Rattle.std.specs.Global.{Vec}
+use Rattle.std.specs.Prelude.{◌⊎◌}
+use Rattle.edit_base.specs.Errors.{IsMemory, number_of}
+use Rattle.edit_base.specs.declared.errors.DeviceCall.{DeviceCall}
+use Rattle.edit_base.specs.declared.errors.DeviceCall.TheVariants as call
+use Rattle.edit_base.specs.declared.errors.Error.{Error}
+use Rattle.edit_base.specs.declared.errors.Error.TheVariants as error
+use Rattle.edit_cache.specs.IndexCache.{index_of}
+use Rattle.edit_cache.specs.declared.cache.IndexCache.{IndexCache}
+use Rattle.edit_manifest.specs.Loaded.{IsBadManifest}
+use Rattle.edit_metadata.specs.Metadata.{WorkspaceSaid}
+use Rattle.edit_metadata.specs.declared.input.Input.{Input}
+use Rattle.edit_set_version.specs.BumpCauses.{IsUnbumped}
+use Rattle.edit_set_version.specs.Bumps.{Bumped, Target}
+use Rattle.edit_set_version.specs.Chosen.{Asked, Member}
+use Rattle.edit_set_version.specs.PlanCauses.{IsHeldBack, IsMissing, StandsAgainst}
+use Rattle.edit_set_version.specs.PlanCauses.ManifestStandsAgainst.{literal as no_literal, requirement as no_rise}
+use Rattle.edit_set_version.specs.PlanCauses.StandsAgainst.{excluded as is_excluded, version as is_unbumped}
+use Rattle.edit_set_version.specs.PlanRefused.{IsCauseOf, StandsAgainstInput}
+use Rattle.edit_set_version.specs.PlanRefused.IsCauseOf.{manifest as of_input, memory as of_memory, no_manifest as of_manifest, no_package as of_package, project as of_project}
+use Rattle.edit_set_version.specs.SetVersioned.{Bump, Project}
+use Rattle.edit_sources.specs.Configured.{HasNoUrl}
+use Rattle.edit_sources.specs.Configured.HasNoUrl.{breaks, no_address, no_head, no_url}
+use Rattle.edit_sources.specs.Index.{IndexView, Outcomes}
+use Rattle.edit_sources.specs.declared.config.Config.{Config}
+use Rattle.edit_steps.specs.Faults.{CountsFault}
+use Rattle.edit_steps.specs.Sources.{AreDocuments}
+use Rattle.edit_tree.specs.Shown.{Shown}
+use Rattle.std.proofs.lemmas.List.{length-map}
+use Rattle.edit_store.specs.Store.{RefusesCall, StoreView, raised}
+use Rattle.edit_upgrade.specs.Caches.{StopsDocuments, StopsInputs, cache_view}
+use Rattle.edit_upgrade.specs.Causes.{HasBadEntry, StopsAt}
+use Rattle.edit_upgrade.specs.Causes.StopsAt.{no_address as lacks_address, no_answer as lacks_answer}
+use Rattle.edit_upgrade.specs.Looks.{Kept}
+use Rattle.edit_upgrade.specs.Records.{Seen}
+use Rattle.edit_upgrade.specs.WordCauses.{IsOptionCause, IsRefusedFor}
+use Rattle.edit_upgrade.specs.declared.decision.options.Options.{Options}
+use Rattle.edit_version.specs.Changed as changed
+use Rattle.edit_version.specs.CrateWords.{IsRefusedWord}
+use Rattle.edit_version.specs.Increments.{Change}
+use Rattle.edit_version.specs.Refusals.{IsRefusal}
+use Rattle.edit_version.specs.Requirement.{Raised}
+use Rattle.semver.specs.Parse.{Parts}
+use Rattle.edit_program.specs.Counted.{CountsIndexFault, HasFailedBelow}
+use Rattle.edit_program.specs.Delivery.{Delivery}
+use Rattle.edit_program.specs.TellingCauses.{AreTold, IsDeliveryCause, IsStopped}
+
+-- ---- errors that are not the device's
+
+-- an error of another number
+pub other_counts : {P : Type 0} (e : Error) (n : ℕ) → number_of e ≡ n → (n ≡ 3 → ⊥) → number_of e ≡ 3 → P
+other_counts e n is differs device = absurd (differs (sym is ∙ device))
+
+pub memory_counts : {P : Type 0} (e : Error) → IsMemory e → number_of e ≡ 3 → P
+memory_counts e memory = other_counts e 46 memory (λ same. omega (arith, same))
+
+pub error_counts : {P : Type 0} (e is : Error) → e ≡ is → (number_of is ≡ 3 → ⊥) → number_of e ≡ 3 → P
+error_counts e is same differs = other_counts e (number_of is) (ap number_of same) differs
+
+-- what is shown in place of matches is not printed for want of memory, or since a stream does not take it
+pub shown_counts : {P Q : Type 0} (e : Error) → IsMemory e ⊎ ((e ≡ error.Output) × Q) → number_of e ≡ 3 → P
+shown_counts e (inl memory) = memory_counts e memory
+shown_counts e (inr output) = error_counts e error.Output output.0 (λ h. cc h)
+
+word_counts : {P : Type 0} (word : List ℕ) (e : Error) → IsRefusedWord word e → number_of e ≡ 3 → P
+word_counts word (error.Device _) h device = absurd h
+word_counts word other h device = cc device
+
+manifest_counts : {P : Type 0} (bytes : List ℕ) (e : Error) → IsBadManifest bytes e → number_of e ≡ 3 → P
+manifest_counts bytes e (inl encoding) = other_counts e 2 encoding.0 (λ same. omega (arith, same))
+manifest_counts bytes e (inr (inl form)) =
+    error_counts e (error.NotToml form.0.0) form.0.1 (λ h. cc h)
+manifest_counts bytes e (inr (inr memory)) = memory_counts e memory.0
+
+url_counts : {P : Type 0} (configs : List Config) (named : Option (List ℕ)) (e : Error)
+    → HasNoUrl configs named e → number_of e ≡ 3 → P
+url_counts configs named _ (no_head key h) device = cc device
+url_counts configs named _ (breaks key h) device = cc device
+url_counts configs named _ (no_address h) device = cc device
+url_counts configs named _ (no_url text parsed h g) device = cc device
+
+-- ---- a plan of an upgrade
+
+options_count : {P : Type 0} (o : Options) (e : Error) → IsOptionCause o e → number_of e ≡ 3 → P
+options_count o e (inl word) = word_counts word.word e word.refused
+options_count o e (inr memory) = memory_counts e memory.0
+
+entry_counts : (configs : List Config) (gives : Outcomes) (old : Kept) (before now : ℕ) (entry : Seen)
+    (e : Error) → StopsAt configs gives old before now entry e → number_of e ≡ 3 → raised before now
+entry_counts configs gives old before now entry e (lacks_address named at none) device =
+    url_counts configs named e none device
+entry_counts configs gives old before now entry e (lacks_answer address name needs none (inl given)) device =
+    absurd (omega (arith, given.0.0, given.0.1, device))
+entry_counts configs gives old before now entry e (lacks_answer address name needs none (inr failed)) device =
+    failed.1
+
+documents_count : {I : Type 0} (view : I → IndexView) (o : Options) (inputs : List Input)
+    (configs : List (Vec Config)) (old new : IndexCache I) (e : Error)
+    → IsRefusedFor o (StopsDocuments inputs configs (cache_view view old) (cache_view view new)) e
+    → number_of e ≡ 3 → raised (view (index_of old)).faults (view (index_of new)).faults
+documents_count view o inputs configs old new e (inl options) = options_count o e options
+documents_count view o inputs configs old new e (inr (words, inl memory)) = memory_counts e memory
+documents_count view o inputs configs old new e (inr (words, inr first)) =
+    entry_counts first.own.items _ _ _ _ first.stops.stops.entry e first.stops.stops.stops
+
+inputs_count : {I : Type 0} (view : I → IndexView) (o : Options) (inputs : List Input)
+    (configs : List (Vec Config)) (old new : IndexCache I) (e : Error)
+    → IsRefusedFor o (StopsInputs inputs configs (cache_view view old) (cache_view view new)) e
+    → number_of e ≡ 3 → raised (view (index_of old)).faults (view (index_of new)).faults
+inputs_count view o inputs configs old new e (inl options) = options_count o e options
+inputs_count {I} view o inputs configs old new e (inr (words, first)) = by first.stops
+  where
+    by : IsBadManifest first.input.bytes.items e
+        ⊎ HasBadEntry first.own.items (cache_view view old).gives (cache_view view old).kept
+        (cache_view view new).kept (view (index_of old)).faults (view (index_of new)).faults
+        first.input.bytes.items e
+        → number_of e ≡ 3 → raised (view (index_of old)).faults (view (index_of new)).faults
+    by (inl bad) = manifest_counts first.input.bytes.items e bad
+    by (inr entry) = entry_counts first.own.items _ _ _ _ entry.stops.entry e entry.stops.stops
+
+below_counts : {I : Type 0} (view : I → IndexView) (index : I) (old new : IndexCache I) (e : Error)
+    → index_of old ≡ index
+    → (number_of e ≡ 3 → raised (view (index_of old)).faults (view (index_of new)).faults)
+    → CountsIndexFault view index e
+below_counts {I} view index old new e is counts device =
+    subst (λ (i : I). HasFailedBelow view i) is (index_of new, counts device)
+
+-- a plan over a new cache
+pub bytes_count : {I : Type 0} (view : I → IndexView) (index : I) (o : Options) (inputs : List Input)
+    (configs : List (Vec Config)) (old new : IndexCache I) (e : Error) → index_of old ≡ index
+    → IsRefusedFor o (StopsInputs inputs configs (cache_view view old) (cache_view view new)) e
+    → CountsIndexFault view index e
+bytes_count view index o inputs configs old new e is h =
+    below_counts view index old new e is (inputs_count view o inputs configs old new e h)
+
+pub documents_counted : {I : Type 0} (view : I → IndexView) (index : I) (o : Options) (inputs : List Input)
+    (configs : List (Vec Config)) (old new : IndexCache I) (e : Error) → index_of old ≡ index
+    → IsRefusedFor o (StopsDocuments inputs configs (cache_view view old) (cache_view view new)) e
+    → CountsIndexFault view index e
+documents_counted view index o inputs configs old new e is h =
+    below_counts view index old new e is (documents_count view o inputs configs old new e h)
+
+-- a plan of inputs, of their documents where those are given, else of their bytes
+pub shared_count : {I : Type 0} (view : I → IndexView) (index : I) (o : Options) (inputs : List Input)
+    (configs : List (Vec Config)) (documents : List Shown) (old new : IndexCache I) (e : Error)
+    → index_of old ≡ index → AreDocuments documents inputs
+    → (length documents ≡ length inputs
+    → IsRefusedFor o (StopsDocuments inputs configs (cache_view view old) (cache_view view new)) e)
+    → (documents ≡ []
+    → IsRefusedFor o (StopsInputs inputs configs (cache_view view old) (cache_view view new)) e)
+    → CountsIndexFault view index e
+shared_count view index o inputs configs documents old new e is (inl none) given read =
+    bytes_count view index o inputs configs old new e is (read none)
+shared_count view index o inputs configs documents old new e is (inr same) given read =
+    documents_counted view index o inputs configs old new e is
+    (given (sym (length-map documents (λ (d : Shown). d.bytes)) ∙ ap length same
+    ∙ length-map inputs (λ (input : Input). input.bytes.items)))
+
+-- ---- a plan of versions
+
+change_counts : {P : Type 0} (c : Change) (old : Parts) (e : Error) → changed.IsCause c old e
+    → number_of e ≡ 3 → P
+change_counts c old (error.Device _) h device = absurd h
+change_counts c old other h device = cc device
+
+unbumped_counts : {P : Type 0} (b : Bumped) (current : Parts) (e : Error) → IsUnbumped b current e
+    → number_of e ≡ 3 → P
+unbumped_counts b current (error.Device _) h device = absurd h
+unbumped_counts b current other h device = cc device
+
+raise_counts : {P : Type 0} (r : Raised) (text : List ℕ) (e : Error) → IsRefusal r text e
+    → number_of e ≡ 3 → P
+raise_counts r text (error.Device _) h device = absurd h
+raise_counts r text other h device = cc device
+
+missing_counts : {P : Type 0} (names : List (List ℕ)) (e : Error) → IsMissing names e
+    → number_of e ≡ 3 → P
+missing_counts names (error.Device _) h device = absurd h
+missing_counts names other h device = cc device
+
+held_counts : {P : Type 0} (held others : List Member) (e : Error) → IsHeldBack held others e
+    → number_of e ≡ 3 → P
+held_counts held others (error.Device _) h device = absurd h
+held_counts held others other h device = cc device
+
+project_counts : {P : Type 0} (t : Target) (a : Asked) (p : Project) (e : Error) → StandsAgainst t a p e
+    → number_of e ≡ 3 → P
+project_counts t a p e (is_excluded held) = held_counts _ _ e held
+project_counts t a p e (is_unbumped none unbumped) = unbumped_counts _ unbumped.current e unbumped.refused
+
+input_counts : {P : Type 0} (bs : List Bump) (input : Input) (e : Error) → StandsAgainstInput bs input e
+    → number_of e ≡ 3 → P
+input_counts bs input e stands = elim stands.against [
+  | no_literal none ↦ error_counts e error.NoVersionPlace none.told (λ h. cc h)
+  | no_rise fixed ↦ raise_counts _ _ e fixed.fixed
+]
+
+-- why a plan of versions is refused is no error of the device
+pub versions_count : {P : Type 0} (t : Target) (a : Asked) (w : WorkspaceSaid) (inputs : List Input)
+    (e : Error) → IsCauseOf t a w inputs e → number_of e ≡ 3 → P
+versions_count t a w inputs e (of_memory memory) = memory_counts e memory
+versions_count t a w inputs e (of_package none) = missing_counts _ e none
+versions_count t a w inputs e (of_manifest known input among bad) =
+    manifest_counts input.bytes.items e bad
+versions_count t a w inputs e (of_project known p is against) = project_counts t a p e against
+versions_count t a w inputs e (of_input known p is versions behind bad) =
+    input_counts _ bad.input e bad.stands
+
+-- ---- files
+
+pub call_counts : (of : DeviceCall) (old new : StoreView) (e : Error) → RefusesCall of old new e
+    → CountsFault old new e
+call_counts of old new e (inl memory) = memory_counts e memory
+call_counts of old new e (inr failed) = λ device. failed.1
+
+-- a count that rose from a later one rose from an earlier one
+raised_later : (a b c : ℕ) → a ≤ b → raised b c → raised a c
+raised_later a b c le (inl rose) = inl (omega (arith, le, rose))
+raised_later a b c le (inr ends) = elim (eq-or-lt_of_le le) [
+  | inl same ↦ inr (same ∙ ends.0, ends.1)
+  | inr less ↦ inl (omega (arith, less, ends.0, ends.1))
+]
+
+pub fault_before : (old mid new : StoreView) (e : Error) → old.faults ≤ mid.faults → CountsFault mid new e
+    → CountsFault old new e
+fault_before old mid new e later counts device =
+    raised_later old.faults mid.faults new.faults later (counts device)
+
+-- ---- what is delivered
+
+told_counts : {P : Type 0} (missing : List (List ℕ)) (e : Error) → AreTold missing e → number_of e ≡ 3 → P
+told_counts missing (error.Device _) h device = absurd h
+told_counts missing other h device = cc device
+
+stopped_counts : {P : Type 0} (Shows : List ℕ → Type 0) (d : Delivery) (old new : StoreView) (e : Error)
+    → IsStopped Shows d old new e → number_of e ≡ 3 → P
+stopped_counts Shows d old new e (inl (same, inl locked)) =
+    error_counts e error.Locked locked.0 (λ h. cc h)
+stopped_counts Shows d old new e (inl (same, inr word)) = word_counts word.1.word e word.1.refused
+stopped_counts Shows d old new e (inr (told, lacks)) = told_counts _ e lacks.1
+
+pub delivery_counts : (Shows : List ℕ → Type 0) (d : Delivery) (old new : StoreView) (e : Error)
+    → IsDeliveryCause Shows d old new e → CountsFault old new e
+delivery_counts Shows d old new e (inl refused) = call_counts call.Write old new e refused
+delivery_counts Shows d old new e (inr (inl unwritten)) =
+    error_counts e error.Output unwritten (λ h. cc h)
+delivery_counts Shows d old new e (inr (inr stopped)) = stopped_counts Shows d old new e stopped

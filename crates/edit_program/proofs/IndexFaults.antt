@@ -1,0 +1,58 @@
+-- The device's error of a plan over an index: that of the store below the index, or none.
+use Rattle.std.proofs.Common.{Result, arith, inl, inr, refl, subst, ℕ, ◌≡◌}
+use Rattle.std.proofs.lemmas.Result.{IfErr-weaker}
+use Rattle.std.specs.Prelude.{IfErr}
+use Rattle.edit_base.specs.Errors.{number_of}
+use Rattle.edit_base.specs.declared.errors.Error.{Error}
+use Rattle.edit_sources.specs.DirIndex.{dir_view, folder_of}
+use Rattle.edit_sources.specs.DirIndex.{store_of as folder_store}
+use Rattle.edit_sources.specs.FileIndex.{file_view}
+use Rattle.edit_sources.specs.Index.{IndexView}
+use Rattle.edit_sources.specs.LocalIndex.{local_view, store_of}
+use Rattle.edit_sources.specs.declared.file_index.FileIndex.{FileIndex}
+use Rattle.edit_sources.specs.declared.index_dir.dir_index.DirIndex.{DirIndex}
+use Rattle.edit_sources.specs.declared.local_index.LocalIndex.{LocalIndex}
+use Rattle.edit_store.specs.Store.{StoreView, raised}
+use Rattle.edit_program.specs.Counted.{CountsIndexFault, CountsStoreFault}
+
+-- a count of faults that stays 0 does not rise
+pub none_raised : raised 0 0 → ⊥
+none_raised (inl rose) = omega (arith, rose)
+none_raised (inr ends) = omega (arith, ends.0)
+
+-- an index over a store fails only where the store does
+pub store_fails : {I T : Type 0} (view : I → IndexView) (index : I) (files : T → StoreView) (store : T)
+    (store_of : I → T) (e : Error) → ((i : I) → (view i).faults ≡ (files (store_of i)).faults)
+    → store_of index ≡ store → CountsIndexFault view index e → CountsStoreFault files store e
+store_fails {I} {T} view index files store store_of e same is counts device =
+    let failed = counts device in (
+      store_of failed.0,
+      subst (λ (s : T). raised (files s).faults (files (store_of failed.0)).faults) is
+          (subst (λ (n : ℕ). raised n (files (store_of failed.0)).faults) (same index)
+          (subst (λ (n : ℕ). raised (view index).faults n) (same failed.0) failed.1)),
+    )
+
+-- a plan over the index in files
+pub local_fault : {T V : Type 0} (files : T → StoreView) (index : LocalIndex T) (store : T)
+    (r : Result V Error) → store_of index ≡ store
+    → IfErr r (CountsIndexFault (λ (i : LocalIndex T). local_view (files i.store)) index)
+    → IfErr r (CountsStoreFault files store)
+local_fault {T} files index store r is counts =
+    IfErr-weaker r _ _ (λ e h. store_fails (λ (i : LocalIndex T). local_view (files i.store)) index files
+    store (λ (i : LocalIndex T). store_of i) e (λ i. refl) is h) counts
+
+-- a plan over a folder of registries
+pub folder_fault : {T V : Type 0} (files : T → StoreView) (index : DirIndex T) (store : T)
+    (r : Result V Error) → folder_store index ≡ store
+    → IfErr r (CountsIndexFault (λ (i : DirIndex T). dir_view (folder_of i) (files i.store)) index)
+    → IfErr r (CountsStoreFault files store)
+folder_fault {T} files index store r is counts =
+    IfErr-weaker r _ _ (λ e h. store_fails (λ (i : DirIndex T). dir_view (folder_of i) (files i.store))
+    index files store (λ (i : DirIndex T). folder_store i) e (λ i. refl) is h) counts
+
+-- a plan over the lines of a file, which fails for no device
+pub lines_fault : {T V : Type 0} (files : T → StoreView) (index : FileIndex) (store : T)
+    (r : Result V Error) → IfErr r (CountsIndexFault file_view index)
+    → IfErr r (CountsStoreFault files store)
+lines_fault files index store r counts =
+    IfErr-weaker r _ _ (λ e h device. absurd (none_raised (h device).1)) counts

@@ -1,0 +1,124 @@
+-- Groups of entries by name, to which runs of entries of one name are added.
+use Rattle.std.proofs.Common.{◌≡◌, ℕ, List, [], ◌∷◌, ◌++◌, true, false, cond, arith, ◌==◌, refl, sym, ap, ◌∙◌, Option, None, Some, ◌⊎◌, append_assoc, append-nil, inl, inr, ⊎_elim}
+use Rattle.std.specs.Prelude.{String, Vec, slice_get, string_bytes}
+use Rattle.std.specs.declared.alloc.Global.{Global}
+use Rattle.std.specs.List.{filter}
+use Rattle.std.specs.Option.{option_map_or, UnwrapsOrElse}
+use Rattle.std.specs.Str.{bytes_eq}
+use Rattle.std.specs.Vec.{vec_len}
+use Rattle.std.specs.BTreeMap.{BTreeMap, get_by_text}
+use Rattle.std.proofs.lemmas.Bool.{cases_Bool, false≢true}
+use Rattle.std.proofs.lemmas.List.{nil_from_length}
+use Rattle.std.proofs.lemmas.List.Elements.{All-head, All-tail, All-nil, All-push, filter-append}
+use Rattle.std.proofs.lemmas.Slice.Eq.{bytes_eq-Decides}
+use Rattle.edit_version.specs.declared.fetch.IndexVersion.{IndexVersion}
+use Rattle.edit_sources.specs.FileIndex.{AreNamed, IsAdded}
+
+abbrev Groups : Type 0
+Groups = BTreeMap (String Global) (Vec IndexVersion Global)
+
+-- the entries of a name among these
+abbrev pub with_name : List ℕ → List IndexVersion → List IndexVersion
+with_name q xs = filter (λ e. bytes_eq q (string_bytes e.name)) xs
+
+-- the group of a name
+abbrev pub group_of : Groups → List ℕ → List IndexVersion
+group_of groups q = option_map_or (λ g. g.items) (get_by_text groups q) []
+
+module _ (name q : List ℕ) where
+  with_name-step : (b : _) → bytes_eq q name ≡ b → (x : IndexVersion) (xs : List IndexVersion)
+      → AreNamed name (x ∷ xs) → with_name q (x ∷ xs) ≡ cond b (x ∷ with_name q xs) (with_name q xs)
+  with_name-step b e x xs h =
+      ap (λ n. cond (bytes_eq q n) (x ∷ with_name q xs) (with_name q xs))
+      (All-head (λ v. string_bytes v.name ≡ name) x xs h) ∙
+      ap (λ t. cond t (x ∷ with_name q xs) (with_name q xs)) e
+
+  -- a test of names keeps all entries of one name
+  pub with_name-all : bytes_eq q name ≡ true → (xs : List IndexVersion) → AreNamed name xs
+      → with_name q xs ≡ xs
+  with_name-all e [] h = refl
+  with_name-all e (x ∷ xs) h = with_name-step true e x xs h ∙
+      ap (λ t. x ∷ t) (with_name-all e xs (All-tail (λ v. string_bytes v.name ≡ name) x xs h))
+
+  -- or none of them
+  pub with_name-none : bytes_eq q name ≡ false → (xs : List IndexVersion) → AreNamed name xs
+      → with_name q xs ≡ []
+  with_name-none e [] h = refl
+  with_name-none e (x ∷ xs) h = with_name-step false e x xs h ∙
+      with_name-none e xs (All-tail (λ v. string_bytes v.name ≡ name) x xs h)
+
+  -- so the test keeps all or none
+  pub with_name-is : (xs : List IndexVersion) → AreNamed name xs
+      → ((bytes_eq q name ≡ true) × (with_name q xs ≡ xs))
+      ⊎ ((bytes_eq q name ≡ false) × (with_name q xs ≡ []))
+  with_name-is xs h = ⊎_elim (λ e. inl (e, with_name-all e xs h)) (λ e. inr (e, with_name-none e xs h))
+      (cases_Bool (bytes_eq q name))
+
+-- a run joins the group of its name, and no other
+pub joined : (groups : Groups) (name : List ℕ) (run group : List IndexVersion) (q : List ℕ)
+    → AreNamed name run → group ≡ group_of groups name ++ run
+    → ((bytes_eq q name ≡ true) × (group ≡ group_of groups q ++ with_name q run))
+    ⊎ ((bytes_eq q name ≡ false) × (group_of groups q ≡ group_of groups q ++ with_name q run))
+joined groups name run group q named items = ⊎_elim
+    (λ t. inl (
+      t.0,
+      items ∙ ap (λ n. group_of groups n ++ run) (sym ((bytes_eq-Decides q name).0 t.0)) ∙
+          ap (λ xs. group_of groups q ++ xs) (sym t.1),
+    ))
+    (λ f. inr (f.0, sym (append-nil (group_of groups q)) ∙ ap (λ xs. group_of groups q ++ xs) (sym f.1)))
+    (with_name-is name q run named)
+
+-- what `or_default` gives for a name is its group
+pub defaulted : (found : Option (Vec IndexVersion Global)) (group : Vec IndexVersion Global)
+    → UnwrapsOrElse found (λ v. (v.items ≡ []) × (vec_len v ≡ 0)) group
+    → option_map_or (λ g. g.items) found [] ≡ group.items
+defaulted None group h = sym h.0
+defaulted (Some x) group h = ap (λ g. g.items) (sym h)
+
+-- a group of no length has no entries
+pub emptied : (group : Vec IndexVersion Global) → true ≡ (vec_len group == 0) → group.items ≡ []
+emptied group h = grind (arith, group.ok, nil_from_length)
+
+-- an entry of the name of the first entry has the name of them all
+pub continued : (run : List IndexVersion) (x : IndexVersion)
+    → option_map_or (λ e. bytes_eq (string_bytes e.name) (string_bytes x.name)) (slice_get run 0) false ≡ true
+    → (name : List ℕ) → AreNamed name run → string_bytes x.name ≡ name
+continued [] x h name named = absurd (false≢true h)
+continued (e ∷ es) x h name named = sym ((bytes_eq-Decides (string_bytes e.name) (string_bytes x.name)).0 h) ∙
+    All-head (λ v. string_bytes v.name ≡ name) e es named
+
+-- entries stand in the groups, but for the last ones, which are of one name
+abbrev pub HasGrouped : Groups → List IndexVersion → List IndexVersion → Type 0
+HasGrouped groups run entries = ((q : List ℕ) → group_of groups q ++ with_name q run ≡ with_name q entries)
+    × ((name : List ℕ) × AreNamed name run)
+
+module _ (groups : Groups) (run entries : List IndexVersion) (has : HasGrouped groups run entries) where
+  -- one entry more of the same name
+  pub grouped-more : (x : IndexVersion) → ((name : List ℕ) → AreNamed name run → string_bytes x.name ≡ name)
+      → HasGrouped groups (run ++ x ∷ []) (entries ++ x ∷ [])
+  grouped-more x named = (
+    λ q. let test = λ (e : IndexVersion). bytes_eq q (string_bytes e.name) in
+        ap (λ t. group_of groups q ++ t) (filter-append test run (x ∷ [])) ∙
+        sym (append_assoc (group_of groups q) (with_name q run) (with_name q (x ∷ []))) ∙
+        ap (λ t. t ++ with_name q (x ∷ [])) (has.0 q) ∙ sym (filter-append test entries (x ∷ [])),
+    (has.1.0, All-push (λ v. string_bytes v.name ≡ has.1.0) run x has.1.1 (named has.1.0 has.1.1)),
+  )
+
+  -- all entries, where the run is added
+  pub grouped-all : (after : Groups) → IsAdded groups run after
+      → (q : List ℕ) → group_of after q ≡ with_name q entries
+  grouped-all after added q = added q ∙ has.0 q
+
+  -- one entry more, where the run is added before it
+  pub grouped-anew : (after : Groups) → IsAdded groups run after → (x : IndexVersion)
+      → HasGrouped after (x ∷ []) (entries ++ x ∷ [])
+  grouped-anew after added x = (
+    λ q. let test = λ (e : IndexVersion). bytes_eq q (string_bytes e.name) in
+        ap (λ t. t ++ with_name q (x ∷ [])) (grouped-all after added q) ∙
+        sym (filter-append test entries (x ∷ [])),
+    (
+      string_bytes x.name,
+      All-push (λ v. string_bytes v.name ≡ string_bytes x.name) [] x
+          (All-nil (λ v. string_bytes v.name ≡ string_bytes x.name)) refl,
+    ),
+  )
