@@ -136,8 +136,7 @@ def rows():
     yield Family("warnings, as JSON", 10000, lambda n: single(entries(n, b'c%d = "x"\n'), b"",
                                                               ["--message-format", "json"]))
     yield Family("a table of n rows with a key of 4 n bytes", 2000, lambda n: single(
-        entries(n) + b'"%s" = { package = "c0", version = "1.0" }\n' % (b"k" * n * 4), lines(n)),
-                 ("time",))
+        entries(n) + b'"%s" = { package = "c0", version = "1.0" }\n' % (b"k" * n * 4), lines(n)))
     yield Family("rows that are not raised, with -vv", 10000,
                  lambda n: single(entries(n, b'c%d = "1.5.0"\n'), lines(n), ["-vv"]))
     yield Family("notes on rows that are not shown", 10000,
@@ -173,7 +172,7 @@ def choices():
         numbered(n, b'{"name":"x","vers":"1.0.0-a.%d"}\n')))
     yield Family("entries of one crate with requirements of their own, none of which admits a version", 2000,
                  lambda n: single(b"[dependencies]\n" + b"".join(
-        b'c%d = { package = "x", version = "^0.%d" }\n' % (at, at) for at in range(n)), versions(n)), ("time",))
+        b'c%d = { package = "x", version = "^0.%d" }\n' % (at, at) for at in range(n)), versions(n)), ("work",))
     yield Family("one requirement of 32 comparators over versions", 40000, lambda n: single(
         b'[dependencies]\nx = "%s"\n' % COMPARATORS, versions(n)))
     yield Family("versions that differ in build metadata alone", 40000, lambda n: single(
@@ -198,10 +197,10 @@ def workspaces():
     yield Family("members and registries", 1000, lambda n: upgrade(
         [PACKAGE + b'x={version="1.0",registry="r%d"}\n' % number for number in range(n)], versions(5),
                                                                    config=registries(n)),
-        ("time",))
+        ("work",))
     yield Family("members, and registries with addresses of 1 kB", 500, lambda n: upgrade(
         [PACKAGE + b'x="1.0"\n'] * n, versions(5), config=registries(n, b"file:///" + b"r" * 990)),
-                 ("time",))
+                 ("work",))
     yield Family("members in folders that lie deeper", 1000, lambda n: upgrade(
         [PACKAGE + b'x="1.0"\n'] * n, versions(5), deep="d/" * (n // 10)))
     yield Family("calls of cargo update: packages of one member", 10000, lambda n: upgrade(
