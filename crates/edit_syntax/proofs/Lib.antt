@@ -40,6 +40,7 @@ pub mod Escapes
 pub mod LineContents
 pub mod DelimitedContents
 pub mod Kept
+pub mod OwnContents
 -- Worked examples
 pub mod StandardFacts
 pub mod FirstLines
