@@ -41,6 +41,7 @@ pub mod LineContents
 pub mod DelimitedContents
 pub mod Kept
 pub mod OwnContents
+pub mod Tables
 -- Worked examples
 pub mod StandardFacts
 pub mod FirstLines
