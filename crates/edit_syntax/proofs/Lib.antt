@@ -42,6 +42,7 @@ pub mod DelimitedContents
 pub mod Kept
 pub mod OwnContents
 pub mod Tables
+pub mod BasicLoop
 -- Worked examples
 pub mod StandardFacts
 pub mod FirstLines
