@@ -49,7 +49,7 @@ pub record Behind (bytes said : List ℕ) (rs : List Piece) : Type 0 where
   pub says : said ≡ take (prefix_len is_unescaped bytes) bytes ++ says quote rs
   pub begins : BeginsMarked rs
 
-basic_unescaped : (b : ℕ) → is_basic_ch b ≡ true → is_unescaped b ≡ true
+pub basic_unescaped : (b : ℕ) → is_basic_ch b ≡ true → is_unescaped b ≡ true
 basic_unescaped b h = let k = (basic_ch_not b h).1 in rw k refl
 
 byte_behind : (b : ℕ) (bytes said : List ℕ) (rs : List Piece) → is_unescaped b ≡ true → Behind bytes said rs

@@ -40,6 +40,9 @@ pub mod Escapes
 pub mod LineContents
 pub mod DelimitedContents
 pub mod Kept
+pub mod OwnContents
+pub mod Tables
+pub mod BasicLoop
 -- Worked examples
 pub mod StandardFacts
 pub mod FirstLines

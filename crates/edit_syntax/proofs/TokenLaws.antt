@@ -232,7 +232,7 @@ spaces_longer (blank b ∷ more) rest = let h = spaces_longer more rest in omega
 spaces_longer (break e ∷ more) rest =
     omega (arith, spaces_longer more rest, line_end_longer e (spaces more rest))
 
-piece_longer : (mark : ℕ) (p : Piece) (rest : List ℕ) → suc (length rest) ≤ length (piece mark p rest)
+pub piece_longer : (mark : ℕ) (p : Piece) (rest : List ℕ) → suc (length rest) ≤ length (piece mark p rest)
 piece_longer mark (plain b) rest = omega arith
 piece_longer mark (letter c) rest = omega arith
 piece_longer mark (short digits) rest = omega (arith, length-append digits rest)

@@ -89,3 +89,9 @@ Says DateTime content said = WordSays content said
 Says MultiBasicString content said = MultiSays content said
 Says MultiLiteralString content said = RawSays content said
 Says _ content said = ⊥
+
+-- a kind of token that has no line break in it: each but the strings over several lines ("String")
+abbrev pub IsOneLine : MarkKind → Type 0
+IsOneLine MultiBasicString = ⊥
+IsOneLine MultiLiteralString = ⊥
+IsOneLine _ = ⊤

@@ -4,13 +4,13 @@ use Rattle.std.specs.Prelude.{◌≡◌, ℕ, Bool, true, false, List, [], ◌�
 use Rattle.std.specs.Borrow.{Bor}
 use Rattle.std.specs.Global.{Vec}
 use Rattle.edit_syntax.specs.declared.read.bytes.Class.{Class}
-use Rattle.edit_syntax.specs.declared.read.bytes.Class.TheVariants.{Blank, Comment, Bare, Literal, Unescaped, Spacing, Decimal, Hexadecimal, Octal, Binary}
+use Rattle.edit_syntax.specs.declared.read.bytes.Class.TheVariants.{Blank, Comment, Bare, Basic, Literal, Unescaped, Spacing, Decimal, Hexadecimal, Octal, Binary}
 use Rattle.edit_syntax.specs.declared.read.marks.Mark.{Mark}
 use Rattle.edit_syntax.specs.declared.read.marks.MarkKind.{MarkKind}
 use Rattle.edit_syntax.specs.declared.read.marks.MarkKind.TheVariants as kinds
 use Rattle.edit_syntax.specs.declared.read.marks.ReadError.{ReadError}
 use Rattle.edit_syntax.specs.declared.read.marks.ReadError.TheVariants.{Memory}
-use Rattle.edit_syntax.specs.Characters.{equals, right_bracket, right_brace, is_blank, is_ch, is_bare, is_literal_ch, is_unescaped}
+use Rattle.edit_syntax.specs.Characters.{equals, right_bracket, right_brace, is_blank, is_ch, is_bare, is_basic_ch, is_literal_ch, is_unescaped}
 use Rattle.edit_syntax.specs.Strings.{◌·◌, Part}
 use Rattle.edit_syntax.specs.Decoding.{is_spacing}
 use Rattle.edit_syntax.specs.Numbers.{is_decimal, hexadecimal, octal, binary, base_digit}
@@ -23,6 +23,7 @@ abbrev pub class_test : Class → ℕ → Bool
 class_test Blank = is_blank
 class_test Comment = is_ch
 class_test Bare = is_bare
+class_test Basic = is_basic_ch
 class_test Literal = is_literal_ch
 class_test Unescaped = is_unescaped
 class_test Spacing = is_spacing

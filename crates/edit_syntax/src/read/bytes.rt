@@ -12,6 +12,7 @@ pub(crate) enum Class {
     Blank,
     Comment,
     Bare,
+    Basic,
     Literal,
     Unescaped,
     Spacing,
@@ -20,6 +21,36 @@ pub(crate) enum Class {
     Octal,
     Binary,
 }
+
+// The flags of the classes of one byte.
+const COMMENT: u8 = 1;
+
+const BARE: u8 = 2;
+
+const BASIC: u8 = 4;
+
+const LITERAL: u8 = 8;
+
+// For each byte the sum of the flags of its classes, in rows of sixteen bytes.
+#[rattlefmt::skip]
+static CLASSES: [u8; 256] = [
+     0,  0,  0,  0,  0,  0,  0,  0,  0, 13,  0,  0,  0,  0,  0,  0,
+     0,  0,  0,  0,  0,  0,  0,  0,  0,  0,  0,  0,  0,  0,  0,  0,
+    13, 13,  9, 13, 13, 13, 13,  5, 13, 13, 13, 13, 13, 15, 13, 13,
+    15, 15, 15, 15, 15, 15, 15, 15, 15, 15, 13, 13, 13, 13, 13, 13,
+    13, 15, 15, 15, 15, 15, 15, 15, 15, 15, 15, 15, 15, 15, 15, 15,
+    15, 15, 15, 15, 15, 15, 15, 15, 15, 15, 15, 13,  9, 13, 13, 15,
+    13, 15, 15, 15, 15, 15, 15, 15, 15, 15, 15, 15, 15, 15, 15, 15,
+    15, 15, 15, 15, 15, 15, 15, 15, 15, 15, 15, 13, 13, 13, 13,  0,
+    13, 13, 13, 13, 13, 13, 13, 13, 13, 13, 13, 13, 13, 13, 13, 13,
+    13, 13, 13, 13, 13, 13, 13, 13, 13, 13, 13, 13, 13, 13, 13, 13,
+    13, 13, 13, 13, 13, 13, 13, 13, 13, 13, 13, 13, 13, 13, 13, 13,
+    13, 13, 13, 13, 13, 13, 13, 13, 13, 13, 13, 13, 13, 13, 13, 13,
+    13, 13, 13, 13, 13, 13, 13, 13, 13, 13, 13, 13, 13, 13, 13, 13,
+    13, 13, 13, 13, 13, 13, 13, 13, 13, 13, 13, 13, 13, 13, 13, 13,
+    13, 13, 13, 13, 13, 13, 13, 13, 13, 13, 13, 13, 13, 13, 13, 13,
+    13, 13, 13, 13, 13, 13, 13, 13, 13, 13, 13, 13, 13, 13, 13, 13,
+];
 
 /// The byte at `index`, or 0 past the end.
 #[inline]
@@ -48,25 +79,28 @@ fn is_blank(b: u8) -> bool
 fn is_ch(b: u8) -> bool
     ensures { result ≡ spec.is_ch b }
 {
-    b == b'\t' || (b >= b' ' && b != 127)
+    CLASSES[b as usize] & COMMENT != 0
 }
 
 /// Whether a bare key may hold this byte.
 pub(crate) fn is_bare(b: u8) -> bool
     ensures { result ≡ spec.is_bare b }
 {
-    (b >= b'A' && b <= b'Z')
-        || (b >= b'a' && b <= b'z')
-        || (b >= b'0' && b <= b'9')
-        || b == b'_'
-        || b == b'-'
+    CLASSES[b as usize] & BARE != 0
 }
 
 /// Whether a basic string may hold this byte as it is.
 pub(crate) fn is_basic_ch(b: u8) -> bool
     ensures { result ≡ spec.is_basic_ch b }
 {
-    is_ch(b) && b != b'"' && b != b'\\'
+    CLASSES[b as usize] & BASIC != 0
+}
+
+/// Whether a literal string may hold this byte.
+fn is_literal_ch(b: u8) -> bool
+    ensures { result ≡ spec.is_literal_ch b }
+{
+    CLASSES[b as usize] & LITERAL != 0
 }
 
 /// Whether this is a digit of the base.
@@ -86,7 +120,8 @@ pub(crate) fn is_in(class: Class, b: u8) -> bool
         Class::Blank => is_blank(b),
         Class::Comment => is_ch(b),
         Class::Bare => is_bare(b),
-        Class::Literal => is_ch(b) && b != b'\'',
+        Class::Basic => is_basic_ch(b),
+        Class::Literal => is_literal_ch(b),
         Class::Unescaped => b != b'\\',
         Class::Spacing => is_blank(b) || b == b'\n' || b == b'\r',
         Class::Decimal => is_digit(b, 10),

@@ -9,7 +9,7 @@ ghost use Rattle.edit_syntax.specs.Strings as strings;
 ghost use Rattle.edit_syntax.specs.Strings.{Piece, piece, IsBasicPiece, IsMultiPiece, NamesScalar};
 ghost use Rattle.edit_syntax.specs.ReadingSteps as reading;
 ghost use Rattle.edit_syntax.specs.Decoding as decoding;
-ghost use Rattle.edit_syntax.specs.Decoding.{delimiter, delimited, IsEscape, IsMarked, FoldStops, LineSays, Says};
+ghost use Rattle.edit_syntax.specs.Decoding.{delimiter, delimited, IsEscape, IsMarked, IsOneLine, FoldStops, LineSays, Says};
 
 use super::bytes::{Class, byte_at, first, is_in, run_len, skip};
 use super::marks::{Mark, MarkKind};
@@ -63,7 +63,9 @@ pub fn content_span(mark: Mark) -> Span
 
 /// Whether a content of this kind says what is written.
 pub fn is_plain(kind: MarkKind, content: &str) -> bool
-    ensures { (said : List ℕ) → Says kind content.now said → IsTrue result → content.now ≡ said }
+    ensures written { (said : List ℕ) → Says kind content.now said → IsTrue result → content.now ≡ said }
+    // A content on one line that says itself is found to do so.
+    ensures found { IsOneLine kind → Says kind content.now content.now → IsTrue result }
 {
     match kind {
         MarkKind::BasicPart | MarkKind::BasicString => {

@@ -68,10 +68,11 @@ fn past_basic(s: &[u8]) -> Option<&[u8]>
 {
     let mut rest = s;
     'pieces: for _piece in 0..s.len() {
-        if first(rest) == b'"' {
-            return Some(skip(rest, 1));
+        let end = past_run(rest, Class::Basic);
+        if first(end) == b'"' {
+            return Some(skip(end, 1));
         }
-        rest = past_piece(rest)?;
+        rest = past_piece(end)?;
     }
     None
 }

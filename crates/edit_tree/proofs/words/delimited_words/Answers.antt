@@ -6,8 +6,8 @@ use Rattle.edit_tree.proofs.words.delimited_words.Goals as goal
 pub returns-then-is_plain-clause-says : goal.returns-then-is_plain-clause-says
 returns-then-is_plain-clause-says c name (before, content, rest, spelled, from, to, says) =
     let seen = c.content-written.ensures before content rest name spelled from to says in
-    let plain = c.is_plain.ensures name (subst (λ (b : List ℕ). Says c.args.mark.kind b name) (sym seen) says)
-    c.if-is_plain.true in
+    let said = subst (λ (b : List ℕ). Says c.args.mark.kind b name) (sym seen) says in
+    let plain = c.is_plain.ensures.written name said c.if-is_plain.true in
     c.content_span.ensures c.args.text.now before content rest name c.utf8.text spelled from to says ∙
     sym seen ∙ plain
 
