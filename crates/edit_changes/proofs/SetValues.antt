@@ -10,7 +10,6 @@ use Rattle.edit_tree.specs.Meant.{Tree, HasSet, new_view}
 use Rattle.edit_tree.specs.NewItems.{NewValue, new_value}
 use Rattle.edit_document.specs.NewItemViews.{HasRoom}
 use Rattle.edit_tree.specs.Replaces.{new_text, replaced, is_below}
-use Rattle.edit_tree.specs.Supported.{IsManifest}
 use Rattle.edit_tree.specs.Tree.{view_at, view_of_kind, kind_at, is_value_at}
 use Rattle.edit_tree.specs.Written.{values, start_of, end_of, IsWrittenAt}
 use Rattle.edit_changes.proofs.NewValues.{new_is_value, new_under, new_flat, new_short, new_apart, new_shows, new_shows_below}
@@ -135,7 +134,7 @@ module _ (old : List ℕ) (form : Text) (p : Place) (v : NewValue) (document : I
   }
 
 -- whatever form the old text has, the definition says the same
-pub set_any : (old : List ℕ) (p : Place) (v : NewValue) (f g : Text) → IsManifest old f → IsManifest old g
+pub set_any : (old : List ℕ) (p : Place) (v : NewValue) (f g : Text) → IsDocument old f → IsDocument old g
     → set_text p v f ≡ set_text p v g
 set_any old p v f g a b = ap (λ z. set_text p v z) (one_form old f g a b)
 
@@ -158,10 +157,10 @@ is_written form p clash told =
     )
 
 -- the text with the value is a document
-pub set_manifest : (old new : List ℕ) (form : Text) (p : Place) (v : NewValue) → IsManifest old form
-    → is_value_at form p ≡ true → HasRoom p v → new ≡ set_text p v form → IsManifest new (form_set p v form)
+pub set_manifest : (old new : List ℕ) (form : Text) (p : Place) (v : NewValue) → IsDocument old form
+    → is_value_at form p ≡ true → HasRoom p v → new ≡ set_text p v form → IsDocument new (form_set p v form)
 set_manifest old new form p v manifest told room e =
-    let r = is_written form p manifest.document.no_clash told in
-    let same = set_at form p v r.0 r.1 old manifest.document told r.2 in
-    subst (λ (b : List ℕ). IsManifest b (form_set p v form)) (sym (e ∙ same.meant))
-    (record { document = set_document old form p v manifest.document told room })
+    let r = is_written form p manifest.no_clash told in
+    let same = set_at form p v r.0 r.1 old manifest told r.2 in
+    subst (λ (b : List ℕ). IsDocument b (form_set p v form)) (sym (e ∙ same.meant))
+    (set_document old form p v manifest told room)

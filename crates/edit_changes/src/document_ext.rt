@@ -3,13 +3,12 @@ ghost use Rattle.std.specs.Prelude.{◌≡◌, ◌⊎◌, ◌≤◌, ◌+◌, �
 ghost use Rattle.edit_base.specs.Errors.{IsMemory};
 ghost use Rattle.edit_base.specs.declared.errors.Error.TheVariants.{EditRefused};
 ghost use Rattle.edit_syntax.specs.Grammar.{Text};
-ghost use Rattle.edit_tree.specs.Assertions.{Place, at, key as key_step};
+ghost use Rattle.edit_tree.specs.Assertions.{IsDocument, Place, at, key as key_step};
 ghost use Rattle.edit_tree.specs.EditBytes.{inserted_text, replaced_text, set_text};
 ghost use Rattle.edit_tree.specs.Meant.{HasReplaced, HasSet, InsertFails, Inserted, RemoveFails, Removed, ReplaceFails};
 ghost use Rattle.edit_tree.specs.NewItems.{NewItem as Entry, NewValue as Value};
 ghost use Rattle.edit_tree.specs.RemovedBytes.{removed_text};
 ghost use Rattle.edit_tree.specs.Shown.{tree_of};
-ghost use Rattle.edit_tree.specs.Supported.{IsManifest};
 ghost use Rattle.edit_tree.specs.Tree.{is_value_at};
 ghost use Rattle.edit_document.specs.Forms.{Becomes, IfDocument};
 ghost use Rattle.edit_document.specs.Items.{place_seen};

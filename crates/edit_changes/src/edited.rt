@@ -3,7 +3,7 @@ ghost use Rattle.std.specs.Prelude.{◌≡◌, ◌⊎◌, [], None, IfOk, IfErr,
 ghost use Rattle.edit_base.specs.Errors.{IsMemory};
 ghost use Rattle.edit_base.specs.declared.errors.Error.TheVariants.{EditRefused};
 ghost use Rattle.edit_syntax.specs.Grammar.{Text};
-ghost use Rattle.edit_tree.specs.Assertions.{at, key as key_step};
+ghost use Rattle.edit_tree.specs.Assertions.{IsDocument, at, key as key_step};
 ghost use Rattle.edit_tree.specs.EditBytes.{inserted_text, replaced_text};
 ghost use Rattle.edit_document.specs.Forms.{Becomes, IfDocument};
 ghost use Rattle.edit_document.specs.Items.{place_seen};
@@ -11,7 +11,6 @@ ghost use Rattle.edit_tree.specs.Meant.{Inserted, InsertFails, HasReplaced, Repl
 ghost use Rattle.edit_document.specs.NewItemViews.{value_seen, item_seen};
 ghost use Rattle.edit_tree.specs.RemovedBytes.{removed_text};
 ghost use Rattle.edit_tree.specs.Shown.{tree_of, ShowsTree};
-ghost use Rattle.edit_tree.specs.Supported.{IsManifest};
 
 use edit_base::errors::{CargoResult, Error};
 use edit_compare::{has_grown, has_lost, has_replaced};
@@ -24,7 +23,7 @@ pub(crate) fn read_edited(alloc: Global, text: &str) -> CargoResult<Document>
     ensures shows { IfOk result (λ d. IfDocument text.now (λ form. ShowsTree d form)) }
     ensures pieces { IfOk result (λ d. length d.pieces ≤ 1) }
     ensures refused { IfErr result (λ e. IsMemory e
-        ⊎ ((e ≡ EditRefused) × ((form : Text) → IsManifest text.now form → ⊥))) }
+        ⊎ ((e ≡ EditRefused) × ((form : Text) → IsDocument text.now form → ⊥))) }
 {
     match Document::read(alloc, text) {
         Ok(new) => {

@@ -1,12 +1,11 @@
 //! Which tables and arrays around an item are left when it is removed.
 ghost use Rattle.std.specs.Prelude.{◌≡◌, ◌<◌, [], None, length};
 ghost use Rattle.edit_syntax.specs.Grammar.{Text};
-ghost use Rattle.edit_tree.specs.Assertions.{Step as StepSeen, at};
+ghost use Rattle.edit_tree.specs.Assertions.{IsDocument, Step as StepSeen, at};
 ghost use Rattle.edit_document.specs.Forms.{IfDocument};
 ghost use Rattle.edit_document.specs.Items.{place_numbered, place_seen};
 ghost use Rattle.edit_document.specs.Lost.{is_named, IsKept, IsInnermost};
 ghost use Rattle.edit_tree.specs.Shown.{tree_of};
-ghost use Rattle.edit_tree.specs.Supported.{IsManifest};
 ghost use Rattle.edit_tree.specs.Taking as taking;
 
 use crate::beside::step_down;
@@ -18,7 +17,7 @@ use edit_tree::nodes::Taken;
 fn is_kept(document: &Document, number: usize) -> bool
     requires here { number < length document.now.nodes }
     requires inner { place_numbered document.now number ≡ [] → ⊥ }
-    ensures { (form : Text) → (t : StepSeen) → IsManifest document.now.bytes form
+    ensures { (form : Text) → (t : StepSeen) → IsDocument document.now.bytes form
         → (tree_of document.now (at (place_numbered document.now number) t) ≡ None → ⊥)
         → IsKept form (place_numbered document.now number) t result }
 {

@@ -4,14 +4,13 @@ use Rattle.std.specs.Prelude.{option_map}
 use Rattle.std.specs.List.{filter, list_any}
 use Rattle.std.proofs.lemmas.List.{length-append, take_all}
 use Rattle.edit_syntax.specs.Grammar.{Text}
-use Rattle.edit_tree.specs.Assertions.{Step, key, index, Place, at, Kind, assertions}
+use Rattle.edit_tree.specs.Assertions.{Step, key, index, Place, at, Kind, assertions, IsDocument}
 use Rattle.edit_tree.specs.EditBytes.{as_it_is, part_to, is_header_of, is_one_statement}
 use Rattle.edit_document.specs.Items.{place_numbered, place_seen, step_seen}
 use Rattle.edit_document.specs.declared.place.Step.{Step as WrittenStep}
 use Rattle.edit_document.proofs.MemberViews.{place_more}
 use Rattle.edit_tree.specs.Shown.{Shown}
 use Rattle.edit_tree.specs.Statements.{behind_part, Paired, stated, line_pairs, inner_pairs}
-use Rattle.edit_tree.specs.Supported.{IsManifest}
 use Rattle.edit_tree.specs.Tree.{kind_at, view_at, view_of_kind}
 use Rattle.edit_document.specs.declared.one_statement.Statements.TheVariants.{AsMember}
 use Rattle.edit_document.specs.OneStatement.{Answers}
@@ -68,13 +67,13 @@ abbrev pub Reaches : Shown → Place → ℕ → ℕ → Type 0
 Reaches d place i n =
     (n < length d.nodes) × (i ≤ length (place_numbered d n))
     × ((upper : Place) × (name : List ℕ) × (place_numbered d n ≡ at upper (key name)))
-    × ((form : Text) → IsManifest d.bytes form → is_one_statement form place
+    × ((form : Text) → IsDocument d.bytes form → is_one_statement form place
     ≡ is_one_statement form (place_numbered d n))
 
 pub reaches_next : (d : Shown) (place : Place) (i n m : ℕ) → Reaches d place i n
-    → ((form : Text) (upper : Place) (name : List ℕ) → IsManifest d.bytes form
+    → ((form : Text) (upper : Place) (name : List ℕ) → IsDocument d.bytes form
     → place_numbered d n ≡ at upper (key name) → Answers form d n (AsMember m))
-    → (form : Text) → IsManifest d.bytes form → Reaches d place (i + 1) m
+    → (form : Text) → IsDocument d.bytes form → Reaches d place (i + 1) m
 reaches_next d place i n m r answers form manifest =
     let a = answers form r.2.0 r.2.1 manifest r.2.2 in
     let long : length (place_numbered d m) ≡ length (place_numbered d n) + 1 =

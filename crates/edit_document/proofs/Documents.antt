@@ -6,8 +6,7 @@ use Rattle.edit_syntax.specs.declared.read.marks.Mark.{Mark}
 use Rattle.edit_tree.specs.declared.nodes.Node.{Node}
 use Rattle.edit_document.specs.declared.document.Document.TheInside.{Inside}
 use Rattle.edit_syntax.specs.Grammar.{array, Text, lines, byte_order_mark, Spells}
-use Rattle.edit_tree.specs.Supported.{IsManifest}
-use Rattle.edit_tree.specs.Assertions.{index, at, assertions}
+use Rattle.edit_tree.specs.Assertions.{index, at, assertions, IsDocument}
 use Rattle.edit_syntax.specs.Depth.{text_depth}
 use Rattle.edit_syntax.specs.Marks.{text_marks, IsReadRefusal}
 use Rattle.edit_base.specs.Errors.{IsMemory}
@@ -24,7 +23,7 @@ use Rattle.edit_tree.specs.Walk.{State, start, walked, settled_state}
 use Rattle.edit_tree.specs.WalkState.{IsToken, KeepsState}
 use Rattle.edit_syntax.proofs.TextLaws.{read_again}
 use Rattle.edit_tree.proofs.Ends.{Ends}
-use Rattle.edit_tree.proofs.Shallow.{shallow as shallow_form, manifest_form, one_form}
+use Rattle.edit_tree.proofs.Shallow.{manifest_form, one_form}
 use Rattle.edit_document.proofs.AssertedSpots.{Stands}
 use Rattle.edit_document.proofs.WalkedLines.{Walked as Walks, ended, stuck, text_walked, text_even}
 use Rattle.edit_document.proofs.ShownTrees.{AreFull, tree_shown}
@@ -36,8 +35,8 @@ pub record Read (bytes : List ℕ) (form : Text) : Type 0 where
   pub spells : Spells bytes form
   pub utf8 : IsUtf8 bytes
 
-pub read_of : (bytes : List ℕ) (form : Text) → IsManifest bytes form → IsUtf8 bytes → Read bytes form
-read_of bytes form m u = record { spells = m.document.grammar; utf8 = u }
+pub read_of : (bytes : List ℕ) (form : Text) → IsDocument bytes form → IsUtf8 bytes → Read bytes form
+read_of bytes form m u = record { spells = m.grammar; utf8 = u }
 
 pub ends_all : (bytes : List ℕ) (form : Text) → Read bytes form → Ends bytes (lines form.lines)
 ends_all bytes form r = behind form.marked (lines form.lines) r.spells.spelled
@@ -56,16 +55,13 @@ walk_of bytes form r = text_walked bytes form r.spells.well_formed r.utf8 (ends_
 
 -- ---- the form of a text, and what it shows
 
-pub shallow : (bytes : List ℕ) (form : Text) → IsManifest bytes form → text_depth form ≤ 80
-shallow bytes form m = shallow_form bytes form m.document
-
 -- what is walked over is a document
 pub record Walked (bytes : List ℕ) (form : Text) (nodes : List Node) : Type 0 where
   pub spots : List Spot
   pub found : spots_of bytes ≡ Some spots
   pub stands : Stands (assertions form) (map placed (values form)) spots
   pub holds : Holds bytes nodes spots
-  pub manifest : IsManifest bytes form
+  pub manifest : IsDocument bytes form
 
 pub walked_is : (bytes : List ℕ) (form : Text) (nodes : List Node) → Read bytes form
     → KeepsState bytes nodes (walked bytes (text_marks form) start) → Walked bytes form nodes
@@ -74,9 +70,8 @@ walked_is bytes form nodes r keeps = go (walk_of bytes form r)
     go : Walks (assertions form) (map placed (values form)) (walked bytes (text_marks form) start)
         → Walked bytes form nodes
     go (ended now tables e st) =
-        let manifest : IsManifest bytes form =
-        record { document = record { grammar = r.spells; short = st.clear.short; no_clash = st.clear.apart } }
-        in
+        let manifest : IsDocument bytes form =
+        record { grammar = r.spells; short = st.clear.short; no_clash = st.clear.apart } in
         record {
           spots = now;
           found = ap (λ (o : Option Text). o >>= λ f. walked bytes (text_marks f) start >>= λ s. Some s.spots)
@@ -88,13 +83,13 @@ walked_is bytes form nodes r keeps = go (walk_of bytes form r)
     go (stuck e clash) = absurd (subst (KeepsState bytes nodes) e keeps)
 
 -- what is no document is not walked over
-pub refused_is : (bytes : List ℕ) (form : Text) → IsManifest bytes form → IsUtf8 bytes
+pub refused_is : (bytes : List ℕ) (form : Text) → IsDocument bytes form → IsUtf8 bytes
     → walked bytes (text_marks form) start ≡ None → ⊥
 refused_is bytes form m u none = go (walk_of bytes form (read_of bytes form m u))
   where
     go : Walks (assertions form) (map placed (values form)) (walked bytes (text_marks form) start) → ⊥
     go (ended now tables e st) = let clash : None ≡ Some (settled_state now tables) = sym none ∙ e in cc
-    go (stuck e clash) = clash (record { apart = m.document.no_clash; short = m.document.short })
+    go (stuck e clash) = clash (record { apart = m.no_clash; short = m.short })
 
 -- and each of its arrays has all of its elements
 pub text_full : (form : Text) → AreFull (assertions form)
@@ -148,7 +143,7 @@ read_done bytes seen marks slice nodes u same f whole keeps =
     (f.0, walked_is bytes f.0 nodes r (k (tokens_of bytes f.0 r)))
 
 pub shows_any : (bytes : List ℕ) (r : ℕ × ℕ) (form f : Text) (nodes : List Node) → Walked bytes form nodes
-    → IsManifest bytes f → ShowsTree (shown_by bytes r) f
+    → IsDocument bytes f → ShowsTree (shown_by bytes r) f
 shows_any bytes r form f nodes w m =
     subst (ShowsTree (shown_by bytes r)) (one_form bytes form f w.manifest m)
     (shows_form bytes r form nodes w)
@@ -165,7 +160,7 @@ memory_or n _ h = absurd h
 pub refused_memory : (bytes seen : List ℕ) (marks slice : List Mark) (form : Text) (e : Error) (n : ℕ)
     → IsUtf8 bytes → seen ≡ bytes → Found seen marks → slice ≡ marks → IsReadRefusal n e
     → (AllByRecursion (IsToken bytes) slice → NotMemory e → walked bytes slice start ≡ None)
-    → IsManifest bytes form → IsMemory e
+    → IsDocument bytes form → IsMemory e
 refused_memory bytes seen marks slice form e n u same f whole refusal stop m =
     elim (memory_or n e refusal) [
       | inl y ↦ y
@@ -192,7 +187,7 @@ answer_memory r e e2 P was same m = subst (λ (x : Result Shown Error). MatchRes
 
 -- a text over whose marks no walk ends is no document, whatever form it has
 pub no_document : (bytes : List ℕ) → IsUtf8 bytes → spots_of bytes ≡ None → (form : Text)
-    → IsManifest bytes form → ⊥
+    → IsDocument bytes form → ⊥
 no_document bytes u none form m =
     refused_is bytes form m u
     (stops (walked bytes (text_marks form) start)

@@ -148,5 +148,4 @@ shows bytes place view utf8 e = node_shows bytes place view utf8
 
 -- where the walk stops, no document is
 pub is_none : (bytes : List ℕ) → is_utf8 bytes ≡ true → spots_of bytes ≡ None → IsNone bytes
-is_none bytes utf8 e form document = no_document bytes (IsUtf8-from_is_utf8 bytes utf8) e form
-    (record { document = document })
+is_none bytes utf8 e form document = no_document bytes (IsUtf8-from_is_utf8 bytes utf8) e form document

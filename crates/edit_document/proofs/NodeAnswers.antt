@@ -8,7 +8,7 @@ use Rattle.edit_tree.specs.declared.nodes.Node.{Node}
 use Rattle.edit_tree.specs.declared.nodes.Taken.{Taken}
 use Rattle.edit_tree.specs.declared.nodes.Taken.TheVariants.{Dotted, Value, Super, Header, Array, Element}
 use Rattle.edit_document.specs.declared.one_statement.Statements.TheVariants.{AsMember}
-use Rattle.edit_tree.specs.Assertions.{Step, key, Place, at, assertions}
+use Rattle.edit_tree.specs.Assertions.{Step, key, Place, at, assertions, IsDocument}
 use Rattle.edit_document.specs.Compared.{AreNames, nth_part}
 use Rattle.edit_document.specs.DocumentLayout.{placed, IsRead, shown_of}
 use Rattle.edit_tree.specs.EditBytes.{is_one_statement}
@@ -16,7 +16,6 @@ use Rattle.edit_document.specs.Items.{names_in, place_numbered, view_numbered, N
 use Rattle.edit_tree.specs.Nodes.{names_of}
 use Rattle.edit_document.specs.OneStatement.{HasMember, Answers}
 use Rattle.edit_tree.specs.Shown.{Shown, tree_of}
-use Rattle.edit_tree.specs.Supported.{IsManifest}
 use Rattle.edit_tree.specs.Written.{values}
 use Rattle.edit_document.proofs.AssertedSpots.{Stands}
 use Rattle.edit_document.proofs.NodeStatements.{value_states, super_states, array_states, headed_states, names_seen, only_states, other_states}
@@ -27,13 +26,13 @@ use Rattle.edit_document.proofs.Wholes.{stands_of}
 
 -- the spots of a document stand for the assertions of its form
 pub stood : (inside : Inside) (d : Shown) (read : IsRead inside) (view : shown_of inside ≡ d)
-    → IsUtf8 (string_bytes inside.text) → (form : Text) → IsManifest d.bytes form
+    → IsUtf8 (string_bytes inside.text) → (form : Text) → IsDocument d.bytes form
     → Stands (assertions form) (map placed (values form)) (opened inside d read view).spots
 unfolding opened
 stood inside d read view u form manifest =
     subst (λ g. Stands (assertions g) (map placed (values g)) read.spots)
     (one_form d.bytes read.form form
-    (subst (λ b. IsManifest b read.form) (shown_bytes inside d view) read.manifest) manifest)
+    (subst (λ b. IsDocument b read.form) (shown_bytes inside d view) read.manifest) manifest)
     (stands_of inside read u)
 
 -- a node that is a member

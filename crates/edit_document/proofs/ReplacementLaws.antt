@@ -8,17 +8,16 @@ use Rattle.edit_syntax.proofs.Members.{contained_among}
 use Rattle.edit_tree.proofs.UniqueValues.{listed_value}
 use Rattle.edit_document.specs.declared.replace.Rewrite.{Rewrite}
 use Rattle.edit_syntax.specs.Grammar.{Text, text}
-use Rattle.edit_tree.specs.Assertions.{Place}
+use Rattle.edit_tree.specs.Assertions.{IsDocument, Place}
 use Rattle.edit_tree.specs.Tree.{is_value_at}
 use Rattle.edit_document.specs.declared.place.Step.{Step as WrittenStep}
 use Rattle.edit_document.specs.Items.{place_seen}
 use Rattle.edit_document.specs.Ranges.{HasRange, edits_seen}
 use Rattle.edit_tree.specs.Written.{values}
-use Rattle.edit_tree.specs.Supported.{IsManifest}
 use Rattle.edit_tree.specs.Literals.{literal_of}
 use Rattle.edit_tree.specs.Replaces.{Edits, replaced, edited, Swaps, Replaces, AreValues}
 use Rattle.edit_document.specs.Splices.{Range, range_of, IsRangeFor, AreRanges}
-use Rattle.edit_tree.proofs.ReplacedTree.{AreApart, replaced_manifest, replaced_view}
+use Rattle.edit_tree.proofs.ReplacedTree.{AreApart, replaced_document, replaced_view}
 use Rattle.edit_tree.proofs.ReplacedStrings.{told_value, one_apart}
 use Rattle.edit_document.proofs.SortedRanges.{AreRangesFor, Rewrites, ranges_rewrite}
 use Rattle.edit_document.proofs.LocatedEdits.{first_of_distinct}
@@ -26,19 +25,19 @@ use Rattle.std.specs.Str.{IsUtf8}
 use Rattle.edit_tree.proofs.SwappedTexts.{apart_none, replaced_swaps}
 
 -- a document's replacement at places none of which lies below another
-pub replaces_apart : (edits : Edits) (old new : List ℕ) (form : Text) → IsManifest old form
+pub replaces_apart : (edits : Edits) (old new : List ℕ) (form : Text) → IsDocument old form
     → AreApart edits form → new ≡ text (replaced edits form) → Replaces edits old new
 replaces_apart edits old new form manifest apart e = record {
   form = form;
   was = manifest;
   bytes = e;
   kept = subst (λ (b : List ℕ). Swaps literal_of (edited edits form) b new)
-      (sym manifest.document.grammar.spelled)
+      (sym manifest.grammar.spelled)
       (subst (λ (b : List ℕ). Swaps literal_of (edited edits form) (text form) b) (sym e)
       (replaced_swaps literal_of edits form (apart_none edits form apart)));
-  is = subst (λ (b : List ℕ). IsManifest b (replaced edits form)) (sym e)
-      (replaced_manifest edits old form manifest);
-  tree = replaced_view edits old form manifest.document apart;
+  is = subst (λ (b : List ℕ). IsDocument b (replaced edits form)) (sym e)
+      (replaced_document edits old form manifest);
+  tree = replaced_view edits old form manifest apart;
 }
 
 -- ---- one range more
@@ -123,10 +122,9 @@ one_range form p said r range = record {
 }
 
 pub one_rewrite : (whole : List ℕ) (form : Text) (p : Place) (said : List ℕ) (r : Range)
-    → IsManifest whole form → IsUtf8 whole → is_value_at form p ≡ true → IsRangeFor form (p, said) r
+    → IsDocument whole form → IsUtf8 whole → is_value_at form p ≡ true → IsRangeFor form (p, said) r
     → Rewrites whole (r ∷ []) (text (replaced ((p, said) ∷ []) form))
-one_rewrite whole form p said r manifest utf8 told range =
-    let d = manifest.document in
+one_rewrite whole form p said r d utf8 told range =
     let spelled = d.grammar.spelled in
     let edits : Edits = (p, said) ∷ [] in
     let apart = one_apart form p said (told_value form p d.no_clash told) in
@@ -135,9 +133,9 @@ one_rewrite whole form p said r manifest utf8 told range =
     (ranges_rewrite form edits (r ∷ []) d.no_clash d.grammar.well_formed (apart_none edits form apart)
     (first_of_distinct edits (tt, tt)) are (tt, tt) (subst IsUtf8 spelled utf8))
 
-pub replaces_one : (old new : List ℕ) (form : Text) (p : Place) (said : List ℕ) → IsManifest old form
+pub replaces_one : (old new : List ℕ) (form : Text) (p : Place) (said : List ℕ) → IsDocument old form
     → is_value_at form p ≡ true → new ≡ text (replaced ((p, said) ∷ []) form)
     → Replaces ((p, said) ∷ []) old new
 replaces_one old new form p said manifest told e =
     replaces_apart ((p, said) ∷ []) old new form manifest
-    (one_apart form p said (told_value form p manifest.document.no_clash told)) e
+    (one_apart form p said (told_value form p manifest.no_clash told)) e

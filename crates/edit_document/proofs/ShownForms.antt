@@ -3,9 +3,8 @@ use Rattle.std.proofs.Common.{◌≡◌, ℕ, List, map, sym, ap, ◌∙◌, sub
 use Rattle.std.specs.Prelude.{string_bytes}
 use Rattle.edit_document.specs.declared.document.Document.TheInside.{Inside}
 use Rattle.edit_syntax.specs.Grammar.{Text}
-use Rattle.edit_tree.specs.Assertions.{Place}
+use Rattle.edit_tree.specs.Assertions.{IsDocument, Place}
 use Rattle.edit_tree.specs.Tree.{View, view_at}
-use Rattle.edit_tree.specs.Supported.{IsManifest}
 use Rattle.edit_tree.specs.Shown.{Shown, node_at, ShowsTree}
 use Rattle.edit_tree.specs.Nodes.{shown_spot}
 use Rattle.edit_document.specs.DocumentLayout.{nodes_by, shown_of, shown_by, IsRead}
@@ -20,10 +19,10 @@ unfolding shown_by
 shown_bytes inside shown view = ap (λ (s : Shown). s.bytes) view
 
 pub form_same : (inside : Inside) (shown : Shown) (form : Text) → (read : IsRead inside)
-    → shown_of inside ≡ shown → IsManifest shown.bytes form → form ≡ read.form
+    → shown_of inside ≡ shown → IsDocument shown.bytes form → form ≡ read.form
 form_same inside shown form read view manifest =
-    let here : IsManifest (string_bytes inside.text) form =
-    subst (λ (b : List ℕ). IsManifest b form) (sym (shown_bytes inside shown view)) manifest in
+    let here : IsDocument (string_bytes inside.text) form =
+    subst (λ (b : List ℕ). IsDocument b form) (sym (shown_bytes inside shown view)) manifest in
     one_form (string_bytes inside.text) form read.form here read.manifest
 
 pub open_spots : (inside : Inside) (shown : Shown) → (read : IsRead inside) → shown_of inside ≡ shown
@@ -32,7 +31,7 @@ unfolding shown_by
 open_spots inside shown read view = ap (λ (s : Shown). s.nodes) (sym view) ∙ ap nodes_by read.found
 
 pub shows_tree : (inside : Inside) (shown : Shown) (form : Text) → IsRead inside → shown_of inside ≡ shown
-    → IsManifest shown.bytes form → ShowsTree shown form
+    → IsDocument shown.bytes form → ShowsTree shown form
 shows_tree inside shown form read view manifest place =
     ap (λ (ns : List (Place × View)). node_at ns place) (open_spots inside shown read view) ∙
     read.views place ∙ ap (λ (t : Text). view_at t place)

@@ -5,9 +5,8 @@ use Rattle.edit_tree.specs.declared.nodes.Node.{Node}
 use Rattle.edit_syntax.specs.declared.span.Span.{Span}
 use Rattle.edit_document.specs.declared.document.Document.TheInside.{Inside}
 use Rattle.edit_syntax.specs.Grammar.{Text, text}
-use Rattle.edit_tree.specs.Assertions.{Place, same_place, Assertion, Kind, assertions}
+use Rattle.edit_tree.specs.Assertions.{Place, same_place, Assertion, Kind, assertions, IsDocument}
 use Rattle.edit_tree.specs.Tree.{View, table, members_of, view_of_kind, kind_at, view_in, is_value_at}
-use Rattle.edit_tree.specs.Supported.{IsManifest}
 use Rattle.edit_tree.specs.Shown.{Shown, tree_of}
 use Rattle.edit_tree.specs.Nodes.{Holds}
 use Rattle.edit_document.specs.DocumentLayout.{span_of, placed, span_at, shown_of, IsRead}
@@ -66,18 +65,18 @@ view_some made [] k e = (table (members_of made []), refl)
 view_some made (s ∷ ss) k e =
     (view_of_kind made (s ∷ ss) k, ap (λ (o : Option Kind). option_map (view_of_kind made (s ∷ ss)) o) e)
 
-value_span : (form : Text) (bytes : List ℕ) (p : Place) → IsManifest bytes form → is_value_at form p ≡ true
+value_span : (form : Text) (bytes : List ℕ) (p : Place) → IsDocument bytes form → is_value_at form p ≡ true
     → (s : Span) × (span_at (map placed (values form)) p ≡ Some s)
-value_span form bytes p manifest h = let w = value_listed form p manifest.document.no_clash h in
+value_span form bytes p manifest h = let w = value_listed form p manifest.no_clash h in
     told_span (values form) w.0 p w.1 w.2
 
 -- where nothing stands there is no value
 pub none_value : (inside : Inside) (shown : Shown) (form : Text) (p : Place) → IsRead inside
-    → shown_of inside ≡ shown → IsManifest shown.bytes form → tree_of shown p ≡ None
+    → shown_of inside ≡ shown → IsDocument shown.bytes form → tree_of shown p ≡ None
     → is_value_at form p ≡ false
 none_value inside shown form p read view manifest none =
     by_test (is_value_at form p)
-    (λ h. let v = told_value form p manifest.document.no_clash h in
+    (λ h. let v = told_value form p manifest.no_clash h in
     let some = view_some (assertions form) p _ v.1 in
     absurd (none_view some.0 (sym none ∙ shows_tree inside shown form read view manifest p ∙ some.1)))
     (λ h. h)
@@ -89,7 +88,7 @@ none_value inside shown form p read view manifest none =
 
 -- the span of a node is the one that is told at its place
 node_span : (inside : Inside) (shown : Shown) (n : ℕ) (node : Node) (form : Text) (p : Place)
-    → (read : IsRead inside) → shown_of inside ≡ shown → IsManifest shown.bytes form
+    → (read : IsRead inside) → shown_of inside ≡ shown → IsDocument shown.bytes form
     → place_numbered shown n ≡ p → n < length shown.nodes → node ≡ get_or inside.nodes.items n node
     → node.span ≡ span_at (map placed (values form)) p
 node_span inside shown n node form p read view manifest there lt is =
@@ -108,7 +107,7 @@ node_span inside shown n node form p read view manifest there lt is =
 
 -- nor is one where a node has no span
 pub spanless_value : (inside : Inside) (shown : Shown) (form : Text) (p : Place) (n : ℕ) (node : Node)
-    → IsRead inside → shown_of inside ≡ shown → IsManifest shown.bytes form → place_numbered shown n ≡ p
+    → IsRead inside → shown_of inside ≡ shown → IsDocument shown.bytes form → place_numbered shown n ≡ p
     → n < length shown.nodes
     → node ≡ get_or inside.nodes.items n node → node.span ≡ None → is_value_at form p ≡ false
 spanless_value inside shown form p n node read view manifest there lt is none =
@@ -123,13 +122,13 @@ spanless_value inside shown form p n node read view manifest there lt is none =
 
 -- and where it has one, it tells where the value is written
 pub spanned_value : (inside : Inside) (shown : Shown) (form : Text) (p : Place) (n : ℕ) (node : Node)
-    (s : Span) (len : ℕ) → IsRead inside → shown_of inside ≡ shown → IsManifest shown.bytes form
+    (s : Span) (len : ℕ) → IsRead inside → shown_of inside ≡ shown → IsDocument shown.bytes form
     → place_numbered shown n ≡ p → n < length shown.nodes
     → node ≡ get_or inside.nodes.items n node → node.span ≡ Some s → len ≡ length (string_bytes inside.text)
     → IsWrittenAt form p (len - s.from) (len - s.to)
 spanned_value inside shown form p n node s len read view manifest there lt is some size =
     let whole : len ≡ length (text form) = size ∙
-    ap length (shown_bytes inside shown view ∙ manifest.document.grammar.spelled) in
+    ap length (shown_bytes inside shown view ∙ manifest.grammar.spelled) in
     let w = span_told (values form) p s
     (sym (node_span inside shown n node form p read view manifest there lt is) ∙ some) in
     record {

@@ -46,8 +46,8 @@ stands_of inside read u = go (walk_of bytes form (read_of bytes form read.manife
         (same_Some now read.spots (sym made ∙ read.found)) st
     go (stuck e clash) =
         absurd (clash (record {
-          apart = read.manifest.document.no_clash;
-          short = read.manifest.document.short;
+          apart = read.manifest.no_clash;
+          short = read.manifest.short;
         }))
 
 -- ---- names and numbers

@@ -6,9 +6,8 @@ use Rattle.edit_syntax.specs.Characters.{quote, apostrophe}
 use Rattle.edit_syntax.specs.Strings.{says, says_multi}
 use Rattle.edit_syntax.specs.Numbers.{integer_text, float_text, datetime_text}
 use Rattle.edit_syntax.specs.Grammar.{Value, basic, literal, multi_basic, multi_literal, boolean, integer, float, datetime, array, inline, value, Text}
-use Rattle.edit_tree.specs.Assertions.{Place, same_place}
+use Rattle.edit_tree.specs.Assertions.{IsDocument, Place, same_place}
 use Rattle.edit_tree.specs.Tree.{View, string, truth, whole, fractional, moment, view_at}
-use Rattle.edit_tree.specs.Supported.{IsManifest}
 use Rattle.edit_syntax.specs.Reading.{◌>>=◌}
 use Rattle.edit_syntax.specs.Marks.{text_marks}
 use Rattle.edit_tree.specs.Pieces.{pieces_of, IsRange}
@@ -77,7 +76,7 @@ pub record IsRead (d : Inside) : Type 0 where
   pub spots : List Spot
   pub found : spots_of (string_bytes d.text) ≡ Some spots
   pub form : Text
-  pub manifest : IsManifest (string_bytes d.text) form
+  pub manifest : IsDocument (string_bytes d.text) form
   pub holds : Holds (string_bytes d.text) d.nodes.items spots
   pub written : IsRange (string_bytes d.text) d.written
   pub tree : IsTree spots

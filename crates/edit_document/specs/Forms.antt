@@ -1,11 +1,11 @@
 -- What is said of a text's form, where the text is a document: each document has exactly one.
 use Rattle.std.specs.Prelude.{◌≡◌, ℕ, List}
 use Rattle.edit_syntax.specs.Grammar.{Text}
-use Rattle.edit_tree.specs.Supported.{IsManifest}
+use Rattle.edit_tree.specs.Assertions.{IsDocument}
 
 -- where the bytes are a document, this holds of its form
 abbrev pub IfDocument : List ℕ → (Text → Type 0) → Type 0
-IfDocument bytes P = (form : Text) → IsManifest bytes form → P form
+IfDocument bytes P = (form : Text) → IsDocument bytes form → P form
 
 -- the new bytes are those that are made of the form of the old ones
 abbrev pub Becomes : List ℕ → (Text → List ℕ) → List ℕ → Type 0

@@ -5,7 +5,7 @@ ghost use Rattle.edit_document.specs.Compared.{IsWhole, kind_of, word_of};
 ghost use Rattle.edit_document.specs.Forms.{IfDocument};
 ghost use Rattle.edit_document.specs.Items.{place_numbered, view_numbered};
 ghost use Rattle.edit_document.specs.Lost.{is_named};
-ghost use Rattle.edit_tree.specs.Supported.{IsManifest};
+ghost use Rattle.edit_tree.specs.Assertions.{IsDocument};
 ghost use Rattle.edit_tree.specs.Taking as taking;
 
 use crate::document::Document;

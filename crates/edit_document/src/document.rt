@@ -1,13 +1,12 @@
 //! A document: its text, and what stands at each place that a statement asserts.
 ghost use Rattle.std.specs.Prelude.{◌≡◌, Some, None, ◌<◌, ◌≤◌, [], ◌++◌, IfOk, IfErr, MatchResult, string_bytes, length, map, slice_get, option_map};
-ghost use Rattle.edit_tree.specs.Assertions.{Place, at, key as key_step, index as index_step};
+ghost use Rattle.edit_tree.specs.Assertions.{Place, at, key as key_step, index as index_step, IsDocument};
 ghost use Rattle.edit_base.specs.Errors.{IsMemory};
 ghost use Rattle.edit_document.specs.Forms.{IfDocument};
 ghost use Rattle.edit_document.specs.DocumentLayout.{nodes_by, spots_of};
 ghost use Rattle.edit_document.specs.ItemViews.{Finds};
 ghost use Rattle.edit_syntax.specs.Grammar.{Text};
 ghost use Rattle.edit_tree.specs.Shown.{tree_of, ShowsTree};
-ghost use Rattle.edit_tree.specs.Supported.{IsManifest};
 ghost use Rattle.edit_document.specs.Ranges.{HasRange};
 ghost use Rattle.edit_syntax.specs.Marks.{IsReadRefusal};
 ghost use Rattle.edit_document.specs.Items.{place_numbered, view_numbered, names_in, count_in, place_seen, Shows, Numbers};
@@ -63,7 +62,7 @@ impl Document {
     pub fn read(alloc: Global, text: &str) -> CargoResult<Document>
         ensures bytes { IfOk result (λ d. d.bytes ≡ text.now) }
         // What is read is a document, and shows its tree.
-        ensures found { IfOk result (λ d. (form : Text) × IsManifest text.now form × ShowsTree d form) }
+        ensures found { IfOk result (λ d. (form : Text) × IsDocument text.now form × ShowsTree d form) }
         // Whatever is a document is read, in whichever way the text was split, unless memory runs out.
         ensures only { IfDocument text.now (λ form. MatchResult result (λ d. ShowsTree d form) IsMemory) }
         ensures pieces { IfOk result (λ d. length d.pieces ≤ 1) }
@@ -215,7 +214,7 @@ impl Document {
     /// For proofs: the text is a document, and shows the tree of each form that it has. It does nothing,
     /// and a caller that is lent a document calls it to know these two.
     pub fn has_form(&self)
-        ensures some { (form : Text) × IsManifest self.now.bytes form }
+        ensures some { (form : Text) × IsDocument self.now.bytes form }
         ensures shows { IfDocument self.now.bytes (λ form. ShowsTree self.now form) }
     {
         let _nodes = &self.nodes;

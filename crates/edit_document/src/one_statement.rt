@@ -1,12 +1,11 @@
 //! Places that one statement alone names.
 ghost use Rattle.std.specs.Prelude.{◌≡◌, ◌<◌, ℕ, List, true, false, length};
 ghost use Rattle.edit_syntax.specs.Grammar.{Text};
-ghost use Rattle.edit_tree.specs.Assertions.{Place, at, key as key_step};
+ghost use Rattle.edit_tree.specs.Assertions.{IsDocument, Place, at, key as key_step};
 ghost use Rattle.edit_tree.specs.EditBytes.{is_one_statement};
 ghost use Rattle.edit_document.specs.Forms.{IfDocument};
 ghost use Rattle.edit_document.specs.Items.{place_numbered, place_seen};
 ghost use Rattle.edit_document.specs.OneStatement.{HasMember, Answers};
-ghost use Rattle.edit_tree.specs.Supported.{IsManifest};
 
 use crate::document::Document;
 use crate::place::Step;
@@ -58,7 +57,7 @@ impl Document {
     /// How the statements stand that name the place of a node that is a member.
     fn statements(&self, number: usize) -> Statements
         requires { number < length self.now.nodes }
-        ensures { (form : Text) → (upper : Place) → (name : List ℕ) → IsManifest self.now.bytes form
+        ensures { (form : Text) → (upper : Place) → (name : List ℕ) → IsDocument self.now.bytes form
             → place_numbered self.now number ≡ at upper (key_step name)
             → Answers form self.now number result }
     {

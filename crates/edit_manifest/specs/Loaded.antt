@@ -5,7 +5,7 @@ use Rattle.edit_base.specs.Errors.{IsMemory, number_of}
 use Rattle.edit_base.specs.declared.errors.DeviceCall.TheVariants as call
 use Rattle.edit_base.specs.declared.errors.Error.{Error}
 use Rattle.edit_base.specs.declared.errors.Error.TheVariants.{NoManifest, NotAbsolute, NotToml}
-use Rattle.edit_tree.specs.Supported.{IsManifest}
+use Rattle.edit_tree.specs.Assertions.{IsDocument}
 use Rattle.edit_store.specs.Store.{StoreView}
 use Rattle.edit_syntax.specs.Grammar.{Text}
 use Rattle.edit_manifest.specs.Located.{IsFault}
@@ -23,7 +23,7 @@ NamesByte end e = (at : ℕ) × (e ≡ NotToml at) × (at ≤ end)
 abbrev pub IsBadManifest : List ℕ → Error → Type 0
 IsBadManifest bytes e =
     ((number_of e ≡ 2) × (IsUtf8 bytes → ⊥))
-    ⊎ ((NamesByte (length bytes) e × IsUtf8 bytes × ((form : Text) → IsManifest bytes form → ⊥))
+    ⊎ ((NamesByte (length bytes) e × IsUtf8 bytes × ((form : Text) → IsDocument bytes form → ⊥))
     ⊎ (IsMemory e × IsUtf8 bytes))
 
 -- what is wrong with the file at a path: there is none, or its bytes are no manifest

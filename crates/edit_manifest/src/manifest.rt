@@ -4,8 +4,8 @@ ghost use Rattle.std.specs.Prelude.{◌≡◌, Some, IfErr, IfOk, IsUtf8, MatchR
 ghost use Rattle.edit_base.specs.Errors.{IsMemory};
 ghost use Rattle.edit_syntax.specs.Grammar.{Text};
 ghost use Rattle.edit_syntax.specs.Marks.{IsReadRefusal};
+ghost use Rattle.edit_tree.specs.Assertions.{IsDocument};
 ghost use Rattle.edit_tree.specs.Shown.{ShowsTree};
-ghost use Rattle.edit_tree.specs.Supported.{IsManifest};
 ghost use Rattle.edit_manifest.specs.Loaded.{IsBadManifest};
 
 use edit_base::errors::{CargoResult, Error};
@@ -24,7 +24,7 @@ impl Manifest {
     pub fn read(alloc: Global, text: &str) -> CargoResult<Manifest>
         ensures bytes { IfOk result (λ m. m.document.bytes ≡ text.now) }
         ensures found { IfOk result
-            (λ m. (form : Text) × IsManifest text.now form × ShowsTree m.document form) }
+            (λ m. (form : Text) × IsDocument text.now form × ShowsTree m.document form) }
         ensures only { IfDocument text.now (λ form. MatchResult result (λ m. ShowsTree m.document form)
             IsMemory) }
         ensures refused { IfErr result (IsReadRefusal (length text.now)) }
@@ -39,7 +39,7 @@ impl Manifest {
         ensures bytes { IfOk result (λ m. m.document.bytes ≡ bytes.now) }
         ensures utf8 { OnOk result (IsUtf8 bytes.now) }
         ensures found { IfOk result
-            (λ m. (form : Text) × IsManifest bytes.now form × ShowsTree m.document form) }
+            (λ m. (form : Text) × IsDocument bytes.now form × ShowsTree m.document form) }
         ensures refused { IfErr result (IsBadManifest bytes.now) }
     {
         let Ok(text) = str::from_utf8(bytes) else {

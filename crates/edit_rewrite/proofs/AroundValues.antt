@@ -20,7 +20,7 @@ use Rattle.edit_syntax.proofs.NumberReadAgain.{is_start, integer_start, float_st
 use Rattle.edit_syntax.proofs.ValueEdges.{value_rest, value_enclosed}
 use Rattle.edit_rewrite.specs.declared.remove_text.Around.{Around}
 use Rattle.edit_document.specs.declared.place.Step.{Step as WrittenStep}
-use Rattle.edit_tree.specs.Assertions.{Place, Step, at}
+use Rattle.edit_tree.specs.Assertions.{IsDocument, Place, Step, at}
 use Rattle.edit_tree.specs.EditBytes.{before, with_splice}
 use Rattle.edit_document.specs.Items.{step_seen, place_seen}
 use Rattle.edit_tree.specs.RemovedBytes.{innermost, removed_text, lines_left, value_left}
@@ -28,7 +28,6 @@ use Rattle.edit_rewrite.specs.RemoveText.{IsFoundAt, IsAround, HasAround, Stands
 use Rattle.edit_tree.specs.Slots.{IsContainer}
 use Rattle.edit_rewrite.specs.Spots.{IsSpot}
 use Rattle.edit_tree.specs.Statements.{stated}
-use Rattle.edit_tree.specs.Supported.{IsManifest}
 use Rattle.edit_tree.specs.Tree.{is_value_at}
 use Rattle.edit_tree.specs.Written.{Valued, values, IsWrittenAt}
 use Rattle.edit_tree.proofs.Ends.{Ends, text_behind}
@@ -62,12 +61,12 @@ behind_value bytes v after u valid ends =
       fits = rw at (IsCharBoundary-at_seam bytes (front ++ (e.last ∷ [])) after whole text);
     }
 
-pub stands_between : (bytes : List ℕ) (form : Text) (w : Valued) (a : Around) → IsManifest bytes form
+pub stands_between : (bytes : List ℕ) (form : Text) (w : Valued) (a : Around) → IsDocument bytes form
     → IsUtf8 bytes → IsFoundAt form w a → StandsBetween bytes w a.from a.to
 stands_between bytes form w a m u f =
     let among = contained_among w (values form) f.told in
     let valid = among_all (λ w. IsValue w.value) w (values form)
-    (values_fine [] [] form.lines m.document.grammar.well_formed) among in
+    (values_fine [] [] form.lines m.grammar.well_formed) among in
     let s = values_stand bytes form m u w among in
     record {
       valid = valid;
@@ -79,13 +78,13 @@ stands_between bytes form w a m u f =
     }
 
 -- the code tells it by what follows
-pub found_at : (bytes : List ℕ) (form : Text) (p : Place) (start end : ℕ) (a : Around) → IsManifest bytes form
+pub found_at : (bytes : List ℕ) (form : Text) (p : Place) (start end : ℕ) (a : Around) → IsDocument bytes form
     → IsUtf8 bytes → (r : IsWrittenAt form p start end) → a.steps ≡ length p → a.from ≡ length bytes - start
     → a.to ≡ length bytes - end → IsFoundAt form r.valued a
 found_at bytes form p start end a m u r steps from to =
     let w = r.valued in
     let ends = (values_stand bytes form m u w (contained_among w (values form) r.told)).ends in
-    let size = ap length m.document.grammar.spelled in
+    let size = ap length m.grammar.spelled in
     let long = ap length ends.1 ∙ length-append ends.0 (value w.value w.after) in
     let more = ap length (value_rest w.value w.after) ∙ length-append (value w.value []) w.after in
     let starts = r.starts in
@@ -205,7 +204,7 @@ none_around_root form (x ∷ xs) none = absurd (omega arith)
 
 -- the value that stands one step above the place is the innermost one
 pub some_around : (bytes : List ℕ) (form : Text) (steps : List WrittenStep) (start end : ℕ) (a : Around)
-    → IsManifest bytes form → IsUtf8 bytes → 1 ≤ length steps
+    → IsDocument bytes form → IsUtf8 bytes → 1 ≤ length steps
     → IsWrittenAt form (place_seen (take (length steps - 1) steps)) start end
     → a.steps ≡ length (take (length steps - 1) steps) → a.from ≡ length bytes - start
     → a.to ≡ length bytes - end → IsAround form (place_seen steps) a
@@ -218,7 +217,7 @@ some_around bytes form steps start end a m u some r count from to =
       found = found_at bytes form (place_seen above) start end a m u r
           (count ∙ sym (length-map above step_seen)) from to;
       innermost_is = ap (λ (p : Place). innermost p form) last.1
-          ∙ value_around form (place_seen above) last.0 r.valued m.document.no_clash among r.there;
+          ∙ value_around form (place_seen above) last.0 r.valued m.no_clash among r.there;
       below = last.0 ∷ [];
       parted = last.1 ∙ ap (λ (p : Place). at p last.0) (sym r.there);
     }
@@ -260,7 +259,7 @@ steps_below steps n place below e is =
 
 -- what holds of a result for each form
 pub each_form : (bytes : List ℕ) (r : Result (String Global) Error) (P : Text → String Global → Type 0)
-    → ((form : Text) → IsManifest bytes form → IfOk r (P form))
-    → IfOk r (λ t. (form : Text) → IsManifest bytes form → P form t)
+    → ((form : Text) → IsDocument bytes form → IfOk r (P form))
+    → IfOk r (λ t. (form : Text) → IsDocument bytes form → P form t)
 each_form bytes (Ok t) P h = h
 each_form bytes (Err e) P h = tt

@@ -10,14 +10,14 @@ use Rattle.edit_syntax.specs.FirstLine.{first_marks}
 use Rattle.edit_syntax.specs.Grammar.{Between, blank, break, remark, gap, IsGap, Value, basic, literal, multi_basic, multi_literal, boolean, integer, float, datetime, array, inline, value, Members, no_members, last_member, member, members, AreMembers, Statement, pair, header, element_header, statement, IsStatement, comment, empty_line, full_line, Lines, one_line, more_lines, lines, AreLines, Text}
 use Rattle.edit_syntax.specs.Marks.{statement_marks}
 use Rattle.edit_syntax.proofs.Members.{Among, among_append}
-use Rattle.edit_tree.specs.Assertions.{Place, key as name_step, at, same_place, Assertion, of_statement, prefix_after}
+use Rattle.edit_tree.specs.Assertions.{Place, key as name_step, at, same_place, Assertion, of_statement, prefix_after, IsDocument}
 use Rattle.edit_tree.specs.EditBytes.{as_it_is, part_to}
 use Rattle.edit_rewrite.specs.EntrySpots.{StandsIn}
 use Rattle.edit_rewrite.specs.Spots.{IsSpot}
 use Rattle.edit_tree.specs.Statements.{Stated, stated_in, stated, dotted_parts, behind_part, Paired, paired, paired_members, paired_value, paired_statement, line_pairs, inner_pairs}
-use Rattle.edit_tree.specs.Supported.{IsManifest}
 use Rattle.edit_tree.specs.Written.{Valued, values}
-use Rattle.edit_document.proofs.Documents.{read_of, ends_all, shallow}
+use Rattle.edit_document.proofs.Documents.{read_of, ends_all}
+use Rattle.edit_tree.proofs.Shallow.{shallow}
 use Rattle.edit_tree.proofs.Ends.{Ends, ends_past, ends_one, ends_part, ends_pair, ends_gap, ends_value, ends_line, ends_line_end}
 use Rattle.edit_tree.proofs.TablePairs.{among_flat}
 use Rattle.edit_rewrite.proofs.StatementSpots.{Starts, spot_of, blank_small, blanks_start, dotted_start, line_end_start, IsDotted}
@@ -175,7 +175,7 @@ stand_in bytes earlier prefix (more_lines (full_line a st b c) e ls) valid deep 
     (ends_line_end bytes e (lines ls) (ends_line bytes (full_line a st b c) (line_end e (lines ls)) ends)) s m
 
 -- each statement of a document stands so
-pub statements_stand : (bytes : List ℕ) (form : Text) → IsManifest bytes form → IsUtf8 bytes → (s : Stated)
+pub statements_stand : (bytes : List ℕ) (form : Text) → IsDocument bytes form → IsUtf8 bytes → (s : Stated)
     → Among s (stated form) → StatedStands bytes s
 statements_stand bytes form m u =
     let r = read_of bytes form m u in
@@ -195,7 +195,7 @@ statement_fits bytes s stands p m = go s.statement stands.valid stands.ends m
 
 -- ---- all pairs
 
-pub pairs_fit : (bytes : List ℕ) (form : Text) → IsManifest bytes form → IsUtf8 bytes → (p : Paired)
+pub pairs_fit : (bytes : List ℕ) (form : Text) → IsDocument bytes form → IsUtf8 bytes → (p : Paired)
     → Among p (line_pairs form ++ inner_pairs form) → Fits bytes p
 pairs_fit bytes form m u p among =
     ⊎_elim

@@ -5,13 +5,12 @@ use Rattle.edit_syntax.specs.Characters.{right_brace}
 use Rattle.edit_syntax.specs.Grammar.{Between, gap, Value, basic, literal, multi_basic, multi_literal, boolean, integer, float, datetime, array, inline, value, Members, no_members, last_member, member, Text, text}
 use Rattle.edit_syntax.proofs.Members.{Among, among_contained, contained_among}
 use Rattle.edit_rewrite.specs.EntrySpots.{StandsIn}
-use Rattle.edit_tree.specs.Assertions.{Place, same_place, NoClash, assertions}
+use Rattle.edit_tree.specs.Assertions.{Place, same_place, NoClash, assertions, IsDocument}
 use Rattle.edit_tree.specs.EditBytes.{Splice, put_before, first_of, behind_last, is_blank_gap, inline_grown, in_inline, in_section, in_dotted, in_inner_dotted, in_super, at_start, inserted}
 use Rattle.edit_document.specs.Items.{is_inline}
 use Rattle.edit_tree.specs.NewItems.{NewValue, new_pair}
 use Rattle.edit_document.specs.Ranges.{is_table_value, StartsTable, HasTable}
 use Rattle.edit_tree.specs.SlotTexts.{TableAt}
-use Rattle.edit_tree.specs.Supported.{IsManifest}
 use Rattle.edit_tree.specs.Tree.{view_at, is_value_at}
 use Rattle.edit_tree.specs.Written.{Valued, values, start_of, IsWrittenAt}
 use Rattle.edit_tree.proofs.Choices.{first_nothing}
@@ -88,15 +87,15 @@ own_table form place start end clash written shows =
 -- ---- the row
 
 -- a value stands where it is told to begin
-stands_from : (bytes : List ℕ) (form : Text) (w : Valued) (start : ℕ) → IsManifest bytes form
+stands_from : (bytes : List ℕ) (form : Text) (w : Valued) (start : ℕ) → IsDocument bytes form
     → StandsIn bytes w → start ≡ start_of (length (text form)) w → drop start bytes ≡ value w.value w.after
 stands_from bytes form w start m stands e =
     ap (λ (n : ℕ). drop n bytes) e
-    ∙ ap (λ (b : List ℕ). drop (start_of (length b) w) bytes) (sym m.document.grammar.spelled)
+    ∙ ap (λ (b : List ℕ). drop (start_of (length b) w) bytes) (sym m.grammar.spelled)
     ∙ drop_front bytes stands.ends.0 (value w.value w.after) stands.ends.1
 
 -- a table stands where it is told to begin
-pub table_from : (bytes : List ℕ) (form : Text) (place : Place) (start : ℕ) → IsManifest bytes form
+pub table_from : (bytes : List ℕ) (form : Text) (place : Place) (start : ℕ) → IsDocument bytes form
     → IsUtf8 bytes → (t : StartsTable form place start)
     → TableAt bytes (drop start bytes) t.between t.all t.valued.after
 table_from bytes form place start m u t =

@@ -6,11 +6,10 @@ use Rattle.edit_syntax.specs.Grammar.{gap, Value, basic, literal, multi_basic, m
 use Rattle.edit_syntax.specs.Strings.{key}
 use Rattle.edit_syntax.proofs.Members.{Among}
 use Rattle.edit_rewrite.specs.declared.inner.Inner.{Inner}
-use Rattle.edit_tree.specs.Assertions.{Place}
+use Rattle.edit_tree.specs.Assertions.{IsDocument, Place}
 use Rattle.edit_tree.specs.EditBytes.{Splice, put_before, as_it_is, last_made, front_to, dotted_pair, in_inner_dotted}
 use Rattle.edit_rewrite.specs.Inner.{inner_of, HasInner}
 use Rattle.edit_tree.specs.Statements.{Paired, paired_members, paired_value, inner_pairs}
-use Rattle.edit_tree.specs.Supported.{IsManifest}
 use Rattle.edit_tree.specs.Written.{Valued, values}
 use Rattle.edit_tree.proofs.Choices.{Alike, last_none, last_chosen}
 use Rattle.edit_tree.proofs.Ends.{Ends, ends_one, ends_pair, ends_gap, ends_value}
@@ -137,7 +136,7 @@ value_inner bytes place p w spot = go w.value
 
 -- the pairs of a document's inline tables stand where it may be cut
 pub inner_stands : (bytes : List ℕ) (form : Text) (place : Place) (p : Paired) (spot : List ℕ)
-    → IsManifest bytes form → IsUtf8 bytes → Among p (inner_pairs form) → front_to place p ≡ Some spot
+    → IsDocument bytes form → IsUtf8 bytes → Among p (inner_pairs form) → front_to place p ≡ Some spot
     → HasInner bytes p spot
 inner_stands bytes form place p spot m u among f =
     let w = among_flat paired_value p (values form) among in

@@ -7,13 +7,12 @@ use Rattle.edit_syntax.proofs.Members.{Among}
 use Rattle.edit_rewrite.specs.declared.locate.Entry.{Entry}
 use Rattle.edit_rewrite.specs.declared.inner.Inner.{Inner}
 use Rattle.edit_rewrite.specs.Inner.{inner_of, HasInner}
-use Rattle.edit_tree.specs.Assertions.{Place}
+use Rattle.edit_tree.specs.Assertions.{IsDocument, Place}
 use Rattle.edit_tree.specs.EditBytes.{Splice, put_before, with_splice, first_made, last_made, new_line, in_inline, front_to, dotted_pair, at_start, inserted, inserted_text}
 use Rattle.edit_tree.specs.NewItems.{NewValue, new_pair}
 use Rattle.edit_rewrite.specs.Entries.{front_of, entry_of}
 use Rattle.edit_rewrite.specs.Spots.{IsSpot, HasSpots, key_to, section_text, own_entry, dotted_entry, through_entry}
 use Rattle.edit_tree.specs.Statements.{Stated, stated, Paired, inner_pairs}
-use Rattle.edit_tree.specs.Supported.{IsManifest}
 use Rattle.edit_rewrite.proofs.InnerRows.{InnerRow, inner_splice, inner_stands}
 use Rattle.edit_rewrite.proofs.InsertedLines.{row_of, own_row, dotted_row, inner_row, through_row, start_row}
 use Rattle.edit_rewrite.proofs.StatementSpots.{stated_spots}
@@ -26,7 +25,7 @@ spliced (Ok t) bytes spelled was is b s e = e ∙ ap₂ with_splice b (sym s)
 spliced (Err x) bytes spelled was is b s e = tt
 
 module _ {E : Type 0} (r : Result (String Global) E) (bytes pair : List ℕ) (utf8 : IsUtf8 bytes)
-    (form : Text) (place : Place) (name : List ℕ) (v : NewValue) (m : IsManifest bytes form)
+    (form : Text) (place : Place) (name : List ℕ) (v : NewValue) (m : IsDocument bytes form)
     (none : in_inline place pair form ≡ None) (inner : Option Inner)
     (found : inner ≡ last_made (inner_of place) (inner_pairs form)) (is : pair ≡ new_pair name v [])
     (es : List Entry) (all : es ≡ map (entry_of place) (stated form)) where
@@ -35,7 +34,7 @@ module _ {E : Type 0} (r : Result (String Global) E) (bytes pair : List ℕ) (ut
       → IfOk r (λ t. string_bytes t ≡ with_splice bytes (make pair))
       → IfOk r (λ t. string_bytes t ≡ inserted_text place name v form)
   written make row = spliced r bytes (text form) (make pair) (inserted place name v form)
-      m.document.grammar.spelled (row ∙ ap make (sym is))
+      m.grammar.spelled (row ∙ ap make (sym is))
 
   -- behind the last statement of the table's own
   pub own_text : (e : Entry) → last_made own_entry es ≡ Some e

@@ -5,13 +5,12 @@ use Rattle.edit_syntax.specs.Spans.{cut_from}
 use Rattle.edit_syntax.specs.Strings.{line_end}
 use Rattle.edit_syntax.specs.Grammar.{empty_line, full_line, Lines, one_line, more_lines, lines, AreLines, Text, byte_order_mark}
 use Rattle.edit_rewrite.specs.declared.locate.Entry.{Entry}
-use Rattle.edit_tree.specs.Assertions.{Place, Assertion, of_statement, prefix_after}
+use Rattle.edit_tree.specs.Assertions.{Place, Assertion, of_statement, prefix_after, IsDocument}
 use Rattle.edit_tree.specs.EditBytes.{before}
 use Rattle.edit_rewrite.specs.Entries.{entry_of}
 use Rattle.edit_tree.specs.RemovedBytes.{is_gone, lines_left}
 use Rattle.edit_rewrite.specs.Spots.{IsSpot}
 use Rattle.edit_tree.specs.Statements.{Stated, stated_in, stated}
-use Rattle.edit_tree.specs.Supported.{IsManifest}
 use Rattle.edit_document.proofs.Documents.{read_of, ends_all}
 use Rattle.edit_tree.proofs.Ends.{Ends, ends_line, ends_line_end}
 use Rattle.edit_rewrite.proofs.SlotLaws.{before_is}
@@ -58,7 +57,7 @@ pub record AtStatement (bytes : List ℕ) (gone : Place) (whole done : List ℕ)
 
 -- before the first statement
 pub at_first : (bytes : List ℕ) (form : Text) (gone : Place) (done : List ℕ) (from : ℕ) (left : List Entry)
-    → IsManifest bytes form → IsUtf8 bytes → from ≡ length (lines form.lines)
+    → IsDocument bytes form → IsUtf8 bytes → from ≡ length (lines form.lines)
     → done ≡ cut_from bytes (length bytes - length bytes) (length bytes - from)
     → left ≡ map (entry_of gone) (stated form)
     → AtStatement bytes gone (byte_order_mark form.marked (lines_left gone (lines form.lines) (stated form)))
@@ -68,7 +67,7 @@ at_first bytes form gone done from left m u is cut all =
     let ends = ends_all bytes form r in
     let spot = start_spot bytes form m u in
     let marked : bytes ≡ byte_order_mark form.marked [] ++ lines form.lines =
-    m.document.grammar.spelled ∙ behind_mark form.marked (lines form.lines) in
+    m.grammar.spelled ∙ behind_mark form.marked (lines form.lines) in
     let front : done ≡ byte_order_mark form.marked [] =
     cut ∙ cut_spots bytes bytes (lines form.lines) (length bytes) from (whole_spot bytes u) spot
     (spot.front, spot.seam) refl is

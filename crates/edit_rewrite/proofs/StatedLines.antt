@@ -14,16 +14,16 @@ use Rattle.edit_syntax.specs.FirstLine.{after_first, first_marks}
 use Rattle.edit_rewrite.specs.declared.locate.Entry.{Entry}
 use Rattle.edit_rewrite.specs.declared.locate.Spots.{Spots}
 use Rattle.edit_rewrite.specs.declared.locate.Standing.{Standing}
-use Rattle.edit_tree.specs.Assertions.{Place, Assertion, of_statement, prefix_after}
+use Rattle.edit_tree.specs.Assertions.{Place, Assertion, of_statement, prefix_after, IsDocument}
 use Rattle.edit_tree.specs.Statements.{Stated, stated_in, stated, parts}
 use Rattle.edit_rewrite.specs.Entries.{begins_part, head_of, first_from, AreParts, entry_of}
 use Rattle.edit_rewrite.specs.Standings.{StandsTo, HeadIs, IsTaken}
 use Rattle.edit_tree.proofs.Ends.{Ends, ends_past, ends_one, ends_line, ends_line_end}
 use Rattle.edit_rewrite.proofs.KeyWays.{kind_part, key_are}
-use Rattle.edit_tree.specs.Supported.{IsManifest}
 use Rattle.edit_syntax.specs.Reading.{past_mark}
 use Rattle.edit_syntax.proofs.TextLaws.{lines_only}
-use Rattle.edit_document.proofs.Documents.{read_of, ends_all, shallow}
+use Rattle.edit_document.proofs.Documents.{read_of, ends_all}
+use Rattle.edit_tree.proofs.Shallow.{shallow}
 
 -- ---- the marks of a statement
 
@@ -270,7 +270,7 @@ module _ (bytes : List ℕ) (u : IsUtf8 bytes) (target : Place) (form : Text) (s
 
 -- before the first line
 pub at_start : (bytes : List ℕ) (target : Place) (form : Text) (standing : Standing) (found : List Entry)
-    (rest : List ℕ) → IsManifest bytes form → IsUtf8 bytes → found ≡ [] → rest ≡ past_mark bytes
+    (rest : List ℕ) → IsDocument bytes form → IsUtf8 bytes → found ≡ [] → rest ≡ past_mark bytes
     → StandsTo target [] [] standing → AtLine bytes target form standing found rest
 at_start bytes target form standing found rest m u none is stands =
     let r = read_of bytes form m u in

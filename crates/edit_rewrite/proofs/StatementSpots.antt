@@ -9,11 +9,10 @@ use Rattle.edit_syntax.specs.Strings.{LineEnd, lf, crlf, line_end, bare, basic_p
 use Rattle.edit_syntax.specs.Grammar.{value, Statement, pair, header, element_header, statement, IsStatement, comment, Line, empty_line, full_line, line, IsLine, Lines, one_line, more_lines, lines, AreLines, Text}
 use Rattle.edit_syntax.proofs.ListElements.{get_seam}
 use Rattle.edit_syntax.proofs.Members.{Among}
-use Rattle.edit_tree.specs.Assertions.{Place, key as name_step, at, same_place, Assertion, of_statement, prefix_after}
+use Rattle.edit_tree.specs.Assertions.{Place, key as name_step, at, same_place, Assertion, of_statement, prefix_after, IsDocument}
 use Rattle.edit_rewrite.specs.Entries.{begins_in, leads_to}
 use Rattle.edit_rewrite.specs.Spots.{IsSpot, IsFront, HasSpots}
 use Rattle.edit_tree.specs.Statements.{Stated, stated_line, stated_in, stated, dotted_parts, parts, front_parts, behind_part}
-use Rattle.edit_tree.specs.Supported.{IsManifest}
 use Rattle.edit_document.proofs.Documents.{read_of, ends_all}
 use Rattle.edit_tree.proofs.Ends.{Ends, bare_small, ends_past, ends_one, ends_part, ends_line, ends_line_end}
 use Rattle.edit_rewrite.proofs.SpotTexts.{end_spot}
@@ -186,14 +185,14 @@ lines_spots bytes earlier prefix (more_lines (full_line a st b c) e ls) valid en
     (ends_line_end bytes e (lines ls) (ends_line bytes (full_line a st b c) (line_end e (lines ls)) ends)) s m
 
 -- the statements of a document stand where it may be cut
-pub stated_spots : (bytes : List ℕ) (form : Text) → IsManifest bytes form → IsUtf8 bytes → (s : Stated)
+pub stated_spots : (bytes : List ℕ) (form : Text) → IsDocument bytes form → IsUtf8 bytes → (s : Stated)
     → Among s (stated form) → HasSpots bytes s
 stated_spots bytes form m u =
     let r = read_of bytes form m u in
     lines_spots bytes [] [] form.lines r.spells.well_formed (ends_all bytes form r)
 
 -- and so do its lines
-pub start_spot : (bytes : List ℕ) (form : Text) → IsManifest bytes form → IsUtf8 bytes
+pub start_spot : (bytes : List ℕ) (form : Text) → IsDocument bytes form → IsUtf8 bytes
     → IsSpot bytes (lines form.lines)
 start_spot bytes form m u =
     let r = read_of bytes form m u in

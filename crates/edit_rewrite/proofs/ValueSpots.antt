@@ -7,11 +7,11 @@ use Rattle.edit_syntax.specs.Strings.{line_end}
 use Rattle.edit_syntax.specs.Depth.{depth, elements_depth, members_depth, statement_depth, lines_depth}
 use Rattle.edit_syntax.specs.Grammar.{gap, Value, basic, literal, multi_basic, multi_literal, boolean, integer, float, datetime, array, inline, value, IsValue, Elements, no_elements, last_element, element, elements, Members, no_members, last_member, member, members, Statement, pair, header, element_header, statement, empty_line, full_line, Lines, one_line, more_lines, lines, Text}
 use Rattle.edit_syntax.proofs.Members.{Among, among_all}
-use Rattle.edit_tree.specs.Assertions.{Place, index, at, names, named, Assertion, of_statement, prefix_after}
+use Rattle.edit_tree.specs.Assertions.{Place, index, at, names, named, Assertion, of_statement, prefix_after, IsDocument}
 use Rattle.edit_rewrite.specs.EntrySpots.{StandsIn}
-use Rattle.edit_tree.specs.Supported.{IsManifest}
 use Rattle.edit_tree.specs.Written.{Valued, inside, in_elements, in_members, in_statement, in_lines, values}
-use Rattle.edit_document.proofs.Documents.{read_of, ends_all, shallow}
+use Rattle.edit_document.proofs.Documents.{read_of, ends_all}
+use Rattle.edit_tree.proofs.Shallow.{shallow}
 use Rattle.edit_tree.proofs.FineValues.{values_fine}
 use Rattle.edit_tree.proofs.Ends.{Ends, ends_past, ends_one, ends_pair, ends_gap, ends_value, ends_line, ends_line_end}
 
@@ -100,7 +100,7 @@ module _ (bytes : List ℕ) where
       (ends_line_end bytes n (lines ls) (ends_line bytes (full_line a s b c) (line_end n (lines ls)) e)))
 
 -- each value of a document stands so
-pub values_stand : (bytes : List ℕ) (form : Text) → IsManifest bytes form → IsUtf8 bytes → (w : Valued)
+pub values_stand : (bytes : List ℕ) (form : Text) → IsDocument bytes form → IsUtf8 bytes → (w : Valued)
     → Among w (values form) → StandsIn bytes w
 values_stand bytes form m u w among =
     let here = among_all (Here bytes) w (values form)
@@ -108,7 +108,7 @@ values_stand bytes form m u w among =
     among in
     record {
       valid = among_all (λ (z : Valued). IsValue z.value) w (values form)
-          (values_fine [] [] form.lines m.document.grammar.well_formed) among;
+          (values_fine [] [] form.lines m.grammar.well_formed) among;
       shallow = here.shallow;
       ends = here.ends;
     }

@@ -10,7 +10,7 @@ ghost use Rattle.edit_tree.specs.NewItems.{NewValue as Meant, new_pair};
 ghost use Rattle.edit_document.specs.Ranges.{HasTable};
 ghost use Rattle.edit_tree.specs.SlotTexts.{TableAt};
 ghost use Rattle.edit_rewrite.specs.Spots.{IsSpot};
-ghost use Rattle.edit_tree.specs.Supported.{IsManifest};
+ghost use Rattle.edit_tree.specs.Assertions.{IsDocument};
 
 use crate::inside::{begins, behind_one, past_slot};
 use crate::spots::{with_swap, with_text};
@@ -147,7 +147,7 @@ pub(crate) fn with_inline_member(
     place: &[Step],
     pair: &str,
 ) -> CargoResult<Option<String>>
-    ensures text { (form : Text) (name : List ℕ) (v : Meant) → IsManifest document.now.bytes form
+    ensures text { (form : Text) (name : List ℕ) (v : Meant) → IsDocument document.now.bytes form
         → pair.now ≡ new_pair name v [] → IfOk result (λ o. MatchOption o
         (in_inline (place_seen place.now) pair.now form ≡ None)
         (λ t. string_bytes t ≡ inserted_text (place_seen place.now) name v form)) }

@@ -4,7 +4,7 @@ ghost use Rattle.edit_base.specs.Errors.{IsMemory};
 ghost use Rattle.edit_base.specs.declared.errors.Error.TheVariants.{EditRefused};
 ghost use Rattle.edit_syntax.specs.Grammar.{Text};
 ghost use Rattle.edit_syntax.specs.Strings.{◌·◌};
-ghost use Rattle.edit_tree.specs.Assertions.{Place, at, key as key_step};
+ghost use Rattle.edit_tree.specs.Assertions.{IsDocument, Place, at, key as key_step};
 ghost use Rattle.edit_tree.specs.EditBytes.{first_made, last_made, put_before, new_line, at_start, with_splice, in_inline, inserted_text};
 ghost use Rattle.edit_document.specs.Forms.{Becomes, IfDocument};
 ghost use Rattle.edit_rewrite.specs.Entries.{entry_of, front_of};
@@ -16,7 +16,6 @@ ghost use Rattle.edit_document.specs.NewItemViews.{value_seen};
 ghost use Rattle.edit_tree.specs.Shown.{tree_of};
 ghost use Rattle.edit_rewrite.specs.Spots.{HasSpots, key_to, section_text, own_entry, dotted_entry, through_entry};
 ghost use Rattle.edit_tree.specs.Statements.{Stated, inner_pairs};
-ghost use Rattle.edit_tree.specs.Supported.{IsManifest};
 
 use crate::inline::with_inline_member;
 use crate::inner::{Inner, last_inner_of, with_inner};
@@ -134,7 +133,7 @@ fn with_pair(
     inner: Option<Inner>,
     pair: &str,
 ) -> CargoResult<String>
-    ensures text { (form : Text) (name : List ℕ) (v : Meant) → IsManifest text.now form
+    ensures text { (form : Text) (name : List ℕ) (v : Meant) → IsDocument text.now form
         → in_inline (place_seen place.now) pair.now form ≡ None
         → inner ≡ last_made (inner_of (place_seen place.now)) (inner_pairs form)
         → pair.now ≡ new_pair name v []

@@ -4,7 +4,7 @@ ghost use Rattle.std.specs.List.{Contains};
 ghost use Rattle.edit_base.specs.Errors.{IsMemory};
 ghost use Rattle.edit_base.specs.declared.errors.Error.TheVariants.{EditRefused};
 ghost use Rattle.edit_syntax.specs.Grammar.{Text};
-ghost use Rattle.edit_tree.specs.Assertions.{Place};
+ghost use Rattle.edit_tree.specs.Assertions.{IsDocument, Place};
 ghost use Rattle.edit_tree.specs.EditBytes.{Splice, first_made, with_splice, replaced_text, is_one_statement};
 ghost use Rattle.edit_document.specs.Forms.{Becomes, IfDocument};
 ghost use Rattle.edit_rewrite.specs.Entries.{entry_of};
@@ -16,7 +16,6 @@ ghost use Rattle.edit_document.specs.NewItemViews.{item_seen};
 ghost use Rattle.edit_tree.specs.Shown.{tree_of};
 ghost use Rattle.edit_rewrite.specs.Spots.{IsSpot};
 ghost use Rattle.edit_tree.specs.Statements.{Stated, stated, line_pairs, inner_pairs};
-ghost use Rattle.edit_tree.specs.Supported.{IsManifest};
 
 use crate::locate::{Entry, entries};
 use crate::members::table_spots;
@@ -60,7 +59,7 @@ fn last_to(marks: &[Mark]) -> usize
 
 /// Where a pair is written that names the place: behind the part of its key that does, and behind its value.
 fn pair_spots(alloc: Global, text: &str, entry: Entry) -> CargoResult<(usize, usize)>
-    ensures around { (form : Text) (place : Place) (s : Stated) → IsManifest text.now form
+    ensures around { (form : Text) (place : Place) (s : Stated) → IsDocument text.now form
         → is_one_statement form place ≡ true → Contains (stated form) s → entry ≡ entry_of place s
         → within_entry entry ≡ Some entry → IfOk result (IsAround place (line_pairs form)) }
     ensures refused { IfErr result IsMemory }

@@ -5,9 +5,8 @@ use Rattle.std.specs.List.{AllByRecursion, AllZip}
 use Rattle.semver.specs.Parse.{Parts}
 use Rattle.edit_syntax.specs.Grammar.{Text}
 use Rattle.edit_document.specs.Items.{string_in}
-use Rattle.edit_tree.specs.Assertions.{Place}
+use Rattle.edit_tree.specs.Assertions.{IsDocument, Place}
 use Rattle.edit_tree.specs.Shown.{tree_of}
-use Rattle.edit_tree.specs.Supported.{IsManifest}
 use Rattle.edit_tree.specs.Tree.{View, view_at}
 use Rattle.edit_tree.proofs.Shallow.{one_form}
 use Rattle.edit_manifest.specs.Tables.{Tree}
@@ -65,7 +64,7 @@ one_tree : (xs : List Input) (path : List ℕ) (t u : Tree) → HaveOwnPaths xs 
     → IsTreeAt xs path u → (q : Place) → t q ≡ u q
 one_tree xs path t u d a b q =
     let same = same_input xs a.input b.input (distinct_each xs d) a.among b.among (a.at ∙ sym b.at) in
-    let read = subst (λ (i : Input). IsManifest i.bytes.items a.form) same a.manifest in
+    let read = subst (λ (i : Input). IsDocument i.bytes.items a.form) same a.manifest in
     let form = one_form b.input.bytes.items a.form b.form read b.manifest in
     a.is q ∙ ap (λ (f : Text). view_at f q) form ∙ sym (b.is q)
 

@@ -11,8 +11,8 @@ use Rattle.edit_manifest.specs.Versions.{IsNoValue, package_version}
 use Rattle.edit_manifest.specs.declared.manifest.Manifest.{Manifest}
 use Rattle.edit_metadata.specs.declared.input.Input.{Input}
 use Rattle.edit_syntax.specs.Grammar.{Text}
+use Rattle.edit_tree.specs.Assertions.{IsDocument}
 use Rattle.edit_tree.specs.Shown.{tree_of}
-use Rattle.edit_tree.specs.Supported.{IsManifest}
 use Rattle.edit_tree.specs.Tree.{is_value_at, view_at}
 use Rattle.edit_tree.proofs.Shallow.{one_form}
 use Rattle.edit_set_version.specs.Crates.{IsReadOf}
@@ -39,13 +39,13 @@ unraised_stands bs input m e read (fixed f among refused) = inr (record {
 
 -- a manifest that was read has a literal where a bumped version is to be written into it
 pub has_literal : (bs : List Bump) (input : Input) (m : Manifest) → IsReadOf input m
-    → (filter (writes_own (path_of input)) bs ≢ [] → (form : Text) → IsManifest m.document.bytes form
+    → (filter (writes_own (path_of input)) bs ≢ [] → (form : Text) → IsDocument m.document.bytes form
     → is_value_at form package_version ≡ true) → HasLiteral bs input
 has_literal bs input m read literal = record {
   form = read.form;
   manifest = read.manifest;
   literal = λ some. literal some read.form
-      (subst (λ (bytes : List ℕ). IsManifest bytes read.form) (sym read.bytes) read.manifest);
+      (subst (λ (bytes : List ℕ). IsDocument bytes read.form) (sym read.bytes) read.manifest);
 }
 
 -- a bumped version that is to be written into a manifest where no value stands is a cause
@@ -62,7 +62,7 @@ unvalued_stands bs input m e read (inr why) = inr (
     against = of_literal (record {
       written = why.1;
       no_value = why.2 read.form
-          (subst (λ (bytes : List ℕ). IsManifest bytes read.form) (sym read.bytes) read.manifest);
+          (subst (λ (bytes : List ℕ). IsDocument bytes read.form) (sym read.bytes) read.manifest);
       told = why.0;
     });
   },
@@ -70,14 +70,14 @@ unvalued_stands bs input m e read (inr why) = inr (
 
 -- nothing does where each is written
 pub written_clear : (bs : List Bump) (input : Input) (m : Manifest) → IsReadOf input m
-    → (filter (writes_own (path_of input)) bs ≢ [] → (form : Text) → IsManifest m.document.bytes form
+    → (filter (writes_own (path_of input)) bs ≢ [] → (form : Text) → IsDocument m.document.bytes form
     → is_value_at form package_version ≡ true)
     → AllRise bs (path_of input) (tree_of m.document) → IsInputClearBy bs input
 written_clear bs input m read literal rise = record {
   form = read.form;
   manifest = read.manifest;
   literal = λ some. literal some read.form
-      (subst (λ (bytes : List ℕ). IsManifest bytes read.form) (sym read.bytes) read.manifest);
+      (subst (λ (bytes : List ℕ). IsDocument bytes read.form) (sym read.bytes) read.manifest);
   requirements = subst (λ (t : Tree). AllRise bs (path_of input) t) (fun_ext read.shows) rise;
 }
 
@@ -87,20 +87,20 @@ shown input m read = fun_ext read.shows
 
 -- and of each form of its text
 pub shown_of : (input : Input) (m : Manifest) → IsReadOf input m → (form : Text)
-    → IsManifest m.document.bytes form → tree_of m.document ≡ view_at form
+    → IsDocument m.document.bytes form → tree_of m.document ≡ view_at form
 shown_of input m read form manifest =
     fun_ext read.shows
     ∙ ap view_at (one_form m.document.bytes read.form form
-    (subst (λ (bytes : List ℕ). IsManifest bytes read.form) (sym read.bytes) read.manifest) manifest)
+    (subst (λ (bytes : List ℕ). IsDocument bytes read.form) (sym read.bytes) read.manifest) manifest)
 
 -- where nothing stands against an input, a version that is to be written has a literal in each form
 pub literal_of : (bs : List Bump) (input : Input) (m : Manifest) (form : Text) → IsReadOf input m
-    → IsManifest m.document.bytes form → IsInputClearBy bs input
+    → IsDocument m.document.bytes form → IsInputClearBy bs input
     → filter (writes_own (path_of input)) bs ≢ [] → is_value_at form package_version ≡ true
 literal_of bs input m form read manifest clear some =
     subst (λ (f : Text). is_value_at f package_version ≡ true)
     (one_form input.bytes.items clear.form form clear.manifest
-    (subst (λ (bytes : List ℕ). IsManifest bytes form) read.bytes manifest)) (clear.literal some)
+    (subst (λ (bytes : List ℕ). IsDocument bytes form) read.bytes manifest)) (clear.literal some)
 
 -- what stands against an input stands against it among all
 pub stands_among : (bs : List Bump) (inputs : List Input) (input : Input) (e : Error) → Contains inputs input

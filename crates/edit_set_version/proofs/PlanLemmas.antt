@@ -14,9 +14,8 @@ use Rattle.edit_manifest.specs.Versions.{is_inherited, workspace_version}
 use Rattle.edit_metadata.specs.Metadata.{PackageSaid, WorkspaceSaid, members}
 use Rattle.edit_metadata.specs.declared.input.Input.{Input}
 use Rattle.edit_syntax.specs.Grammar.{Text}
-use Rattle.edit_tree.specs.Assertions.{same_bytes}
+use Rattle.edit_tree.specs.Assertions.{IsDocument, same_bytes}
 use Rattle.edit_tree.specs.Replaces.{Edits, emptied, replaced, written}
-use Rattle.edit_tree.specs.Supported.{IsManifest}
 use Rattle.edit_tree.specs.Tree.{view_at}
 use Rattle.edit_tree.proofs.Shallow.{one_form}
 use Rattle.edit_report.specs.declared.output.Output.{Output}
@@ -212,12 +211,12 @@ bad_input t a w is p e project has = by has.unraised
 -- what stands after a plan is a manifest of which this holds
 record StandsAfter (old : List ℕ) (outputs : List Output) (Holds : Tree → Type 0) : Type 0 where
   form : Text
-  manifest : IsManifest (bytes_after old outputs) form
+  manifest : IsDocument (bytes_after old outputs) form
   holds : Holds (view_at form)
 
 -- what holds of each tree that the edits leave holds of what stands after a plan
 stands_after : (path old : List ℕ) (form : Text) (es : Edits) (outputs : List Output) (Holds : Tree → Type 0)
-    → IsManifest old form → ((after : Tree) → IsLeftBy es (view_at form) after → Holds after)
+    → IsDocument old form → ((after : Tree) → IsLeftBy es (view_at form) after → Holds after)
     → AreOutputs path old es outputs → StandsAfter old outputs Holds
 stands_after path old form es _ Holds manifest each (unchanged none) = record {
   form = form;

@@ -4,8 +4,8 @@ use Rattle.semver.specs.Identifiers.{parts_of}
 use Rattle.edit_manifest.specs.declared.manifest.Manifest.{Manifest}
 use Rattle.edit_metadata.specs.declared.input.Input.{Input}
 use Rattle.edit_syntax.specs.Grammar.{Text}
+use Rattle.edit_tree.specs.Assertions.{IsDocument}
 use Rattle.edit_tree.specs.Shown.{ShowsTree, tree_of}
-use Rattle.edit_tree.specs.Supported.{IsManifest}
 use Rattle.edit_set_version.specs.Chosen.{Member}
 use Rattle.edit_set_version.specs.SetVersioned.{Bump, Project}
 use Rattle.edit_set_version.specs.declared.crates.Bump.{Bump as Bumping}
@@ -45,5 +45,5 @@ project_seen p = record {
 pub record IsReadOf (i : Input) (m : Manifest) : Type 0 where
   pub bytes : m.document.bytes ≡ i.bytes.items
   pub form : Text
-  pub manifest : IsManifest i.bytes.items form
+  pub manifest : IsDocument i.bytes.items form
   pub shows : ShowsTree m.document form

@@ -6,7 +6,7 @@ use Rattle.edit_base.specs.Errors.{IsMemory}
 use Rattle.edit_base.specs.declared.errors.Error.{Error}
 use Rattle.edit_base.specs.declared.errors.Error.TheVariants.{NoVersionPlace}
 use Rattle.edit_syntax.specs.Grammar.{Text}
-use Rattle.edit_tree.specs.Supported.{IsManifest}
+use Rattle.edit_tree.specs.Assertions.{IsDocument}
 use Rattle.edit_tree.specs.Tree.{is_value_at, view_at}
 use Rattle.edit_manifest.specs.Loaded.{IsBadManifest}
 use Rattle.edit_manifest.specs.Versions.{package_version}
@@ -23,7 +23,7 @@ use Rattle.edit_set_version.specs.SetVersioned.{Bump, Project, bumps, writes_own
 -- the error is of something in an input's manifest that stands against these bumps
 pub record StandsAgainstInput (bs : List Bump) (input : Input) (e : Error) : Type 0 where
   pub form : Text
-  pub manifest : IsManifest input.bytes.items form
+  pub manifest : IsDocument input.bytes.items form
   pub against : ManifestStandsAgainst bs (path_of input) form e
 
 -- in one of these inputs
@@ -54,7 +54,7 @@ pub record HasVersions (t : Target) (a : Asked) (p : Project) : Type 0 where
 -- where a bumped version is to be written into an input, a literal stands there
 pub record HasLiteral (bs : List Bump) (input : Input) : Type 0 where
   pub form : Text
-  pub manifest : IsManifest input.bytes.items form
+  pub manifest : IsDocument input.bytes.items form
   pub literal : filter (writes_own (path_of input)) bs ≢ [] → is_value_at form package_version ≡ true
 
 -- the error is that a version has no literal, or each input has the literals of its bumped version
@@ -79,7 +79,7 @@ pub data IsCauseOf
 -- requirement that follows is refused
 pub record IsInputClearBy (bs : List Bump) (input : Input) : Type 0 where
   pub form : Text
-  pub manifest : IsManifest input.bytes.items form
+  pub manifest : IsDocument input.bytes.items form
   pub literal : filter (writes_own (path_of input)) bs ≢ [] → is_value_at form package_version ≡ true
   pub requirements : AllRise bs (path_of input) (view_at form)
 

@@ -3,9 +3,8 @@ use Rattle.std.specs.Prelude.{◌≡◌, ◌≢◌, ◌==◌, ℕ, List, [], ◌
 use Rattle.std.specs.List.{filter}
 use Rattle.semver.specs.Parse.{Parts}
 use Rattle.edit_syntax.specs.Grammar.{Text}
-use Rattle.edit_tree.specs.Assertions.{same_bytes}
+use Rattle.edit_tree.specs.Assertions.{IsDocument, same_bytes}
 use Rattle.edit_tree.specs.Replaces.{Edits, Replaces}
-use Rattle.edit_tree.specs.Supported.{IsManifest}
 use Rattle.edit_tree.specs.Tree.{view_at}
 use Rattle.edit_metadata.specs.declared.input.Input.{Input}
 use Rattle.edit_report.specs.declared.output.Output.{Output}
@@ -40,7 +39,7 @@ pub data AreOutputs (path old : List ℕ) (es : Edits) : List Output → Type 0 
 pub record AreOutputsOf (root : List ℕ) (next : Option Parts) (bs : List Bump) (input : Input)
     (own : List Output) : Type 0 where
   pub form : Text
-  pub manifest : IsManifest input.bytes.items form
+  pub manifest : IsDocument input.bytes.items form
   pub are : AreOutputs (path_of input) input.bytes.items
       (edits_by root next bs (path_of input) (view_at form)) own
 
@@ -76,6 +75,6 @@ bytes_after old (output ∷ outputs) = output.bytes.items
 pub record HasAdmitted
     (t : Target) (a : Asked) (outputs : List Output) (p : Project) (input : Input) : Type 0 where
   pub form : Text
-  pub manifest : IsManifest
+  pub manifest : IsDocument
       (bytes_after input.bytes.items (outputs_at (path_of input) outputs)) form
   pub admit : AllAdmitNext (bumps t a p) (path_of input) (view_at form)

@@ -3,8 +3,7 @@ use Rattle.std.specs.Prelude.{◌≡◌, ℕ, List, Contains}
 use Rattle.std.specs.List.{AllZip}
 use Rattle.edit_base.specs.Paths.{IsNormalOf}
 use Rattle.edit_syntax.specs.Grammar.{Text}
-use Rattle.edit_tree.specs.Assertions.{Place}
-use Rattle.edit_tree.specs.Supported.{IsManifest}
+use Rattle.edit_tree.specs.Assertions.{IsDocument, Place}
 use Rattle.edit_tree.specs.Tree.{view_at}
 use Rattle.edit_manifest.specs.Tables.{Tree}
 use Rattle.edit_metadata.specs.Inputs.{AreInputs, RustAsked, path_of, root_manifest}
@@ -23,7 +22,7 @@ pub record IsTreeAt (inputs : List Input) (path : List ℕ) (tree : Tree) : Type
   pub among : Contains inputs input
   pub at : path_of input ≡ path
   pub form : Text
-  pub manifest : IsManifest input.bytes.items form
+  pub manifest : IsDocument input.bytes.items form
   pub is : (q : Place) → tree q ≡ view_at form q
 
 -- a member has the name and the version of this package, and its manifest is that at the package's path

@@ -7,9 +7,8 @@ ghost use Rattle.edit_document.specs.Ranges.{edits_seen};
 ghost use Rattle.edit_manifest.specs.Versions.{IsNoValue, package_version};
 ghost use Rattle.edit_report.specs.declared.output.Output.{Output as OutputSeen};
 ghost use Rattle.edit_syntax.specs.Grammar.{Text};
-ghost use Rattle.edit_tree.specs.Assertions.{same_bytes};
+ghost use Rattle.edit_tree.specs.Assertions.{IsDocument, same_bytes};
 ghost use Rattle.edit_tree.specs.Shown.{tree_of};
-ghost use Rattle.edit_tree.specs.Supported.{IsManifest};
 ghost use Rattle.edit_tree.specs.Tree.{is_value_at};
 ghost use Rattle.edit_set_version.specs.Apart.{AreApart};
 ghost use Rattle.edit_set_version.specs.Crates.{IsReadOf, bump_seen, bumps_seen};
@@ -116,7 +115,7 @@ pub(crate) fn push_own(
     ensures ok { OnOk result (edits_seen edits.new.items ≡ edits_seen edits.old.items
         ++ filter_map (own_edit path.now) (bumps_seen writing.now.bumps.now)) }
     ensures literal { OnOk result (filter (writes_own path.now) (bumps_seen writing.now.bumps.now) ≢ []
-        → (form : Text) → IsManifest document.now.bytes form → is_value_at form package_version ≡ true) }
+        → (form : Text) → IsDocument document.now.bytes form → is_value_at form package_version ≡ true) }
     ensures refused { IfErr result (λ e. IsMemory e ⊎ ((e ≡ NoVersionPlace)
         × (filter (writes_own path.now) (bumps_seen writing.now.bumps.now) ≢ [])
         × IsNoValue document.now package_version)) }

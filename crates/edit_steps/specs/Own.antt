@@ -7,8 +7,7 @@ use Rattle.edit_metadata.specs.Inputs.{IsReadFrom, RustAsked, rust_version_for}
 use Rattle.edit_metadata.specs.declared.input.Input.{Input}
 use Rattle.edit_store.specs.Store.{Files}
 use Rattle.edit_syntax.specs.Grammar.{Text}
-use Rattle.edit_tree.specs.Assertions.{at, key}
-use Rattle.edit_tree.specs.Supported.{IsManifest}
+use Rattle.edit_tree.specs.Assertions.{IsDocument, at, key}
 use Rattle.edit_tree.specs.Tree.{view_at}
 use Rattle.edit_version.specs.RustVersions.{Numbers, numbers_of, rust_of}
 
@@ -37,7 +36,7 @@ own_rust t = option_and_then rust_of (package_text t (codes "rust-version"))
 -- say
 pub record SaysOfItself (asked : RustAsked) (input : Input) : Type 0 where
   pub form : Text
-  pub manifest : IsManifest input.bytes.items form
+  pub manifest : IsDocument input.bytes.items form
   pub name : string_bytes input.name ≡ own_name (view_at form)
   pub rust_version : option_map numbers_of input.rust_version
       ≡ rust_version_for asked (own_rust (view_at form))

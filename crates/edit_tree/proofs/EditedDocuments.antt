@@ -1,9 +1,8 @@
 -- When the text of an edit reads otherwise than the edit means it.
 use Rattle.std.proofs.Common.{◌≡◌, ℕ, List, Option, sym, ap, subst, ◌∙◌}
 use Rattle.edit_syntax.specs.Grammar.{Text}
-use Rattle.edit_tree.specs.Assertions.{Place, key}
+use Rattle.edit_tree.specs.Assertions.{IsDocument, Place, key}
 use Rattle.edit_tree.specs.Tree.{View, view_at}
-use Rattle.edit_tree.specs.Supported.{IsManifest}
 use Rattle.edit_tree.specs.EditBytes.{inserted_text, replaced_text}
 use Rattle.edit_tree.specs.RemovedBytes.{removed_text}
 use Rattle.edit_tree.specs.NewItems.{NewValue, NewItem}
@@ -32,35 +31,35 @@ replaced_along place item s t u w old new h = record {
 
 -- the text is no document
 pub insert_unread : (place : Place) (name : List ℕ) (v : NewValue) (old text : List ℕ)
-    → ((form : Text) → IsManifest old form → text ≡ inserted_text place name v form)
-    → ((form : Text) → IsManifest text form → ⊥) → InsertFails place name v old
+    → ((form : Text) → IsDocument old form → text ≡ inserted_text place name v form)
+    → ((form : Text) → IsDocument text form → ⊥) → InsertFails place name v old
 insert_unread place name v old text written unread form was read is meant =
-    unread read (subst (λ (b : List ℕ). IsManifest b read) (sym (written form was)) is)
+    unread read (subst (λ (b : List ℕ). IsDocument b read) (sym (written form was)) is)
 
 pub replace_unread : (place : Place) (item : NewItem) (old text : List ℕ)
-    → ((form : Text) → IsManifest old form → text ≡ replaced_text place item form)
-    → ((form : Text) → IsManifest text form → ⊥) → ReplaceFails place item old
+    → ((form : Text) → IsDocument old form → text ≡ replaced_text place item form)
+    → ((form : Text) → IsDocument text form → ⊥) → ReplaceFails place item old
 replace_unread place item old text written unread form was read is meant =
-    unread read (subst (λ (b : List ℕ). IsManifest b read) (sym (written form was)) is)
+    unread read (subst (λ (b : List ℕ). IsDocument b read) (sym (written form was)) is)
 
 -- the text has another tree
 pub insert_other : (place : Place) (name : List ℕ) (v : NewValue) (old text : List ℕ) (s u : Tree)
-    → ((form : Text) → IsManifest old form → text ≡ inserted_text place name v form)
-    → ((form : Text) → IsManifest old form → Alike s (view_at form))
-    → ((form : Text) → IsManifest text form → Alike u (view_at form))
+    → ((form : Text) → IsDocument old form → text ≡ inserted_text place name v form)
+    → ((form : Text) → IsDocument old form → Alike s (view_at form))
+    → ((form : Text) → IsDocument text form → Alike u (view_at form))
     → (Inserted place name v s u → ⊥) → InsertFails place name v old
 insert_other place name v old text s u written shows shown other form was read is meant =
-    let here = subst (λ (b : List ℕ). IsManifest b read) (sym (written form was)) is in
+    let here = subst (λ (b : List ℕ). IsDocument b read) (sym (written form was)) is in
     other (inserted_along place name v (view_at form) s (view_at read) u (λ q. sym (shows form was q))
     (λ q. sym (shown read here q)) meant)
 
 pub replace_other : (place : Place) (item : NewItem) (old text : List ℕ) (s u : Tree)
-    → ((form : Text) → IsManifest old form → text ≡ replaced_text place item form)
-    → ((form : Text) → IsManifest old form → Alike s (view_at form))
-    → ((form : Text) → IsManifest text form → Alike u (view_at form))
+    → ((form : Text) → IsDocument old form → text ≡ replaced_text place item form)
+    → ((form : Text) → IsDocument old form → Alike s (view_at form))
+    → ((form : Text) → IsDocument text form → Alike u (view_at form))
     → (HasReplaced place item s u → ⊥) → ReplaceFails place item old
 replace_other place item old text s u written shows shown other form was read is meant =
-    let here = subst (λ (b : List ℕ). IsManifest b read) (sym (written form was)) is in
+    let here = subst (λ (b : List ℕ). IsDocument b read) (sym (written form was)) is in
     other (replaced_along place item (view_at form) s (view_at read) u (λ q. sym (shows form was q))
     (λ q. sym (shown read here q)) meant)
 
@@ -80,17 +79,17 @@ removed_along form gone s t u w old new h = record {
 }
 
 pub remove_unread : (gone : Place) (old text : List ℕ)
-    → ((form : Text) → IsManifest old form → text ≡ removed_text gone form)
-    → ((form : Text) → IsManifest text form → ⊥) → RemoveFails gone old
+    → ((form : Text) → IsDocument old form → text ≡ removed_text gone form)
+    → ((form : Text) → IsDocument text form → ⊥) → RemoveFails gone old
 remove_unread gone old text written unread form was read is meant =
-    unread read (subst (λ (b : List ℕ). IsManifest b read) (sym (written form was)) is)
+    unread read (subst (λ (b : List ℕ). IsDocument b read) (sym (written form was)) is)
 
 pub remove_other : (gone : Place) (old text : List ℕ) (s u : Tree)
-    → ((form : Text) → IsManifest old form → text ≡ removed_text gone form)
-    → ((form : Text) → IsManifest old form → Alike s (view_at form))
-    → ((form : Text) → IsManifest text form → Alike u (view_at form))
-    → ((form : Text) → IsManifest old form → Removed form gone s u → ⊥) → RemoveFails gone old
+    → ((form : Text) → IsDocument old form → text ≡ removed_text gone form)
+    → ((form : Text) → IsDocument old form → Alike s (view_at form))
+    → ((form : Text) → IsDocument text form → Alike u (view_at form))
+    → ((form : Text) → IsDocument old form → Removed form gone s u → ⊥) → RemoveFails gone old
 remove_other gone old text s u written shows shown other form was read is meant =
-    let here = subst (λ (b : List ℕ). IsManifest b read) (sym (written form was)) is in
+    let here = subst (λ (b : List ℕ). IsDocument b read) (sym (written form was)) is in
     other form was (removed_along form gone (view_at form) s (view_at read) u (λ q. sym (shows form was q))
     (λ q. sym (shown read here q)) meant)

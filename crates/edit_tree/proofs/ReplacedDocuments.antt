@@ -1,25 +1,24 @@
 -- What is read again of a text with literals written into it.
 use Rattle.std.proofs.Common.{◌≡◌, ℕ, List, [], ◌∷◌, cond, Option, None, sym, ap, ◌∙◌, subst}
 use Rattle.edit_syntax.specs.Grammar.{Text, text}
-use Rattle.edit_tree.specs.Assertions.{Place}
+use Rattle.edit_tree.specs.Assertions.{IsDocument, Place}
 use Rattle.edit_tree.specs.Tree.{View, view_at}
-use Rattle.edit_tree.specs.Supported.{IsManifest}
 use Rattle.edit_tree.specs.Shown.{Shown, tree_of, ShowsTree}
 use Rattle.edit_tree.specs.Replaces.{Edits, replaced, written, emptied, is_below_any, is_string, AreStrings, AreValues, AreOutside}
-use Rattle.edit_tree.proofs.ReplacedTree.{AreApart, replaced_manifest, replaced_view}
+use Rattle.edit_tree.proofs.ReplacedTree.{AreApart, replaced_document, replaced_view}
 use Rattle.edit_tree.proofs.ReplacedStrings.{written_same, strings_values, strings_outside, strings_emptied}
 use Rattle.edit_tree.proofs.Shallow.{one_form}
 
 -- whatever form the new text is read to, its tree is the old one with the new strings and nothing below them
 pub tree_again : (edits : Edits) (old new : List ℕ) (form : Text) (t : Place → Option View)
-    → IsManifest old form → AreApart edits form → ((q : Place) → t q ≡ view_at form q)
+    → IsDocument old form → AreApart edits form → ((q : Place) → t q ≡ view_at form q)
     → new ≡ text (replaced edits form)
-    → (g : Text) → IsManifest new g → (q : Place) → view_at g q ≡ written edits (emptied edits t) q
+    → (g : Text) → IsDocument new g → (q : Place) → view_at g q ≡ written edits (emptied edits t) q
 tree_again edits old new form t manifest apart same e g read q =
-    let is = subst (λ (b : List ℕ). IsManifest b (replaced edits form)) (sym e)
-    (replaced_manifest edits old form manifest) in
+    let is = subst (λ (b : List ℕ). IsDocument b (replaced edits form)) (sym e)
+    (replaced_document edits old form manifest) in
     ap (λ z. view_at z q) (one_form new g (replaced edits form) read is) ∙
-    replaced_view edits old form manifest.document apart q
+    replaced_view edits old form manifest apart q
     ∙ written_same edits (emptied edits (view_at form)) (emptied edits t) q
     (ap (λ v. cond (is_below_any edits q) None v) (sym (same q)))
 
@@ -36,17 +35,17 @@ pub shown_values : (edits : Edits) (d : Shown) (form : Text) → ShowsTree d for
 shown_values edits d form shows all = strings_values edits form
     (strings_along edits (tree_of d) (view_at form) shows all)
 
-pub shown_outside : (edits : Edits) (d : Shown) (form : Text) → IsManifest d.bytes form → ShowsTree d form
+pub shown_outside : (edits : Edits) (d : Shown) (form : Text) → IsDocument d.bytes form → ShowsTree d form
     → AreStrings edits (tree_of d) → AreOutside edits
 shown_outside edits d form manifest shows all =
-    strings_outside edits d.bytes form manifest.document
+    strings_outside edits d.bytes form manifest
     (strings_along edits (tree_of d) (view_at form) shows all)
 
 -- nothing stands below them
-pub shown_emptied : (edits : Edits) (d : Shown) (form : Text) → IsManifest d.bytes form → ShowsTree d form
+pub shown_emptied : (edits : Edits) (d : Shown) (form : Text) → IsDocument d.bytes form → ShowsTree d form
     → AreStrings edits (tree_of d)
     → (q : Place) → emptied edits (tree_of d) q ≡ tree_of d q
 shown_emptied edits d form manifest shows all q =
     ap (λ v. cond (is_below_any edits q) None v) (shows q)
-    ∙ strings_emptied edits d.bytes form q manifest.document
+    ∙ strings_emptied edits d.bytes form q manifest
     (strings_along edits (tree_of d) (view_at form) shows all) ∙ sym (shows q)

@@ -4,7 +4,6 @@ use Rattle.std.proofs.Common.{◌≡◌, ℕ, suc, true, false, ◌||◌, cond, 
 use Rattle.edit_syntax.specs.Grammar.{Value, basic, literal, multi_basic, multi_literal, boolean, integer, float, datetime, array, inline, Elements, no_elements, last_element, element, Members, no_members, last_member, member, Statement, pair, header, element_header, empty_line, full_line, Lines, one_line, more_lines, Text, text, IsValue, AreElements, AreMembers, IsStatement, AreLines}
 use Rattle.edit_tree.specs.Assertions.{Place, Step, at, index, names, named, same_place, leaf, Assertion, of_statement, assertions, prefix_after, NoClash, IsDocument}
 use Rattle.edit_tree.specs.Tree.{View, string, view_at, view_of_kind, kind_at}
-use Rattle.edit_tree.specs.Supported.{IsManifest}
 use Rattle.edit_tree.specs.Literals.{literal_of}
 use Rattle.edit_tree.specs.Replaces.{Edits, Writer, new_text, written_or, put, replaced_inside, replaced_elements, replaced_members, replaced_statement, replaced_lines, replaced, is_below, is_below_any, written, emptied}
 use Rattle.edit_tree.proofs.LiteralLaws.{literal_is_value, literal_says}
@@ -121,14 +120,6 @@ replaced_document edits old form document = record {
   };
   short = thin_short edits _ _ (thinned edits form) document.short;
   no_clash = thin_no_clash edits _ _ (thinned edits form) document.no_clash;
-}
-
--- ---- of the part that is read
-
-pub replaced_manifest : (edits : Edits) (old : List ℕ) (form : Text) → IsManifest old form
-    → IsManifest (text (replaced edits form)) (replaced edits form)
-replaced_manifest edits old form manifest = record {
-  document = replaced_document edits old form manifest.document;
 }
 
 -- ---- the tree

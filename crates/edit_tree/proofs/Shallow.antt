@@ -3,7 +3,6 @@
 use Rattle.std.proofs.Common.{◌≡◌, ℕ, suc, ◌+◌, ◌≤◌, Bool, true, false, List, [], ◌∷◌, ◌++◌, map, length, Some, refl, ap, ◌∙◌, arith, length-append, sym}
 use Rattle.edit_syntax.specs.Grammar.{Value, basic, literal, multi_basic, multi_literal, boolean, integer, float, datetime, array, inline, Elements, no_elements, last_element, element, Members, no_members, last_member, member, Statement, pair, header, element_header, empty_line, full_line, Lines, one_line, more_lines, Text}
 use Rattle.edit_tree.specs.Assertions.{Place, key, index, at, names, named, Assertion, of_key, of_value, of_elements, of_members, of_statement, prefix_after, of_lines, AreShort, IsDocument}
-use Rattle.edit_tree.specs.Supported.{IsManifest}
 use Rattle.edit_syntax.specs.Depth.{depth, elements_depth, members_depth, statement_depth, lines_depth, text_depth}
 use Rattle.edit_syntax.specs.FormOf.{form_of}
 use Rattle.edit_syntax.proofs.TextLaws.{read_again}
@@ -131,11 +130,11 @@ pub shallow : (bytes : List ℕ) (form : Text) → IsDocument bytes form → tex
 shallow bytes form document = lines_shallow [] [] form.lines document.short
 
 -- a text is read to any form that makes it a document
-pub manifest_form : (bytes : List ℕ) (form : Text) → IsManifest bytes form → form_of bytes ≡ Some form
+pub manifest_form : (bytes : List ℕ) (form : Text) → IsDocument bytes form → form_of bytes ≡ Some form
 manifest_form bytes form h =
-    read_again 80 bytes form (record { spells = h.document.grammar; shallow = shallow bytes form h.document })
+    read_again 80 bytes form (record { spells = h.grammar; shallow = shallow bytes form h })
 
 -- two forms of one document are the same
-pub one_form : (bytes : List ℕ) (f g : Text) → IsManifest bytes f → IsManifest bytes g → f ≡ g
+pub one_form : (bytes : List ℕ) (f g : Text) → IsDocument bytes f → IsDocument bytes g → f ≡ g
 one_form bytes f g a b = let same : Some f ≡ Some g = sym (manifest_form bytes f a) ∙
     manifest_form bytes g b in cc

@@ -1,4 +1,4 @@
--- What each statement asserts of which places, and which assertions may stand together.
+-- What each statement asserts of places, which assertions may stand together, which texts are documents.
 use Rattle.std.specs.Prelude.{◌≡◌, ℕ, suc, ◌-◌, ◌≤◌, Bool, true, false, ◌&&◌, ◌==◌, nat_lt, if◌then◌else◌, cond, List, [], ◌∷◌, ◌++◌, length, map, ⊤}
 use Rattle.std.specs.List.{AllByRecursion}
 use Rattle.edit_syntax.specs.Strings.{name, Key}

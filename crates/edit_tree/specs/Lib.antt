@@ -1,6 +1,5 @@
 pub mod Assertions
 pub mod Tree
-pub mod Supported
 pub mod Shown
 pub mod Literals
 pub mod Written

@@ -2,9 +2,8 @@
 use Rattle.std.specs.Prelude.{◌≡◌, ℕ, suc, ◌-◌, Bool, true, false, not, nat_lt, ◌&&◌, ◌||◌, if◌then◌else◌, List, [], ◌∷◌, ◌++◌, map, length, Option, Some, None, option_map, option_and_then, slice_get, find}
 use Rattle.std.specs.List.{list_any, filter}
 use Rattle.edit_syntax.specs.Grammar.{Text}
-use Rattle.edit_tree.specs.Assertions.{Step, key, index, Place, at, same_bytes, same_step, same_place, Assertion, assertions}
+use Rattle.edit_tree.specs.Assertions.{Step, key, index, Place, at, same_bytes, same_step, same_place, Assertion, assertions, IsDocument}
 use Rattle.edit_tree.specs.Tree.{View, string, truth, static_array, table_array, inline_table, table, view_in, view_at}
-use Rattle.edit_tree.specs.Supported.{IsManifest}
 use Rattle.edit_tree.specs.NewItems.{NewValue, a_string, a_truth, a_list, NewItem, a_value, a_table}
 use Rattle.edit_tree.specs.EditBytes.{is_within, replaced_text, inserted_text}
 use Rattle.edit_tree.specs.RemovedBytes.{removed_text}
@@ -153,22 +152,22 @@ pub record Removed (form : Text) (gone : Place) (old new : Tree) : Type 0 where
 
 -- the bytes are no document, or have another tree than the one that is meant
 abbrev pub ReadsOtherwise : List ℕ → (Tree → Type 0) → Type 0
-ReadsOtherwise bytes Meant = (form : Text) → IsManifest bytes form → Meant (view_at form) → ⊥
+ReadsOtherwise bytes Meant = (form : Text) → IsDocument bytes form → Meant (view_at form) → ⊥
 
 -- the old text with another entry at the place is no document, or shows another tree than meant
 abbrev pub ReplaceFails : Place → NewItem → List ℕ → Type 0
 ReplaceFails place item old =
-    (form : Text) → IsManifest old form
+    (form : Text) → IsDocument old form
     → ReadsOtherwise (replaced_text place item form) (HasReplaced place item (view_at form))
 
 -- the old text with a member inserted is no document, or shows another tree than meant
 abbrev pub InsertFails : Place → List ℕ → NewValue → List ℕ → Type 0
 InsertFails place name v old =
-    (form : Text) → IsManifest old form
+    (form : Text) → IsDocument old form
     → ReadsOtherwise (inserted_text place name v form) (Inserted place name v (view_at form))
 
 -- the old text without the item is no document, or shows another tree than meant
 abbrev pub RemoveFails : Place → List ℕ → Type 0
 RemoveFails gone old =
-    (form : Text) → IsManifest old form
+    (form : Text) → IsDocument old form
     → ReadsOtherwise (removed_text gone form) (Removed form gone (view_at form))

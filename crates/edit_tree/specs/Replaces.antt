@@ -3,9 +3,8 @@
 use Rattle.std.specs.Prelude.{◌≡◌, ℕ, suc, Bool, true, false, ◌&&◌, ◌||◌, if◌then◌else◌, List, [], ◌∷◌, ◌++◌, Option, Some, None, option_map, ⊤}
 use Rattle.std.specs.List.{AllByRecursion, filter_map}
 use Rattle.edit_syntax.specs.Grammar.{Value, basic, literal, multi_basic, multi_literal, boolean, integer, float, datetime, array, inline, value, Elements, no_elements, last_element, element, Members, no_members, last_member, member, Statement, pair, header, element_header, empty_line, full_line, Lines, one_line, more_lines, Text, text}
-use Rattle.edit_tree.specs.Assertions.{Place, index, at, names, named, same_step, same_place, Assertion, of_statement, prefix_after}
+use Rattle.edit_tree.specs.Assertions.{Place, index, at, names, named, same_step, same_place, Assertion, of_statement, prefix_after, IsDocument}
 use Rattle.edit_tree.specs.Tree.{View, string, view_at, is_value_at}
-use Rattle.edit_tree.specs.Supported.{IsManifest}
 use Rattle.edit_tree.specs.Literals.{literal_of}
 use Rattle.edit_tree.specs.Written.{Valued, values}
 
@@ -167,9 +166,9 @@ AreOutside edits = AllByRecursion (λ e. is_below_any edits e.0 ≡ false) edits
 -- the tree has these strings there, nothing below them, and is else the old one
 pub record Replaces (edits : Edits) (old new : List ℕ) : Type 0 where
   pub form : Text
-  pub was : IsManifest old form
+  pub was : IsDocument old form
   pub bytes : new ≡ text (replaced edits form)
   pub kept : Swaps literal_of (edited edits form) old new
-  pub is : IsManifest new (replaced edits form)
+  pub is : IsDocument new (replaced edits form)
   pub tree : (place : Place)
       → view_at (replaced edits form) place ≡ written edits (emptied edits (view_at form)) place

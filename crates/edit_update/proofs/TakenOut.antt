@@ -5,7 +5,7 @@ use Rattle.edit_base.specs.declared.errors.Error.{Error}
 use Rattle.edit_base.specs.declared.errors.Error.TheVariants.{EditRefused}
 use Rattle.edit_base.specs.Errors.{IsMemory}
 use Rattle.edit_syntax.specs.Grammar.{Text}
-use Rattle.edit_tree.specs.Assertions.{Place, key, index, at}
+use Rattle.edit_tree.specs.Assertions.{Place, key, index, at, IsDocument}
 use Rattle.edit_document.specs.declared.item.Item.{Item}
 use Rattle.edit_document.specs.declared.place.Step.{Step as WrittenStep}
 use Rattle.edit_document.specs.ItemViews.{Finds, view_of}
@@ -13,7 +13,6 @@ use Rattle.edit_document.specs.Items.{place_seen}
 use Rattle.edit_tree.specs.Meant.{Tree, Removed, RemoveFails, is_member}
 use Rattle.edit_tree.specs.RemovedBytes.{removed_text}
 use Rattle.edit_tree.specs.Shown.{Shown, ShowsTree, tree_of}
-use Rattle.edit_tree.specs.Supported.{IsManifest}
 use Rattle.edit_tree.specs.Tree.{View, view_at}
 use Rattle.edit_tree.proofs.HeadedPlaces.{inside_more, inside_self}
 use Rattle.edit_update.specs.Removals.{Without, OneStays}
@@ -90,12 +89,12 @@ bare_some t (s ∷ ss) inner e = ap (λ b. cond b ((s ∷ ss) ∷ []) []) e
 
 module _ (path : List (List ℕ)) (name : List ℕ) (old : Shown) (form : Text) (r p : Place)
     (table : r ≡ keyed path)
-    (entry : p ≡ at r (key name)) (reads : IsManifest old.bytes form) (shown : ShowsTree old form) where
+    (entry : p ≡ at r (key name)) (reads : IsDocument old.bytes form) (shown : ShowsTree old form) where
   place_is : p ≡ entry_of path name
   place_is = entry ∙ ap (λ q. at q (key name)) table
 
   -- the entry is removed
-  first_out : (middle : Shown) (g : Text) → middle.bytes ≡ removed_text p form → IsManifest middle.bytes g
+  first_out : (middle : Shown) (g : Text) → middle.bytes ≡ removed_text p form → IsDocument middle.bytes g
       → ShowsTree middle g → Removed form p (tree_of old) (tree_of middle)
       → Without (entry_of path name ∷ []) old.bytes middle.bytes
   first_out middle g bytes again shows removed = subst (λ q. Without (q ∷ []) old.bytes middle.bytes) place_is
@@ -104,7 +103,7 @@ module _ (path : List (List ℕ)) (name : List ℕ) (old : Shown) (form : Text) 
 
   pub taken_out : (middle new : Shown) (g : Text) → missing_table (tree_of old) path ≡ None
       → (tree_of old p ≡ None → ⊥)
-      → middle.bytes ≡ removed_text p form → IsManifest middle.bytes g → ShowsTree middle g
+      → middle.bytes ≡ removed_text p form → IsDocument middle.bytes g → ShowsTree middle g
       → Removed form p (tree_of old) (tree_of middle)
       → Without (bare_table (tree_of middle) r) middle.bytes new.bytes → TakesOut path name old new
   taken_out middle new g tables stood bytes again shows removed rest = record {
@@ -145,7 +144,7 @@ module _ (path : List (List ℕ)) (name : List ℕ) (old : Shown) (form : Text) 
 
   -- its table cannot
   pub table_kept : (middle : Shown) (g : Text) (e : Error) → missing_table (tree_of old) path ≡ None
-      → (tree_of old p ≡ None → ⊥) → middle.bytes ≡ removed_text p form → IsManifest middle.bytes g
+      → (tree_of old p ≡ None → ⊥) → middle.bytes ≡ removed_text p form → IsDocument middle.bytes g
       → ShowsTree middle g → Removed form p (tree_of old) (tree_of middle)
       → IsMemory e ⊎ ((e ≡ EditRefused) × OneStays (bare_table (tree_of middle) r) middle.bytes)
       → IsNotTakenOut path name old e

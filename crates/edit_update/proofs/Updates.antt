@@ -7,7 +7,7 @@ use Rattle.std.proofs.lemmas.List.Elements.{filter_map-append}
 use Rattle.edit_base.specs.Errors.{IsMemory}
 use Rattle.edit_base.specs.declared.errors.Error.{Error}
 use Rattle.edit_base.specs.declared.errors.Error.TheVariants.{EditRefused}
-use Rattle.edit_tree.specs.Assertions.{Place, at, key}
+use Rattle.edit_tree.specs.Assertions.{IsDocument, Place, at, key}
 use Rattle.edit_tree.specs.EditBytes.{is_one_statement, replaced_text}
 use Rattle.edit_document.specs.ItemViews.{document_of, place_of}
 use Rattle.edit_document.specs.declared.item.Item.{Item}
@@ -15,7 +15,6 @@ use Rattle.edit_tree.specs.NewItems.{IsEntry, NewItem}
 use Rattle.edit_document.specs.NewItemViews.{value_seen}
 use Rattle.edit_document.specs.declared.new_item.NewValue.{NewValue as WrittenValue}
 use Rattle.edit_tree.specs.Shown.{Shown, ShowsTree, tree_of}
-use Rattle.edit_tree.specs.Supported.{IsManifest}
 use Rattle.edit_tree.specs.Tree.{View, is_value_at, view_at}
 use Rattle.edit_tree.specs.Meant.{Tree, HasSet, HasReplaced, Inserted, Removed}
 use Rattle.edit_tree.proofs.EditedDocuments.{inserted_along, removed_along, replaced_along}
@@ -40,9 +39,9 @@ then_others entry (c ∷ cs) ds old mid new h rest =
 
 -- one edit more, whatever form the text before it has
 one_more : (entry : Place) (cs : List Change) (c : Change) (old mid new : List ℕ)
-    → Changed entry cs old mid → ((form : Text) × IsManifest mid form)
-    → ((form : Text) → IsManifest mid form → new ≡ changed_text entry c form)
-    → ((form : Text) → IsManifest mid form → ReadsChanged entry c form)
+    → Changed entry cs old mid → ((form : Text) × IsDocument mid form)
+    → ((form : Text) → IsDocument mid form → new ≡ changed_text entry c form)
+    → ((form : Text) → IsDocument mid form → ReadsChanged entry c form)
     → Changed entry (cs ++ c ∷ []) old new
 one_more entry cs c old mid new h is by tree =
     then_others entry cs (c ∷ []) old mid new h (is.0, is.1, tree is.0 is.1, by is.0 is.1)
@@ -76,22 +75,22 @@ changed_along entry (removes name) form s t u w old new h = go (is_there form (a
 
 -- a document after an edit
 pub reads_changed : (entry : Place) (c : Change) (form after : Text) (old new : Shown) → ShowsTree old form
-    → IsManifest new.bytes after → ShowsTree new after → new.bytes ≡ changed_text entry c form
+    → IsDocument new.bytes after → ShowsTree new after → new.bytes ≡ changed_text entry c form
     → HasChanged entry c form (tree_of old) (tree_of new) → ReadsChanged entry c form
 reads_changed entry c form after old new was again is e h = record {
   after = after;
-  reads = subst (λ (b : List ℕ). IsManifest b after) e again;
+  reads = subst (λ (b : List ℕ). IsDocument b after) e again;
   shows = changed_along entry c form (tree_of old) (view_at form) (tree_of new) (view_at after) was is h;
 }
 
 -- a document with another entry
 pub reads_replaced : (entry : Place) (item : NewItem) (form after : Text) (old new : Shown)
-    → ShowsTree old form → IsManifest new.bytes after → ShowsTree new after
+    → ShowsTree old form → IsDocument new.bytes after → ShowsTree new after
     → new.bytes ≡ replaced_text entry item form
     → HasReplaced entry item (tree_of old) (tree_of new) → ReadsReplaced entry item form
 reads_replaced entry item form after old new was again is e h = record {
   after = after;
-  reads = subst (λ (b : List ℕ). IsManifest b after) e again;
+  reads = subst (λ (b : List ℕ). IsDocument b after) e again;
   shows = replaced_along entry item (tree_of old) (view_at form) (tree_of new) (view_at after) was is h;
 }
 
@@ -172,9 +171,9 @@ module _ (f : End → Option Change) (entry : Place) (xs : List WrittenEnd) (i :
   -- an end that asks for one, which was made
   pub one_made : (c : Change) (old mid new : List ℕ) → f (end_seen x) ≡ Some c
       → Changed entry (filter_map f (ends_seen (take i xs))) old mid
-      → ((form : Text) × IsManifest mid form)
-      → ((form : Text) → IsManifest mid form → new ≡ changed_text entry c form)
-      → ((form : Text) → IsManifest mid form → ReadsChanged entry c form)
+      → ((form : Text) × IsDocument mid form)
+      → ((form : Text) → IsDocument mid form → new ≡ changed_text entry c form)
+      → ((form : Text) → IsDocument mid form → ReadsChanged entry c form)
       → Changed entry (filter_map f (ends_seen (take (i + 1) xs))) old new
   one_made c old mid new is h reads by tree =
       let same = given

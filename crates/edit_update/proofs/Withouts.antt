@@ -1,11 +1,10 @@
 -- Items removed one after the other: one more, and the one that cannot be.
 use Rattle.std.proofs.Common.{◌≡◌, ℕ, List, [], ◌∷◌, ◌++◌, Some, refl, sym, subst, ◌∙◌}
 use Rattle.std.specs.List.{AllByRecursion}
-use Rattle.edit_tree.specs.Assertions.{Place}
+use Rattle.edit_tree.specs.Assertions.{IsDocument, Place}
 use Rattle.edit_tree.specs.Meant.{Tree, Removed, RemoveFails}
 use Rattle.edit_tree.specs.RemovedBytes.{removed_text}
 use Rattle.edit_tree.specs.Shown.{Shown, ShowsTree, tree_of}
-use Rattle.edit_tree.specs.Supported.{IsManifest}
 use Rattle.edit_tree.specs.Tree.{string, view_at}
 use Rattle.edit_syntax.specs.Grammar.{Text}
 use Rattle.edit_tree.proofs.EditedDocuments.{removed_along}
@@ -20,17 +19,17 @@ shown_removed form left place old new shows shown h =
     removed_along form place (tree_of old) (view_at form) (tree_of new) (view_at left) shows shown h
 
 -- the text without one item
-pub without_one : (place : Place) (form left : Text) (old new : List ℕ) → IsManifest old form
-    → new ≡ removed_text place form → IsManifest new left
+pub without_one : (place : Place) (form left : Text) (old new : List ℕ) → IsDocument old form
+    → new ≡ removed_text place form → IsDocument new left
     → Removed form place (view_at form) (view_at left) → Without (place ∷ []) old new
 without_one place form left old new reads e again removed =
-    next place [] form left old new reads (subst (λ (b : List ℕ). IsManifest b left) e again) removed
+    next place [] form left old new reads (subst (λ (b : List ℕ). IsDocument b left) e again) removed
     (rw e (none (removed_text place form)))
 
 -- and without one more
 pub without_more : (places : List Place) (place : Place) (form left : Text) (old middle new : List ℕ)
-    → Without places old middle → IsManifest middle form → new ≡ removed_text place form
-    → IsManifest new left → Removed form place (view_at form) (view_at left)
+    → Without places old middle → IsDocument middle form → new ≡ removed_text place form
+    → IsDocument new left → Removed form place (view_at form) (view_at left)
     → Without (places ++ place ∷ []) old new
 without_more _ place form left _ middle new (none bytes) reads e again removed =
     without_one place form left middle new reads e again removed

@@ -1,11 +1,10 @@
 -- Texts without items that are removed one after the other, and when one of the items cannot be removed.
 use Rattle.std.specs.Prelude.{◌≡◌, ℕ, false, List, [], ◌∷◌, ◌++◌, Some, ⊤}
 use Rattle.std.specs.List.{AllByRecursion}
-use Rattle.edit_tree.specs.Assertions.{Place}
+use Rattle.edit_tree.specs.Assertions.{IsDocument, Place}
 use Rattle.edit_tree.specs.EditBytes.{is_within}
 use Rattle.edit_tree.specs.Meant.{Tree, Removed, RemoveFails, moved}
 use Rattle.edit_tree.specs.RemovedBytes.{removed_text}
-use Rattle.edit_tree.specs.Supported.{IsManifest}
 use Rattle.edit_tree.specs.Tree.{string, view_at}
 use Rattle.edit_syntax.specs.Grammar.{Text}
 
@@ -13,8 +12,8 @@ use Rattle.edit_syntax.specs.Grammar.{Text}
 -- document that shows the tree of the one before it without the item.
 pub data Without : List Place → List ℕ → List ℕ → Type 0 where
   none : (bytes : List ℕ) → Without [] bytes bytes
-  next : (place : Place) (more : List Place) (form left : Text) (old new : List ℕ) → IsManifest old form
-      → IsManifest (removed_text place form) left → Removed form place (view_at form) (view_at left)
+  next : (place : Place) (more : List Place) (form left : Text) (old new : List ℕ) → IsDocument old form
+      → IsDocument (removed_text place form) left → Removed form place (view_at form) (view_at left)
       → Without more (removed_text place form) new → Without (place ∷ more) old new
 
 -- one of the items cannot be removed, once those before it are

@@ -4,9 +4,8 @@ use Rattle.std.specs.List.{join_by}
 use Rattle.edit_base.specs.declared.errors.Error.{Error}
 use Rattle.edit_base.specs.declared.errors.Error.TheVariants.{NoTable, NoDependency, EditRefused}
 use Rattle.edit_base.specs.Errors.{IsMemory}
-use Rattle.edit_tree.specs.Assertions.{Place, at, key}
+use Rattle.edit_tree.specs.Assertions.{IsDocument, Place, at, key}
 use Rattle.edit_tree.specs.Shown.{Shown, tree_of}
-use Rattle.edit_tree.specs.Supported.{IsManifest}
 use Rattle.edit_tree.specs.Tree.{View, table, inline_table, view_at}
 use Rattle.edit_syntax.specs.Grammar.{Text}
 use Rattle.edit_update.specs.Removals.{Without, OneStays}
@@ -48,7 +47,7 @@ pub record TakesOut (path : List (List ℕ)) (name : List ℕ) (old new : Shown)
   pub between : List ℕ
   pub entry : Without (entry_of path name ∷ []) old.bytes between
   pub form : Text
-  pub reads : IsManifest between form
+  pub reads : IsDocument between form
   pub emptied : Without (bare_table (view_at form) (keyed path)) between new.bytes
 
 -- ---- refusals
@@ -57,7 +56,7 @@ pub record TakesOut (path : List (List ℕ)) (name : List ℕ) (old new : Shown)
 pub data StaysIn (path : List (List ℕ)) (name : List ℕ) (old : List ℕ) : Type 0 where
   entry_stays : OneStays (entry_of path name ∷ []) old → StaysIn path name old
   table_stays : (between : List ℕ) (form : Text) → Without (entry_of path name ∷ []) old between
-      → IsManifest between form → OneStays (bare_table (view_at form) (keyed path)) between
+      → IsDocument between form → OneStays (bare_table (view_at form) (keyed path)) between
       → StaysIn path name old
 
 -- the refusal for want of a table, which names the step at which it is missing

@@ -1,12 +1,11 @@
 -- The text in which an entry says what a record says, over the edits of the document, and when one of the
 -- edits fails.
 use Rattle.std.specs.Prelude.{◌≡◌, ℕ, Bool, List, [], ◌∷◌, ◌++◌, None, is_some, if◌then◌else◌, MatchBool}
-use Rattle.edit_tree.specs.Assertions.{key, Place, at}
+use Rattle.edit_tree.specs.Assertions.{key, Place, at, IsDocument}
 use Rattle.edit_tree.specs.EditBytes.{set_text, replaced_text, inserted_text, is_one_statement}
 use Rattle.edit_tree.specs.Meant.{Tree, HasSet, HasReplaced, Inserted, Removed, ReplaceFails, InsertFails, RemoveFails}
 use Rattle.edit_tree.specs.NewItems.{NewItem}
 use Rattle.edit_tree.specs.RemovedBytes.{removed_text}
-use Rattle.edit_tree.specs.Supported.{IsManifest}
 use Rattle.edit_tree.specs.Tree.{is_value_at, view_at}
 use Rattle.edit_record.specs.EntryRecords.{EntryRecord}
 use Rattle.edit_update.specs.EntryUpdates.{Change, writes, removes, Update, replaced_by, changed_by, update_of}
@@ -46,7 +45,7 @@ HasChanged entry (removes name) form old new =
 -- the text with one edit of a member is a document, which shows the tree after that edit (own)
 pub record ReadsChanged (entry : Place) (c : Change) (form : Text) : Type 0 where
   pub after : Text
-  pub reads : IsManifest (changed_text entry c form) after
+  pub reads : IsDocument (changed_text entry c form) after
   pub shows : HasChanged entry c form (view_at form) (view_at after)
 
 -- One edit after the other leads from a text to another one, through documents that show the trees after
@@ -54,14 +53,14 @@ pub record ReadsChanged (entry : Place) (c : Change) (form : Text) : Type 0 wher
 abbrev pub Changed : Place → List Change → List ℕ → List ℕ → Type 0
 Changed entry [] old new = new ≡ old
 Changed entry (c ∷ cs) old new =
-    (form : Text) × IsManifest old form × ReadsChanged entry c form
+    (form : Text) × IsDocument old form × ReadsChanged entry c form
     × Changed entry cs (changed_text entry c form) new
 
 -- the text with another entry is a document, which shows that entry at its place, and all else as it was
 -- (own)
 pub record ReadsReplaced (entry : Place) (item : NewItem) (form : Text) : Type 0 where
   pub after : Text
-  pub reads : IsManifest (replaced_text entry item form) after
+  pub reads : IsDocument (replaced_text entry item form) after
   pub shows : HasReplaced entry item (view_at form) (view_at after)
 
 -- the text with this update of the entry, and its tree (own)
@@ -77,17 +76,17 @@ update_in form entry root r = update_of (below (view_at form) entry) (is_one_sta
 -- the text in which the entry says what the record says (own)
 abbrev pub Updated : Place → List ℕ → EntryRecord → List ℕ → List ℕ → Type 0
 Updated entry root r old new =
-    (form : Text) → IsManifest old form → HasBecome entry (update_in form entry root r) form old new
+    (form : Text) → IsDocument old form → HasBecome entry (update_in form entry root r) form old new
 
 -- ---- errors
 
 -- the edit of a member fails: it inserts a new member or removes one, and the document refuses that (own)
 abbrev pub ChangeFails : Place → Change → List ℕ → Type 0
 ChangeFails entry (writes name v) old =
-    ((form : Text) → IsManifest old form → view_at form (at entry (key name)) ≡ None)
+    ((form : Text) → IsDocument old form → view_at form (at entry (key name)) ≡ None)
     × InsertFails entry name v old
 ChangeFails entry (removes name) old =
-    ((form : Text) → IsManifest old form → view_at form (at entry (key name)) ≡ None → ⊥)
+    ((form : Text) → IsDocument old form → view_at form (at entry (key name)) ≡ None → ⊥)
     × RemoveFails (at entry (key name)) old
 
 -- one of the edits fails, in the text that the edits before it leave (own)
@@ -108,4 +107,4 @@ BecomingFails entry (changed_by edits) old = OneFails entry edits old
 -- an edit fails of the update that makes the entry say what the record says (own)
 abbrev pub UpdateFails : Place → List ℕ → EntryRecord → List ℕ → Type 0
 UpdateFails entry root r old =
-    (form : Text) → IsManifest old form → BecomingFails entry (update_in form entry root r) old
+    (form : Text) → IsDocument old form → BecomingFails entry (update_in form entry root r) old

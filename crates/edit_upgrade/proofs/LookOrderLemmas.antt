@@ -13,7 +13,7 @@ use Rattle.std.proofs.lemmas.List.Folds.{list_any-append}
 use Rattle.std.proofs.lemmas.Option.{slice_get_within}
 use Rattle.std.proofs.lemmas.Slice.Zip.{all_zipped_more}
 use Rattle.edit_syntax.specs.Grammar.{Text}
-use Rattle.edit_tree.specs.Supported.{IsManifest}
+use Rattle.edit_tree.specs.Assertions.{IsDocument}
 use Rattle.edit_tree.specs.Tree.{view_at}
 use Rattle.edit_metadata.specs.declared.input.Input.{Input}
 use Rattle.edit_sources.specs.Configured.{HasAddress}
@@ -278,7 +278,7 @@ module _ (xs : List Input) (cs : List (Vec Config)) (x : Input) (own : Vec Confi
 pub order-more : (xs : List Input) (cs : List (Vec Config)) (x : Input) (own : Vec Config)
     (gives : Outcomes) (old new : Kept) (looks more : List Look) (set now : Pairs)
     → length cs ≡ length xs → AreInOrderSoFar xs cs looks set → (form : Text)
-    → IsManifest x.bytes.items form
+    → IsDocument x.bytes.items form
     → AreSteps own.items gives (seen (view_at form)) old new looks more set now
     → AreInOrderSoFar (xs ++ x ∷ []) (cs ++ own ∷ []) more now
 order-more xs cs x own gives old new looks more set now long h form manifest steps =

@@ -3,10 +3,9 @@ use Rattle.std.proofs.Common.{◌≡◌, ◌∷◌, [], List, ℕ, Option, Some,
 use Rattle.std.specs.Prelude.{All, Contains}
 use Rattle.std.specs.List.{AllByRecursion, AllZip}
 use Rattle.std.proofs.lemmas.List.Elements.{All-cons, All-contains, All-contains_itself, All-head, All-tail, All-weaker, Contains-append_right}
-use Rattle.edit_tree.specs.Assertions.{Place}
+use Rattle.edit_tree.specs.Assertions.{IsDocument, Place}
 use Rattle.edit_syntax.specs.Grammar.{Text}
 use Rattle.edit_tree.specs.Replaces.{Edits, replaced, written}
-use Rattle.edit_tree.specs.Supported.{IsManifest}
 use Rattle.edit_tree.specs.Tree.{view_at}
 use Rattle.edit_tree.proofs.Shallow.{one_form}
 use Rattle.edit_tree.proofs.ReplacedStrings.{strings_view}
@@ -53,12 +52,12 @@ none-out path bytes edits _ e (changed output some at r) = absurd (some e)
 -- a form of the bytes that stand after a plan, and what it shows
 record IsReadBack (new : List ℕ) (form : Text) (lines : List Line) : Type 0 where
   after : Text
-  manifest : IsManifest new after
+  manifest : IsDocument new after
   tree : (q : Place) → view_at after q ≡ written (writes (seen (view_at form)) lines) (view_at form) q
 
 -- by whether there is an output
 read-by : (path bytes : List ℕ) (form : Text) (lines : List Line) (outputs : List Output)
-    → IsManifest bytes form
+    → IsDocument bytes form
     → AreOutputs path bytes (writes (seen (view_at form)) lines) outputs
     → IsReadBack (bytes_after bytes outputs) form lines
 read-by path bytes form lines _ m (unchanged none) = record {
@@ -70,14 +69,14 @@ read-by path bytes form lines _ m (changed output some at r) =
     let edits = writes (seen (view_at form)) lines in
     record {
       after = replaced edits form;
-      manifest = subst (λ (f : Text). IsManifest output.bytes.items (replaced edits f))
+      manifest = subst (λ (f : Text). IsDocument output.bytes.items (replaced edits f))
           (one_form bytes r.form form r.was m) r.is;
-      tree = strings_view edits bytes form m.document (writes-strings (view_at form) lines);
+      tree = strings_view edits bytes form m (writes-strings (view_at form) lines);
     }
 
 -- the same, from the outputs' own form
 read-back : (path bytes : List ℕ) (form : Text) (lines : List Line) (outputs : List Output)
-    → IsManifest bytes form → HasOutputs path bytes lines outputs
+    → IsDocument bytes form → HasOutputs path bytes lines outputs
     → IsReadBack (bytes_after bytes outputs) form lines
 read-back path bytes form lines outputs m g =
     read-by path bytes form lines outputs m
@@ -94,7 +93,7 @@ seen-back s new form lines d b =
 -- whatever form the bytes are read to, these entries are seen
 seen-always : (new : List ℕ) (form : Text) (lines : List Line) (es : List Seen)
     → (b : IsReadBack new form lines) → seen (view_at b.after) ≡ es
-    → (f : Text) → IsManifest new f → seen (view_at f) ≡ es
+    → (f : Text) → IsDocument new f → seen (view_at f) ≡ es
 seen-always new form lines es b same f m =
     ap (λ (x : Text). seen (view_at x)) (one_form new f b.after m b.manifest) ∙ same
 
@@ -220,7 +219,7 @@ need-same s path bytes lines outputs h g =
     let b = read-back path bytes h.form lines outputs h.manifest g in
     let back = seen-back s new h.form lines h.decided b in
     let same = seen-always new h.form lines (renewed es lines) b back in
-    let first : (f : Text) → IsManifest bytes f → seen (view_at f) ≡ es = λ f m. ap
+    let first : (f : Text) → IsDocument bytes f → seen (view_at f) ≡ es = λ f m. ap
     (λ (x : Text). seen (view_at x)) (one_form bytes f h.form m h.manifest) in
     λ address name. (
       λ need. record {

@@ -7,8 +7,8 @@ use Rattle.std.proofs.lemmas.List.{length-map}
 use Rattle.std.proofs.lemmas.Slice.Zip.{AllZip-long}
 use Rattle.edit_base.specs.Errors.{IsMemory}
 use Rattle.edit_syntax.specs.Grammar.{Text}
+use Rattle.edit_tree.specs.Assertions.{IsDocument}
 use Rattle.edit_tree.specs.Shown.{Shown, ShowsTree, tree_of}
-use Rattle.edit_tree.specs.Supported.{IsManifest}
 use Rattle.edit_tree.specs.Tree.{view_at}
 use Rattle.edit_base.specs.declared.errors.Error.{Error}
 use Rattle.edit_tree.proofs.Shallow.{one_form}
@@ -52,30 +52,30 @@ refusal-has (Ok x) e P same h = tt
 refusal-has (Err other) e P same h = subst P (sym same) h
 
 -- they are seen in whatever form
-seen-in : (bytes : List ℕ) (es : List Seen) → (a : AreSeen bytes es) → (f : Text) → IsManifest bytes f
+seen-in : (bytes : List ℕ) (es : List Seen) → (a : AreSeen bytes es) → (f : Text) → IsDocument bytes f
     → seen (view_at f) ≡ es
 seen-in bytes es a f m = ap (λ (x : Text). seen (view_at x)) (one_form bytes f a.form m a.manifest)
     ∙ sym a.are
 
 -- the entries of a document that shows its forms
 pub document-seen : (bytes : List ℕ) (d : Shown) (es : List Seen) → d.bytes ≡ bytes → (form : Text)
-    × IsManifest d.bytes form
-    → ((form : Text) → IsManifest d.bytes form → ShowsTree d form) → es ≡ seen (tree_of d) → AreSeen bytes es
+    × IsDocument d.bytes form
+    → ((form : Text) → IsDocument d.bytes form → ShowsTree d form) → es ≡ seen (tree_of d) → AreSeen bytes es
 document-seen bytes d es same f shows whole = record {
   form = f.0;
-  manifest = subst (λ (x : List ℕ). IsManifest x f.0) same f.1;
+  manifest = subst (λ (x : List ℕ). IsDocument x f.0) same f.1;
   are = whole ∙ same-seen d f.0 (shows f.0 f.1);
 }
 
 -- a document whose entries each have a row
 pub planned-shown : (bytes : List ℕ) (d : Shown) (p : Planned) → d.bytes ≡ bytes → (form : Text)
-    × IsManifest d.bytes form
-    → ((form : Text) → IsManifest d.bytes form → ShowsTree d form) → map seen_of p.entries.items
+    × IsDocument d.bytes form
+    → ((form : Text) → IsDocument d.bytes form → ShowsTree d form) → map seen_of p.entries.items
     ≡ seen (tree_of d)
     → length p.rows.items ≡ length p.entries.items → IsShown bytes d p
 planned-shown bytes d p same f shows whole long = record {
   form = f.0;
-  manifest = subst (λ (x : List ℕ). IsManifest x f.0) same f.1;
+  manifest = subst (λ (x : List ℕ). IsDocument x f.0) same f.1;
   tree = shows f.0 f.1;
   same = same;
   entries = whole ∙ same-seen d f.0 (shows f.0 f.1);
@@ -151,22 +151,22 @@ planned-refused configs bytes first old now b c es e a (inr stops) = inr (record
 -- the warnings on the entries of a document are those of the manifest
 pub planned-warnings : (o : Options) (number : ℕ) (bytes : List ℕ) (d : Shown) (es : List found.Entry)
     (ts : List Told)
-    → d.bytes ≡ bytes → (form : Text) × IsManifest d.bytes form
-    → ((form : Text) → IsManifest d.bytes form → ShowsTree d form) → es ≡ entries (tree_of d) []
+    → d.bytes ≡ bytes → (form : Text) × IsDocument d.bytes form
+    → ((form : Text) → IsDocument d.bytes form → ShowsTree d form) → es ≡ entries (tree_of d) []
     → AreWarnings o number es ts → HasWarnings o number bytes ts
 planned-warnings o number bytes d es ts same f shows whole w =
     let tree : tree_of d ≡ view_at f.0 = λ i p. shows f.0 f.1 p i in
     record {
       form = f.0;
-      manifest = subst (λ (x : List ℕ). IsManifest x f.0) same f.1;
+      manifest = subst (λ (x : List ℕ). IsDocument x f.0) same f.1;
       are = subst (λ (xs : List found.Entry). AreWarnings o number xs ts)
           (whole ∙ ap (λ (t : Tree). entries t []) tree) w;
     }
 
 -- the names of the entries of a document, added to those that are known, are those of the manifest
 pub planned-names : (o : Options) (bytes : List ℕ) (d : Shown) (es : List found.Entry)
-    (old new : List ℕ → Bool) → d.bytes ≡ bytes → (form : Text) × IsManifest d.bytes form
-    → ((form : Text) → IsManifest d.bytes form → ShowsTree d form) → es ≡ entries (tree_of d) []
+    (old new : List ℕ → Bool) → d.bytes ≡ bytes → (form : Text) × IsDocument d.bytes form
+    → ((form : Text) → IsDocument d.bytes form → ShowsTree d form) → es ≡ entries (tree_of d) []
     → ((name : List ℕ) → new name
     ≡ (old name || (is_named (words_of o) name && list_any (bytes_eq name) (names_in es))))
     → AddsNames o bytes old new
@@ -176,7 +176,7 @@ planned-names o bytes d es old new same f shows whole adds =
       names = names_in es;
       have = record {
         form = f.0;
-        manifest = subst (λ (x : List ℕ). IsManifest x f.0) same f.1;
+        manifest = subst (λ (x : List ℕ). IsDocument x f.0) same f.1;
         are = ap names_in (whole ∙ ap (λ (t : Tree). entries t []) tree);
       };
       are = adds;

@@ -3,7 +3,7 @@ use Rattle.std.specs.Prelude.{◌≡◌, ◌⊎◌, ◌<◌, ◌++◌, ◌∷◌
 use Rattle.std.specs.Global.{Vec}
 use Rattle.edit_base.specs.Errors.{IsMemory}
 use Rattle.edit_syntax.specs.Grammar.{Text}
-use Rattle.edit_tree.specs.Supported.{IsManifest}
+use Rattle.edit_tree.specs.Assertions.{IsDocument}
 use Rattle.edit_tree.specs.Tree.{view_at}
 use Rattle.edit_base.specs.declared.errors.Error.{Error}
 use Rattle.edit_manifest.specs.Loaded.{IsBadManifest}
@@ -49,13 +49,13 @@ pub record StopsFirst (configs : List Config) (gives : Outcomes) (old new : Kept
 pub record HasBadEntry (configs : List Config) (gives : Outcomes) (old new : Kept) (before now : ℕ)
     (bytes : List ℕ) (error : Error) : Type 0 where
   pub form : Text
-  pub manifest : IsManifest bytes form
+  pub manifest : IsDocument bytes form
   pub stops : StopsFirst configs gives old new before now (seen (view_at form)) error
 
 -- an input at which a plan goes on: it is a manifest, and each of its entries is passed
 pub record InputPasses (configs : List Config) (new : Kept) (input : Input) : Type 0 where
   pub form : Text
-  pub manifest : IsManifest input.bytes.items form
+  pub manifest : IsDocument input.bytes.items form
   pub passed : All (IsPassed configs new) (seen (view_at form))
 
 -- the first of the inputs at which a plan does not go on, for this reason

@@ -4,8 +4,8 @@ use Rattle.std.specs.Global.{Vec}
 use Rattle.std.specs.List.{flat_map}
 use Rattle.std.specs.Str.{bytes_eq}
 use Rattle.edit_syntax.specs.Grammar.{Text}
+use Rattle.edit_tree.specs.Assertions.{IsDocument}
 use Rattle.edit_tree.specs.Shown.{Shown}
-use Rattle.edit_tree.specs.Supported.{IsManifest}
 use Rattle.edit_tree.specs.Tree.{view_at}
 use Rattle.edit_metadata.specs.declared.input.Input.{Input}
 use Rattle.edit_report.specs.declared.output.Output.{Output}
@@ -46,7 +46,7 @@ outputs_on path outputs = filter (λ output. bytes_eq (output_path output) path)
 pub record IsPlanned (i : ℕ) (o : Options) (input : Input) (configs : List Config) (kept : Kept)
     (lines : List Line) (outputs : List Output) (told : List Told) : Type 0 where
   pub form : Text
-  pub manifest : IsManifest input.bytes.items form
+  pub manifest : IsDocument input.bytes.items form
   pub passed : All (IsPassed configs kept) (seen (view_at form))
   pub decided : AreDecided (kept_basis i o (option_map numbers_of input.rust_version) configs kept)
       (seen (view_at form)) lines

@@ -4,7 +4,7 @@ use Rattle.std.specs.Global.{Vec}
 use Rattle.std.specs.List.{AllZip, flat_map, list_any}
 use Rattle.std.specs.Str.{bytes_eq}
 use Rattle.edit_syntax.specs.Grammar.{Text}
-use Rattle.edit_tree.specs.Supported.{IsManifest}
+use Rattle.edit_tree.specs.Assertions.{IsDocument}
 use Rattle.edit_tree.specs.Tree.{view_at}
 use Rattle.edit_metadata.specs.declared.input.Input.{Input}
 use Rattle.edit_sources.specs.declared.config.Config.{Config}
@@ -44,7 +44,7 @@ NeedsPair configs e pair = IsNeededFor configs e pair.0 pair.1
 -- the bytes are a manifest, and these are the pairs that its seen entries of registries need, in their order
 pub record AreNeedsOf (configs : List Config) (bytes : List ℕ) (pairs : List Pair) : Type 0 where
   pub form : Text
-  pub manifest : IsManifest bytes form
+  pub manifest : IsDocument bytes form
   pub are : AllZip (NeedsPair configs) (from_registries (seen (view_at form))) pairs
 
 -- the looks stand in the order of the inputs and of the entries of each that need them, each pair at the

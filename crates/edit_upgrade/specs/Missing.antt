@@ -3,7 +3,7 @@ use Rattle.std.specs.Prelude.{◌≡◌, ◌&&◌, ◌||◌, ℕ, List, [], Bool
 use Rattle.std.specs.List.{AllZip, filter_map, list_any}
 use Rattle.std.specs.Str.{bytes_eq}
 use Rattle.edit_syntax.specs.Grammar.{Text}
-use Rattle.edit_tree.specs.Supported.{IsManifest}
+use Rattle.edit_tree.specs.Assertions.{IsDocument}
 use Rattle.edit_tree.specs.Tree.{view_at}
 use Rattle.edit_manifest.specs.Entries.{Entry, entries}
 use Rattle.edit_metadata.specs.declared.input.Input.{Input}
@@ -24,7 +24,7 @@ names_in es = filter_map name_of es
 -- the bytes are a manifest, and these are the names of its entries
 pub record HasNames (bytes : List ℕ) (names : List (List ℕ)) : Type 0 where
   pub form : Text
-  pub manifest : IsManifest bytes form
+  pub manifest : IsDocument bytes form
   pub are : names ≡ names_in (entries (view_at form) [])
 
 -- the name is among those of one of the inputs

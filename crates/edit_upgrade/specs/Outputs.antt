@@ -1,10 +1,9 @@
 -- What a plan writes: the new bytes of the manifests whose rows have a change.
 use Rattle.std.specs.Prelude.{◌≡◌, ◌≢◌, ℕ, List, [], ◌∷◌, string_bytes}
-use Rattle.edit_tree.specs.Assertions.{Place}
+use Rattle.edit_tree.specs.Assertions.{IsDocument, Place}
 use Rattle.edit_syntax.specs.Grammar.{Text}
 use Rattle.edit_tree.specs.Replaces.{Edits, Replaces, written}
 use Rattle.edit_tree.specs.Shown.{Shown, tree_of}
-use Rattle.edit_tree.specs.Supported.{IsManifest}
 use Rattle.edit_tree.specs.Tree.{view_at}
 use Rattle.edit_upgrade.specs.Records.{seen}
 use Rattle.edit_upgrade.specs.Rows.{Line, writes}
@@ -15,7 +14,7 @@ use Rattle.edit_report.specs.declared.output.Output.{Output}
 pub record IsRewritten (d : Shown) (edits : Edits) (new : List ℕ) : Type 0 where
   pub some : edits ≢ []
   pub replaced : Replaces edits d.bytes new
-  pub read_back : (form : Text) → IsManifest new form → (place : Place) → view_at form place
+  pub read_back : (form : Text) → IsDocument new form → (place : Place) → view_at form place
       ≡ written edits (tree_of d) place
 
 -- an input of which nothing is written has no output; else its one output has its path and the new bytes
@@ -29,7 +28,7 @@ pub data AreOutputs (path bytes : List ℕ) (edits : Edits) : List Output → Ty
 -- the outputs of an input: what its rows write, each at the version literal of its entry (own)
 pub record HasOutputs (path bytes : List ℕ) (lines : List Line) (outputs : List Output) : Type 0 where
   pub form : Text
-  pub manifest : IsManifest bytes form
+  pub manifest : IsDocument bytes form
   pub are : AreOutputs path bytes (writes (seen (view_at form)) lines) outputs
 
 -- the one output, with this path and these bytes (own)

@@ -1,8 +1,8 @@
 -- The rows of a manifest and what they rest on, as the program has them.
 use Rattle.std.specs.Prelude.{◌≡◌, ℕ, List, All, length, map, option_map}
 use Rattle.edit_syntax.specs.Grammar.{Text}
+use Rattle.edit_tree.specs.Assertions.{IsDocument}
 use Rattle.edit_tree.specs.Shown.{Shown, ShowsTree}
-use Rattle.edit_tree.specs.Supported.{IsManifest}
 use Rattle.edit_tree.specs.Tree.{view_at}
 use Rattle.edit_metadata.specs.declared.input.Input.{Input}
 use Rattle.edit_sources.specs.Index.{Outcomes}
@@ -23,7 +23,7 @@ use Rattle.edit_upgrade.specs.declared.planned.Planned.{Planned}
 -- and each has a row (own)
 pub record IsShown (bytes : List ℕ) (d : Shown) (p : Planned) : Type 0 where
   pub form : Text
-  pub manifest : IsManifest bytes form
+  pub manifest : IsDocument bytes form
   pub tree : ShowsTree d form
   pub same : d.bytes ≡ bytes
   pub entries : map seen_of p.entries.items ≡ seen (view_at form)
@@ -32,7 +32,7 @@ pub record IsShown (bytes : List ℕ) (d : Shown) (p : Planned) : Type 0 where
 -- the bytes are a manifest, and these are its seen entries (own)
 pub record AreSeen (bytes : List ℕ) (es : List Seen) : Type 0 where
   pub form : Text
-  pub manifest : IsManifest bytes form
+  pub manifest : IsDocument bytes form
   pub are : es ≡ seen (view_at form)
 
 -- the bytes are a manifest; a step was made for each of its seen entries, which leaves it an answer that is
@@ -40,7 +40,7 @@ pub record AreSeen (bytes : List ℕ) (es : List Seen) : Type 0 where
 pub record IsWalked (i : ℕ) (o : Options) (input : Input) (configs : List Config) (gives : Outcomes)
     (old new : Kept) (before after : Books) (lines : List Line) : Type 0 where
   pub form : Text
-  pub manifest : IsManifest input.bytes.items form
+  pub manifest : IsDocument input.bytes.items form
   pub steps : AreSteps configs gives (seen (view_at form)) old new before.looks.items after.looks.items
       (holds_pair before.pairs) (holds_pair after.pairs)
   pub passed : All (IsPassed configs new) (seen (view_at form))

@@ -3,7 +3,7 @@ use Rattle.std.specs.Prelude.{◌≡◌, ℕ, List, [], Some, Contains, slice_ge
 use Rattle.std.specs.Global.{Vec}
 use Rattle.std.specs.List.{AllZip}
 use Rattle.edit_syntax.specs.Grammar.{Text}
-use Rattle.edit_tree.specs.Supported.{IsManifest}
+use Rattle.edit_tree.specs.Assertions.{IsDocument}
 use Rattle.edit_tree.specs.Tree.{view_at}
 use Rattle.edit_manifest.specs.Entries.{entries}
 use Rattle.edit_sources.specs.declared.config.Config.{Config}
@@ -36,7 +36,7 @@ IsRow s e line = IsRowBy (basis_of s) e line
 -- the bytes are a manifest, and these are the rows of its seen entries
 pub record HasRows (s : Setting) (bytes : List ℕ) (lines : List Line) : Type 0 where
   pub form : Text
-  pub manifest : IsManifest bytes form
+  pub manifest : IsDocument bytes form
   pub decided : AllZip (IsRow s) (seen (view_at form)) lines
 
 -- the entry needs this look
@@ -54,7 +54,7 @@ pub record IsNeededIn (configs : List Config) (es : List Seen) (address name : L
 -- a seen entry of the manifest needs this look
 pub record IsNeededBy (configs : List Config) (bytes address name : List ℕ) : Type 0 where
   pub form : Text
-  pub manifest : IsManifest bytes form
+  pub manifest : IsDocument bytes form
   pub needed : IsNeededIn configs (seen (view_at form)) address name
 
 -- one of the inputs needs this look
@@ -79,7 +79,7 @@ HasItsOutputs s input p =
 -- the bytes are a manifest, and these are the warnings on its entries
 pub record HasWarnings (o : Options) (input : ℕ) (bytes : List ℕ) (told : List Told) : Type 0 where
   pub form : Text
-  pub manifest : IsManifest bytes form
+  pub manifest : IsDocument bytes form
   pub are : AreWarnings o input (entries (view_at form) []) told
 
 -- the warnings of an input are those on the entries of its manifest

@@ -1,9 +1,8 @@
 use Rattle.std.proofs.Common.{◌≡◌, ◌<◌, ◌+◌, length, take, None, sym, ap, subst, ◌∙◌, arith}
 use Rattle.edit_syntax.specs.Grammar.{Text}
-use Rattle.edit_tree.specs.Assertions.{at}
+use Rattle.edit_tree.specs.Assertions.{IsDocument, at}
 use Rattle.edit_document.specs.Items.{place_seen, step_seen, place_numbered}
 use Rattle.edit_tree.specs.Shown.{tree_of}
-use Rattle.edit_tree.specs.Supported.{IsManifest}
 use Rattle.edit_compare.proofs.KeptSteps.{KeptSoFar, kept_as, kept_here, kept_before, root_before, some_steps, innermost}
 use Rattle.edit_document.proofs.MemberViews.{place_more, walk_none}
 use Rattle.edit_compare.proofs.kept.kept_steps.Goals as goal
@@ -30,11 +29,11 @@ steps-preserved c =
     c.index-place-index.is
     (place_numbered d c.steps.number) inv.0.1 none) in
     let more : (c.if-index-gt0.kept < i + 1 + 1) × (0 < i + 1 → c.if-index-gt0.kept < i + 1)
-    × ((form : Text) → IsManifest d.bytes form → KeptSoFar form steps c.if-index-gt0.kept (i + 1)) =
+    × ((form : Text) → IsDocument d.bytes form → KeptSoFar form steps c.if-index-gt0.kept (i + 1)) =
     elim c.if-index-gt0.branch [
       | then-index-gt0+then-is_kept w ↦
           subst (λ k. (k < i + 1 + 1) × (0 < i + 1 → k < i + 1)
-          × ((form : Text) → IsManifest d.bytes form → KeptSoFar form steps k (i + 1)))
+          × ((form : Text) → IsDocument d.bytes form → KeptSoFar form steps k (i + 1)))
           (sym w.kept-is) (
             omega arith,
             λ e. omega arith,
@@ -45,7 +44,7 @@ steps-preserved c =
           )
       | else-index-gt0 w ↦
           subst (λ k. (k < i + 1 + 1) × (0 < i + 1 → k < i + 1)
-          × ((form : Text) → IsManifest d.bytes form → KeptSoFar form steps k (i + 1)))
+          × ((form : Text) → IsDocument d.bytes form → KeptSoFar form steps k (i + 1)))
           (sym w.kept-is) (
             omega (arith, inv.1),
             λ e. omega (arith, inv.1),

@@ -2,7 +2,7 @@ use Rattle.std.proofs.Common.{◌+◌, ◌<◌, take}
 use Rattle.edit_syntax.specs.Grammar.{Text}
 use Rattle.edit_document.specs.Compared.{IsNumber}
 use Rattle.edit_document.specs.Items.{place_seen}
-use Rattle.edit_tree.specs.Supported.{IsManifest}
+use Rattle.edit_tree.specs.Assertions.{IsDocument}
 use Rattle.edit_compare.proofs.KeptSteps.{KeptSoFar}
 use Rattle.edit_compare.proofs.kept.kept_steps.Given as goal
 
@@ -11,4 +11,4 @@ abbrev pub invariant-steps : goal.invariant-steps
 invariant-steps l =
     IsNumber l.document (place_seen (take l.index l.place)) l.number
     × (l.kept < l.index + 1) × (0 < l.index → l.kept < l.index)
-    × ((form : Text) → IsManifest l.document.bytes form → KeptSoFar form l.place l.kept l.index)
+    × ((form : Text) → IsDocument l.document.bytes form → KeptSoFar form l.place l.kept l.index)

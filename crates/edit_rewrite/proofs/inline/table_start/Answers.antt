@@ -14,13 +14,13 @@ pub returns-in_err-item : goal.returns-in_err-item
 returns-in_err-item c form m =
     let place = place_seen c.args.place.now in
     subst (λ (r : Option ℕ). HasTable form place r) (sym c.from_residual-in_err-item.ensures)
-    (no_view form place m.document.no_clash
+    (no_view form place m.no_clash
     (sym (c.has_form.ensures.shows form m place) ∙ c.in_err-item.ensures {u = tt}))
 
 pub returns-then-is_inline_table : goal.returns-then-is_inline_table
 returns-then-is_inline_table c form m =
     let place = place_seen c.args.place.now in
-    own_table form place c.in_ok-start.start c.in_ok-start.field-0-1 m.document.no_clash
+    own_table form place c.in_ok-start.start c.in_ok-start.field-0-1 m.no_clash
     (c.in_ok-start.ensures {u = tt} form m)
     (ap (option_map is_inline) (sym (c.has_form.ensures.shows form m place) ∙
     (c.in_ok-item.ensures {u = tt}).2)
@@ -29,7 +29,7 @@ returns-then-is_inline_table c form m =
 pub returns-else-is_inline_table : goal.returns-else-is_inline_table
 returns-else-is_inline_table c form m =
     let place = place_seen c.args.place.now in
-    other_value form place m.document.no_clash
+    other_value form place m.no_clash
     (ap (option_map is_inline) (sym (c.has_form.ensures.shows form m place) ∙
     (c.in_ok-item.ensures {u = tt}).2)
     ∙ ap (λ b. Some b) (sym c.is_inline_table.ensures ∙ c.if-is_inline_table.false))

@@ -3,8 +3,8 @@ use Rattle.std.proofs.lemmas.Result.{err_from_is_err_and}
 use Rattle.edit_syntax.specs.Grammar.{inline}
 use Rattle.edit_tree.specs.EditBytes.{Splice, with_splice, inline_grown}
 use Rattle.edit_document.specs.Items.{place_seen}
+use Rattle.edit_tree.specs.Assertions.{IsDocument}
 use Rattle.edit_tree.specs.SlotTexts.{TableAt}
-use Rattle.edit_tree.specs.Supported.{IsManifest}
 use Rattle.edit_rewrite.proofs.InlineRows.{no_inline, table_from, table_inserted, grown_some}
 use Rattle.edit_rewrite.proofs.SlotSteps.{keeps_memory}
 use Rattle.edit_rewrite.proofs.inline.with_inline_member.Goals as goal
@@ -20,7 +20,7 @@ returns-in_err-grown-clause-refused c =
     let start = c.in-Some.start in
     let place = place_seen c.args.place.now in
     let t = c.in-Some.ensures {u = tt} f.0 f.1 in
-    let m = subst (λ (b : List ℕ). IsManifest b f.0) (sym c.as_str-text.ensures) f.1 in
+    let m = subst (λ (b : List ℕ). IsDocument b f.0) (sym c.as_str-text.ensures) f.1 in
     let table = c.from_start-table.ensures ∙ ap (λ (b : List ℕ). drop start b) c.as_bytes.ensures.value in
     let at = subst (λ (b : List ℕ). TableAt text b t.between t.all t.valued.after) (sym table)
     (table_from text f.0 place start m c.as_str-text.utf8 t) in
@@ -35,11 +35,11 @@ returns-clause-text c form name v manifest is =
     let start = c.in-Some.start in
     let place = place_seen c.args.place.now in
     let t = c.in-Some.ensures {u = tt} form manifest in
-    let m = subst (λ (b : List ℕ). IsManifest b form) (sym c.as_str-text.ensures) manifest in
+    let m = subst (λ (b : List ℕ). IsDocument b form) (sym c.as_str-text.ensures) manifest in
     let table = c.from_start-table.ensures ∙ ap (λ (b : List ℕ). drop start b) c.as_bytes.ensures.value in
     let at = subst (λ (b : List ℕ). TableAt text b t.between t.all t.valued.after) (sym table)
     (table_from text form place start m c.as_str-text.utf8 t) in
-    let s = table_inserted form place name v start manifest.document.no_clash t in
+    let s = table_inserted form place name v start manifest.no_clash t in
     c.in_ok-grown.ensures {u = tt} t.between t.all t.valued.after s.0 at
     (ap (λ (b : List ℕ). inline_grown b (inline t.between t.all) t.valued.after) is ∙ s.1)
-    ∙ ap₂ (λ (b : List ℕ) (x : Splice). with_splice b x) m.document.grammar.spelled (sym s.2)
+    ∙ ap₂ (λ (b : List ℕ) (x : Splice). with_splice b x) m.grammar.spelled (sym s.2)

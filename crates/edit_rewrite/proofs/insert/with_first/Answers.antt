@@ -12,7 +12,7 @@ pub returns-clause-text : goal.returns-clause-text
 returns-clause-text c form m =
     let text = c.args.text.now in
     let rest = c.past_mark.ensures ∙ ap past_mark c.as_bytes.ensures.value ∙
-    lines_only text form m.document.grammar in
+    lines_only text form m.grammar in
     let line = c.as_str.ensures.value ∙ (c.in_ok-push_str.ensures {u = tt}).bytes
     ∙ ap (λ (l : List ℕ). l ++ codes "\n") (c.in_ok-line.ensures {u = tt}).ok in
     IfOk-weaker c.with_text.result _ _

@@ -5,7 +5,7 @@ use Rattle.edit_syntax.specs.Grammar.{Text}
 use Rattle.edit_tree.specs.EditBytes.{in_inline, inserted_text}
 use Rattle.edit_document.specs.Items.{place_seen}
 use Rattle.edit_document.specs.NewItemViews.{value_seen}
-use Rattle.edit_tree.specs.Supported.{IsManifest}
+use Rattle.edit_tree.specs.Assertions.{IsDocument}
 use Rattle.edit_rewrite.proofs.InsertedLines.{each_ok}
 use Rattle.edit_rewrite.proofs.insert.with_member.Goals as goal
 
@@ -27,10 +27,10 @@ returns-clause-text c =
     let pair = c.as_str-pair.result.now in
     let is = c.as_str-pair.ensures.value ∙ (c.in_ok-written.ensures {u = tt}).text in
     IfOk-weaker c.with_pair.result _ _ (λ t h form m. h (form, m))
-    (each_ok {X = (form : Text) × IsManifest bytes form} c.with_pair.result
+    (each_ok {X = (form : Text) × IsDocument bytes form} c.with_pair.result
     (λ x t. string_bytes t ≡ inserted_text place c.args.key.now v x.0)
     (λ x. c.with_pair.ensures.text x.0 c.args.key.now v
-    (subst (λ (b : List ℕ). IsManifest b x.0) (sym c.as_str.ensures) x.1)
+    (subst (λ (b : List ℕ). IsDocument b x.0) (sym c.as_str.ensures) x.1)
     (subst (λ (o : Option (String Global)). MatchOption o (in_inline place pair x.0 ≡ None)
     (λ t. string_bytes t ≡ inserted_text place c.args.key.now v x.0)) c.in_default.is
     ((c.in_ok-inline.ensures {u = tt}).text x.0 c.args.key.now v x.1 is))

@@ -2,18 +2,17 @@ use Rattle.std.proofs.Common.{◌≡◌, ℕ, List, [], ◌++◌, ◌-◌, lengt
 use Rattle.std.specs.Prelude.{string_bytes}
 use Rattle.std.proofs.lemmas.Result.{IfOk-weaker}
 use Rattle.edit_syntax.specs.Grammar.{value, text}
-use Rattle.edit_tree.specs.Assertions.{Place}
+use Rattle.edit_tree.specs.Assertions.{IsDocument, Place}
 use Rattle.edit_tree.specs.EditBytes.{with_splice}
 use Rattle.edit_document.specs.Items.{place_seen}
 use Rattle.edit_tree.specs.RemovedBytes.{value_left, removed_text}
-use Rattle.edit_tree.specs.Supported.{IsManifest}
 use Rattle.edit_rewrite.proofs.AroundValues.{stands_between, steps_below, removed_inside, each_form}
 use Rattle.edit_rewrite.proofs.remove_text.without.Goals as goal
 
 pub without_members-requires : goal.without_members-requires
 without_members-requires c =
     let f = c.has_form.ensures.some in
-    let m = subst (λ (b : List ℕ). IsManifest b f.0) (sym c.as_str.ensures) f.1 in
+    let m = subst (λ (b : List ℕ). IsDocument b f.0) (sym c.as_str.ensures) f.1 in
     let h = c.in-Some.ensures {u = tt} f.0 f.1 in
     let stands = stands_between c.as_str.result.now f.0 h.valued c.in-Some.around m c.as_str.utf8 h.found in
     record { stands = (h.valued, stands) }
@@ -24,10 +23,10 @@ returns-in-Some-clause-text c =
     each_form c.args.document.now.bytes c.without_members.result
     (λ form t. string_bytes t ≡ removed_text gone form)
     (λ form manifest.
-    let m = subst (λ (b : List ℕ). IsManifest b form) (sym c.as_str.ensures) manifest in
+    let m = subst (λ (b : List ℕ). IsDocument b form) (sym c.as_str.ensures) manifest in
     let h = c.in-Some.ensures {u = tt} form manifest in
     let w = h.valued in
-    let all = m.document.grammar.spelled in
+    let all = m.grammar.spelled in
     let steps = c.in-Some.around.steps in
     let below = place_seen (take (length c.args.place.now - steps) (drop steps c.args.place.now)) in
     IfOk-weaker c.without_members.result _ _

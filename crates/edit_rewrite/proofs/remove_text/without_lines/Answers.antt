@@ -17,7 +17,7 @@ entries-init c form m =
     let text = c.args.text.now in
     at_first text form (place_seen c.args.place.now) _ _ _ m c.utf8.text
     (ap length (c.past_mark-from.ensures ∙ ap past_mark c.as_bytes.ensures.value
-    ∙ lines_only text form m.document.grammar))
+    ∙ lines_only text form m.grammar))
     ((c.in_ok-out.ensures {u = tt}).ok ∙ c.between.ensures)
     (c.as_slice-found.ensures.value ∙ (c.in_ok-all.ensures {u = tt}).found form m)
 

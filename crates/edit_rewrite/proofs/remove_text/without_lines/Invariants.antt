@@ -2,9 +2,9 @@ use Rattle.std.proofs.Common.{drop}
 use Rattle.std.specs.Prelude.{string_bytes}
 use Rattle.edit_syntax.specs.Grammar.{Text, lines, byte_order_mark}
 use Rattle.edit_document.specs.Items.{place_seen}
+use Rattle.edit_tree.specs.Assertions.{IsDocument}
 use Rattle.edit_tree.specs.RemovedBytes.{lines_left}
 use Rattle.edit_tree.specs.Statements.{stated}
-use Rattle.edit_tree.specs.Supported.{IsManifest}
 use Rattle.edit_rewrite.proofs.LeftLines.{AtStatement}
 use Rattle.edit_rewrite.proofs.remove_text.without_lines.Given as goal
 
@@ -12,6 +12,6 @@ use Rattle.edit_rewrite.proofs.remove_text.without_lines.Given as goal
 abbrev pub invariant-entries : goal.invariant-entries
 invariant-entries l =
     let gone = place_seen l.place in
-    (form : Text) → IsManifest l.text form → AtStatement l.text gone
+    (form : Text) → IsDocument l.text form → AtStatement l.text gone
     (byte_order_mark form.marked (lines_left gone (lines form.lines) (stated form)))
     (string_bytes l.out) l.from (drop l.entry-index l.found)

@@ -2,8 +2,8 @@ use Rattle.std.proofs.Common.{ℕ, List, sym, subst, ⊎_elim}
 use Rattle.edit_syntax.proofs.Members.{among_append, among_contained}
 use Rattle.edit_rewrite.specs.EntrySpots.{Tells}
 use Rattle.edit_document.specs.Items.{place_seen}
+use Rattle.edit_tree.specs.Assertions.{IsDocument}
 use Rattle.edit_tree.specs.Statements.{line_pairs, inner_pairs}
-use Rattle.edit_tree.specs.Supported.{IsManifest}
 use Rattle.edit_rewrite.proofs.LineEntries.{around_right}
 use Rattle.edit_tree.proofs.LonePairs.{some_pair}
 use Rattle.edit_rewrite.proofs.replace_entry.entry_spots.Goals as goal
@@ -13,8 +13,8 @@ unreachable-requires c =
     let f = c.has_form.ensures.some in
     let place = place_seen c.args.place.now in
     let one = c.requires.one f.0 f.1 in
-    let here : IsManifest c.as_str.result.now f.0 =
-    subst (λ (b : List ℕ). IsManifest b f.0) (sym c.as_str.ensures) f.1 in
+    let here : IsDocument c.as_str.result.now f.0 =
+    subst (λ (b : List ℕ). IsDocument b f.0) (sym c.as_str.ensures) f.1 in
     let lines = subst (Tells place (line_pairs f.0)) c.in_default.is
     ((c.in_ok-spots.ensures {u = tt}).told f.0 here one) in
     let inner =

@@ -3,11 +3,11 @@ use Rattle.std.specs.List.{Contains}
 use Rattle.edit_syntax.specs.Grammar.{Text}
 use Rattle.edit_tree.specs.EditBytes.{part_to}
 use Rattle.edit_document.specs.Items.{place_seen}
+use Rattle.edit_tree.specs.Assertions.{IsDocument}
 use Rattle.edit_tree.specs.Statements.{Paired, inner_pairs}
-use Rattle.edit_tree.specs.Supported.{IsManifest}
 use Rattle.edit_rewrite.proofs.replace_entry.inner_spots.Given as goal
 
 -- no pair in the inline tables at the fronts so far names the place
 abbrev pub invariant-ends : goal.invariant-ends
-invariant-ends l = (form : Text) → IsManifest l.document.bytes form → (p : Paired) → Contains (inner_pairs form) p
+invariant-ends l = (form : Text) → IsDocument l.document.bytes form → (p : Paired) → Contains (inner_pairs form) p
     → (n : ℕ) → n < l.end → p.table ≡ take n (place_seen l.place) → part_to (place_seen l.place) p ≡ None

@@ -6,7 +6,7 @@ use Rattle.edit_syntax.specs.Grammar.{value}
 use Rattle.edit_syntax.proofs.Members.{contained_among}
 use Rattle.edit_rewrite.specs.Entries.{way}
 use Rattle.edit_document.specs.Items.{step_seen, place_seen}
-use Rattle.edit_tree.specs.Supported.{IsManifest}
+use Rattle.edit_tree.specs.Assertions.{IsDocument}
 use Rattle.edit_tree.specs.Tree.{is_value_at}
 use Rattle.edit_tree.specs.Written.{values}
 use Rattle.edit_tree.proofs.Ends.{suffix_is}
@@ -19,8 +19,8 @@ returns-in-Some-clause-told c form m =
     let text = c.as_str-text.result.now in
     let place = place_seen c.args.place.now in
     let end = c.args.end in
-    let here : IsManifest text form =
-    subst (λ (b : List ℕ). IsManifest b form) (sym c.as_str-text.ensures) m in
+    let here : IsDocument text form =
+    subst (λ (b : List ℕ). IsDocument b form) (sym c.as_str-text.ensures) m in
     let range = c.in-Some.ensures form m in
     let w = range.valued in
     let among = contained_among w (values form) range.told in
@@ -29,12 +29,12 @@ returns-in-Some-clause-told c form m =
     take_rest c.as_bytes.result.now c.in-Some.start
     ∙ ap₂ (λ (n : ℕ) (xs : List ℕ). drop n xs)
     (range.starts ∙ ap (λ (b : List ℕ). length b - length (value w.value w.after))
-    (sym here.document.grammar.spelled))
+    (sym here.grammar.spelled))
     c.as_bytes.ensures.value
     ∙ suffix_is text (value w.value w.after) stands.ends in
     let there : w.place ≡ take end place = range.there ∙ sym (take-map step_seen end c.args.place.now) in
     let size = length-map c.args.place.now step_seen in
-    IfOk-weaker c.table_spots.result _ _ (λ o t. inner_told form place end w o m.document.no_clash among
+    IfOk-weaker c.table_spots.result _ _ (λ o t. inner_told form place end w o m.no_clash among
     there t)
     (c.table_spots.ensures.told w stands from
     (front_way end place (omega (arith, c.requires, size)) ∙ ap (way place) (sym there)))

@@ -5,7 +5,7 @@ use Rattle.edit_base.specs.Errors.{IsMemory}
 use Rattle.edit_base.specs.declared.errors.Error.TheVariants.{NoVersionPlace}
 use Rattle.edit_manifest.specs.Versions.{IsNoValue, package_version}
 use Rattle.edit_syntax.specs.Grammar.{Text}
-use Rattle.edit_tree.specs.Supported.{IsManifest}
+use Rattle.edit_tree.specs.Assertions.{IsDocument}
 use Rattle.edit_tree.specs.Tree.{is_value_at}
 use Rattle.edit_set_version.specs.Crates.{bumps_seen}
 use Rattle.edit_set_version.specs.SetVersioned.{writes_own}
@@ -27,5 +27,5 @@ returns-clause-literal c =
     let bs = bumps_seen c.args.writing.now.bumps.now in
     let m = c.args.manifest.now in
     has_literal bs c.args.input.now m c.requires.read
-    (subst (λ path. filter (writes_own path) bs ≢ [] → (form : Text) → IsManifest m.document.bytes form
+    (subst (λ path. filter (writes_own path) bs ≢ [] → (form : Text) → IsDocument m.document.bytes form
     → is_value_at form package_version ≡ true) c.as_str-path.ensures.value c.in_ok-push_own.ensures.literal)

@@ -2,7 +2,7 @@ use Rattle.std.proofs.Common.{◌≡◌, ◌∙◌, ◌+◌, ◌++◌, ◌∷◌
 use Rattle.std.proofs.lemmas.List.{take_more}
 use Rattle.std.specs.List.{AllZip}
 use Rattle.std.proofs.lemmas.Slice.Zip.{all_zipped_more}
-use Rattle.edit_tree.specs.Supported.{IsManifest}
+use Rattle.edit_tree.specs.Assertions.{IsDocument}
 use Rattle.edit_set_version.specs.Crates.{IsReadOf}
 use Rattle.std.proofs.lemmas.Result.{err_from_is_err_and}
 use Rattle.edit_manifest.specs.Loaded.{IsBadManifest}
@@ -23,7 +23,7 @@ inputs-preserved c =
     c.inputs.invariant (record {
       bytes = c.in_ok-manifest.ensures.bytes ∙ c.deref.ensures.value;
       form = found.0;
-      manifest = subst (λ bs. IsManifest bs found.0) c.deref.ensures.value found.1;
+      manifest = subst (λ bs. IsDocument bs found.0) c.deref.ensures.value found.1;
       shows = found.2;
     })))
 

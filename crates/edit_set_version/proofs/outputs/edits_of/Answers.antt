@@ -3,8 +3,8 @@ use Rattle.std.specs.List.{filter}
 use Rattle.std.proofs.lemmas.Result.{err_from_is_err_and}
 use Rattle.edit_manifest.specs.Versions.{package_version}
 use Rattle.edit_syntax.specs.Grammar.{Text}
+use Rattle.edit_tree.specs.Assertions.{IsDocument}
 use Rattle.edit_tree.specs.Shown.{tree_of}
-use Rattle.edit_tree.specs.Supported.{IsManifest}
 use Rattle.edit_tree.specs.Tree.{is_value_at}
 use Rattle.edit_set_version.specs.Crates.{bumps_seen}
 use Rattle.edit_set_version.specs.Dependents.{IsUnraised}
@@ -28,7 +28,7 @@ returns-clause-clear c =
     let bs = bumps_seen c.args.writing.now.bumps.now in
     let m = c.args.manifest.now in
     written_clear bs c.args.input.now m c.requires.read
-    (subst (λ path. filter (writes_own path) bs ≢ [] → (form : Text) → IsManifest m.document.bytes form
+    (subst (λ path. filter (writes_own path) bs ≢ [] → (form : Text) → IsDocument m.document.bytes form
     → is_value_at form package_version ≡ true) c.as_str-path.ensures.value c.in_ok-push_own.ensures.literal)
     (subst (λ path. AllRise bs path (tree_of m.document)) c.as_str-path.ensures.value
     c.in_ok-push_dependents.ensures.rise)

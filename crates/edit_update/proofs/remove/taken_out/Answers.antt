@@ -3,11 +3,10 @@ use Rattle.std.proofs.lemmas.Result.{err_from_is_err_and}
 use Rattle.std.specs.Prelude.{string_bytes}
 use Rattle.edit_base.specs.declared.errors.Error.TheVariants.{EditRefused}
 use Rattle.edit_base.specs.Errors.{IsMemory}
-use Rattle.edit_tree.specs.Assertions.{at, key}
+use Rattle.edit_tree.specs.Assertions.{IsDocument, at, key}
 use Rattle.edit_document.specs.Items.{place_seen}
 use Rattle.edit_tree.specs.Meant.{Removed, RemoveFails}
 use Rattle.edit_tree.specs.Shown.{tree_of}
-use Rattle.edit_tree.specs.Supported.{IsManifest}
 use Rattle.edit_update.specs.RemovedEntries.{IsNotTakenOut}
 use Rattle.edit_manifest.specs.Tables.{keyed}
 use Rattle.edit_update.proofs.TakenOut.{entry_kept, found_stands, member_gone, table_kept, taken_out}
@@ -56,7 +55,7 @@ returns-in_err-remove_bare-clause-refused c =
     (c.is_none.ensures ∙ ap not c.if-is_none.false)) in
     let form = c.has_form.ensures.some in
     let same = c.in_ok-left.ensures.same in
-    let reads = subst (λ d. IsManifest d.bytes form.0) (sym same) form.1 in
+    let reads = subst (λ d. IsDocument d.bytes form.0) (sym same) form.1 in
     let again = c.has_form-2.ensures.some in
     let removed = subst (λ d. Removed form.0 p (tree_of d) (tree_of c.remove.new.self)) same
     (c.in_ok-remove.ensures.tree form.0 reads) in
@@ -87,7 +86,7 @@ returns-clause-text c =
     (c.is_none.ensures ∙ ap not c.if-is_none.false)) in
     let form = c.has_form.ensures.some in
     let same = c.in_ok-left.ensures.same in
-    let reads = subst (λ d. IsManifest d.bytes form.0) (sym same) form.1 in
+    let reads = subst (λ d. IsDocument d.bytes form.0) (sym same) form.1 in
     let again = c.has_form-2.ensures.some in
     let removed = subst (λ d. Removed form.0 p (tree_of d) (tree_of c.remove.new.self)) same
     (c.in_ok-remove.ensures.tree form.0 reads) in
@@ -108,7 +107,7 @@ returns-clause-gone c =
     ∙ ap (λ q. at (place_seen q) (key name)) (c.deref.ensures.value ∙ sym c.deref-4.ensures.value) in
     let form = c.has_form.ensures.some in
     let same = c.in_ok-left.ensures.same in
-    let reads = subst (λ d. IsManifest d.bytes form.0) (sym same) form.1 in
+    let reads = subst (λ d. IsDocument d.bytes form.0) (sym same) form.1 in
     let removed = subst (λ q. Removed form.0 q (tree_of c.in_ok-left.left) (tree_of c.remove.new.self)) entry
     (c.in_ok-remove.ensures.tree form.0 reads) in
     ap (λ q. tree_of c.remove_bare.new.document (at q (key name))) (sym table)

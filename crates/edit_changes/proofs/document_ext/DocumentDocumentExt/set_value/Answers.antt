@@ -27,6 +27,6 @@ returns-clause-tree c =
     let told = c.requires.is_value f.0 f.1 in
     let is = set_manifest c.args.self.now.bytes c.as_str.result.now f.0 p v f.1 told c.requires.room
     (c.as_str.ensures.value ∙ (c.in_ok-text.ensures {u = tt}).bytes f.0 f.1) in
-    set_tree c.args.self.now.bytes f.0 p v f.1.document told (tree_of c.args.self.now) _
+    set_tree c.args.self.now.bytes f.0 p v f.1 told (tree_of c.args.self.now) _
     (c.has_form.ensures.shows f.0 f.1)
     ((c.in_ok-self.ensures {u = tt}).only (form_set p v f.0) is)

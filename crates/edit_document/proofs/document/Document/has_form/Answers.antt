@@ -1,5 +1,5 @@
 use Rattle.std.proofs.Common.{List, ℕ, subst}
-use Rattle.edit_tree.specs.Supported.{IsManifest}
+use Rattle.edit_tree.specs.Assertions.{IsDocument}
 use Rattle.edit_document.proofs.ShownForms.{shown_bytes, shows_tree}
 use Rattle.edit_document.proofs.document.Document.has_form.Goals as goal
 
@@ -7,7 +7,7 @@ pub returns-clause-some : goal.returns-clause-some
 returns-clause-some c =
     let read = c.self.invariant in (
       read.form,
-      subst (λ (b : List ℕ). IsManifest b read.form)
+      subst (λ (b : List ℕ). IsDocument b read.form)
           (shown_bytes c.self.inside c.args.self.now c.self.view_is) read.manifest,
     )
 

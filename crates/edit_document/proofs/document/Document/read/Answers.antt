@@ -4,7 +4,8 @@ use Rattle.std.proofs.lemmas.Result.{err_from_is_err_and}
 use Rattle.edit_syntax.specs.Grammar.{Spells}
 use Rattle.edit_tree.specs.Shown.{ShowsTree}
 use Rattle.edit_document.specs.DocumentLayout.{shown_by}
-use Rattle.edit_document.proofs.Documents.{Walked, read_done, read_is, shows_any, shows_form, shallow, refused_memory, answer_memory}
+use Rattle.edit_document.proofs.Documents.{Walked, read_done, read_is, shows_any, shows_form, refused_memory, answer_memory}
+use Rattle.edit_tree.proofs.Shallow.{shallow}
 use Rattle.edit_tree.proofs.PieceLaws.{whole_range, whole_count}
 use Rattle.edit_document.proofs.document.Document.read.Goals as goal
 
@@ -12,7 +13,7 @@ pub returns-in_err-marks-clause-only : goal.returns-in_err-marks-clause-only
 returns-in_err-marks-clause-only c form m =
     let p = err_from_is_err_and c.from_residual.result c.from_residual.ensures.1 in
     let grammar : Spells c.as_bytes.result.now form = subst (λ (b : List ℕ). Spells b form)
-    (sym c.as_bytes.ensures.value) m.document.grammar in
+    (sym c.as_bytes.ensures.value) m.grammar in
     answer_memory c.from_residual.result c.in_err-marks.field-0.0 p.0 (λ d. ShowsTree d form) p.1 p.2
     ((c.in_err-marks.ensures {u = tt}).only form grammar (shallow c.args.text.now form m))
 

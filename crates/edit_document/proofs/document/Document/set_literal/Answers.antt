@@ -4,10 +4,9 @@ use Rattle.edit_document.specs.Items.{place_seen}
 use Rattle.edit_document.specs.Ranges.{one_edit}
 use Rattle.edit_tree.specs.Replaces.{replaced, emptied, is_below_any}
 use Rattle.edit_tree.specs.Shown.{tree_of}
-use Rattle.edit_tree.specs.Supported.{IsManifest}
 use Rattle.edit_tree.specs.Tree.{View, view_at}
 use Rattle.std.specs.Prelude.{string_bytes}
-use Rattle.edit_tree.specs.Assertions.{Place}
+use Rattle.edit_tree.specs.Assertions.{IsDocument, Place}
 use Rattle.edit_tree.specs.Shown.{node_at}
 use Rattle.edit_tree.specs.Literals.{literal_bytes}
 use Rattle.edit_tree.specs.Pieces.{pieces_of, IsAmong}
@@ -19,7 +18,7 @@ pub returns-in_err-new-clause-refused : goal.returns-in_err-new-clause-refused
 returns-in_err-new-clause-refused c =
     let edit = one_edit (place_seen c.args.place.now) c.args.text.now in
     let r = (c.in_ok-new_text.ensures {u = tt}).replaces in
-    let manifest = subst (λ (b : List ℕ). IsManifest b (replaced edit r.form))
+    let manifest = subst (λ (b : List ℕ). IsDocument b (replaced edit r.form))
     (sym c.as_str.ensures.value) r.is in
     let memory : IsMemory c.in_err-new.field-0.0 = (c.in_err-new.ensures {u = tt}).only
     (replaced edit r.form) manifest in
@@ -29,7 +28,7 @@ pub returns-clause-tree : goal.returns-clause-tree
 returns-clause-tree c at =
     let edit = one_edit (place_seen c.args.place.now) c.args.text.now in
     let r = (c.in_ok-new_text.ensures {u = tt}).replaces in
-    let manifest = subst (λ (b : List ℕ). IsManifest b (replaced edit r.form))
+    let manifest = subst (λ (b : List ℕ). IsDocument b (replaced edit r.form))
     (sym c.as_str.ensures.value) r.is in
     ap (λ (ns : List (Place × View)). node_at ns at) c.with_written.ensures.nodes
     ∙ (c.in_ok-new.ensures {u = tt}).only (replaced edit r.form) manifest at ∙ r.tree at

@@ -2,7 +2,7 @@ use Rattle.std.proofs.Common.{◌≡◌, ℕ, ◌-◌, List, length, refl, ap, a
 use Rattle.std.specs.Str.{IsUtf8}
 use Rattle.std.specs.Prelude.{string_bytes}
 use Rattle.edit_document.specs.Items.{place_seen}
-use Rattle.edit_tree.specs.Supported.{IsManifest}
+use Rattle.edit_tree.specs.Assertions.{IsDocument}
 use Rattle.edit_tree.specs.Literals.{literal_bytes}
 use Rattle.edit_tree.specs.Pieces.{IsSwapped}
 use Rattle.edit_tree.proofs.PieceLaws.{swaps}
@@ -12,7 +12,7 @@ use Rattle.edit_document.proofs.document.Document.with_literal.Goals as goal
 pub splice-requires : goal.splice-requires
 splice-requires c =
     let f = c.has_form.ensures.some in
-    let manifest = subst (λ (b : List ℕ). IsManifest b f.0) (sym c.as_str.ensures) f.1 in
+    let manifest = subst (λ (b : List ℕ). IsDocument b f.0) (sym c.as_str.ensures) f.1 in
     (one_rewrite c.as_str.result.now f.0 (place_seen c.args.place.now) c.args.text.now
     (c.in-Some.start, c.in-Some.end, c.args.text.now) manifest c.as_str.utf8 (c.requires.is_value f.0 f.1)
     (c.in-Some.ensures {u = tt} f.0 f.1, refl)).order
@@ -20,7 +20,7 @@ splice-requires c =
 pub returns-clause-replaces : goal.returns-clause-replaces
 returns-clause-replaces c =
     let f = c.has_form.ensures.some in
-    let m = subst (λ (b : List ℕ). IsManifest b f.0) (sym c.as_str.ensures) f.1 in
+    let m = subst (λ (b : List ℕ). IsDocument b f.0) (sym c.as_str.ensures) f.1 in
     let told = c.requires.is_value f.0 f.1 in
     replaces_one c.args.self.now.bytes (string_bytes c.in_ok-new-in-Some.new) f.0
     (place_seen c.args.place.now) c.args.text.now f.1 told
@@ -34,7 +34,7 @@ returns-clause-swapped c =
     let f = c.has_form.ensures.some in
     let old = c.as_str.result.now in
     let new = string_bytes c.in_ok-new-in-Some.new in
-    let m = subst (λ (b : List ℕ). IsManifest b f.0) (sym c.as_str.ensures) f.1 in
+    let m = subst (λ (b : List ℕ). IsDocument b f.0) (sym c.as_str.ensures) f.1 in
     let order = (one_rewrite old f.0 (place_seen c.args.place.now) c.args.text.now
     (c.in-Some.start, c.in-Some.end, c.args.text.now) m c.as_str.utf8 (c.requires.is_value f.0 f.1)
     (c.in-Some.ensures {u = tt} f.0 f.1, refl)).order in

@@ -8,7 +8,6 @@ use Rattle.edit_document.specs.Ranges.{edits_seen}
 use Rattle.edit_document.specs.Splices.{range_of, Locates}
 use Rattle.edit_tree.specs.Tree.{view_at, is_value_at}
 use Rattle.edit_syntax.specs.Grammar.{Text, text as text_of}
-use Rattle.edit_tree.specs.Supported.{IsManifest}
 use Rattle.edit_tree.specs.Replaces.{Replaces, replaced, written, emptied}
 use Rattle.edit_tree.proofs.ReplacedDocuments.{tree_again}
 use Rattle.edit_document.proofs.ReplacementLaws.{value_at, range_seen, ranged_more, all_ranges, replaces_apart}
@@ -40,7 +39,7 @@ replaced_text c P from =
     let f = c.has_form.ensures.some in
     let edits = edits_seen c.args.edits.now in
     let located : Locates c.as_str-2.result.now f.0 edits (map range_of c.deref_mut.result.now) = record {
-      document = subst (λ (b : List ℕ). IsDocument b f.0) (sym c.as_str-2.ensures) f.1.document;
+      document = subst (λ (b : List ℕ). IsDocument b f.0) (sym c.as_str-2.ensures) f.1;
       values = c.requires.values f.0 f.1;
       distinct = c.requires.distinct;
       outside = c.requires.outside;
@@ -55,7 +54,7 @@ pub returns-clause-replaces : goal.returns-clause-replaces
 returns-clause-replaces c =
     let f = c.has_form.ensures.some in
     let edits = edits_seen c.args.edits.now in
-    let apart = values_apart edits f.0 f.1.document.no_clash (c.requires.values f.0 f.1) c.requires.outside in
+    let apart = values_apart edits f.0 f.1.no_clash (c.requires.values f.0 f.1) c.requires.outside in
     replaced_text c (λ new. Replaces edits c.args.self.now.bytes new)
     (λ new e. replaces_apart edits c.args.self.now.bytes new f.0 f.1 apart e)
 
@@ -64,7 +63,7 @@ returns-clause-tree c =
     let f = c.has_form.ensures.some in
     let edits = edits_seen c.args.edits.now in
     let shows = c.has_form.ensures.shows f.0 f.1 in
-    let apart = values_apart edits f.0 f.1.document.no_clash (c.requires.values f.0 f.1) c.requires.outside in
-    replaced_text c (λ new. (form : Text) → IsManifest new form → (at : Place)
+    let apart = values_apart edits f.0 f.1.no_clash (c.requires.values f.0 f.1) c.requires.outside in
+    replaced_text c (λ new. (form : Text) → IsDocument new form → (at : Place)
     → view_at form at ≡ written edits (emptied edits (tree_of c.args.self.now)) at)
     (λ new e. tree_again edits c.args.self.now.bytes new f.0 (tree_of c.args.self.now) f.1 apart shows e)
