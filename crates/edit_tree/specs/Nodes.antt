@@ -16,6 +16,7 @@ use Rattle.edit_tree.specs.declared.nodes.Lookup.{Lookup}
 use Rattle.edit_tree.specs.declared.nodes.Member.{Member}
 use Rattle.edit_tree.specs.declared.nodes.MemberList.{MemberList}
 use Rattle.edit_tree.specs.declared.members.Parts.{Parts}
+use Rattle.edit_tree.specs.declared.members.Parts.TheVariants as parts
 use Rattle.edit_tree.specs.declared.members.Members.{Members}
 use Rattle.edit_tree.specs.declared.nodes.Node.{Node}
 use Rattle.edit_tree.specs.Assertions.{Step, key, index, Place, at}
@@ -100,19 +101,23 @@ entries_in text members = map (λ e. (bytes_of text e.name, e.number)) members
 abbrev pub entries_listed : List ℕ → MemberList → List (List ℕ × ℕ)
 entries_listed text members = entries_in text members.list.items
 
--- the names and numbers of the members in a box, and none where there is no box
-abbrev pub entries_by : List ℕ → Option (Box Parts) → List (List ℕ × ℕ)
-entries_by text None = []
-entries_by text (Some boxed) = entries_listed text boxed.value.members
+-- the names and numbers of the members among parts
+abbrev pub entries_by : List ℕ → Parts → List (List ℕ × ℕ)
+entries_by text parts.Nothing = []
+entries_by text (parts.Members members) = entries_listed text members.value
+entries_by text (parts.Elements elements) = []
+entries_by text (parts.Both pair) = entries_listed text pair.value.members.value
 
 -- the names and numbers of the members of a place
 abbrev pub entries_of : List ℕ → Members → List (List ℕ × ℕ)
 entries_of text members = entries_by text members.parts
 
--- the numbers of the elements in a box, and none where there is no box
-abbrev pub elements_by : Option (Box Parts) → List ℕ
-elements_by None = []
-elements_by (Some boxed) = boxed.value.elements.items
+-- the numbers of the elements among parts
+abbrev pub elements_by : Parts → List ℕ
+elements_by parts.Nothing = []
+elements_by (parts.Members members) = []
+elements_by (parts.Elements elements) = elements.value.items
+elements_by (parts.Both pair) = pair.value.elements.value.items
 
 -- the numbers of the elements of a place
 abbrev pub elements_of : Members → List ℕ
@@ -131,10 +136,12 @@ abbrev pub IsListIndexed : List ℕ → MemberList → Type 0
 IsListIndexed text members =
     (name : List ℕ) → number_of members.others name ≡ number_in (drop 8 (entries_listed text members)) name
 
--- so are those in a box; where there is no box there are none
-abbrev pub IsIndexedBy : List ℕ → Option (Box Parts) → Type 0
-IsIndexedBy text None = ⊤
-IsIndexedBy text (Some boxed) = IsListIndexed text boxed.value.members
+-- so are the members among parts, if there are some
+abbrev pub IsIndexedBy : List ℕ → Parts → Type 0
+IsIndexedBy text parts.Nothing = ⊤
+IsIndexedBy text (parts.Members members) = IsListIndexed text members.value
+IsIndexedBy text (parts.Elements elements) = ⊤
+IsIndexedBy text (parts.Both pair) = IsListIndexed text pair.value.members.value
 
 -- so are the members of a place
 abbrev pub IsIndexed : List ℕ → Members → Type 0

@@ -4,19 +4,30 @@ ghost use Rattle.edit_tree.specs.Nodes.{bytes_of, entries_listed, entries_of, el
 
 use crate::nodes::{MemberList, Words};
 use std::alloc::{AllocError, Global};
+use std::mem;
 
-/// The members of a place, and the numbers of its elements.
+/// The members and the numbers of the elements of a place that has both.
 #[derive(Drop)]
-struct Parts {
-    members: MemberList,
-    elements: Vec<usize>,
+struct Pair {
+    members: Box<MemberList>,
+    elements: Box<Vec<usize>>,
 }
 
-/// The members and the elements of a place. Most places are values and have none: those take no memory
-/// for them but for the word that says so.
+/// What a place has below it, each in a box of its own.
+#[derive(Drop)]
+enum Parts {
+    Nothing,
+    Members(Box<MemberList>),
+    Elements(Box<Vec<usize>>),
+    /// No document has both at one place, but the type allows it.
+    Both(Box<Pair>),
+}
+
+/// The members and the elements of a place. Most places are values and have none, and the others have
+/// one of the two: memory is taken only for what there is.
 #[derive(Drop)]
 pub struct Members {
-    parts: Option<Box<Parts>>,
+    parts: Parts,
 }
 
 impl Members {
@@ -26,7 +37,9 @@ impl Members {
         ensures indexed { (text : List ℕ) → IsIndexed text result }
         ensures elements { elements_of result ≡ [] }
     {
-        Members { parts: None }
+        Members {
+            parts: Parts::Nothing,
+        }
     }
 
     /// How many members there are.
@@ -34,8 +47,9 @@ impl Members {
         ensures { (text : List ℕ) → result ≡ length (entries_of text self.now) }
     {
         match &self.parts {
-            Some(parts) => parts.members.len(),
-            None => 0,
+            Parts::Members(members) => members.len(),
+            Parts::Both(pair) => pair.members.len(),
+            Parts::Nothing | Parts::Elements(_) => 0,
         }
     }
 
@@ -44,8 +58,9 @@ impl Members {
         ensures { IsIndexed text.now self.now → result ≡ number_in (entries_of text.now self.now) name.now }
     {
         match &self.parts {
-            Some(parts) => parts.members.get(text, name),
-            None => None,
+            Parts::Members(members) => members.get(text, name),
+            Parts::Both(pair) => pair.members.get(text, name),
+            Parts::Nothing | Parts::Elements(_) => None,
         }
     }
 
@@ -55,8 +70,9 @@ impl Members {
             ≡ slice_get (names_in (entries_of text.now self.now)) index }
     {
         match &self.parts {
-            Some(parts) => parts.members.name(text, index),
-            None => None,
+            Parts::Members(members) => members.name(text, index),
+            Parts::Both(pair) => pair.members.name(text, index),
+            Parts::Nothing | Parts::Elements(_) => None,
         }
     }
 
@@ -65,29 +81,106 @@ impl Members {
         ensures { result.now ≡ elements_of self.now }
     {
         match &self.parts {
-            Some(parts) => parts.elements.as_slice(),
-            None => &[],
+            Parts::Elements(elements) => elements.as_slice(),
+            Parts::Both(pair) => pair.elements.as_slice(),
+            Parts::Nothing | Parts::Members(_) => &[],
         }
     }
 
-    /// Takes the parts out, or makes some where there are none.
-    fn take_parts(&mut self, alloc: Global) -> Result<Box<Parts>, AllocError>
-        ensures entries { IfOk result (λ parts. (text : List ℕ)
-            → entries_listed text parts.value.members ≡ entries_of text self.old) }
-        ensures indexed { IfOk result (λ parts. (text : List ℕ) → IsIndexed text self.old
-            → IsListIndexed text parts.value.members) }
-        ensures elements { IfOk result (λ parts. parts.value.elements.items ≡ elements_of self.old) }
+    /// Takes the members out, and makes a list of none where there are none.
+    fn take_members(&mut self, alloc: Global) -> Result<Box<MemberList>, AllocError>
+        ensures entries { IfOk result (λ members. (text : List ℕ)
+            → entries_listed text members.value ≡ entries_of text self.old) }
+        ensures indexed { IfOk result (λ members. (text : List ℕ) → IsIndexed text self.old
+            → IsListIndexed text members.value) }
+        ensures elements { IfOk result (λ _. elements_of self.new ≡ elements_of self.old) }
     {
-        match self.parts.take() {
-            Some(parts) => Ok(parts),
-            None => {
-                let parts = Parts {
-                    members: MemberList::none(alloc),
-                    elements: Vec::new(alloc),
-                };
-                Ok(Box::new(alloc, parts)?)
+        match mem::replace(&mut self.parts, Parts::Nothing) {
+            Parts::Members(members) => Ok(members),
+            Parts::Both(pair) => {
+                let Pair { members, elements } = Box::into_inner(pair);
+                self.parts = Parts::Elements(elements);
+                Ok(members)
             }
+            Parts::Elements(elements) => {
+                self.parts = Parts::Elements(elements);
+                Ok(Box::new(alloc, MemberList::none(alloc))?)
+            }
+            Parts::Nothing => Ok(Box::new(alloc, MemberList::none(alloc))?),
         }
+    }
+
+    /// Takes the numbers of the elements out, and makes a list of none where there are none.
+    fn take_elements(&mut self, alloc: Global) -> Result<Box<Vec<usize>>, AllocError>
+        ensures items { IfOk result (λ elements. elements.value.items ≡ elements_of self.old) }
+        ensures entries { IfOk result (λ _. (text : List ℕ) → entries_of text self.new
+            ≡ entries_of text self.old) }
+        ensures indexed { IfOk result (λ _. (text : List ℕ) → IsIndexed text self.old
+            → IsIndexed text self.new) }
+    {
+        match mem::replace(&mut self.parts, Parts::Nothing) {
+            Parts::Elements(elements) => Ok(elements),
+            Parts::Both(pair) => {
+                let Pair { members, elements } = Box::into_inner(pair);
+                self.parts = Parts::Members(members);
+                Ok(elements)
+            }
+            Parts::Members(members) => {
+                self.parts = Parts::Members(members);
+                Ok(Box::new(alloc, Vec::new(alloc))?)
+            }
+            Parts::Nothing => Ok(Box::new(alloc, Vec::new(alloc))?),
+        }
+    }
+
+    /// Takes these members in place of its own.
+    fn put_members(&mut self, alloc: Global, members: Box<MemberList>) -> Result<(), AllocError>
+        ensures entries { IfOk result (λ _. (text : List ℕ)
+            → entries_of text self.new ≡ entries_listed text members.value) }
+        ensures indexed { IfOk result (λ _. (text : List ℕ) → IsListIndexed text members.value
+            → IsIndexed text self.new) }
+        ensures elements { IfOk result (λ _. elements_of self.new ≡ elements_of self.old) }
+    {
+        match mem::replace(&mut self.parts, Parts::Nothing) {
+            Parts::Elements(elements) => {
+                self.parts = Parts::Both(Box::new(alloc, Pair { members, elements })?);
+            }
+            Parts::Both(pair) => {
+                let Pair {
+                    members: _old,
+                    elements,
+                } = Box::into_inner(pair);
+                self.parts = Parts::Both(Box::new(alloc, Pair { members, elements })?);
+            }
+            Parts::Members(_old) => self.parts = Parts::Members(members),
+            Parts::Nothing => self.parts = Parts::Members(members),
+        }
+        Ok(())
+    }
+
+    /// Takes these elements in place of its own.
+    fn put_elements(&mut self, alloc: Global, elements: Box<Vec<usize>>) -> Result<(), AllocError>
+        ensures items { IfOk result (λ _. elements_of self.new ≡ elements.value.items) }
+        ensures entries { IfOk result (λ _. (text : List ℕ) → entries_of text self.new
+            ≡ entries_of text self.old) }
+        ensures indexed { IfOk result (λ _. (text : List ℕ) → IsIndexed text self.old
+            → IsIndexed text self.new) }
+    {
+        match mem::replace(&mut self.parts, Parts::Nothing) {
+            Parts::Members(members) => {
+                self.parts = Parts::Both(Box::new(alloc, Pair { members, elements })?);
+            }
+            Parts::Both(pair) => {
+                let Pair {
+                    members,
+                    elements: _old,
+                } = Box::into_inner(pair);
+                self.parts = Parts::Both(Box::new(alloc, Pair { members, elements })?);
+            }
+            Parts::Elements(_old) => self.parts = Parts::Elements(elements),
+            Parts::Nothing => self.parts = Parts::Elements(elements),
+        }
+        Ok(())
     }
 
     /// Adds a member.
@@ -105,10 +198,9 @@ impl Members {
             (λ _. IsIndexed text.now self.new) }
         ensures elements { IfOk result (λ _. elements_of self.new ≡ elements_of self.old) }
     {
-        let mut parts = self.take_parts(alloc)?;
-        parts.members.insert(alloc, text, name, number)?;
-        self.parts = Some(parts);
-        Ok(())
+        let mut members = self.take_members(alloc)?;
+        members.insert(alloc, text, name, number)?;
+        self.put_members(alloc, members)
     }
 
     /// Adds the number of an element.
@@ -119,9 +211,8 @@ impl Members {
         ensures indexed { IfOk result (λ _. (text : List ℕ) → IsIndexed text self.old
             → IsIndexed text self.new) }
     {
-        let mut parts = self.take_parts(alloc)?;
-        parts.elements.push(number)?;
-        self.parts = Some(parts);
-        Ok(())
+        let mut elements = self.take_elements(alloc)?;
+        elements.push(number)?;
+        self.put_elements(alloc, elements)
     }
 }
