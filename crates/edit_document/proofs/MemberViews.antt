@@ -15,7 +15,7 @@ use Rattle.edit_document.specs.declared.place.Step.{Step as WrittenStep}
 use Rattle.edit_tree.specs.Assertions.{Step, key, index, Place, at}
 use Rattle.edit_tree.specs.Tree.{View}
 use Rattle.edit_tree.specs.Shown.{Shown, tree_of}
-use Rattle.edit_tree.specs.Nodes.{Spot, view_of_shape, shown_spot, shape_of, entries_of, number_in, below, IsTree}
+use Rattle.edit_tree.specs.Nodes.{Spot, view_of_shape, shown_spot, shape_of, entries_of, elements_of, number_in, below, IsTree}
 use Rattle.edit_document.specs.Items.{step_seen, place_seen, viewed, place_numbered, view_numbered, key_names, names_in, count_in, Numbers, Shows}
 use Rattle.edit_tree.proofs.SamePlace.{last_same, not_root}
 use Rattle.edit_syntax.proofs.ListElements.{slice_get_same}
@@ -57,10 +57,10 @@ IsScalar x = IsText x ⊎ (IsTruth x ⊎ (IsInteger x ⊎ (IsFloat x ⊎ IsDateT
 names_of_content : (shown : Shown) (nodes : List Node) (spots : List Spot) (n : ℕ) (node : Node) (x : Content)
     → Found shown nodes spots n node → node.content ≡ x → names_in (view_numbered shown n)
     ≡ names_in (view_of_shape (shape_of shown.bytes x) (names_of_node shown.bytes node)
-    (length node.elements.items))
+    (length (elements_of node.members)))
 names_of_content shown nodes spots n node x f is = ap names_in f.view ∙
     ap (λ (y : Content). names_in (view_of_shape (shape_of shown.bytes y) (names_of_node shown.bytes node)
-    (length node.elements.items))) is
+    (length (elements_of node.members)))) is
 
 -- what shows no names, and what does
 pub names_none : (shown : Shown) (nodes : List Node) (spots : List Spot) (n : ℕ) (node : Node)
@@ -97,10 +97,10 @@ names_tabular shown nodes spots n node f (inr t) =
 pub count_shown : (shown : Shown) (nodes : List Node) (spots : List Spot) (n : ℕ) (node : Node) (x : Content)
     → Found shown nodes spots n node → node.content ≡ x → count_in (view_numbered shown n)
     ≡ count_in (view_of_shape (shape_of shown.bytes x) (names_of_node shown.bytes node)
-    (length node.elements.items))
+    (length (elements_of node.members)))
 count_shown shown nodes spots n node x f is = ap count_in f.view ∙
     ap (λ (y : Content). count_in (view_of_shape (shape_of shown.bytes y) (names_of_node shown.bytes node)
-    (length node.elements.items))) is
+    (length (elements_of node.members)))) is
 
 pub count_scalar : (shown : Shown) (nodes : List Node) (spots : List Spot) (n : ℕ) (node : Node)
     → Found shown nodes spots n node → IsScalar node.content → count_in (view_numbered shown n) ≡ 0
@@ -117,7 +117,7 @@ count_scalar shown nodes spots n node f (inr (inr (inr (inr t)))) =
 
 pub count_elements : (shown : Shown) (nodes : List Node) (spots : List Spot) (n : ℕ) (node : Node)
     → Found shown nodes spots n node → (node.content ≡ content.Array) ⊎ (node.content ≡ content.Tables)
-    → count_in (view_numbered shown n) ≡ length node.elements.items
+    → count_in (view_numbered shown n) ≡ length (elements_of node.members)
 count_elements shown nodes spots n node f (inl t) = count_shown shown nodes spots n node content.Array f t
 count_elements shown nodes spots n node f (inr t) = count_shown shown nodes spots n node content.Tables f t
 
@@ -132,7 +132,7 @@ count_tabular shown nodes spots n node f (inr t) = count_shown shown nodes spots
 -- what a node shows
 abbrev pub shows_content : List ℕ → Node → Content → Seen → Type 0
 shows_content text node x s =
-    Shows (view_of_shape (shape_of text x) (names_of_node text node) (length node.elements.items)) s
+    Shows (view_of_shape (shape_of text x) (names_of_node text node) (length (elements_of node.members))) s
 
 pub shows : (shown : Shown) (nodes : List Node) (spots : List Spot) (n : ℕ) (node : Node) (x : Content)
     (s : Seen) → Found shown nodes spots n node → node.content ≡ x → shows_content shown.bytes node x s
@@ -192,7 +192,7 @@ member_here shown nodes n node name r opens f e = part_here shown nodes n node (
 
 pub element_here : (shown : Shown) (nodes : List Node) (n : ℕ) (node : Node) (i : ℕ) (r : Option ℕ)
     → (opens : Opened shown nodes) → Found shown nodes opens.spots n node
-    → r ≡ slice_get node.elements.items i
+    → r ≡ slice_get (elements_of node.members) i
     → Numbers shown (at (place_numbered shown n) (index i)) r
 element_here shown nodes n node i r opens f e = part_here shown nodes n node (index i) r opens f
     (e ∙ ap (λ (es : List ℕ). slice_get es i) f.keeps.elements)

@@ -8,7 +8,7 @@ use Rattle.edit_document.specs.declared.document.Document.TheInside.{Inside}
 use Rattle.edit_tree.specs.Assertions.{Place, same_place}
 use Rattle.edit_tree.specs.Tree.{View, table}
 use Rattle.edit_tree.specs.Shown.{Shown, node_at, tree_of}
-use Rattle.edit_tree.specs.Nodes.{Spot, Shape, names_of, view_of_shape, shown_spot, shape_of, entries_of, names_in as names_among, Keeps, Holds, IsTree}
+use Rattle.edit_tree.specs.Nodes.{Spot, Shape, names_of, view_of_shape, shown_spot, shape_of, entries_of, elements_of, names_in as names_among, Keeps, Holds, IsTree}
 use Rattle.edit_document.specs.DocumentLayout.{spots_of, nodes_by, shown_by, shown_of, IsRead}
 use Rattle.edit_document.specs.Items.{viewed, place_numbered, view_numbered}
 use Rattle.edit_tree.proofs.SamePlace.{same_place_self, same_place_is, other_place}
@@ -73,7 +73,7 @@ names_of_node text node = names_among (entries_of text node.members)
 
 abbrev pub view_of_node : List ℕ → Node → View
 view_of_node text node = view_of_shape (shape_of text node.content) (names_of_node text node)
-    (length node.elements.items)
+    (length (elements_of node.members))
 
 pub record Found (shown : Shown) (nodes : List Node) (spots : List Spot) (n : ℕ) (node : Node) : Type 0 where
   pub spot : Spot
@@ -112,8 +112,8 @@ within shown nodes len n opens size lt =
 kept : {text : List ℕ} {node : Node} {spot : Spot} → Keeps text node spot
     → view_of_node text node ≡ view_of_spot spot
 kept {text} {node} {spot} k =
-    ap (λ (s : Shape). view_of_shape s (names_of_node text node) (length node.elements.items)) k.shape
-    ∙ ap (λ (ns : List (List ℕ)). view_of_shape spot.shape ns (length node.elements.items))
+    ap (λ (s : Shape). view_of_shape s (names_of_node text node) (length (elements_of node.members))) k.shape
+    ∙ ap (λ (ns : List (List ℕ)). view_of_shape spot.shape ns (length (elements_of node.members)))
     (ap names_among k.members)
     ∙ ap (λ (es : List ℕ). view_of_shape spot.shape (names_of spot) (length es)) k.elements
 

@@ -119,7 +119,7 @@ impl Document {
             | Content::Float(_)
             | Content::DateTime(_) => 0,
             Content::Inline | Content::Table => node.members.len(),
-            Content::Array | Content::Tables => node.elements.len(),
+            Content::Array | Content::Tables => node.members.elements().len(),
         }
     }
 
@@ -183,7 +183,7 @@ impl Document {
         ensures { Numbers self.now (at (place_numbered self.now number) (index_step index)) result }
     {
         let node = &self.nodes[number];
-        node.elements.get(index).copied()
+        node.members.elements().get(index).copied()
     }
 
     /// Nothing stands below a place where nothing stands, and the root stands first.

@@ -10,7 +10,7 @@ use Rattle.edit_tree.specs.declared.nodes.Content.{Content}
 use Rattle.edit_tree.specs.declared.nodes.Taken.{Taken}
 use Rattle.edit_tree.specs.declared.nodes.Taken.TheVariants.{Dotted, Value, Super, Header, Array, Element}
 use Rattle.edit_tree.specs.Assertions.{key, index, Place, at}
-use Rattle.edit_tree.specs.Nodes.{Shape, Spot, shape_of, entries_of, IsIndexed, Keeps, Holds}
+use Rattle.edit_tree.specs.Nodes.{Shape, Spot, shape_of, entries_of, elements_of, IsIndexed, Keeps, Holds}
 use Rattle.edit_tree.specs.Walk.{last_table, spot_at, target_of, with_member, with_element, added, element_added}
 use Rattle.edit_tree.proofs.SpotNodes.{holds_set, holds_push, kept_at}
 
@@ -28,7 +28,7 @@ target_is spots t s e = rw e refl
 
 pub target_found : {text : List ℕ} (nodes : List Node) (spots : List Spot) (t : ℕ) (node : Node)
     → Holds text nodes spots → t < length nodes → node ≡ get_or nodes t node
-    → target_of spots t Super ≡ unwrap_or (last_table (shape_of text node.content) node.elements.items) t
+    → target_of spots t Super ≡ unwrap_or (last_table (shape_of text node.content) (elements_of node.members)) t
 target_found {text} nodes spots t node holds lt is =
     let k = kept_at nodes spots t node holds lt is in
     target_is spots t k.spot k.spot_is ∙ ap (λ (x : Shape). unwrap_or (last_table x k.spot.elements) t)
@@ -93,7 +93,7 @@ pub record Inserted (text : List ℕ) (old new : Node) (name : List ℕ) (count 
   pub taken : new.taken ≡ old.taken
   pub steps : new.steps ≡ old.steps
   pub span : new.span ≡ old.span
-  pub elements : new.elements ≡ old.elements
+  pub elements : elements_of new.members ≡ elements_of old.members
   pub entries : entries_of text new.members ≡ entries_of text old.members ++ (name, count) ∷ []
   pub indexed : IsIndexed text new.members
 
@@ -106,7 +106,7 @@ pub record Starts (text : List ℕ) (new : Node) (content : Content) (taken : Ta
   pub span_is : new.span ≡ span
   pub empty : entries_of text new.members ≡ []
   pub indexed : IsIndexed text new.members
-  pub none : new.elements.items ≡ []
+  pub none : elements_of new.members ≡ []
 
 starts_keeps : (text : List ℕ) (new : Node) (content : Content) (taken : Taken) (steps : ℕ)
     (span : Option Span) (place : Place) → Starts text new content taken steps span → length place ≡ steps + 1
@@ -130,7 +130,7 @@ gained_keeps {text} old new name count s keeps i =
       steps = i.steps ∙ keeps.steps;
       members = i.entries ∙ ap (λ (ms : List (List ℕ × ℕ)). ms ++ (name, count) ∷ []) keeps.members;
       indexed = i.indexed;
-      elements = ap (λ v. v.items) i.elements ∙ keeps.elements;
+      elements = i.elements ∙ keeps.elements;
       span = i.span ∙ keeps.span;
     }
 
@@ -199,29 +199,30 @@ element_stopped nodes spots t node shape taken span holds lt is le =
     element_long spots t shape taken span k.spot k.spot_is (let e = k.keeps.steps in omega arith)
 
 -- a node with an element more
-pub record Extended (old new : Node) (count : ℕ) : Type 0 where
+pub record Extended (text : List ℕ) (old new : Node) (count : ℕ) : Type 0 where
   pub content : new.content ≡ old.content
   pub taken : new.taken ≡ old.taken
   pub steps : new.steps ≡ old.steps
   pub span : new.span ≡ old.span
-  pub members : new.members ≡ old.members
-  pub elements : new.elements.items ≡ old.elements.items ++ count ∷ []
+  pub entries : entries_of text new.members ≡ entries_of text old.members
+  pub indexed : IsIndexed text old.members → IsIndexed text new.members
+  pub elements : elements_of new.members ≡ elements_of old.members ++ count ∷ []
 
 extended_keeps : {text : List ℕ} (old new : Node) (count : ℕ) (s : Spot) → Keeps text old s
-    → Extended old new count → Keeps text new (with_element s count)
+    → Extended text old new count → Keeps text new (with_element s count)
 extended_keeps {text} old new count s keeps i = record {
   shape = ap (shape_of text) i.content ∙ keeps.shape;
   taken = i.taken ∙ keeps.taken;
   steps = i.steps ∙ keeps.steps;
-  members = ap (entries_of text) i.members ∙ keeps.members;
-  indexed = subst (IsIndexed text) (sym i.members) keeps.indexed;
+  members = i.entries ∙ keeps.members;
+  indexed = i.indexed keeps.indexed;
   elements = i.elements ∙ ap (λ (ns : List ℕ). ns ++ count ∷ []) keeps.elements;
   span = i.span ∙ keeps.span;
 }
 
 pub element_done : {text : List ℕ} (nodes nodes2 : List Node) (spots : List Spot) (t count : ℕ)
     (old node2 last : Node) (content : Content) (taken : Taken) (span : Option Span) → Holds text nodes spots
-    → t < count → count ≡ length nodes → old ≡ get_or nodes t old → old.steps < 80 → Extended old node2 count
+    → t < count → count ≡ length nodes → old ≡ get_or nodes t old → old.steps < 80 → Extended text old node2 count
     → Starts text last content taken old.steps span → nodes2 ≡ slice_set nodes t node2 ++ last ∷ []
     → (made : List Spot) × (element_added spots t (shape_of text content) taken span ≡ Some (made, count))
     × Holds text nodes2 made

@@ -1,6 +1,6 @@
 -- The nodes of a document: one for each place that a statement
 -- asserts, the root first and then in the order of first assertions.
-use Rattle.std.specs.Prelude.{◌≡◌, ℕ, List, [], length, map, drop, slice_get, Option, Some, None, String, string_bytes, ◌⊎◌}
+use Rattle.std.specs.Prelude.{◌≡◌, ℕ, ⊤, List, [], length, map, drop, slice_get, Option, Some, None, String, string_bytes, ◌⊎◌}
 use Rattle.std.specs.Global.{Box, Global}
 use Rattle.std.specs.Map.{lookup}
 use Rattle.std.specs.Str.{bytes_eq}
@@ -14,7 +14,10 @@ use Rattle.edit_tree.specs.declared.nodes.Content.TheVariants as content
 use Rattle.edit_tree.specs.declared.nodes.Taken.{Taken}
 use Rattle.edit_tree.specs.declared.nodes.Lookup.{Lookup}
 use Rattle.edit_tree.specs.declared.nodes.Member.{Member}
-use Rattle.edit_tree.specs.declared.nodes.Members.{Members}
+use Rattle.edit_tree.specs.declared.nodes.MemberList.{MemberList}
+use Rattle.edit_tree.specs.declared.members.Parts.{Parts}
+use Rattle.edit_tree.specs.declared.members.Parts.TheVariants as parts
+use Rattle.edit_tree.specs.declared.members.Members.{Members}
 use Rattle.edit_tree.specs.declared.nodes.Node.{Node}
 use Rattle.edit_tree.specs.Assertions.{Step, key, index, Place, at}
 use Rattle.edit_syntax.specs.declared.read.marks.MarkKind.{MarkKind}
@@ -94,9 +97,31 @@ number_of names name = number_by names.table name
 abbrev pub entries_in : List ℕ → List Member → List (List ℕ × ℕ)
 entries_in text members = map (λ e. (bytes_of text e.name, e.number)) members
 
--- the names and numbers of members
+-- the names and numbers of the members of a list
+abbrev pub entries_listed : List ℕ → MemberList → List (List ℕ × ℕ)
+entries_listed text members = entries_in text members.list.items
+
+-- the names and numbers of the members among parts
+abbrev pub entries_by : List ℕ → Parts → List (List ℕ × ℕ)
+entries_by text parts.Nothing = []
+entries_by text (parts.Members members) = entries_listed text members.value
+entries_by text (parts.Elements elements) = []
+entries_by text (parts.Both pair) = entries_listed text pair.value.members.value
+
+-- the names and numbers of the members of a place
 abbrev pub entries_of : List ℕ → Members → List (List ℕ × ℕ)
-entries_of text members = entries_in text members.list.items
+entries_of text members = entries_by text members.parts
+
+-- the numbers of the elements among parts
+abbrev pub elements_by : Parts → List ℕ
+elements_by parts.Nothing = []
+elements_by (parts.Members members) = []
+elements_by (parts.Elements elements) = elements.value.items
+elements_by (parts.Both pair) = pair.value.elements.value.items
+
+-- the numbers of the elements of a place
+abbrev pub elements_of : Members → List ℕ
+elements_of members = elements_by members.parts
 
 -- the names alone
 abbrev pub names_in : List (List ℕ × ℕ) → List (List ℕ)
@@ -107,9 +132,20 @@ abbrev pub number_in : List (List ℕ × ℕ) → List ℕ → Option ℕ
 number_in entries name = lookup (λ n. bytes_eq name n) entries
 
 -- all members but the first few are looked up by their names
+abbrev pub IsListIndexed : List ℕ → MemberList → Type 0
+IsListIndexed text members =
+    (name : List ℕ) → number_of members.others name ≡ number_in (drop 8 (entries_listed text members)) name
+
+-- so are the members among parts, if there are some
+abbrev pub IsIndexedBy : List ℕ → Parts → Type 0
+IsIndexedBy text parts.Nothing = ⊤
+IsIndexedBy text (parts.Members members) = IsListIndexed text members.value
+IsIndexedBy text (parts.Elements elements) = ⊤
+IsIndexedBy text (parts.Both pair) = IsListIndexed text pair.value.members.value
+
+-- so are the members of a place
 abbrev pub IsIndexed : List ℕ → Members → Type 0
-IsIndexed text members =
-    (name : List ℕ) → number_of members.others name ≡ number_in (drop 8 (entries_of text members)) name
+IsIndexed text members = IsIndexedBy text members.parts
 
 -- a node keeps a spot of the document of a text; of its place it keeps how many steps there are
 pub record Keeps (text : List ℕ) (node : Node) (spot : Spot) : Type 0 where
@@ -118,7 +154,7 @@ pub record Keeps (text : List ℕ) (node : Node) (spot : Spot) : Type 0 where
   pub steps : node.steps ≡ length spot.place
   pub members : entries_of text node.members ≡ spot.members
   pub indexed : IsIndexed text node.members
-  pub elements : node.elements.items ≡ spot.elements
+  pub elements : elements_of node.members ≡ spot.elements
   pub span : node.span ≡ spot.span
 
 -- each node keeps the spot of its number

@@ -1,12 +1,13 @@
 //! What an assertion makes of the nodes: a new node, or an old one whose place is taken again.
 ghost use Rattle.std.specs.Prelude.{◌≡◌, ℕ, List, IfOk, None, map, nat_le};
-ghost use Rattle.edit_tree.specs.Nodes.{Spot, Holds, bytes_of, shape_of};
+ghost use Rattle.edit_tree.specs.Nodes.{Spot, Holds, bytes_of, elements_of, shape_of};
 ghost use Rattle.edit_tree.specs.Taking as taking;
 ghost use Rattle.edit_tree.specs.declared.nodes.Taken.TheVariants.{Super};
 ghost use Rattle.edit_tree.specs.Walk.{child, last_table, target_of, taken_again, added, element_added, asserted, front_shape, reached};
 ghost use Rattle.edit_tree.specs.WalkState.{Adds, Puts};
 
-use crate::nodes::{Content, Members, Node, Taken, Words, copied, words_in};
+use crate::members::Members;
+use crate::nodes::{Content, Node, Taken, Words, copied, words_in};
 use edit_syntax::Span;
 use std::alloc::{AllocError, Global};
 
@@ -70,10 +71,10 @@ fn find(text: &str, nodes: &[Node], number: usize, name: &str) -> Option<usize>
 /// The last table of an array of tables.
 fn last_table(node: &Node) -> Option<usize>
     ensures { (text : List ℕ) → result
-        ≡ last_table (shape_of text node.now.content) node.now.elements.items }
+        ≡ last_table (shape_of text node.now.content) (elements_of node.now.members) }
 {
     match &node.content {
-        Content::Tables => node.elements.last().copied(),
+        Content::Tables => node.members.elements().last().copied(),
         Content::Text(_)
         | Content::Truth(_)
         | Content::Integer(_)
@@ -147,8 +148,7 @@ fn add(
         taken,
         steps,
         span,
-        members: Members::none(alloc),
-        elements: Vec::new(alloc),
+        members: Members::none(),
     })?;
     Ok(Some(count))
 }
@@ -175,14 +175,13 @@ pub(crate) fn add_element(
         return Ok(None);
     }
     let steps = node.steps + 1;
-    node.elements.push(count)?;
+    node.members.push_element(alloc, count)?;
     nodes.push(Node {
         content,
         taken,
         steps,
         span,
-        members: Members::none(alloc),
-        elements: Vec::new(alloc),
+        members: Members::none(),
     })?;
     Ok(Some(count))
 }

@@ -5,6 +5,7 @@
 mod assertions;
 pub mod cut;
 mod heads;
+pub mod members;
 pub mod nodes;
 pub mod walk;
 pub mod words;

@@ -2,10 +2,11 @@
 ghost use Rattle.std.specs.Prelude.{◌≡◌, ℕ, List, [], ◌∷◌, ◌++◌, None, Some, IfOk, IsTrue, if◌then◌else◌, length, option_map, slice_get, string_bytes, take};
 ghost use Rattle.std.specs.BTreeMap.{get_by_text};
 ghost use Rattle.std.specs.Str.{bytes_eq};
-ghost use Rattle.edit_tree.specs.Nodes.{bytes_of, number_of, entries_in, entries_of, names_in, number_in, IsIndexed};
+ghost use Rattle.edit_tree.specs.Nodes.{bytes_of, number_of, entries_in, entries_listed, names_in, number_in, IsListIndexed};
 ghost use Rattle.edit_syntax.specs.Spans.{bytes_at};
 
 use crate::cut::between;
+use crate::members::Members;
 use edit_syntax::Span;
 use std::alloc::{AllocError, Global};
 use std::collections::BTreeMap;
@@ -114,7 +115,7 @@ const FEW: usize = 8;
 /// The members of a place in the order of their first assertions,
 /// and the numbers of those behind the first few by their names.
 #[derive(Drop)]
-pub struct Members {
+pub(crate) struct MemberList {
     list: Vec<Member>,
     others: Lookup,
 }
@@ -142,21 +143,21 @@ fn push_exact(list: &mut Vec<Member>, member: Member) -> Result<(), AllocError>
     Ok(())
 }
 
-impl Members {
+impl MemberList {
     /// No members.
-    pub(crate) fn none(alloc: Global) -> Members
-        ensures empty { (text : List ℕ) → entries_of text result ≡ [] }
-        ensures indexed { (text : List ℕ) → IsIndexed text result }
+    pub(crate) fn none(alloc: Global) -> MemberList
+        ensures empty { (text : List ℕ) → entries_listed text result ≡ [] }
+        ensures indexed { (text : List ℕ) → IsListIndexed text result }
     {
-        Members {
+        MemberList {
             list: Vec::new(alloc),
             others: Lookup::none(),
         }
     }
 
     /// How many members there are.
-    pub fn len(&self) -> usize
-        ensures { (text : List ℕ) → result ≡ length (entries_of text self.now) }
+    pub(crate) fn len(&self) -> usize
+        ensures { (text : List ℕ) → result ≡ length (entries_listed text self.now) }
     {
         self.list.len()
     }
@@ -173,8 +174,8 @@ impl Members {
     }
 
     /// The number of the member of a name.
-    pub fn get(&self, text: &str, name: &str) -> Option<usize>
-        ensures { IsIndexed text.now self.now → result ≡ number_in (entries_of text.now self.now) name.now }
+    pub(crate) fn get(&self, text: &str, name: &str) -> Option<usize>
+        ensures { IsListIndexed text.now self.now → result ≡ number_in (entries_listed text.now self.now) name.now }
     {
         match number_among(text, self.few(), name) {
             Some(number) => Some(number),
@@ -183,9 +184,9 @@ impl Members {
     }
 
     /// The name of the member that comes behind so many others.
-    pub fn name<'a>(&'a self, text: &'a str, index: usize) -> Option<&'a str>
+    pub(crate) fn name<'a>(&'a self, text: &'a str, index: usize) -> Option<&'a str>
         ensures { option_map (λ s. s.now) result
-            ≡ slice_get (names_in (entries_of text.now self.now)) index }
+            ≡ slice_get (names_in (entries_listed text.now self.now)) index }
     {
         let member = self.list.get(index)?;
         Some(words_in(text, &member.name))
@@ -199,11 +200,11 @@ impl Members {
         name: Words,
         number: usize,
     ) -> Result<(), AllocError>
-        ensures added { IfOk result (λ _. entries_of text.now self.new ≡ entries_of text.now self.old
+        ensures added { IfOk result (λ _. entries_listed text.now self.new ≡ entries_listed text.now self.old
             ++ (bytes_of text.now name, number) ∷ []) }
-        ensures indexed { IsIndexed text.now self.old
-            → number_in (entries_of text.now self.old) (bytes_of text.now name) ≡ None → IfOk result
-            (λ _. IsIndexed text.now self.new) }
+        ensures indexed { IsListIndexed text.now self.old
+            → number_in (entries_listed text.now self.old) (bytes_of text.now name) ≡ None → IfOk result
+            (λ _. IsListIndexed text.now self.new) }
     {
         if self.list.len() >= FEW {
             let copy = String::from_str(alloc, words_in(text, &name))?;
@@ -223,9 +224,8 @@ pub struct Node {
     pub steps: u8,
     /// Where its value is written, if it has one.
     pub span: Option<Span>,
+    /// What stands below it.
     pub members: Members,
-    /// The numbers of its elements, where it is an array or an array of tables.
-    pub elements: Vec<usize>,
 }
 
 /// What stands there in a text, or nothing where it cannot be cut out.

@@ -8,7 +8,8 @@ ghost use Rattle.edit_syntax.specs.Marks.{IsReadRefusal};
 ghost use Rattle.std.specs.List.{AllByRecursion};
 
 use crate::assertions::{add_element, assert_member, reach};
-use crate::nodes::{Content, Members, Node, Taken, Words};
+use crate::members::Members;
+use crate::nodes::{Content, Node, Taken, Words};
 use crate::words::{worded, words_of};
 use edit_base::errors::{CargoResult, Error};
 use edit_syntax::Span;
@@ -36,8 +37,7 @@ impl Walk {
             taken: Taken::Header,
             steps: 0,
             span: None,
-            members: Members::none(alloc),
-            elements: Vec::new(alloc),
+            members: Members::none(),
         })?;
         let mut tables = Vec::new(alloc);
         tables.push(0)?;

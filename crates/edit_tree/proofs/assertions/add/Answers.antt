@@ -47,7 +47,7 @@ returns c = record {
         taken = refl;
         steps = refl;
         span = refl;
-        elements = refl;
+        elements = (c.in_ok-insert.ensures {u = tt}).elements;
         entries = (c.in_ok-insert.ensures {u = tt}).added;
         indexed = (c.in_ok-insert.ensures {u = tt}).indexed kept.keeps.indexed absent;
       })
@@ -58,7 +58,7 @@ returns c = record {
         span_is = refl;
         empty = c.none.ensures.empty text;
         indexed = c.none.ensures.indexed text;
-        none = c.new.ensures.items;
+        none = c.none.ensures.elements;
       })
       (c.in_ok-push.ensures {u = tt}).items;
 }

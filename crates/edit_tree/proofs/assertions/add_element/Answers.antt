@@ -25,8 +25,8 @@ returns-then-is_deepest c = record {
 pub returns : goal.returns
 returns c = record {
   added = λ text spots holds.
-      element_done c.args.nodes.now.items c.push-2.new.self.items spots c.args.number c.len-count.result
-      c.index_mut-node.result.now (record c.index_mut-node.result.now { elements = c.push.new.self }) _
+      element_done c.args.nodes.now.items c.push.new.self.items spots c.args.number c.len-count.result
+      c.index_mut-node.result.now (record c.index_mut-node.result.now { members = c.push_element.new.self }) _
       c.args.content c.args.taken c.args.span holds
       c.if-number-count.false (c.len-count.ensures ∙ c.args.nodes.now.ok.0) c.index_mut-node.ensures.value
       (not_deepest c.index_mut-node.result.now.steps (sym c.is_deepest.ensures ∙ c.if-is_deepest.false))
@@ -35,8 +35,9 @@ returns c = record {
         taken = refl;
         steps = refl;
         span = refl;
-        members = refl;
-        elements = (c.in_ok-push.ensures {u = tt}).items;
+        entries = (c.in_ok-push_element.ensures {u = tt}).entries text;
+        indexed = (c.in_ok-push_element.ensures {u = tt}).indexed text;
+        elements = (c.in_ok-push_element.ensures {u = tt}).pushed;
       })
       (record {
         content_is = refl;
@@ -45,7 +46,7 @@ returns c = record {
         span_is = refl;
         empty = c.none.ensures.empty text;
         indexed = c.none.ensures.indexed text;
-        none = c.new.ensures.items;
+        none = c.none.ensures.elements;
       })
-      (c.in_ok-push-2.ensures {u = tt}).items;
+      (c.in_ok-push.ensures {u = tt}).items;
 }

@@ -14,5 +14,5 @@ returns c =
     (opened c.self.inside c.args.self.now c.self.invariant c.self.view_is) c.requires c.index-node.ensures in
     element_here c.args.self.now c.self.inside.nodes.items c.args.number c.index-node.result.now c.args.index
     c.copied.result (opened c.self.inside c.args.self.now c.self.invariant c.self.view_is) f
-    (c.copied.ensures ∙ got c.deref.result.now c.args.index _ c.get.result c.get.ensures.lookup.3
-    c.get.ensures.lookup.1 ∙ ap (λ (es : List ℕ). slice_get es c.args.index) c.deref.ensures.value)
+    (c.copied.ensures ∙ got c.elements.result.now c.args.index _ c.get.result c.get.ensures.lookup.3
+    c.get.ensures.lookup.1 ∙ ap (λ (es : List ℕ). slice_get es c.args.index) c.elements.ensures)

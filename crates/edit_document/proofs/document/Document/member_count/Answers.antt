@@ -1,4 +1,4 @@
-use Rattle.std.proofs.Common.{sym, ◌∙◌}
+use Rattle.std.proofs.Common.{ℕ, List, length, ap, sym, ◌∙◌}
 use Rattle.edit_document.proofs.Views.{opened, within, found}
 use Rattle.edit_document.proofs.MemberViews.{count_elements, count_scalar, count_tabular}
 use Rattle.edit_document.proofs.document.Document.member_count.Goals as goal
@@ -60,7 +60,7 @@ pub returns-in-Array : goal.returns-in-Array
 returns-in-Array c =
     let f = found c.args.self.now c.self.inside.nodes.items c.args.number c.index-node.result.now
     (opened c.self.inside c.args.self.now c.self.invariant c.self.view_is) c.requires c.index-node.ensures in
-    c.len.ensures ∙ c.index-node.result.now.elements.ok.0 ∙
+    c.len.ensures ∙ ap (λ (es : List ℕ). length es) c.elements.ensures ∙
     sym (count_elements c.args.self.now c.self.inside.nodes.items
     (opened c.self.inside c.args.self.now c.self.invariant c.self.view_is).spots c.args.number
     c.index-node.result.now f c.in-Array.is)

@@ -2,11 +2,11 @@ use Rattle.std.proofs.Common.{◌≡◌, ◌<◌, ◌≤◌, ℕ, cond, List, []
 use Rattle.std.specs.Str.{bytes_eq}
 use Rattle.std.proofs.lemmas.List.{length-map, map-append}
 use Rattle.edit_tree.specs.declared.nodes.Member.{Member}
-use Rattle.edit_tree.specs.declared.nodes.Members.{Members}
+use Rattle.edit_tree.specs.declared.nodes.MemberList.{MemberList}
 use Rattle.edit_tree.specs.Nodes.{bytes_of, number_of, entries_in}
 use Rattle.edit_tree.proofs.NameLists.{others_kept}
-use Rattle.edit_tree.proofs.nodes.Members.insert.Goals as goal
-use Rattle.edit_tree.proofs.nodes.Members.insert.Goals.{then-len-ge-FEW+in_ok-copy+in_ok-insert, else-len-ge-FEW}
+use Rattle.edit_tree.proofs.nodes.MemberList.insert.Goals as goal
+use Rattle.edit_tree.proofs.nodes.MemberList.insert.Goals.{then-len-ge-FEW+in_ok-copy+in_ok-insert, else-len-ge-FEW}
 
 pub returns-clause-indexed : goal.returns-clause-indexed
 returns-clause-indexed c kept none =
@@ -29,10 +29,10 @@ returns-clause-indexed c kept none =
           let copied = (w.in_ok-copy.ensures {u = tt}).ok ∙ w.words_in.ensures in
           others_kept (entries_in text list)
           (entries_in text c.push_exact.new.list.items) old.others c.if-len-ge-FEW.self.others name
-          c.args.number (pushed (ap (λ (m : Members). m.list.items) w.self-is)) kept none
+          c.args.number (pushed (ap (λ (m : MemberList). m.list.items) w.self-is)) kept none
           (inl (
             many,
-            λ other. ap (λ (m : Members). number_of m.others other) w.self-is ∙
+            λ other. ap (λ (m : MemberList). number_of m.others other) w.self-is ∙
                 (w.in_ok-insert.ensures {u = tt}).added other ∙
                 ap (λ (k : List ℕ). cond (bytes_eq k other) (Some c.args.number) (number_of old.others other))
                 copied,
@@ -42,6 +42,6 @@ returns-clause-indexed c kept none =
           let few : length (entries_in text list) < 8 = omega arith in
           others_kept (entries_in text list)
           (entries_in text c.push_exact.new.list.items) old.others c.if-len-ge-FEW.self.others name
-          c.args.number (pushed (ap (λ (m : Members). m.list.items) w.self-is)) kept none
-          (inr (few, ap (λ (m : Members). m.others) w.self-is))
+          c.args.number (pushed (ap (λ (m : MemberList). m.list.items) w.self-is)) kept none
+          (inr (few, ap (λ (m : MemberList). m.others) w.self-is))
     ]

@@ -3,7 +3,7 @@ use Rattle.std.proofs.lemmas.List.{take-map}
 use Rattle.edit_tree.specs.declared.nodes.Member.{Member}
 use Rattle.edit_tree.specs.Nodes.{bytes_of, entries_in, number_in}
 use Rattle.edit_tree.proofs.NameLists.{number_few, number_others}
-use Rattle.edit_tree.proofs.nodes.Members.get.Goals as goal
+use Rattle.edit_tree.proofs.nodes.MemberList.get.Goals as goal
 
 pub returns-in-Some : goal.returns-in-Some
 returns-in-Some c indexed =

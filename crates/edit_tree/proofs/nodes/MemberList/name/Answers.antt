@@ -4,7 +4,7 @@ use Rattle.std.proofs.lemmas.Bool.Decides.{nat_tests}
 use Rattle.std.proofs.lemmas.Option.{slice_get-map, slice_get_read}
 use Rattle.edit_tree.specs.declared.nodes.Member.{Member}
 use Rattle.edit_tree.specs.Nodes.{bytes_of, entries_in, names_in}
-use Rattle.edit_tree.proofs.nodes.Members.name.Goals as goal
+use Rattle.edit_tree.proofs.nodes.MemberList.name.Goals as goal
 
 pub returns : goal.returns
 returns c =
