@@ -37,7 +37,7 @@ fn part_end(named: Way, front: Option<usize>, marks: &[Mark], place: &[Step]) ->
 }
 
 /// The offset behind the part of the key at the front that names the place, if it does, and the input behind
-/// the pair; `way` is the path to the inline table.
+/// the pair; `start` is the path to the inline table.
 fn past_member<'a>(
     alloc: Global,
     text: &str,

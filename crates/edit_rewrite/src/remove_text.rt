@@ -70,8 +70,8 @@ fn is_container(written: &[u8]) -> bool
     begins(written, b'[') || begins(written, b'{')
 }
 
-/// The text without the element at a place inside the array `around`, or without the members at or below a
-/// place inside the inline table.
+/// The text where the array or inline table between two offsets, counted from the end of the text, loses the
+/// element at the place `below` it, or the members at or below that place.
 fn without_members(
     alloc: Global,
     text: &str,
