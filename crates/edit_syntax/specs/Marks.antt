@@ -103,7 +103,7 @@ lines_marks (more_lines l e ls) = line_marks l (line_end e (lines ls)) ++ lines_
 abbrev pub text_marks : Text → List Mark
 text_marks t = lines_marks t.lines
 
----- errors
+-- ---- errors
 
 -- the error of tokenizing a text of n bytes: `Error::Memory`, or `Error::NotToml` with an offset of at most n
 abbrev pub IsReadRefusal : ℕ → Error → Type 0

@@ -141,7 +141,7 @@ FoldsAreWhole [] = ⊤
 FoldsAreWhole (fold ws e more ∷ ps) = (begins_with_space ps ≡ false) × FoldsAreWhole ps
 FoldsAreWhole (_ ∷ ps) = FoldsAreWhole ps
 
----- decoded values of strings
+-- ---- decoded values of strings
 
 -- the character that an escape letter stands for ("String")
 abbrev pub escaped : ℕ → ℕ

@@ -186,7 +186,7 @@ of_lines earlier prefix (more_lines (full_line a s b c) e ls) =
 abbrev pub assertions : Text → List Assertion
 assertions t = of_lines [] [] t.lines
 
----- compatible definitions
+-- ---- compatible definitions
 
 -- two definitions of one place that TOML allows, the earlier one first; all others are errors
 abbrev pub together : Kind → Kind → Bool

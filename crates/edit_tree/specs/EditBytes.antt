@@ -10,7 +10,7 @@ use Rattle.edit_tree.specs.NewItems.{NewValue, NewItem, new_value, new_pair, new
 use Rattle.edit_tree.specs.Statements.{Stated, stated, front_parts, behind_part, Paired, paired_statement, line_pairs, inner_pairs, Headed, headers}
 use Rattle.edit_tree.specs.Written.{Valued, values}
 
----- replacing a range of a text
+-- ---- replacing a range of a text
 
 -- a replacement of a range of a text, given by the suffixes at its start and its end, by other bytes
 pub record Splice : Type 0 where
@@ -35,7 +35,7 @@ abbrev pub with_any : List ℕ → Option Splice → List ℕ
 with_any bytes None = bytes
 with_any bytes (Some s) = with_splice bytes s
 
----- searching lists
+-- ---- searching lists
 
 -- the first value that is there in a list of options
 abbrev pub first_of : {A : Type 0} → List (Option A) → Option A
@@ -116,7 +116,7 @@ is_one_statement t place =
     (length (filter (λ p. is_some (part_to place p)) (line_pairs t ++ inner_pairs t)) == 1)
     && not (list_any (is_header_of place) (stated t))
 
----- insert, by the kind of the table
+-- ---- insert, by the kind of the table
 
 -- the newline that the text begins with, or LF where there is none
 abbrev pub end_like : List ℕ → LineEnd

@@ -13,7 +13,7 @@ use Rattle.edit_tree.specs.RemovedBytes.{removed_text}
 abbrev pub Tree : Type 0
 Tree = Place → Option View
 
----- new values and entries
+-- ---- new values and entries
 
 -- the tree of a new value; places are relative to it
 abbrev pub new_view : NewValue → Tree
@@ -144,14 +144,14 @@ pub record Removed (form : Text) (gone : Place) (old new : Tree) : Type 0 where
   -- a table or array around the item is unchanged where its child on the way to the item stays
   pub stays : (q : Place) (t : Step) (r : Place) → gone ≡ q ++ t ∷ r → (Vanishes form gone (at q t) → ⊥)
       → SameButOrder (old q) (new q)
-  -- the innermost one that stays has lost that part
+  -- the innermost table or array that stays has lost its child on the way to the item
   pub loses : (q : Place) (t : Step) (r : Place) → gone ≡ q ++ t ∷ r → (Vanishes form gone q → ⊥)
       → Vanishes form gone (at q t) → Loses t (old q) (new q)
-  -- and nothing stands where one vanishes
+  -- tables and arrays that vanish are no longer in the tree
   pub vanishes : (q : Place) (t : Step) (r : Place) → gone ≡ q ++ t ∷ r → Vanishes form gone q
       → new q ≡ None
 
----- when an edit fails
+-- ---- when an edit fails
 
 -- the bytes are no document, or have another tree than the intended one
 abbrev pub ReadsOtherwise : List ℕ → (Tree → Type 0) → Type 0

@@ -62,7 +62,7 @@ view_of_shape sections names n = table_array n
 abbrev pub shown_spot : Spot → Place × View
 shown_spot s = (s.place, view_of_shape s.shape (names_of s) (length s.elements))
 
----- how the table of nodes represents the model
+-- ---- how the table of nodes represents the model
 
 -- the decoded text of a string or of a part of a key
 abbrev pub bytes_of : List ℕ → Words → List ℕ

@@ -8,7 +8,7 @@ use Rattle.edit_tree.specs.Assertions.{Place, key as name_step, index, same_plac
 use Rattle.edit_tree.specs.EditBytes.{is_within}
 use Rattle.edit_tree.specs.RemovedBytes.{Left, with_it, without_it, behind_comma, without_member}
 
----- items between commas
+-- ---- items between commas
 
 -- an item: an element, or a member with the white space around its equals sign
 pub data Slot : Type 0 where
@@ -69,7 +69,7 @@ of_members no_members = no_slots
 of_members (last_member k a b v c) = last_slot (of_pair k a b v) c
 of_members (member k a b v c d ms) = more_slots (of_pair k a b v) c d (of_members ms)
 
----- removal
+-- ---- removal
 
 -- The item at this index is removed: it is the element at the place, or a member that names the place or one
 -- below it. The place is relative to the array or inline table.

@@ -20,7 +20,7 @@ use Rattle.edit_tree.specs.Taking.{joins, stronger}
 abbrev pub last_of : List ℕ → Option ℕ
 last_of numbers = slice_get numbers (length numbers - 1)
 
----- decoded tokens
+-- ---- decoded tokens
 
 -- the suffix of the text with this number of bytes
 abbrev pub suffix : List ℕ → ℕ → List ℕ
@@ -60,7 +60,7 @@ as_text bytes = if is_utf8 bytes then Some bytes else None
 unfoldable pub said : List ℕ → Mark → Option (List ℕ)
 said bytes m = told m.kind (suffix bytes m.from) (m.from - m.to) >>= as_text
 
----- nodes
+-- ---- nodes
 
 -- a node without members and elements
 abbrev pub spot_at : Place → Shape → Taken → Option Span → Spot
