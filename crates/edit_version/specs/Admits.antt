@@ -20,7 +20,7 @@ agrees (Some m) n = n == m
 abbrev pub is_same : Held → Parts → Bool
 is_same c w = (w.0 == c.1) && agrees c.2 w.1 && agrees c.3 w.2 && pointwise nat_eq w.3 c.4
 
--- the second pre-release is not below the first (SemVer 2.0.0, item 11.4)
+-- the first pre-release is not below the second (SemVer 2.0.0, item 11.4)
 abbrev pub pre_reaches : List ℕ → List ℕ → Bool
 pre_reaches a b = is_ge (pre_cmp a b)
 
@@ -32,8 +32,8 @@ patch_reaches p pre w = nat_lt p w.2 || ((w.2 == p) && pre_reaches w.3 pre)
 abbrev pub minor_reaches : ℕ → ℕ → List ℕ → Parts → Bool
 minor_reaches m p pre w = nat_lt m w.1 || ((w.1 == m) && patch_reaches p pre w)
 
--- the version's patch is not below the given one, nor its pre-release where they are equal; any patch matches
--- an omitted one (Cargo reference, "Tilde requirements")
+-- in lexicographic order, the version's patch and pre-release are not below the given ones; without a given
+-- patch only the pre-release is compared (Cargo reference, "Tilde requirements")
 abbrev pub tilde_patch : Option ℕ → List ℕ → Parts → Bool
 tilde_patch None pre w = pre_reaches w.3 pre
 tilde_patch (Some p) pre w = patch_reaches p pre w

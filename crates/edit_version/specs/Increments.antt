@@ -95,8 +95,8 @@ next_of p v w (Some n) =
     else (if is_text w (word p) then if_fits (n + 1) (v.0, v.1, v.2, numbered p (n + 1), v.4)
     else To (v.0, v.1, v.2, numbered p 1, v.4))
 
--- the next version of a phase: its first pre-release of the next patch version, or for a pre-release the next
--- number or the first one of a later phase (own)
+-- the next version of a phase: its first pre-release of the next patch version; for a pre-release of the same
+-- phase its next number, and for another one the first pre-release of this phase (own)
 abbrev pub next_phase : Phase → Parts → Change
 next_phase p v =
     if length v.3 == 0 then if_fits (v.2 + 1) (v.0, v.1, v.2 + 1, numbered p 1, [])
