@@ -1,4 +1,4 @@
-//! Paths as texts: no file is looked at.
+//! Lexical operations on paths: the file system is not consulted.
 ghost use Rattle.std.specs.Prelude.{◌≡◌, ◌≤◌, ◌↔◌, IsTrue, IfOk, IfErr, string_bytes, codes, length, take, drop, replicate};
 ghost use Rattle.edit_base.specs.Errors.{IsMemory};
 ghost use Rattle.edit_base.specs.Paths.{joined, parts_of, texts, absolute, IsIdle, Named, Normal, IsNormalOf, IsFolderOf, BeginApart, way_text, IsRelative};
@@ -22,14 +22,15 @@ pub fn join(alloc: Global, base: &str, path: &str) -> CargoResult<String>
     Ok(format!(in alloc; "{base}/{path}")?)
 }
 
-/// The parts of a text between slashes.
+/// Splits a path at its slashes.
 fn parts<'a>(alloc: Global, path: &'a str) -> Result<Vec<&'a str>, AllocError>
     ensures { IfOk result (λ v. texts v.items ≡ parts_of path.now) }
 {
     path.split('/').collect(alloc)
 }
 
-/// The names that are left of the parts of an absolute path.
+/// The names left of an absolute path: empty and `.` parts are dropped, and each `..` drops the name before
+/// it.
 fn kept_names<'a>(alloc: Global, parts: &[&'a str]) -> Result<Vec<&'a str>, AllocError>
     ensures { IfOk result (λ v. Normal (texts parts.now) (texts v.items)) }
 {
@@ -47,14 +48,14 @@ fn kept_names<'a>(alloc: Global, parts: &[&'a str]) -> Result<Vec<&'a str>, Allo
     Ok(names)
 }
 
-/// Whether a part of a path leads nowhere else.
+/// Whether a part of a path is empty or `.`.
 fn is_idle(part: &str) -> bool
     ensures { IsTrue result ↔ IsIdle part.now }
 {
     part.is_empty() || part == "."
 }
 
-/// The absolute path of these names.
+/// Joins names into an absolute path.
 fn absolute_text(alloc: Global, names: &[&str]) -> Result<String, AllocError>
     ensures { IfOk result (λ s. string_bytes s ≡ absolute (texts names.now)) }
 {
@@ -80,8 +81,8 @@ pub fn normal(alloc: Global, path: &str) -> CargoResult<String>
     Ok(absolute_text(alloc, &names)?)
 }
 
-/// The folder that a path lies in: the text before the last slash, and `/` where that is empty or no slash is
-/// there.
+/// The parent folder of a path: the text before its last slash, or `/` where that is empty or the path has no
+/// slash.
 pub fn folder(path: &str) -> &str
     ensures { IsFolderOf path.now result.now }
 {
@@ -96,7 +97,7 @@ pub fn folder(path: &str) -> &str
     }
 }
 
-/// The parts of a path that name something.
+/// The parts of a path that are neither empty nor `.`; `..` is a part like others.
 fn named_parts<'a>(alloc: Global, parts: &[&'a str]) -> Result<Vec<&'a str>, AllocError>
     ensures { IfOk result (λ v. Named (texts parts.now) (texts v.items)) }
 {
@@ -110,7 +111,7 @@ fn named_parts<'a>(alloc: Global, parts: &[&'a str]) -> Result<Vec<&'a str>, All
     Ok(names)
 }
 
-/// How many parts both lists have in common at their fronts.
+/// The length of the longest common prefix of two lists of parts.
 fn common_count(to: &[&str], from: &[&str]) -> usize
     ensures within_to { result ≤ length to.now }
     ensures within_from { result ≤ length from.now }
@@ -127,7 +128,7 @@ fn common_count(to: &[&str], from: &[&str]) -> usize
     count
 }
 
-/// As many steps up as this.
+/// Returns `count` parts `..`.
 fn steps_up(alloc: Global, count: usize) -> Result<Vec<&'static str>, AllocError>
     ensures { IfOk result (λ v. texts v.items ≡ replicate count (codes "..")) }
 {
@@ -138,7 +139,7 @@ fn steps_up(alloc: Global, count: usize) -> Result<Vec<&'static str>, AllocError
     Ok(steps)
 }
 
-/// The way up by as many steps, and then down by these names.
+/// Joins `up` parts `..` and the names of `down` into a relative path.
 fn way_text(alloc: Global, up: usize, down: &[&str]) -> Result<String, AllocError>
     ensures { IfOk result (λ s. string_bytes s ≡ way_text up (texts down.now)) }
 {
@@ -148,7 +149,7 @@ fn way_text(alloc: Global, up: usize, down: &[&str]) -> Result<String, AllocErro
     Ok(text)
 }
 
-/// The path `to` as seen from the folder `from`, both absolute; `from` has no part `..`.
+/// The path from the folder `from` to `to`, both absolute; `from` has no part `..`.
 ///
 /// The result is empty where both name the same place. A part `..` of `to` is a part like others.
 pub fn relative(alloc: Global, to: &str, from: &str) -> CargoResult<String>

@@ -1,4 +1,4 @@
-//! Edits of a document beyond the literals of its values.
+//! Edits of a document that change its tree.
 ghost use Rattle.std.specs.Prelude.{◌≡◌, ◌⊎◌, ◌≤◌, ◌+◌, ℕ, List, [], None, IfOk, IfErr, length, true};
 ghost use Rattle.edit_base.specs.Errors.{IsMemory};
 ghost use Rattle.edit_base.specs.declared.errors.Error.TheVariants.{EditRefused};
@@ -23,25 +23,26 @@ use edit_document::{Document, NewItem, NewValue, Step};
 use edit_rewrite::{with_entry, with_member, without};
 use std::alloc::Global;
 
-/// Edits of a document that change what stands at a place, and leave every other byte. Each reads the new
-/// text and compares what it shows with what is meant; an edit whose text would not read as meant is
-/// `EditRefused`, and the document is as it was.
+/// Edits that change the tree of a document and leave every other byte unchanged. Each edit reads the new
+/// text and compares its tree with the intended one; where they differ it fails with `Error::EditRefused` and
+/// the document is unchanged.
 pub trait DocumentExt {
-    /// The place is free.
+    /// The place has no item.
     ghost can_insert: { Self → Place → List ℕ → Type 0 };
 
-    /// An item stands at the place, which is not the root.
+    /// The place has an item and is not the root.
     ghost can_remove: { Self → Place → Type 0 };
 
-    /// One statement alone names the place, it has room for the entry, and the entry can be written there.
+    /// Exactly one statement names the place, the entry fits below the depth limit, and the entry can be
+    /// written there.
     ghost can_replace: { Self → Place → Entry → Type 0 };
 
-    /// A value stands at the place, and has room for the new one.
+    /// The place has a value, and the new value fits below the depth limit.
     ghost can_set: { Self → Place → Value → Type 0 };
 
-    /// Adds a member to the table at a place, which has none of this name; every other byte stays. It is
-    /// an error, but for want of memory, only where the new text would not read as meant. After an error the
-    /// document is as it was.
+    /// Inserts a member into the table at a place, which has none of this name; every other byte stays. Apart
+    /// from `Error::Memory` it fails only where the new text would not have the intended tree. After an error
+    /// the document is unchanged.
     fn insert(
         &mut self,
         alloc: Global,
@@ -51,18 +52,18 @@ pub trait DocumentExt {
     ) -> CargoResult<()>
         requires { can_insert self.old (place_seen place.now) key.now };
 
-    /// Removes the item at a place, which is not the root. After an error the document is as it was.
+    /// Removes the item at a place, which is not the root. After an error the document is unchanged.
     fn remove(&mut self, alloc: Global, place: &[Step]) -> CargoResult<()>
         requires { can_remove self.old (place_seen place.now) };
 
-    /// Replaces the entry at a place that one pair names and no header: behind the part of the pair's key
-    /// that names the place, all up to the value's end gives way to ` = ` and the entry, or to
-    /// `.workspace = true` for a dotted one. After an error the document is as it was.
+    /// Replaces the entry at a place that exactly one pair and no header names: all from behind the part of
+    /// the pair's key that names the place to the end of its value is replaced by ` = ` and the entry, or by
+    /// `.workspace = true` for a dotted entry. After an error the document is unchanged.
     fn replace_entry(&mut self, alloc: Global, place: &[Step], item: &NewItem) -> CargoResult<()>
         requires { can_replace self.old (place_seen place.now) (item_seen item.now) };
 
-    /// Writes the literal of another value in the place of a value, and nothing else; what stood inside the
-    /// old value goes with it. It is refused for want of memory alone, and then the document is as it was.
+    /// Replaces the value at a place by the literal of another value, and nothing else. It fails only with
+    /// `Error::Memory`, and then the document is unchanged.
     fn set_value(&mut self, alloc: Global, place: &[Step], value: &NewValue) -> CargoResult<()>
         requires { can_set self.old (place_seen place.now) (value_seen value.now) };
 }
@@ -104,14 +105,14 @@ impl DocumentExt for Document {
     fn remove(&mut self, alloc: Global, place: &[Step]) -> CargoResult<()>
         requires inner { place_seen place.now ≡ [] → ⊥ }
         requires item { tree_of self.old (place_seen place.now) ≡ None → ⊥ }
-        // Statements go with their lines, and elements and members with a comma.
+        // Statements are removed with their lines, elements and members with a comma.
         ensures bytes { IfOk result (λ _. Becomes self.old.bytes (removed_text (place_seen place.now))
             self.new.bytes) }
-        // All else shows what it did, but for the tables and arrays around the item that vanish with it.
+        // The rest of the tree is unchanged, except that tables and arrays left empty around the item vanish.
         ensures tree { IfOk result (λ _. IfDocument self.old.bytes (λ form. Removed form
             (place_seen place.now) (tree_of self.old) (tree_of self.new))) }
         ensures err { IfErr result (λ _. self.new ≡ self.old) }
-        // Where memory does not run out, the text without the item reads otherwise than that.
+        // Where memory does not run out, an error means that the text without the item has another tree.
         ensures refused { IfErr result (λ e. IsMemory e ⊎ ((e ≡ EditRefused)
             × RemoveFails (place_seen place.now) self.old.bytes)) }
     {

@@ -1,4 +1,4 @@
-//! The document of an edit's text: it is taken where it reads as the edit means it.
+//! Replaces a document by its edited text, where that has the intended tree.
 ghost use Rattle.std.specs.Prelude.{◌≡◌, ◌⊎◌, [], None, IfOk, IfErr, length, ◌≤◌, ◌+◌};
 ghost use Rattle.edit_base.specs.Errors.{IsMemory};
 ghost use Rattle.edit_base.specs.declared.errors.Error.TheVariants.{EditRefused};
@@ -17,7 +17,7 @@ use edit_compare::{has_grown, has_lost, has_replaced};
 use edit_document::{Document, NewItem, NewValue, Step};
 use std::alloc::Global;
 
-/// Reads the text that an edit leaves. Where it is no document, the edit is refused.
+/// Reads the text after an edit; `Error::EditRefused` where it is no document.
 pub(crate) fn read_edited(alloc: Global, text: &str) -> CargoResult<Document>
     ensures bytes { IfOk result (λ d. d.bytes ≡ text.now) }
     ensures shows { IfOk result (λ d. IfDocument text.now (λ form. ShowsTree d form)) }
@@ -35,8 +35,8 @@ pub(crate) fn read_edited(alloc: Global, text: &str) -> CargoResult<Document>
     }
 }
 
-/// Takes the text of this document with a member inserted, where it reads as that is meant. After an
-/// error the document is as it was.
+/// Replaces the document by its text with a member inserted, where that has the intended tree. After an error
+/// the document is unchanged.
 pub(crate) fn take_inserted(
     document: &mut Document,
     alloc: Global,
@@ -66,8 +66,8 @@ pub(crate) fn take_inserted(
     Ok(())
 }
 
-/// Takes the text of this document with another entry at a place, where it reads as that is meant. After
-/// an error the document is as it was.
+/// Replaces the document by its text with another entry at a place, where that has the intended tree. After
+/// an error the document is unchanged.
 pub(crate) fn take_replaced(
     document: &mut Document,
     alloc: Global,
@@ -95,8 +95,8 @@ pub(crate) fn take_replaced(
     Ok(())
 }
 
-/// Takes the text of this document without the item at a place, where it reads as that is meant. After an
-/// error the document is as it was.
+/// Replaces the document by its text without the item at a place, where that has the intended tree. After an
+/// error the document is unchanged.
 pub(crate) fn take_removed(
     document: &mut Document,
     alloc: Global,

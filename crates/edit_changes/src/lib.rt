@@ -1,5 +1,5 @@
-//! Edits of a document that change what stands at a place: a member inserted, an entry replaced, an item removed,
-//! a value set. The new text is that of `edit_rewrite`, and it is taken where `edit_compare` finds what is meant.
+//! Edits that change the tree of a document: a member inserted, an entry replaced, an item removed, a value
+//! set. `edit_rewrite` gives the new text, and `edit_compare` checks that its tree is the intended one.
 #![tactic(auto)]
 
 mod document_ext;

@@ -1,4 +1,4 @@
-//! Other values in the place of values.
+//! Replaces values by literals of other values.
 ghost use Rattle.std.specs.Prelude.{◌≡◌, [], ◌∷◌, ◌++◌, IfOk, IfErr, true, drop, string_bytes, take, length, ◌≤◌, ◌+◌};
 ghost use Rattle.edit_base.specs.Errors.{IsMemory};
 ghost use Rattle.edit_syntax.specs.Grammar.{value as value_text};
@@ -17,7 +17,7 @@ use edit_document::new_item::push_value;
 use edit_document::{Document, NewValue, Step};
 use std::alloc::Global;
 
-/// The text with the literal of a value in the place of a range.
+/// The text with a range replaced by the literal of a value.
 fn with_range(
     alloc: Global,
     text: &str,
@@ -37,7 +37,7 @@ fn with_range(
     Ok(out)
 }
 
-/// The document's text with the literal of another value in the place of a value.
+/// The document's text with the value at a place replaced by the literal of another value.
 pub(crate) fn with_value(
     document: &Document,
     alloc: Global,

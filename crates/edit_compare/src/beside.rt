@@ -1,4 +1,4 @@
-//! Whether two documents show the same but at one place and below it.
+//! Compares two documents everywhere except at one place and below it.
 ghost use Rattle.std.specs.Prelude.{◌≡◌, ◌<◌, ℕ, true, [], ◌∷◌, Some, None, length};
 ghost use Rattle.std.specs.Bool.{Decides};
 ghost use Rattle.edit_tree.specs.Assertions.{Step as StepSeen, at};
@@ -9,7 +9,7 @@ ghost use Rattle.edit_tree.specs.Shown.{tree_of};
 use crate::compare::{part_at, same_below, same_view};
 use edit_document::{Document, Step};
 
-/// The number of what stands one step below a node.
+/// The index of the node one step below a node.
 pub(crate) fn step_down(document: &Document, number: usize, step: &Step) -> Option<usize>
     requires { number < length document.now.nodes }
     ensures { Numbers document.now (at (place_numbered document.now number) (step_seen step.now)) result }
@@ -20,7 +20,7 @@ pub(crate) fn step_down(document: &Document, number: usize, step: &Step) -> Opti
     }
 }
 
-/// Whether a step leads to the member or the element of a number.
+/// Whether a step leads from a node to its member or element at an index.
 pub(crate) fn leads(document: &Document, number: usize, index: usize, step: &Step) -> bool
     requires { number < length document.now.nodes }
     ensures { Decides result
@@ -41,7 +41,7 @@ pub(crate) fn leads(document: &Document, number: usize, index: usize, step: &Ste
     }
 }
 
-/// The number of what stands in another document where the step to a part of this one leads to.
+/// The index of the node in `other`, below `there`, that corresponds to the child at `index` of this node.
 pub(crate) fn counterpart(
     document: &Document,
     number: usize,
@@ -61,7 +61,7 @@ pub(crate) fn counterpart(
     }
 }
 
-/// Whether the same stands at a part as where its step leads to from a node of another document.
+/// Whether the child at `index` of a node equals its counterpart below a node of another document.
 fn same_part(
     document: &Document,
     number: usize,
@@ -83,7 +83,7 @@ fn same_part(
     same_below(document, part, other, other_part, 81)
 }
 
-/// Whether the same stands at each part of a node as where its step leads to from another.
+/// Whether each child of a node equals its counterpart below a node of another document.
 pub(crate) fn same_parts(document: &Document, number: usize, other: &Document, there: usize) -> bool
     requires here { number < length document.now.nodes }
     requires there { there < length other.now.nodes }
@@ -99,7 +99,8 @@ pub(crate) fn same_parts(document: &Document, number: usize, other: &Document, t
     true
 }
 
-/// Whether the same stands at each part of a node but one as where its step leads to from another.
+/// Whether each child of a node, except the one that `step` leads to, equals its counterpart in another
+/// document.
 pub(crate) fn same_parts_but(
     document: &Document,
     number: usize,
@@ -122,7 +123,7 @@ pub(crate) fn same_parts_but(
     true
 }
 
-/// Whether two nodes and what stands below them show the same but at one step below them.
+/// Whether two nodes are equal except at and below the child that `step` leads to.
 pub(crate) fn same_around(
     document: &Document,
     number: usize,
@@ -151,7 +152,7 @@ pub(crate) fn same_around(
     same_parts_but(document, number, other, there, step)
 }
 
-/// The numbers of a place in two documents that show the same but at this place and below it.
+/// The nodes at a place in two documents, where the documents are equal except at and below it; else `None`.
 pub(crate) fn beside(
     document: &Document,
     other: &Document,

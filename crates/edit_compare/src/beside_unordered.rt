@@ -1,4 +1,4 @@
-//! Whether two documents show the same but at one place and below it, and but for the order of members.
+//! Compares two documents everywhere except at one place and below it, ignoring the order of members.
 ghost use Rattle.std.specs.Prelude.{◌≡◌, ◌<◌, true, [], ◌∷◌, None, length};
 ghost use Rattle.std.specs.Bool.{Decides};
 ghost use Rattle.edit_tree.specs.Assertions.{at};
@@ -12,8 +12,8 @@ use crate::compare::part_at;
 use crate::unordered::{same_but_order, same_unordered};
 use edit_document::{Document, Step};
 
-/// Whether the same stands at a part as where its step leads to from a node of another document, but for
-/// the order of members.
+/// Whether the child at `index` of a node equals its counterpart in another document, ignoring the order of
+/// members.
 fn unordered_part(
     document: &Document,
     number: usize,
@@ -35,8 +35,8 @@ fn unordered_part(
     same_unordered(document, part, other, other_part, 81)
 }
 
-/// Whether the same stands at each part of a node but one as where its step leads to from another, but
-/// for the order of members.
+/// Whether each child of a node, except the one that `step` leads to, equals its counterpart in another
+/// document, ignoring the order of members.
 fn unordered_parts_but(
     document: &Document,
     number: usize,
@@ -59,8 +59,8 @@ fn unordered_parts_but(
     true
 }
 
-/// Whether two nodes and what stands below them show the same but at one step below them, and but for
-/// the order of members.
+/// Whether two nodes are equal except at and below the child that `step` leads to, ignoring the order of
+/// members.
 fn unordered_around(
     document: &Document,
     number: usize,
@@ -89,8 +89,8 @@ fn unordered_around(
     unordered_parts_but(document, number, other, there, step)
 }
 
-/// The numbers of a place in two documents that show the same but at this place and below it, and but
-/// for the order of members.
+/// The nodes at a place in two documents, where the documents are equal except at and below it, ignoring the
+/// order of members; else `None`.
 pub(crate) fn beside_unordered(
     document: &Document,
     other: &Document,

@@ -1,4 +1,4 @@
-//! Whether a document shows another with a new entry at one of its places.
+//! Checks that a document equals another except for a replaced entry.
 ghost use Rattle.std.specs.Prelude.{◌≡◌, ◌<◌, Some, length, slice_get, string_bytes};
 ghost use Rattle.std.specs.Bool.{Decides};
 ghost use Rattle.edit_tree.specs.Assertions.{at, key as key_step};
@@ -13,7 +13,7 @@ use crate::compare::same_word;
 use crate::new_shown::shows_value;
 use edit_document::{Document, NewItem, NewValue, Step};
 
-/// Whether a member of a node has a name and shows a new value.
+/// Whether a node has a member of this name with this value.
 fn shows_member(
     document: &Document,
     number: usize,
@@ -37,7 +37,7 @@ fn shows_member(
     }
 }
 
-/// For proofs: no two members of a node have the same name. It does nothing.
+/// For proofs: no two members of a node have the same name. Does nothing.
 pub(crate) fn is_apart(document: &Document, number: usize)
     requires { number < length document.now.nodes }
     ensures { AreApart (view_numbered document.now number) }
@@ -46,7 +46,7 @@ pub(crate) fn is_apart(document: &Document, number: usize)
     let _number = number;
 }
 
-/// Whether a node shows a table of new values, an inline one or one by dotted keys.
+/// Whether a node is a table with these members, inline or written as a dotted key.
 fn shows_members(
     document: &Document,
     number: usize,
@@ -76,7 +76,7 @@ fn shows_members(
     true
 }
 
-/// Whether a node shows a new entry, which stands inside an inline table or not.
+/// Whether a node equals a new entry; `inside` says whether the entry is part of an inline table.
 fn shows_item(document: &Document, number: usize, item: &NewItem, inside: bool) -> bool
     requires { number < length document.now.nodes }
     ensures { Decides result
@@ -91,7 +91,7 @@ fn shows_item(document: &Document, number: usize, item: &NewItem, inside: bool) 
     }
 }
 
-/// Whether an inline table stands one step above a place.
+/// Whether the parent of a place is an inline table.
 fn is_inline_above(document: &Document, place: &[Step]) -> bool
     ensures { result ≡ is_inline_table (tree_of document.now (above (place_seen place.now))) }
 {
@@ -102,7 +102,7 @@ fn is_inline_above(document: &Document, place: &[Step]) -> bool
     }
 }
 
-/// Whether another document shows this one with a new entry at a place.
+/// Whether `other` equals `document` with the entry at a place replaced by `item`.
 pub fn has_replaced(document: &Document, other: &Document, place: &[Step], item: &NewItem) -> bool
     ensures { Decides result (HasReplaced (place_seen place.now) (item_seen item.now)
         (tree_of document.now) (tree_of other.now)) }

@@ -1,4 +1,4 @@
-//! Whether two documents show the same at a place and below it.
+//! Compares two documents at a node and below it.
 ghost use Rattle.std.specs.Prelude.{◌≡◌, ◌<◌, ◌≤◌, ◌+◌, length, option_map};
 ghost use Rattle.std.specs.Bool.{Decides};
 ghost use Rattle.edit_document.specs.Compared.{IsWhole, NumbersPart, SameBelow, kind_of, word_of};
@@ -7,7 +7,7 @@ ghost use Rattle.edit_document.specs.Items.{place_numbered, view_numbered, names
 use edit_document::Document;
 use edit_tree::nodes::{Content, cut, words_in};
 
-/// Whether two words are the same, or neither is there.
+/// Whether two optional texts are equal.
 pub(crate) fn same_word(word: Option<&str>, other: Option<&str>) -> bool
     ensures { Decides result (option_map (λ s. s.now) word.entry ≡ option_map (λ s. s.now) other.entry) }
 {
@@ -20,7 +20,7 @@ pub(crate) fn same_word(word: Option<&str>, other: Option<&str>) -> bool
     }
 }
 
-/// The number of a member or an element, in the order of first assertions.
+/// The index of the node of the member or element at `index`, in the order in which they are defined.
 pub(crate) fn part_at(document: &Document, number: usize, index: usize) -> Option<usize>
     requires { number < length document.now.nodes }
     ensures { NumbersPart document.now number index result }
@@ -54,7 +54,7 @@ fn same_names(document: &Document, number: usize, other: &Document, there: usize
     true
 }
 
-/// Whether two nodes show the same.
+/// Whether two nodes have equal contents, without regard to what is below them.
 pub(crate) fn same_view(document: &Document, number: usize, other: &Document, there: usize) -> bool
     requires here { number < length document.now.nodes }
     requires there { there < length other.now.nodes }
@@ -74,7 +74,7 @@ pub(crate) fn same_view(document: &Document, number: usize, other: &Document, th
     same_names(document, number, other, there)
 }
 
-/// Whether the same stands at two nodes and below them.
+/// Whether two nodes and all nodes below them are equal.
 pub(crate) fn same_below(
     document: &Document,
     number: usize,

@@ -1,4 +1,4 @@
-//! Whether a document shows another with a member more in one of its tables.
+//! Checks that a document equals another except for an inserted member.
 ghost use Rattle.std.specs.Prelude.{◌≡◌, ◌<◌, ℕ, [], None, Some, length, slice_get, MatchOption};
 ghost use Rattle.std.specs.Bool.{Decides};
 ghost use Rattle.edit_tree.specs.Assertions.{at, key as key_step};
@@ -13,7 +13,7 @@ use crate::compare::same_word;
 use crate::new_shown::shows_value;
 use edit_document::{Document, NewValue, Step};
 
-/// How many members a node has before the one of a name.
+/// The position among a node's members of the one with this name.
 fn name_index(document: &Document, number: usize, key: &str) -> Option<usize>
     requires { number < length document.now.nodes }
     ensures { MatchOption result
@@ -31,7 +31,8 @@ fn name_index(document: &Document, number: usize, key: &str) -> Option<usize>
     None
 }
 
-/// Whether a table of another document has one member more than this one, of a name that this one lacks.
+/// Whether the member names of a table in another document are those of this one and one more, which it
+/// lacks.
 fn grown_names(
     document: &Document,
     number: usize,
@@ -73,7 +74,7 @@ fn grown_names(
     true
 }
 
-/// Whether a node of another document shows this table with a member more.
+/// Whether a node of another document equals this table with one more member.
 fn grown_here(
     document: &Document,
     number: usize,
@@ -107,7 +108,7 @@ fn grown_here(
     same_parts(document, number, other, there)
 }
 
-/// Whether another document shows this one with a member more in the table at a place.
+/// Whether `other` equals `document` with one more member in the table at a place.
 pub fn has_grown(
     document: &Document,
     other: &Document,

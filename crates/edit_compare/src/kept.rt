@@ -1,4 +1,4 @@
-//! Which tables and arrays around an item are left when it is removed.
+//! Finds the tables and arrays around an item that stay when it is removed.
 ghost use Rattle.std.specs.Prelude.{◌≡◌, ◌<◌, [], None, length};
 ghost use Rattle.edit_syntax.specs.Grammar.{Text};
 ghost use Rattle.edit_tree.specs.Assertions.{IsDocument, Step as StepSeen, at};
@@ -13,7 +13,7 @@ use crate::changed::is_apart;
 use edit_document::{Document, Step};
 use edit_tree::nodes::Taken;
 
-/// Whether a node is left, whichever of its parts goes. Else it is lost with its only part.
+/// Whether a node stays whichever of its children is removed; otherwise it vanishes with its only child.
 fn is_kept(document: &Document, number: usize) -> bool
     requires here { number < length document.now.nodes }
     requires inner { place_numbered document.now number ≡ [] → ⊥ }
@@ -30,7 +30,8 @@ fn is_kept(document: &Document, number: usize) -> bool
     document.member_count(number) > 1
 }
 
-/// How many steps of a place lead to the innermost table or array around it that is left when it goes.
+/// The number of steps to the innermost table or array around a place that stays when the item there is
+/// removed.
 pub(crate) fn kept_steps(document: &Document, place: &[Step]) -> usize
     requires inner { place_seen place.now ≡ [] → ⊥ }
     requires stands { tree_of document.now (place_seen place.now) ≡ None → ⊥ }

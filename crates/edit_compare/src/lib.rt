@@ -1,4 +1,4 @@
-//! Two documents compared: whether the second one shows what the first one does, but for one edit.
+//! Comparison of two documents: whether the second is the first after one given edit.
 #![tactic(auto)]
 
 mod beside;

@@ -1,4 +1,4 @@
-//! Whether a node shows a new value or a new entry.
+//! Compares a node with a new value or a new entry.
 ghost use Rattle.std.specs.Prelude.{◌≡◌, ◌<◌, length, map, string_bytes};
 ghost use Rattle.std.specs.Bool.{Decides};
 ghost use Rattle.edit_tree.specs.Assertions.{at, index as index_step};
@@ -10,7 +10,7 @@ ghost use Rattle.edit_document.specs.NewItemViews.{value_seen};
 use crate::compare::same_word;
 use edit_document::{Document, NewValue};
 
-/// Whether a node shows a string.
+/// Whether a node is this string.
 fn shows_string(document: &Document, number: usize, said: &str) -> bool
     requires { number < length document.now.nodes }
     ensures { Decides result
@@ -25,7 +25,7 @@ fn shows_string(document: &Document, number: usize, said: &str) -> bool
     same_word(document.word(number), Some(said))
 }
 
-/// Whether a node shows a boolean.
+/// Whether a node is this boolean.
 fn shows_truth(document: &Document, number: usize, truth: bool) -> bool
     requires { number < length document.now.nodes }
     ensures { Decides result (ShowsValue document.now (place_numbered document.now number) (a_truth truth)) }
@@ -37,7 +37,7 @@ fn shows_truth(document: &Document, number: usize, truth: bool) -> bool
     if truth { kind == 2 } else { kind == 1 }
 }
 
-/// Whether an element of a node shows a string.
+/// Whether an element of a node is this string.
 fn shows_element(document: &Document, number: usize, index: usize, said: &str) -> bool
     requires { number < length document.now.nodes }
     ensures { Decides result (ShowsValue document.now
@@ -49,7 +49,7 @@ fn shows_element(document: &Document, number: usize, index: usize, said: &str) -
     }
 }
 
-/// Whether a node shows a list of strings.
+/// Whether a node is this list of strings.
 fn shows_list(document: &Document, number: usize, list: &[String]) -> bool
     requires { number < length document.now.nodes }
     ensures { Decides result
@@ -72,7 +72,7 @@ fn shows_list(document: &Document, number: usize, list: &[String]) -> bool
     true
 }
 
-/// Whether a node shows a new value.
+/// Whether a node equals a new value.
 pub(crate) fn shows_value(document: &Document, number: usize, value: &NewValue) -> bool
     requires { number < length document.now.nodes }
     ensures { Decides result

@@ -1,4 +1,4 @@
-//! Whether a document shows another without an item.
+//! Checks that a document equals another except for a removed item.
 ghost use Rattle.std.specs.Prelude.{◌≡◌, ◌<◌, ◌≤◌, [], None, Some, length, take};
 ghost use Rattle.std.specs.Bool.{Decides};
 ghost use Rattle.edit_tree.specs.Assertions.{Step as StepSeen, at, key as key_step};
@@ -17,7 +17,8 @@ use crate::kept::kept_steps;
 use crate::unordered::{has_names_of, same_unordered};
 use edit_document::{Document, Step};
 
-/// The number of an element where a part is lost: those behind a lost element move up.
+/// The index of an array element after a child was removed: elements behind a removed element move down by
+/// one.
 fn moved_index(step: &Step, index: usize) -> usize
     ensures { result ≡ lost.moved_index (step_seen step.now) index }
 {
@@ -27,7 +28,7 @@ fn moved_index(step: &Step, index: usize) -> usize
     }
 }
 
-/// The first steps of a place.
+/// The first `count` steps of a place.
 fn front(place: &[Step], count: usize) -> &[Step]
     requires { count ≤ length place.now }
     ensures { result.now ≡ take count place.now }
@@ -35,7 +36,7 @@ fn front(place: &[Step], count: usize) -> &[Step]
     &place[..count]
 }
 
-/// Whether a step leads to the member of a name.
+/// Whether a step is the key of this name.
 fn is_key(step: &Step, name: &str) -> bool
     ensures { Decides result (key_step name.now ≡ step_seen step.now) }
 {
@@ -45,7 +46,8 @@ fn is_key(step: &Step, name: &str) -> bool
     }
 }
 
-/// The number of what stands in another document, which has lost a part, where a part of this one moved.
+/// The index of the node in `other`, from which a child was removed, that corresponds to the child at `index`
+/// here.
 fn moved_counterpart(
     document: &Document,
     number: usize,
@@ -66,8 +68,8 @@ fn moved_counterpart(
     }
 }
 
-/// Whether the same stands at a part as where it moved to in another document, but for the order of
-/// members.
+/// Whether the child at `index` of a node equals its counterpart in a document from which a child was
+/// removed, ignoring the order of members.
 fn moved_part(
     document: &Document,
     number: usize,
@@ -90,8 +92,8 @@ fn moved_part(
     same_unordered(document, part, other, other_part, 81)
 }
 
-/// Whether the same stands at each part of a node but one as where it moved to in another document, but
-/// for the order of members.
+/// Whether each child of a node but the removed one equals its counterpart in the other document, ignoring
+/// the order of members.
 fn moved_parts(
     document: &Document,
     number: usize,
@@ -114,7 +116,7 @@ fn moved_parts(
     true
 }
 
-/// Whether each name of a member of a node but one is one of another node's members too.
+/// Whether each member name of a node, except the one of `step`, is a member name of another node.
 fn has_names_but(
     document: &Document,
     number: usize,
@@ -138,7 +140,7 @@ fn has_names_but(
     true
 }
 
-/// Whether nothing stands one step below a node.
+/// Whether a node has no child at this step.
 fn lacks(document: &Document, number: usize, step: &Step) -> bool
     requires { number < length document.now.nodes }
     ensures { Decides result
@@ -150,7 +152,7 @@ fn lacks(document: &Document, number: usize, step: &Step) -> bool
     }
 }
 
-/// Whether a node of another document shows what this one shows without a part.
+/// Whether a node of another document has the content of this one with a child removed.
 fn loses_view(
     document: &Document,
     number: usize,
@@ -187,7 +189,7 @@ fn loses_view(
     lacks(other, there, step)
 }
 
-/// Whether a node of another document and what stands below it show this node without a part.
+/// Whether a node of another document and all below it equal this node with a child removed.
 fn loses_part(
     document: &Document,
     number: usize,
@@ -215,7 +217,7 @@ fn loses_part(
     moved_parts(document, number, other, there, step)
 }
 
-/// Whether another document shows this one without the item at a place.
+/// Whether `other` equals `document` with the item at a place removed.
 pub fn has_lost(document: &Document, other: &Document, place: &[Step]) -> bool
     requires inner { place_seen place.now ≡ [] → ⊥ }
     requires stands { tree_of document.now (place_seen place.now) ≡ None → ⊥ }

@@ -1,4 +1,4 @@
-//! Whether two documents show the same at a place and below it, but for the order of members.
+//! Compares two documents at a node and below it, ignoring the order of members.
 ghost use Rattle.std.specs.Prelude.{◌≡◌, ◌<◌, ◌≤◌, ◌+◌, ℕ, Some, None, length};
 ghost use Rattle.std.specs.Bool.{Decides};
 ghost use Rattle.edit_document.specs.Compared.{HasNamesOf, SameButOrderBelow};
@@ -9,7 +9,7 @@ use crate::beside::counterpart;
 use crate::compare::{part_at, same_view};
 use edit_document::Document;
 
-/// Whether each name of a member of a node is one of another node's members too.
+/// Whether each member name of a node is a member name of another node.
 pub(crate) fn has_names_of(
     document: &Document,
     number: usize,
@@ -32,7 +32,7 @@ pub(crate) fn has_names_of(
     true
 }
 
-/// Whether two nodes show the same, but for the order of members.
+/// Whether two nodes have equal contents, ignoring the order of members and what is below them.
 pub(crate) fn same_but_order(
     document: &Document,
     number: usize,
@@ -62,7 +62,7 @@ pub(crate) fn same_but_order(
     has_names_of(other, there, document, number)
 }
 
-/// Whether the same stands at two nodes and below them, but for the order of members.
+/// Whether two nodes and all nodes below them are equal, ignoring the order of members.
 pub(crate) fn same_unordered(
     document: &Document,
     number: usize,

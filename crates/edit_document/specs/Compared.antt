@@ -1,4 +1,4 @@
--- When two documents show the same at a place and below it.
+-- When two documents are equal at a place and below it.
 use Rattle.std.specs.Prelude.{Bool, ◌≡◌, ℕ, ◌<◌, ◌≤◌, true, false, nat_lt, if◌then◌else◌, List, ◌∷◌, [], ◌++◌, length, slice_get, Option, Some, None, MatchOption, ◌⊎◌, map, ⊤}
 use Rattle.edit_tree.specs.Assertions.{Step, key, index, Place, at}
 use Rattle.edit_tree.specs.Tree.{View, string, truth, whole, fractional, moment, static_array, table_array, inline_table, table}
@@ -8,45 +8,45 @@ use Rattle.edit_tree.specs.NewItems.{NewValue, NewItem}
 use Rattle.edit_tree.specs.Meant.{Tree, SameButOrder, new_view, view_of_members, member_view, item_view}
 use Rattle.edit_document.specs.Items.{place_numbered, view_numbered, names_in, key_names}
 
--- the same stands at two places, and below them
+-- the trees at and below two places are equal
 abbrev pub SameBelow : Shown → Place → Shown → Place → Type 0
 SameBelow d p e r = (q : Place) → tree_of d (p ++ q) ≡ tree_of e (r ++ q)
 
--- what stands below a place of a document
+-- the tree at and below a place of a document
 abbrev pub tree_below : Shown → Place → Tree
 tree_below d place q = tree_of d (place ++ q)
 
--- the same stands at two places and below them, but for the order of members
+-- the trees at and below two places are equal except for the order of members
 abbrev pub SameButOrderBelow : Shown → Place → Shown → Place → Type 0
 SameButOrderBelow d p e r = (q : Place) → SameButOrder (tree_of d (p ++ q)) (tree_of e (r ++ q))
 
--- what is neither a place nor below it is the same in two trees
+-- the two trees are equal except at and below the place
 abbrev pub SameBeside : Place → Tree → Tree → Type 0
 SameBeside place old new = (q : Place) → is_within place q ≡ false → new q ≡ old q
 
--- a place and those below it show a new value
+-- the tree at and below a place is that of a new value
 abbrev pub ShowsValue : Shown → Place → NewValue → Type 0
 ShowsValue d place v = (q : Place) → tree_of d (place ++ q) ≡ new_view v q
 
--- what a table of new values shows at this place below its own: an inline one, or one by dotted keys
+-- the tree of a table of new values, inline or made by a dotted key; places are relative to it
 abbrev pub members_shown : Bool → List (List ℕ × NewValue) → Tree
 members_shown is_inline ms [] = Some (view_of_members is_inline ms)
 members_shown is_inline ms (step ∷ q) = member_view ms step q
 
--- a place and those below it show such a table
+-- the tree at and below a place is that of a table of new values, inline or made by a dotted key
 abbrev pub ShowsMembers : Shown → Place → Bool → List (List ℕ × NewValue) → Type 0
 ShowsMembers d place is_inline ms = (q : Place) → tree_of d (place ++ q) ≡ members_shown is_inline ms q
 
--- a place and those below it show a new entry, inside an inline table or not
+-- the tree at and below a place is that of a new entry, which is inside an inline table or not
 abbrev pub ShowsItem : Shown → Place → Bool → NewItem → Type 0
 ShowsItem d place inside item = (q : Place) → tree_of d (place ++ q) ≡ item_view inside item q
 
--- the node of a number stands at the place
+-- the node at this index is at the place
 abbrev pub IsNumber : Shown → Place → ℕ → Type 0
 IsNumber d place n = (n < length d.nodes) × (place_numbered d n ≡ place)
 
--- The numbers of the nodes of a place in two documents that are the same but there and below; or they are
--- not the same, or nothing stands there in the second.
+-- The result has the indices of the nodes at a place in two documents that are equal except at and below it;
+-- it is `None` only where they differ elsewhere or the second has no item at the place.
 abbrev pub FindsBeside : Place → Shown → Shown → Option (ℕ × ℕ) → Type 0
 FindsBeside place d e r =
     MatchOption r (SameBeside place (tree_of d) (tree_of e) → tree_of e place ≡ None)
@@ -54,7 +54,7 @@ FindsBeside place d e r =
 
 -- ---- what the code compares
 
--- what is shown, but for words, members and elements
+-- the kind of a view as a number, without texts, members and elements; the two booleans differ
 abbrev pub kind_of : View → ℕ
 kind_of (string said) = 0
 kind_of (truth false) = 1
@@ -67,7 +67,7 @@ kind_of (table_array n) = 7
 kind_of (inline_table ms) = 8
 kind_of (table ms) = 9
 
--- the words of a string, a number, a date or a time
+-- the text of a string, a number, a date or a time
 abbrev pub word_of : View → Option (List ℕ)
 word_of (string said) = Some said
 word_of (whole said) = Some said
@@ -75,11 +75,11 @@ word_of (fractional said) = Some said
 word_of (moment said) = Some said
 word_of _ = None
 
--- the step of an element, where there are so many
+-- the step to the element at an index, where there are so many elements
 abbrev pub element_step : ℕ → ℕ → Option Step
 element_step n i = if nat_lt i n then Some (index i) else None
 
--- the step to a member or an element, by its number in the order of first assertions
+-- the step to the child at an index, in the order of first definitions
 abbrev pub nth_part : View → ℕ → Option Step
 nth_part (static_array n) i = element_step n i
 nth_part (table_array n) i = element_step n i
@@ -87,30 +87,30 @@ nth_part (inline_table ms) i = slice_get ms i
 nth_part (table ms) i = slice_get ms i
 nth_part _ i = None
 
--- the step of a number is a key, the name of that number, or the index of that number
+-- each child at an index has the key at that index as its step, or the index itself
 abbrev pub AreSteps : View → Type 0
 AreSteps v =
     (i : ℕ) (step : Step) → nth_part v i ≡ Some step
     → ((name : List ℕ) × (slice_get (names_in v) i ≡ Some name) × (step ≡ key name))
     ⊎ ((slice_get (names_in v) i ≡ None) × (step ≡ index i))
 
--- the names are numbered as the steps to them
+-- the member names are in the order of the steps to them
 abbrev pub AreNames : View → Type 0
 AreNames v = (i : ℕ) (name : List ℕ) → slice_get (names_in v) i ≡ Some name → nth_part v i ≡ Some (key name)
 
--- no name of a member stands twice
+-- no two members have the same name
 abbrev pub AreApart : View → Type 0
 AreApart v =
     (i j : ℕ) → (name : List ℕ) → slice_get (names_in v) i ≡ Some name
     → slice_get (names_in v) j ≡ Some name → i ≡ j
 
--- the members of a table are keys
+-- the children of a table are reached by keys
 abbrev pub AreKeys : View → Type 0
 AreKeys (inline_table ms) = ms ≡ map key (key_names ms)
 AreKeys (table ms) = ms ≡ map key (key_names ms)
 AreKeys v = ⊤
 
--- members and elements stand below a node, and nothing else; it has at most 80 steps from the root
+-- the children of a node are those in its view and no others; it has at most 80 steps
 pub record IsWhole (d : Shown) (number : ℕ) : Type 0 where
   pub parts : (step : Step) → ((i : ℕ) → nth_part (view_numbered d number) i ≡ Some step → ⊥)
       → tree_of d (at (place_numbered d number) step) ≡ None
@@ -121,25 +121,26 @@ pub record IsWhole (d : Shown) (number : ℕ) : Type 0 where
   pub keys : AreKeys (view_numbered d number)
   pub short : length (place_numbered d number) ≤ 80
 
--- at a part of this number the same stands as where its step leads to from another node
+-- the trees at the child of this index and at the corresponding child of another node are equal
 abbrev pub SamePart : Shown → ℕ → Shown → ℕ → ℕ → Type 0
 SamePart d n e m i =
     (part : Step) → nth_part (view_numbered d n) i ≡ Some part
     → SameBelow d (at (place_numbered d n) part) e (at (place_numbered e m) part)
 
--- at each part of a node but one the same stands as where its step leads to from another node
+-- the trees at each child of a node, except the one at `step`, and at the corresponding child of another node
+-- are equal
 abbrev pub SamePartsBut : Step → Shown → ℕ → Shown → ℕ → Type 0
 SamePartsBut step d n e m =
     (i : ℕ) → (part : Step) → nth_part (view_numbered d n) i ≡ Some part → (part ≡ step → ⊥)
     → SameBelow d (at (place_numbered d n) part) e (at (place_numbered e m) part)
 
--- each name of a node's members is one of another node's members
+-- each member name of a node is a member name of another node
 abbrev pub HasNamesOf : Shown → ℕ → Shown → ℕ → Type 0
 HasNamesOf d n e m =
     (i : ℕ) → (name : List ℕ) → slice_get (names_in (view_numbered d n)) i ≡ Some name
     → tree_of e (at (place_numbered e m) (key name)) ≡ None → ⊥
 
--- the number of the node of a member or an element
+-- the index of the node of the child at an index
 abbrev pub NumbersPart : Shown → ℕ → ℕ → Option ℕ → Type 0
 NumbersPart d number i r =
     MatchOption r (nth_part (view_numbered d number) i ≡ None)

@@ -1,4 +1,4 @@
--- What a document keeps of its text, and what it shows.
+-- How a document is represented, and the view that contracts have of it.
 use Rattle.std.specs.Prelude.{◌≡◌, ℕ, List, [], ◌∷◌, length, map, slice_get, Option, Some, None, if◌then◌else◌, string_bytes}
 use Rattle.edit_syntax.specs.declared.span.Span.{Span}
 use Rattle.edit_document.specs.declared.document.Document.TheInside.{Inside}
@@ -18,7 +18,7 @@ use Rattle.edit_syntax.specs.FormOf.{form_of}
 use Rattle.edit_tree.specs.Walk.{start, walked}
 use Rattle.edit_tree.specs.Written.{Valued, values}
 
--- what a value shows, but for its members and elements
+-- the shape of a value, without its members and elements
 abbrev pub shape_of_value : Value → Shape
 shape_of_value (basic ps) = scalar (string (says quote ps))
 shape_of_value (literal text) = scalar (string text)
@@ -31,47 +31,47 @@ shape_of_value (datetime d) = scalar (moment (datetime_text d []))
 shape_of_value (array g es) = shapes.listed
 shape_of_value (inline g ms) = shapes.inline
 
--- ---- where values are written
+-- ---- positions of values
 
--- where a value is written that stands before this text
+-- the span of a value before this text
 abbrev pub span_of : Value → List ℕ → Span
 span_of v after = record { from = length (value v after); to = length after }
 
--- a place and the span of what is written there
+-- a place with the span of its value
 abbrev pub Placed : Type 0
 Placed = Place × Span
 
--- the place of a value, and where it is written
+-- the place of a value with its span
 abbrev pub placed : Valued → Placed
 placed w = (w.place, span_of w.value w.after)
 
--- the span of what is written at a place
+-- the span of the value at a place
 abbrev pub span_at : List Placed → Place → Option Span
 span_at [] place = None
 span_at (w ∷ ws) place = if same_place w.0 place then Some w.1 else span_at ws place
 
 -- ---- documents
 
--- the spots that the walk over the marks of a text makes
+-- the nodes that the walk over the tokens of a text builds
 abbrev pub spots_of : List ℕ → Option (List Spot)
 spots_of bytes = form_of bytes >>= λ form. walked bytes (text_marks form) start >>= λ st. Some st.spots
 
--- what spots show, or nothing where there are none
+-- the places and views of these nodes; empty where there are none
 abbrev pub nodes_by : Option (List Spot) → List (Place × View)
 nodes_by None = []
 nodes_by (Some spots) = map shown_spot spots
 
--- what a text shows, of which a range was written last
+-- the view of a document from its text and the range that the last edit wrote
 unfoldable pub shown_by : List ℕ → ℕ × ℕ → Shown
 shown_by bytes written =
     record { bytes = bytes; nodes = nodes_by (spots_of bytes); pieces = pieces_of bytes written }
 
--- what the text of a document shows
+-- the view of a document from its fields
 abbrev pub shown_of : Inside → Shown
 shown_of d = shown_by (string_bytes d.text) d.written
 
--- the text was read, and the nodes keep the spots of its
--- form, which show its tree and where its values are written
+-- the invariant of a document: its nodes are those of its text, with the tree of its syntax tree and the
+-- spans of its values
 pub record IsRead (d : Inside) : Type 0 where
   pub spots : List Spot
   pub found : spots_of (string_bytes d.text) ≡ Some spots

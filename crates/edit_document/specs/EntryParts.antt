@@ -1,4 +1,4 @@
--- A new entry as a document by itself, and its parts.
+-- A new entry as a document of its own, and its parts.
 use Rattle.std.specs.Prelude.{◌≡◌, true, false, not, List, [], ◌∷◌, ◌++◌, map, length, Option, is_some, option_map, string_bytes}
 use Rattle.std.specs.List.{filter_map, flat_map, range_with_len}
 use Rattle.std.proofs.Props.{props}
@@ -13,23 +13,23 @@ use Rattle.edit_tree.specs.NewItems.{NewValue, a_list, NewItem, a_value, a_table
 use Rattle.edit_document.specs.NewItemViews.{value_seen, pairs_seen, item_text}
 use Rattle.edit_tree.specs.Meant.{Tree, new_view, view_of_members, item_view}
 
--- ---- an entry by itself
+-- ---- an entry as a document
 
--- the places below a new value's own, its own first
+-- the places of a new value, relative to it; its own comes first
 abbrev pub value_places : NewValue → List Place
 value_places (a_list ss) = [] ∷ map (λ i. index i ∷ []) (range_with_len 0 (length ss))
 value_places v = [] ∷ []
 
--- the places of a new entry, its own first
+-- the places of a new entry, relative to it; its own comes first
 abbrev pub entry_places : NewItem → List Place
 entry_places (a_value v) = value_places v
 entry_places (a_table by_dots ms) = [] ∷ flat_map (λ m. map (λ q. key m.0 ∷ q) (value_places m.1)) ms
 
--- a place with what a tree shows there
+-- a place with its view in a tree, if there is one
 abbrev pub shown_place : Tree → Place → Option (Place × View)
 shown_place tree q = option_map (λ v. (q, v)) (tree q)
 
--- the entry as a document by itself: its text, and what it shows at each of its places
+-- the document that consists of the entry: its text, its places and their views
 unfoldable pub entry_shown : NewItem → Shown
 entry_shown item = record {
   bytes = item_text item;
@@ -39,21 +39,21 @@ entry_shown item = record {
 
 -- ---- parts
 
--- where a part stands
+-- the place of a part, relative to the entry
 abbrev pub part_place : Part → Place
 part_place Whole = []
 part_place (Member m) = key (string_bytes m.now.0) ∷ []
 part_place (Element v i) = index i ∷ []
 part_place (MemberElement m i) = key (string_bytes m.now.0) ∷ index i ∷ []
 
--- what a part of a new entry shows at this place below its own
+-- the tree of a part of a new entry; places are relative to the part
 abbrev pub part_view : NewItem → Part → Tree
 part_view item Whole q = item_view false item q
 part_view item (Member m) q = new_view (value_seen m.now.1) q
 part_view item (Element v i) q = new_view (value_seen v.now) (index i ∷ q)
 part_view item (MemberElement m i) q = new_view (value_seen m.now.1) (index i ∷ q)
 
--- it is a part of this entry: something stands there, and the entry shows there what the part shows
+-- it is a part of this entry: its place has an item, and the tree there is that of the part
 abbrev pub IsPart : NewItem → Part → Type 0
 IsPart item part =
     ((q : Place) → item_view false item (part_place part ++ q) ≡ part_view item part q)
@@ -62,9 +62,9 @@ IsPart item part =
 pub IsPart-prop : (item : NewItem) (part : Part) → IsProp (IsPart item part)
 IsPart-prop item part = hlevel props
 
--- ---- what is said
+-- ---- values of parts
 
--- what stands where this is said
+-- the view of a value of a part
 abbrev pub said_view : Said → View
 said_view (Text s) = string s.now
 said_view (Truth b) = truth b

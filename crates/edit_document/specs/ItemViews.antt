@@ -1,4 +1,4 @@
--- What a contract says of an `Item`: its document, its place, and what stands there.
+-- How contracts see an `Item`: its document, its place and its view.
 use Rattle.std.specs.Prelude.{◌≡◌, ℕ, List, drop, Option, Some, None, MatchOption}
 use Rattle.edit_document.specs.declared.item.Item.{Item}
 use Rattle.edit_document.specs.declared.item.Keys.{Keys}
@@ -14,49 +14,49 @@ use Rattle.edit_document.specs.Items.{viewed, place_numbered, names_in}
 
 -- ---- parts of new entries
 
--- the document that the entry of a part makes by itself
+-- the document that consists of the entry of a part
 abbrev pub entry_of : EntryPart → Shown
 entry_of p = entry_shown (item_seen p.item.now)
 
--- what stands at a part
+-- the view of a part
 abbrev pub part_shown : EntryPart → View
 part_shown p = viewed (tree_of (entry_of p) (part_place p.part))
 
--- the part of a place, or nothing where nothing stands
+-- the part at a place, or `None` where there is none
 abbrev pub FindsPart : Shown → Place → Option EntryPart → Type 0
 FindsPart d place r =
     MatchOption r (tree_of d place ≡ None) (λ p. (entry_of p ≡ d) × (part_place p.part ≡ place))
 
 -- ---- items
 
--- the document that a source is of
+-- the document of a source
 abbrev pub source_document : Source → Shown
 source_document (Node n) = n.document.now
 source_document (Part p) = entry_of p
 
--- the place of a source
+-- the place of a source in its document
 abbrev pub source_place : Source → Place
 source_place (Node n) = place_numbered n.document.now n.number
 source_place (Part p) = part_place p.part
 
--- the document of an item, or the one that its new entry makes by itself
+-- the document of an item; for a part of a new entry, the document that consists of the entry
 abbrev pub document_of : Item → Shown
 document_of i = source_document i.source
 
--- the place of an item
+-- the place of an item in its document
 abbrev pub place_of : Item → Place
 place_of i = source_place i.source
 
--- what stands at the item's place
+-- the view of an item
 abbrev pub view_of : Item → View
 view_of i = viewed (tree_of (document_of i) (place_of i))
 
--- the item of a place, with something that stands there, or nothing where nothing stands
+-- the item at a place, or `None` where there is none
 abbrev pub Finds : Shown → Place → Option Item → Type 0
 Finds d place r =
     MatchOption r (tree_of d place ≡ None) (λ i. (document_of i ≡ d) × (place_of i ≡ place)
     × (tree_of d place ≡ Some (view_of i)))
 
--- the names that are left
+-- the keys that an iterator has not returned yet
 abbrev pub keys_left : Keys → List (List ℕ)
 keys_left k = drop k.next (names_in (view_of k.item))

@@ -1,4 +1,4 @@
--- What the views of a document's places show.
+-- What the items of a document give to a caller, computed from their views.
 use Rattle.std.specs.Prelude.{◌≡◌, ℕ, ◌<◌, Bool, true, false, List, [], length, map, slice_get, unwrap_or, Option, Some, None, MatchOption, string_bytes, codes, ⊤}
 use Rattle.std.specs.List.{filter_map}
 use Rattle.edit_document.specs.declared.place.Step.{Step as WrittenStep}
@@ -11,48 +11,48 @@ use Rattle.edit_tree.specs.Shown.{Shown, tree_of}
 
 -- ---- places
 
--- the step that a step of the code stands for
+-- the model of a step of the code
 abbrev pub step_seen : WrittenStep → Step
 step_seen (Key name) = key (string_bytes name)
 step_seen (Index i) = index i
 
--- the place of a list of steps
+-- the model of a place of the code
 abbrev pub place_seen : List WrittenStep → Place
 place_seen steps = map step_seen steps
 
 -- ---- views
 
--- the view, and the empty table where there is none
+-- the view, or that of an empty table where there is none
 abbrev pub viewed : Option View → View
 viewed None = table []
 viewed (Some v) = v
 
--- what a string says, and nothing of anything else
+-- the decoded text of a string; none for other views
 abbrev pub string_in : View → Option (List ℕ)
 string_in (string bytes) = Some bytes
 string_in _ = None
 
--- the truth value of a boolean, and nothing of anything else
+-- the value of a boolean; none for other views
 abbrev pub truth_in : View → Option Bool
 truth_in (truth b) = Some b
 truth_in _ = None
 
--- the name of a step to a key
+-- the key of a step, if it has one
 abbrev pub name_of_step : Step → Option (List ℕ)
 name_of_step (key n) = Some n
 name_of_step (index i) = None
 
--- the names of the keys among a list of steps
+-- the keys among a list of steps
 abbrev pub key_names : List Step → List (List ℕ)
 key_names steps = filter_map name_of_step steps
 
--- the names of the members, in the order of their first assertions
+-- the names of the members, in the order of their first definitions
 abbrev pub names_in : View → List (List ℕ)
 names_in (inline_table members) = key_names members
 names_in (table members) = key_names members
 names_in _ = []
 
--- how many elements or members there are
+-- the number of elements or members
 abbrev pub count_in : View → ℕ
 count_in (static_array n) = n
 count_in (table_array n) = n
@@ -60,28 +60,28 @@ count_in (inline_table members) = length members
 count_in (table members) = length members
 count_in _ = 0
 
--- a string
+-- the view is that of a string
 abbrev pub is_string : View → Bool
 is_string (string bytes) = true
 is_string _ = false
 
--- an inline table
+-- the view is that of an inline table
 abbrev pub is_inline : View → Bool
 is_inline (inline_table members) = true
 is_inline _ = false
 
--- a table or an inline table
+-- the view is that of a table or an inline table
 abbrev pub is_tabular : View → Bool
 is_tabular (inline_table members) = true
 is_tabular (table members) = true
 is_tabular _ = false
 
--- an array that was written as a value
+-- the view is that of an array written as a value
 abbrev pub is_static_array : View → Bool
 is_static_array (static_array n) = true
 is_static_array _ = false
 
--- the name of what stands there (TOML 1.0.0: the types of values, "Table", "Array of Tables")
+-- the name of a view's type (TOML 1.0.0: the types of values, "Table", "Array of Tables")
 abbrev pub type_name_of : View → List ℕ
 type_name_of (string bytes) = codes "string"
 type_name_of (truth b) = codes "boolean"
@@ -93,17 +93,17 @@ type_name_of (table_array n) = codes "array of tables"
 type_name_of (inline_table members) = codes "inline table"
 type_name_of (table members) = codes "table"
 
--- ---- nodes by number
+-- ---- nodes by index
 
--- the place of the node of a number
+-- the place of the node at an index
 abbrev pub place_numbered : Shown → ℕ → Place
 place_numbered d n = (unwrap_or (slice_get d.nodes n) ([], table [])).0
 
--- what stands at the place of the node of a number
+-- the view of the node at an index
 abbrev pub view_numbered : Shown → ℕ → View
 view_numbered d n = viewed (tree_of d (place_numbered d n))
 
--- what a node shows
+-- the content that a node returns is that of the view
 abbrev pub Shows : View → Seen → Type 0
 Shows (string bytes) (seen.Text s) = s.now ≡ bytes
 Shows (truth b) (seen.Truth c) = c ≡ b
@@ -116,7 +116,7 @@ Shows (table members) seen.Table = ⊤
 Shows (table_array n) seen.Tables = ⊤
 Shows _ _ = ⊥
 
--- the number of the place, or nothing where nothing stands there
+-- the index of the node at a place, or `None` where there is no item
 abbrev pub Numbers : Shown → Place → Option ℕ → Type 0
 Numbers d place r = MatchOption r (tree_of d place
     ≡ None) (λ n. (tree_of d place ≡ Some (view_numbered d n)) × (place_numbered d n ≡ place)

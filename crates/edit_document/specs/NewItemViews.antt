@@ -1,4 +1,4 @@
--- What a contract sees of the new values and entries of the code.
+-- How contracts see the new values and entries of the code.
 use Rattle.std.specs.Prelude.{ℕ, ◌≤◌, Bool, false, ⊤, List, [], length, map, string_bytes}
 use Rattle.std.specs.declared.string.String.{String}
 use Rattle.std.specs.declared.alloc.Global.{Global}
@@ -10,35 +10,35 @@ use Rattle.edit_tree.specs.NewItems.{NewValue, a_string, a_truth, a_list, NewIte
 use Rattle.edit_tree.specs.Assertions.{Place}
 use Rattle.edit_syntax.specs.Grammar.{value}
 
--- a new value of the code
+-- the model of a `NewValue`
 abbrev pub value_seen : WrittenValue → NewValue
 value_seen (Str s) = a_string (string_bytes s)
 value_seen (Truth b) = a_truth b
 value_seen (Strings v) = a_list (map string_bytes v.items)
 
--- a name of the code with a new value
+-- the model of a name with a new value
 abbrev pub pair_seen : String Global × WrittenValue → List ℕ × NewValue
 pair_seen m = (string_bytes m.0, value_seen m.1)
 
--- names of the code, each with a new value
+-- the model of a list of names with new values
 abbrev pub pairs_seen : List (String Global × WrittenValue) → List (List ℕ × NewValue)
 pairs_seen members = map pair_seen members
 
--- a new entry of the code
+-- the model of a `NewItem`
 abbrev pub item_seen : WrittenItem → NewItem
 item_seen (Value v) = a_value (value_seen v)
 item_seen (Inline members dotted) = a_table dotted (pairs_seen members.items)
 
--- the text of an entry, which may stand behind a key and an equals sign
+-- the text of an entry written as a value
 abbrev pub item_text : NewItem → List ℕ
 item_text item = value (item_value item) []
 
--- it is written by a dotted key
+-- the entry is written as a dotted key
 abbrev pub is_dotted : NewItem → Bool
 is_dotted (a_value v) = false
 is_dotted (a_table by_dots ms) = by_dots
 
--- a list asserts places one step below its own, and no place has more than 80 steps
+-- no place of the new value has more than 80 steps: the elements of a list are one step below it
 abbrev pub HasRoom : Place → NewValue → Type 0
 HasRoom place (a_list ss) = length place ≤ 79
 HasRoom place v = ⊤

@@ -1,4 +1,4 @@
--- What a node's answer says of the statements that name its place.
+-- What a node decides about the statements that name its place.
 use Rattle.std.specs.Prelude.{◌≡◌, ℕ, true, false, List, [], ◌∷◌, length, Option, MatchOption}
 use Rattle.edit_syntax.specs.Grammar.{Text}
 use Rattle.edit_document.specs.declared.one_statement.Statements.{Statements}
@@ -9,13 +9,13 @@ use Rattle.edit_tree.specs.EditBytes.{is_one_statement}
 use Rattle.edit_document.specs.Items.{place_numbered, view_numbered, names_in}
 use Rattle.edit_tree.specs.Shown.{Shown}
 
--- the number is that of the only member of a node, or the node has none or several
+-- the index of the only member of a node; `None` where it has no member or several
 abbrev pub HasMember : Shown → ℕ → Option ℕ → Type 0
 HasMember d n r = MatchOption r (length (names_in (view_numbered d n)) ≡ 1 → ⊥)
     (λ m. (name : List ℕ) × (names_in (view_numbered d n) ≡ name ∷ [])
     × IsNumber d (at (place_numbered d n) (key name)) m)
 
--- one pair and no header; or none, several or a header; or the statements that name the only member
+-- one pair and no header name the node; or none, several or a header do; or those that name its only member
 abbrev pub Answers : Text → Shown → ℕ → Statements → Type 0
 Answers form d n One = is_one_statement form (place_numbered d n) ≡ true
 Answers form d n Other = is_one_statement form (place_numbered d n) ≡ false

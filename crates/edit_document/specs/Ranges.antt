@@ -1,4 +1,4 @@
--- Where a document tells that the value of a place is written.
+-- The ranges of values in the text of a document.
 use Rattle.std.specs.Prelude.{◌≡◌, ℕ, Bool, true, false, List, [], ◌∷◌, length, map, Option, MatchOption, string_bytes}
 use Rattle.std.specs.Global.{Vec}
 use Rattle.std.specs.List.{Contains}
@@ -12,16 +12,16 @@ use Rattle.edit_document.specs.Items.{place_seen}
 use Rattle.edit_tree.specs.Replaces.{Edits}
 use Rattle.edit_tree.specs.Written.{Valued, values, start_of, IsWrittenAt}
 
--- from where to where the value of the place is written, or nothing where no value is
+-- the range of the value at the place, or `None` where no value is written there
 abbrev pub HasRange : Text → Place → Option (ℕ × ℕ) → Type 0
 HasRange form place r = MatchOption r (is_value_at form place ≡ false) (λ p. IsWrittenAt form place p.0 p.1)
 
--- it is an inline table
+-- the value is an inline table
 abbrev pub is_table_value : Value → Bool
 is_table_value (inline g ms) = true
 is_table_value _ = false
 
--- the inline table of the place is written from a position on
+-- the inline table at the place begins at this offset
 pub record StartsTable (form : Text) (place : Place) (start : ℕ) : Type 0 where
   pub valued : Valued
   pub told : Contains (values form) valued
@@ -31,16 +31,16 @@ pub record StartsTable (form : Text) (place : Place) (start : ℕ) : Type 0 wher
   pub is : valued.value ≡ inline between all
   pub starts : start ≡ start_of (length (text form)) valued
 
--- from where on the inline table of the place is written, or nothing where none is
+-- the offset of the inline table at the place, or `None` where none is written there
 abbrev pub HasTable : Text → Place → Option ℕ → Type 0
 HasTable form place r =
     MatchOption r ((w : Valued) → Contains (values form) w → w.place ≡ place → is_table_value w.value ≡ false)
     (StartsTable form place)
 
--- places, each with the text to be written there
+-- the model of the code's places with their new texts
 abbrev pub edits_seen : List (Vec WrittenStep × String Global) → Edits
 edits_seen edits = map (λ e. (place_seen e.0.items, string_bytes e.1)) edits
 
--- one place, with the text to be written there
+-- the edit of one place
 abbrev pub one_edit : Place → List ℕ → Edits
 one_edit place text = (place, text) ∷ []

@@ -1,4 +1,4 @@
-//! What a node of a document is, by its number.
+//! What kind of item a node of a document is.
 ghost use Rattle.std.specs.Prelude.{◌≡◌, ◌<◌, [], length, option_map};
 ghost use Rattle.edit_syntax.specs.Grammar.{Text};
 ghost use Rattle.edit_document.specs.Compared.{IsWhole, kind_of, word_of};
@@ -11,7 +11,7 @@ ghost use Rattle.edit_tree.specs.Taking as taking;
 use crate::document::Document;
 use edit_tree::nodes::{Content, Taken, cut, words_in};
 
-/// Whether a place is taken by a value, or by a header of its own.
+/// Whether a node was defined by a value or by its own header, not only by keys that pass through it.
 fn is_own(taken: Taken) -> bool
     ensures { result ≡ taking.is_own taken }
 {
@@ -19,7 +19,7 @@ fn is_own(taken: Taken) -> bool
 }
 
 impl Document {
-    /// What kind of thing a node shows, as a number.
+    /// The kind of a node, as a number.
     pub fn kind(&self, number: usize) -> u8
         requires { number < length self.now.nodes }
         ensures { result ≡ kind_of (view_numbered self.now number) }
@@ -38,7 +38,7 @@ impl Document {
         }
     }
 
-    /// What a string says, or how a number, a date or a time is written.
+    /// The decoded text of a string, or a number, a date or a time as written.
     pub fn word(&self, number: usize) -> Option<&str>
         requires { number < length self.now.nodes }
         ensures { option_map (λ s. s.now) result ≡ word_of (view_numbered self.now number) }
@@ -57,8 +57,8 @@ impl Document {
         }
     }
 
-    /// For proofs: members and elements stand below a node, and nothing else; it has at most 80 steps from
-    /// the root. It does nothing.
+    /// For proofs: a node has only its members and elements below it, and lies at most 80 steps below the
+    /// root. Does nothing.
     pub fn is_whole(&self, number: usize)
         requires { number < length self.now.nodes }
         ensures { IsWhole self.now number }
@@ -67,7 +67,7 @@ impl Document {
         let _node = &self.nodes[number];
     }
 
-    /// Whether the place of a node is asserted by what names it.
+    /// Whether a node was defined by a pair or a header of its own, not only by keys that pass through it.
     pub fn is_named(&self, number: usize) -> bool
         requires here { number < length self.now.nodes }
         requires inner { place_numbered self.now number ≡ [] → ⊥ }

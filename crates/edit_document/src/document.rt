@@ -1,4 +1,4 @@
-//! A document: its text, and what stands at each place that a statement asserts.
+//! A document: its text and the tree of its items.
 ghost use Rattle.std.specs.Prelude.{◌≡◌, Some, None, ◌<◌, ◌≤◌, [], ◌++◌, IfOk, IfErr, MatchResult, string_bytes, length, map, slice_get, option_map};
 ghost use Rattle.edit_tree.specs.Assertions.{Place, at, key as key_step, index as index_step, IsDocument};
 ghost use Rattle.edit_base.specs.Errors.{IsMemory};
@@ -21,8 +21,8 @@ use std::alloc::Global;
 use std::fmt;
 use std::marker::Model;
 
-/// A document as it was written, and the range of its text that was written last. A contract sees its bytes,
-/// the places with what they show, and the pieces of the text.
+/// A document: the text, its nodes, and the range of the text that the last edit wrote. Contracts state its
+/// bytes, its tree, and the pieces of its text.
 #[derive(Drop)]
 pub struct Document {
     pub(crate) text: String,
@@ -42,7 +42,7 @@ impl Model for Document {
     ghost invariant = { IsRead };
 }
 
-/// What a node shows, but for its members.
+/// The content of a node as others see it, without its members.
 #[derive(Clone, Copy)]
 pub(crate) enum Seen<'a> {
     Text(&'a str),
@@ -57,13 +57,13 @@ pub(crate) enum Seen<'a> {
 }
 
 impl Document {
-    /// Reads a text. What is no document is refused, with a byte near which it goes wrong. A text of 4 GiB
-    /// or more is refused as if memory had run out, since ranges of the text are kept as `u32`.
+    /// Reads a text. `Error::NotToml` holds an offset near which the text is not TOML. A text of 4 GiB or
+    /// more fails with `Error::Memory`, since ranges of the text are stored as `u32`.
     pub fn read(alloc: Global, text: &str) -> CargoResult<Document>
         ensures bytes { IfOk result (λ d. d.bytes ≡ text.now) }
-        // What is read is a document, and shows its tree.
+        // A text that is read without an error is a document, and the result has its tree.
         ensures found { IfOk result (λ d. (form : Text) × IsDocument text.now form × ShowsTree d form) }
-        // Whatever is a document is read, in whichever way the text was split, unless memory runs out.
+        // Every text that is a document is read, whichever form it is spelled from, unless memory runs out.
         ensures only { IfDocument text.now (λ form. MatchResult result (λ d. ShowsTree d form) IsMemory) }
         ensures pieces { IfOk result (λ d. length d.pieces ≤ 1) }
         ensures refused { IfErr result (IsReadRefusal (length text.now)) }
@@ -80,14 +80,14 @@ impl Document {
         })
     }
 
-    /// The text, with the edits so far.
+    /// The text, with all edits so far.
     pub fn as_str(&self) -> &str
         ensures { result.now ≡ self.now.bytes }
     {
         self.text.as_str()
     }
 
-    /// What the node of a number shows.
+    /// The content of the node at an index.
     pub(crate) fn seen(&self, number: usize) -> Seen<'_>
         requires { number < length self.now.nodes }
         ensures { Shows (view_numbered self.now number) result }
@@ -106,7 +106,7 @@ impl Document {
         }
     }
 
-    /// How many members or elements a node has.
+    /// The number of members or elements of a node.
     pub fn member_count(&self, number: usize) -> usize
         requires { number < length self.now.nodes }
         ensures { result ≡ count_in (view_numbered self.now number) }
@@ -123,7 +123,7 @@ impl Document {
         }
     }
 
-    /// How many names of members a node has.
+    /// The number of keys of a node; 0 where it is not a table.
     pub fn name_count(&self, number: usize) -> usize
         requires { number < length self.now.nodes }
         ensures { result ≡ length (names_in (view_numbered self.now number)) }
@@ -141,7 +141,7 @@ impl Document {
         }
     }
 
-    /// The name of a member of a node.
+    /// The key at an index of a node.
     pub fn member_name(&self, number: usize, index: usize) -> Option<&str>
         requires { number < length self.now.nodes }
         ensures { option_map (λ s. s.now) result
@@ -160,7 +160,7 @@ impl Document {
         }
     }
 
-    /// The number of a member of a node.
+    /// The node of the member of this key.
     pub fn member(&self, number: usize, key: &str) -> Option<usize>
         requires { number < length self.now.nodes }
         ensures { Numbers self.now (at (place_numbered self.now number) (key_step key.now)) result }
@@ -169,7 +169,7 @@ impl Document {
         node.members.get(self.text.as_str(), key)
     }
 
-    /// A node stands at its place.
+    /// For proofs: a place exists where the node is. Does nothing.
     pub fn stands(&self, number: usize)
         requires { number < length self.now.nodes }
         ensures { tree_of self.now (place_numbered self.now number) ≡ Some (view_numbered self.now number) }
@@ -177,7 +177,7 @@ impl Document {
         let _node = &self.nodes[number];
     }
 
-    /// The number of an element of a node.
+    /// The node of the element at an index.
     pub fn element(&self, number: usize, index: usize) -> Option<usize>
         requires { number < length self.now.nodes }
         ensures { Numbers self.now (at (place_numbered self.now number) (index_step index)) result }
@@ -186,7 +186,7 @@ impl Document {
         node.members.elements().get(index).copied()
     }
 
-    /// Nothing stands below a place where nothing stands, and the root stands first.
+    /// For proofs: the root exists, and nothing exists below a place that does not exist. Does nothing.
     pub fn is_tree(&self)
         ensures root { (0 < length self.now.nodes) × (place_numbered self.now 0 ≡ []) }
         ensures below { (place more : Place) → tree_of self.now place ≡ None
@@ -195,7 +195,7 @@ impl Document {
         let _nodes = &self.nodes;
     }
 
-    /// The number of the node of a place.
+    /// The index of the node at a place.
     pub fn number(&self, place: &[Step]) -> Option<usize>
         ensures { Numbers self.now (place_seen place.now) result }
     {
@@ -211,8 +211,8 @@ impl Document {
         Some(number)
     }
 
-    /// For proofs: the text is a document, and shows the tree of each form that it has. It does nothing,
-    /// and a caller that is lent a document calls it to know these two.
+    /// For proofs: the text is a document, and its tree is that of each form the text has. Does nothing;
+    /// callers with a borrowed document call it to learn these two facts.
     pub fn has_form(&self)
         ensures some { (form : Text) × IsDocument self.now.bytes form }
         ensures shows { IfDocument self.now.bytes (λ form. ShowsTree self.now form) }
@@ -220,7 +220,7 @@ impl Document {
         let _nodes = &self.nodes;
     }
 
-    /// Where the value of a place is written, from its first byte to its end, or `None` where no value is.
+    /// The byte range of the value at a place, or `None` where no value is written there.
     pub fn value_range(&self, place: &[Step]) -> Option<(usize, usize)>
         ensures { IfDocument self.now.bytes (λ form. HasRange form (place_seen place.now) result) }
     {
@@ -233,7 +233,7 @@ impl Document {
         ))
     }
 
-    /// What stands at a place.
+    /// The item at a place.
     pub fn item(&self, place: &[Step]) -> Option<Item<'_>>
         ensures { Finds self.now (place_seen place.now) result }
     {
@@ -243,14 +243,14 @@ impl Document {
         }
     }
 
-    /// What a document shows follows from its text.
+    /// For proofs: the tree of a document is determined by its text.
     fn shows_text(&self)
         ensures { self.now.nodes ≡ nodes_by (spots_of self.now.bytes) }
     {
         let _nodes = &self.nodes;
     }
 
-    /// A document of the same text, which shows the same and is kept in the same pieces.
+    /// A copy with the same text, tree and pieces.
     pub fn try_clone(&self, alloc: Global) -> CargoResult<Document>
         ensures same { IfOk result (λ d. d ≡ self.now) }
         ensures refused { IfErr result IsMemory }
@@ -262,7 +262,7 @@ impl Document {
         Ok(copy.with_pieces_of(self))
     }
 
-    /// The text, with the edits so far.
+    /// A copy of the text, with all edits so far.
     pub fn text(&self, alloc: Global) -> CargoResult<String>
         ensures text { IfOk result (λ s. string_bytes s ≡ self.now.bytes) }
         ensures refused { IfErr result IsMemory }

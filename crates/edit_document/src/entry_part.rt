@@ -1,4 +1,4 @@
-//! The parts of a new entry, and what stands at them. None of these calls takes memory.
+//! The parts of a new entry, as items that can be read before the entry is written. No call here allocates.
 ghost use Rattle.std.specs.Prelude.{◌≡◌, find, map, option_map, slice_get, string_bytes};
 ghost use Rattle.edit_tree.specs.Assertions.{same_bytes};
 ghost use Rattle.edit_document.specs.EntryParts.{IsPart, IsPart-prop};
@@ -7,30 +7,30 @@ ghost use Rattle.edit_document.specs.NewItemViews.{item_seen, pair_seen, pairs_s
 use crate::document::Seen;
 use crate::new_item::{NewItem, NewValue};
 
-/// A part of a new entry.
+/// The path from a new entry to one of its parts.
 #[derive(Clone, Copy, Debug)]
 pub(crate) enum Part<'a> {
     /// The entry itself.
     Whole,
     /// A member of a table.
     Member(&'a (String, NewValue)),
-    /// An element of the entry, which is this list.
+    /// An element of the entry, which is a list.
     Element(&'a NewValue, usize),
-    /// An element of a member, which is a list.
+    /// An element of a member that is a list.
     MemberElement(&'a (String, NewValue), usize),
 }
 
-/// What a new entry or a part of it says.
+/// The value of a new entry or of one of its parts.
 #[derive(Clone, Copy)]
 pub(crate) enum Said<'a> {
     Text(&'a str),
     Truth(bool),
     List(&'a [String]),
-    /// Members, and whether they are written by a dotted key.
+    /// The members of a table, and whether it is written as a dotted key.
     Members(&'a [(String, NewValue)], bool),
 }
 
-/// A part of a new entry, in which something stands. Of members of the same name the first alone is one.
+/// A part of a new entry that exists. Of several members of the same name, only the first is a part.
 #[derive(Clone, Copy, Debug)]
 pub(crate) struct EntryPart<'a> {
     item: &'a NewItem,
@@ -46,7 +46,7 @@ impl<'a> Said<'a> {
     ghost use Rattle.edit_document.specs.NewItemViews.{value_seen};
     ghost use Rattle.edit_tree.specs.Tree.{string};
 
-    /// What a new value says.
+    /// The value of a `NewValue`.
     fn value(value: &'a NewValue) -> Said<'a>
         ensures { new_view (value_seen value.now) [] ≡ Some (said_view result) }
     {
@@ -57,7 +57,7 @@ impl<'a> Said<'a> {
         }
     }
 
-    /// What a new entry says.
+    /// The value of a `NewItem`.
     fn entry(item: &'a NewItem) -> Said<'a>
         ensures { item_view false (item_seen item.now) [] ≡ Some (said_view result) }
     {
@@ -67,7 +67,7 @@ impl<'a> Said<'a> {
         }
     }
 
-    /// The text of an element of a value, where it is a list with so many.
+    /// The string at an index, where the value is a list that has it.
     fn text(value: &'a NewValue, index: usize) -> Option<&'a str>
         ensures { option_map (λ s. string s.now) result
             ≡ new_view (value_seen value.now) (index_step index ∷ []) }
@@ -82,7 +82,7 @@ impl<'a> Said<'a> {
     }
 }
 
-/// The first member of a name.
+/// The first member of this name.
 fn named<'a>(members: &'a [(String, NewValue)], name: &str) -> Option<&'a (String, NewValue)>
     ensures { option_map (λ m. pair_seen m.now) result
         ≡ find (λ m. same_bytes m.0 name.now) (pairs_seen members.now) }
@@ -95,7 +95,7 @@ fn named<'a>(members: &'a [(String, NewValue)], name: &str) -> Option<&'a (Strin
     None
 }
 
-/// The name of the member that comes behind so many others.
+/// The name of the member at an index.
 fn nth_name<'a>(members: &'a [(String, NewValue)], index: usize) -> Option<&'a str>
     ensures { option_map (λ s. s.now) result ≡ slice_get (map (λ m. m.0) (pairs_seen members.now)) index }
 {
@@ -118,7 +118,7 @@ impl<'a> EntryPart<'a> {
     ghost use Rattle.edit_document.specs.Items.{Shows, count_in, names_in};
     ghost use Rattle.edit_tree.specs.Shown.{tree_of};
 
-    /// The entry itself.
+    /// The entry itself as a part.
     pub(crate) fn whole(item: &'a NewItem) -> EntryPart<'a>
         ensures { (result.item.now ≡ item.now) × (part_place result.part ≡ []) }
     {
@@ -128,7 +128,7 @@ impl<'a> EntryPart<'a> {
         }
     }
 
-    /// What is said at the part.
+    /// The value of the part.
     fn said(self) -> Said<'a>
         ensures { part_shown self.entry ≡ said_view result }
     {
@@ -140,14 +140,14 @@ impl<'a> EntryPart<'a> {
         }
     }
 
-    /// Something stands at the place of a part.
+    /// For proofs: the part exists. Does nothing.
     pub(crate) fn stands(self)
         ensures { tree_of (entry_of self.entry) (part_place self.entry.part) ≡ Some (part_shown self.entry) }
     {
         let _part = self.part;
     }
 
-    /// What stands at the part, but for its members.
+    /// The content of the part, without its members.
     pub(crate) fn seen(self) -> Seen<'a>
         ensures { Shows (part_shown self.entry) result }
     {
@@ -159,7 +159,7 @@ impl<'a> EntryPart<'a> {
         }
     }
 
-    /// How many members or elements there are.
+    /// The number of members or elements.
     pub(crate) fn count(self) -> usize
         ensures { result ≡ count_in (part_shown self.entry) }
     {
@@ -170,7 +170,7 @@ impl<'a> EntryPart<'a> {
         }
     }
 
-    /// How many names of members there are.
+    /// The number of member names; 0 where the part is not a table.
     pub(crate) fn name_count(self) -> usize
         ensures { result ≡ length (names_in (part_shown self.entry)) }
     {
@@ -180,7 +180,7 @@ impl<'a> EntryPart<'a> {
         }
     }
 
-    /// The name of a member.
+    /// The name of the member at an index.
     pub(crate) fn name(self, index: usize) -> Option<&'a str>
         ensures { option_map (λ s. s.now) result ≡ slice_get (names_in (part_shown self.entry)) index }
     {
@@ -190,7 +190,7 @@ impl<'a> EntryPart<'a> {
         }
     }
 
-    /// The member of a name. The few members of an entry are looked through one by one.
+    /// The member of this name, found by linear search.
     pub(crate) fn member(self, name: &str) -> Option<EntryPart<'a>>
         ensures { FindsPart (entry_of self.entry)
             (at (part_place self.entry.part) (key_step name.now)) result }
@@ -213,7 +213,7 @@ impl<'a> EntryPart<'a> {
         }
     }
 
-    /// An element of a list.
+    /// The element of a list at an index.
     pub(crate) fn element(self, index: usize) -> Option<EntryPart<'a>>
         ensures { FindsPart (entry_of self.entry)
             (at (part_place self.entry.part) (index_step index)) result }

@@ -1,10 +1,10 @@
-//! Views of the places of a document. None of these calls takes memory.
+//! Read-only views of the items of a document. No call here allocates.
 ghost use Rattle.std.specs.Prelude.{◌<◌, length};
 
 use crate::document::{Document, Seen};
 use crate::entry_part::EntryPart;
 
-/// A node of a document, by its number.
+/// A node of a document, by its index.
 #[derive(Clone, Copy, Debug)]
 struct NodeOf<'a> {
     document: &'a Document,
@@ -12,14 +12,14 @@ struct NodeOf<'a> {
     ghost numbered: { number < length document.now.nodes },
 }
 
-/// Where an item stands: at a node of a document, or at a part of a new entry.
+/// Where an item comes from: a node of a document, or a part of a new entry.
 #[derive(Clone, Copy, Debug)]
 enum Source<'a> {
     Node(NodeOf<'a>),
     Part(EntryPart<'a>),
 }
 
-/// A view of what stands at a place of a document, or of a new entry.
+/// A view of an item of a document or of a new entry.
 #[derive(Clone, Copy, Debug)]
 pub struct Item<'a> {
     source: Source<'a>,
@@ -30,7 +30,7 @@ impl<'a> NodeOf<'a> {
     ghost use Rattle.edit_document.specs.Items.{place_numbered};
     ghost use Rattle.edit_document.specs.ItemViews.{Finds};
 
-    /// The member of a table.
+    /// The member of a table under this key.
     fn member(self, key: &str) -> Option<Item<'a>>
         ensures { Finds self.entry.document.now
             (below (place_numbered self.entry.document.now self.entry.number) (key_step key.now)) result }
@@ -42,7 +42,7 @@ impl<'a> NodeOf<'a> {
         }
     }
 
-    /// The element of an array.
+    /// The element of an array at an index.
     fn element(self, index: usize) -> Option<Item<'a>>
         ensures { Finds self.entry.document.now
             (below (place_numbered self.entry.document.now self.entry.number) (index_step index)) result }
@@ -85,7 +85,7 @@ impl<'a> Item<'a> {
         }
     }
 
-    /// The item of the part of a new entry that was found, if there is one.
+    /// The item of a part of a new entry, if the part was found.
     fn of_found(part: Option<EntryPart<'a>>) -> Option<Item<'a>>
         ensures { (d : Shown) → (place : Place) → FindsPart d place part.entry → Finds d place result }
     {
@@ -98,7 +98,7 @@ impl<'a> Item<'a> {
         }
     }
 
-    /// Something stands at the place of an item.
+    /// For proofs: the place of the item exists. Does nothing.
     pub fn stands(self)
         ensures { tree_of (document_of self.entry) (place_of self.entry) ≡ Some (view_of self.entry) }
     {
@@ -108,7 +108,7 @@ impl<'a> Item<'a> {
         }
     }
 
-    /// What stands at the item's place, but for its members.
+    /// The content of the item, without its members.
     fn seen(self) -> Seen<'a>
         ensures { Shows (view_of self.entry) result }
     {
@@ -118,7 +118,7 @@ impl<'a> Item<'a> {
         }
     }
 
-    /// A string, after escapes.
+    /// The decoded text, if this is a string.
     pub fn as_str(self) -> Option<&'a str>
         ensures { option_map (λ s. s.now) result ≡ string_in (view_of self.entry) }
     {
@@ -129,7 +129,7 @@ impl<'a> Item<'a> {
         }
     }
 
-    /// A boolean.
+    /// The boolean, if this is one.
     pub fn as_bool(self) -> Option<bool>
         ensures { result ≡ truth_in (view_of self.entry) }
     {
@@ -140,7 +140,7 @@ impl<'a> Item<'a> {
         }
     }
 
-    /// The item itself, where it is an array that was written as a value.
+    /// The item itself, if it is an array written as a value (not an array of tables).
     pub fn as_array(self) -> Option<Item<'a>>
         ensures { MatchOption result (is_static_array (view_of self.entry) ≡ false)
             (λ i. (is_static_array (view_of self.entry) ≡ true)
@@ -153,7 +153,7 @@ impl<'a> Item<'a> {
         }
     }
 
-    /// The member of a table.
+    /// The member of a table under this key.
     pub fn get(self, key: &str) -> Option<Item<'a>>
         ensures { Finds (document_of self.entry) (below (place_of self.entry) (key_step key.now)) result }
     {
@@ -163,7 +163,7 @@ impl<'a> Item<'a> {
         }
     }
 
-    /// The element of an array.
+    /// The element of an array at an index.
     pub fn at(self, index: usize) -> Option<Item<'a>>
         ensures { Finds (document_of self.entry) (below (place_of self.entry) (index_step index)) result }
     {
@@ -173,7 +173,7 @@ impl<'a> Item<'a> {
         }
     }
 
-    /// How many members or elements there are.
+    /// The number of members or elements.
     pub fn len(self) -> usize
         ensures { result ≡ count_in (view_of self.entry) }
     {
@@ -183,7 +183,7 @@ impl<'a> Item<'a> {
         }
     }
 
-    /// The keys of a table, in the order of their first statements.
+    /// The keys of a table, in the order in which they are defined.
     pub fn keys(self) -> Keys<'a>
         ensures { keys_left result ≡ names_in (view_of self.entry) }
     {
@@ -193,7 +193,7 @@ impl<'a> Item<'a> {
         }
     }
 
-    /// How many keys there are.
+    /// The number of keys.
     fn name_count(self) -> usize
         ensures { result ≡ length (names_in (view_of self.entry)) }
     {
@@ -203,7 +203,7 @@ impl<'a> Item<'a> {
         }
     }
 
-    /// The key that comes behind so many others.
+    /// The key at an index.
     fn name(self, index: usize) -> Option<&'a str>
         ensures { option_map (λ s. s.now) result ≡ slice_get (names_in (view_of self.entry)) index }
     {
@@ -246,8 +246,8 @@ impl<'a> Item<'a> {
         }
     }
 
-    /// One of `string`, `integer`, `float`, `boolean`, `datetime`, `array`, `inline table`, `table` and
-    /// `array of tables`.
+    /// The name of the item's type: `string`, `integer`, `float`, `boolean`, `datetime`, `array`, `inline
+    /// table`, `table` or `array of tables`.
     pub fn type_name(self) -> &'static str
         ensures { result.now ≡ type_name_of (view_of self.entry) }
     {
@@ -265,7 +265,7 @@ impl<'a> Item<'a> {
     }
 }
 
-/// The keys of a table that are left.
+/// An iterator over the keys of a table.
 #[derive(Debug, Drop)]
 pub struct Keys<'a> {
     item: Item<'a>,

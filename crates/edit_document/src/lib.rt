@@ -1,5 +1,5 @@
-//! The lossless manifest document: its tree, its items, and literals written in the place of its values. Other edits
-//! are in `edit_changes`.
+//! The lossless manifest document: its tree, its items, and the replacement of values by string literals.
+//! Other edits are in `edit_changes`.
 #![tactic(auto)]
 
 mod content;

@@ -1,10 +1,10 @@
-//! The string literal of a text.
+//! Writes string literals (TOML 1.0.0, "String").
 ghost use Rattle.std.specs.Prelude.{◌≡◌, ◌<◌, ◌++◌, true, string_bytes, OnOk};
 ghost use Rattle.edit_tree.specs.Literals.{hex_digit as digit_of, escaped, is_escaped, literal_body, literal_bytes};
 
 use std::alloc::AllocError;
 
-/// Appends the literal of `text`: the text between quotes, with escapes for what a basic string cannot hold.
+/// Appends `text` as a basic string, with escapes where they are needed.
 pub(crate) fn push_literal(out: &mut String, text: &str) -> Result<(), AllocError>
     ensures { OnOk result (string_bytes out.new ≡ string_bytes out.old ++ literal_bytes text.now) }
 {
@@ -13,7 +13,7 @@ pub(crate) fn push_literal(out: &mut String, text: &str) -> Result<(), AllocErro
     out.push('"')
 }
 
-/// Appends what stands between the quotes.
+/// Appends the content of a basic string, without its quotes.
 fn push_body(out: &mut String, text: &str) -> Result<(), AllocError>
     ensures { OnOk result (string_bytes out.new ≡ string_bytes out.old ++ literal_body text.now) }
 {
@@ -30,14 +30,14 @@ fn push_body(out: &mut String, text: &str) -> Result<(), AllocError>
     out.push_str(&text[start..])
 }
 
-/// Whether a basic string cannot hold a byte as it is.
+/// Whether a byte has to be escaped in a basic string.
 fn needs_escape(byte: u8) -> bool
     ensures { result ≡ is_escaped byte }
 {
     byte < 32 || byte == 127 || byte == b'"' || byte == b'\\'
 }
 
-/// Appends the escape of a byte that needs one.
+/// Appends the escape for a byte that has to be escaped.
 fn push_escape(out: &mut String, byte: u8) -> Result<(), AllocError>
     requires { is_escaped byte ≡ true }
     ensures { OnOk result (string_bytes out.new ≡ string_bytes out.old ++ escaped byte) }
@@ -58,7 +58,7 @@ fn push_escape(out: &mut String, byte: u8) -> Result<(), AllocError>
     }
 }
 
-/// The hexadecimal digit of a number below sixteen.
+/// The hexadecimal digit of a number below 16.
 fn hex_digit(digit: u8) -> char
     requires { digit < 16 }
     ensures value { result ≡ digit_of digit }

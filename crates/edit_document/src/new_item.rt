@@ -1,4 +1,4 @@
-//! New values and entries, and how they are written.
+//! New values and new entries, and how they are written.
 ghost use Rattle.std.specs.Prelude.{◌≡◌, [], ◌++◌, false, IfOk, IfErr, OnOk, map, string_bytes};
 ghost use Rattle.std.specs.List.{list_all};
 ghost use Rattle.edit_base.specs.Errors.{IsMemory};
@@ -26,8 +26,8 @@ pub enum NewValue {
     Strings(Vec<String>),
 }
 
-/// A new entry: a value, or a table of values by their names, in the order in which they are written. A
-/// dotted table is the one member `workspace`, true, to be written behind a key as `.workspace = true`.
+/// A new entry: a value, or an inline table of values in the order in which they are written. A dotted entry
+/// has the one member `workspace = true` and is written as `.workspace = true` behind its key.
 #[derive(Debug, Drop)]
 pub enum NewItem {
     Value(NewValue),
@@ -38,7 +38,7 @@ pub enum NewItem {
 }
 
 impl NewItem {
-    /// The entry as an item, which can be read before it is written: one by a dotted key is a table.
+    /// The entry as an item, to be read before it is written; a dotted entry is a table.
     pub fn view(&self) -> Item<'_>
         ensures document { (q : Place) →
             tree_of (document_of result) q ≡ item_view false (item_seen self.now) q }
@@ -47,7 +47,8 @@ impl NewItem {
         Item::of_part(EntryPart::whole(self))
     }
 
-    /// The entry as a value: a literal, `{ k = v, k = v }`, or `{}` (TOML 1.0.0, "Keys" to "Inline Table").
+    /// The entry written as a value: a literal, `{ k = v, k = v }`, or `{}` (TOML 1.0.0, "Keys" to "Inline
+    /// Table").
     pub fn text(&self, alloc: Global) -> CargoResult<String>
         ensures text { IfOk result (λ s. string_bytes s ≡ item_text (item_seen self.now)) }
         ensures refused { IfErr result IsMemory }
@@ -57,7 +58,7 @@ impl NewItem {
         Ok(out)
     }
 
-    /// Whether it is to be written by a dotted key.
+    /// Whether the entry is written as a dotted key.
     fn is_dotted(&self) -> bool
         ensures { result ≡ is_dotted (item_seen self.now) }
     {
@@ -68,7 +69,7 @@ impl NewItem {
     }
 }
 
-/// Appends what stands behind the key of an entry: ` = ` and the entry as a value, or `.workspace = true`.
+/// Appends what follows the key of an entry: ` = ` and the entry as a value, or `.workspace = true`.
 pub fn push_entry(out: &mut String, item: &NewItem) -> Result<(), AllocError>
     ensures { OnOk result (string_bytes out.new
         ≡ string_bytes out.old ++ new_entry (item_seen item.now) []) }
@@ -81,7 +82,7 @@ pub fn push_entry(out: &mut String, item: &NewItem) -> Result<(), AllocError>
     }
 }
 
-/// Appends an entry as a value.
+/// Appends an entry written as a value.
 fn push_item(out: &mut String, item: &NewItem) -> Result<(), AllocError>
     ensures { OnOk result (string_bytes out.new ≡ string_bytes out.old ++ item_text (item_seen item.now)) }
 {
@@ -91,7 +92,7 @@ fn push_item(out: &mut String, item: &NewItem) -> Result<(), AllocError>
     }
 }
 
-/// Appends the literal of a value.
+/// Appends a value as a literal.
 pub fn push_value(out: &mut String, value: &NewValue) -> Result<(), AllocError>
     ensures { OnOk result (string_bytes out.new
         ≡ string_bytes out.old ++ value_text (new_value (value_seen value.now)) []) }
@@ -103,7 +104,7 @@ pub fn push_value(out: &mut String, value: &NewValue) -> Result<(), AllocError>
     }
 }
 
-/// Appends `[`, literals joined by `, `, and `]`.
+/// Appends a list: `[`, its literals joined by `, `, and `]`.
 fn push_list(out: &mut String, list: &[String]) -> Result<(), AllocError>
     ensures { OnOk result (string_bytes out.new
         ≡ string_bytes out.old ++ value_text (new_value (a_list (map string_bytes list.now))) []) }
@@ -120,7 +121,7 @@ fn push_list(out: &mut String, list: &[String]) -> Result<(), AllocError>
     out.push_str("]")
 }
 
-/// Appends `{ k = v, k = v }`, or `{}` where there is no member.
+/// Appends an inline table: `{ k = v, k = v }`, or `{}` where it has no member.
 fn push_table(out: &mut String, members: &[(String, NewValue)]) -> Result<(), AllocError>
     ensures { OnOk result (string_bytes out.new
         ≡ string_bytes out.old ++ value_text (new_table (pairs_seen members.now)) []) }
@@ -137,7 +138,7 @@ fn push_table(out: &mut String, members: &[(String, NewValue)]) -> Result<(), Al
     out.push_str(" }")
 }
 
-/// Appends a name, ` = ` and a literal.
+/// Appends a pair of an inline table: its key, ` = ` and its literal.
 pub(crate) fn push_pair(out: &mut String, member: &(String, NewValue)) -> Result<(), AllocError>
     ensures { OnOk result (string_bytes out.new
         ≡ string_bytes out.old ++ new_pair (string_bytes member.now.0) (value_seen member.now.1) []) }
@@ -145,7 +146,7 @@ pub(crate) fn push_pair(out: &mut String, member: &(String, NewValue)) -> Result
     push_member(out, member.0.as_str(), &member.1)
 }
 
-/// Appends a name, ` = ` and a literal.
+/// Appends a pair: a key, ` = ` and a literal.
 pub fn push_member(out: &mut String, name: &str, value: &NewValue) -> Result<(), AllocError>
     ensures { OnOk result (string_bytes out.new
         ≡ string_bytes out.old ++ new_pair name.now (value_seen value.now) []) }
@@ -155,7 +156,7 @@ pub fn push_member(out: &mut String, name: &str, value: &NewValue) -> Result<(),
     push_value(out, value)
 }
 
-/// Appends a key: bare where it can be, else a string literal.
+/// Appends a key: bare where it can be, else as a basic string.
 pub(crate) fn push_key(out: &mut String, name: &str) -> Result<(), AllocError>
     ensures { OnOk result (string_bytes out.new ≡ string_bytes out.old ++ key_text (new_key name.now) []) }
 {
@@ -166,14 +167,14 @@ pub(crate) fn push_key(out: &mut String, name: &str) -> Result<(), AllocError>
     }
 }
 
-/// Whether each byte may stand in a bare key.
+/// Whether each byte of a name may be part of a bare key.
 fn is_bare(name: &str) -> bool
     ensures { result ≡ list_all characters.is_bare name.now }
 {
     name.as_bytes().iter().all(|byte| is_bare_byte(*byte))
 }
 
-/// Whether a bare key may hold this byte.
+/// Whether a byte may be part of a bare key.
 fn is_bare_byte(b: u8) -> bool
     ensures { result ≡ characters.is_bare b }
 {

@@ -1,4 +1,4 @@
-//! Places that one statement alone names.
+//! Finds out whether exactly one statement names a place.
 ghost use Rattle.std.specs.Prelude.{◌≡◌, ◌<◌, ℕ, List, true, false, length};
 ghost use Rattle.edit_syntax.specs.Grammar.{Text};
 ghost use Rattle.edit_tree.specs.Assertions.{IsDocument, Place, at, key as key_step};
@@ -11,18 +11,18 @@ use crate::document::Document;
 use crate::place::Step;
 use edit_tree::nodes::Taken;
 
-/// What a node tells of the statements that name its place.
+/// How many statements name the place of a node, as far as the node itself tells.
 #[derive(Clone, Copy)]
 pub(crate) enum Statements {
-    /// One pair, and no header.
+    /// Exactly one pair, and no header.
     One,
-    /// None, several, or a header.
+    /// No pair, several pairs, or a header.
     Other,
-    /// The same as those of its only member.
+    /// Those that name its only member.
     AsMember(usize),
 }
 
-/// Whether a place is that of a member of a table.
+/// Whether a place is not the root and ends with a key.
 fn is_member(place: &[Step]) -> bool
     ensures yes { result ≡ true → (upper : Place) × (name : List ℕ)
         × (place_seen place.now ≡ at upper (key_step name)) }
@@ -39,7 +39,7 @@ fn is_member(place: &[Step]) -> bool
 }
 
 impl Document {
-    /// The number of the member of a node that has no other.
+    /// The index of the only member of a node, where it has exactly one.
     fn only_member(&self, number: usize) -> Option<usize>
         requires { number < length self.now.nodes }
         ensures { HasMember self.now number result }
@@ -54,7 +54,7 @@ impl Document {
         }
     }
 
-    /// How the statements stand that name the place of a node that is a member.
+    /// How many statements name the place of a node that is a table's member.
     fn statements(&self, number: usize) -> Statements
         requires { number < length self.now.nodes }
         ensures { (form : Text) → (upper : Place) → (name : List ℕ) → IsDocument self.now.bytes form
@@ -76,8 +76,8 @@ impl Document {
         }
     }
 
-    /// Whether exactly one pair names a place by some part of its key, and no header does. The root and an
-    /// element of an array are named by no pair. It takes no memory.
+    /// Whether exactly one pair has a key that leads to or through the place, and no header does. False for
+    /// the root and for elements of arrays. Does not allocate.
     pub fn one_statement(&self, place: &[Step]) -> bool
         ensures { IfDocument self.now.bytes (λ form. result ≡ is_one_statement form (place_seen place.now)) }
     {

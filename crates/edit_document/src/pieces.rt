@@ -1,18 +1,19 @@
-//! The pieces that a document keeps its text in: what was written last, what stands before it, what behind.
+//! The pieces of a document's text: the text before the last edit, the range that it wrote, and the text
+//! after it.
 ghost use Rattle.std.specs.Prelude.{◌≡◌, ℕ, List, length, slice_get, option_map};
 ghost use Rattle.std.specs.List.{concat};
 ghost use Rattle.edit_tree.specs.Pieces.{some_text, pieces_of, IsRange};
 
 use crate::document::Document;
 
-/// How many pieces a text alone is: one, or none where it is empty.
+/// The number of pieces of a text that is not split: 1, or 0 where it is empty.
 fn count_of(text: &str) -> usize
     ensures { result ≡ length (some_text text.now) }
 {
     if text.is_empty() { 0 } else { 1 }
 }
 
-/// The piece of a number, where a text alone is the only one.
+/// The piece at an index, where the text is not split.
 fn only_piece(text: &str, number: usize) -> Option<&str>
     ensures { option_map (λ s. s.now) result ≡ slice_get (some_text text.now) number }
 {
@@ -24,7 +25,7 @@ fn only_piece(text: &str, number: usize) -> Option<&str>
 }
 
 impl Document {
-    /// How many pieces the text is kept in.
+    /// The number of pieces of the text.
     pub fn pieces(&self) -> usize
         ensures count { result ≡ length self.now.pieces }
         ensures joined { concat self.now.pieces ≡ self.now.bytes }
@@ -34,7 +35,7 @@ impl Document {
         count_of(&text[..from]) + (count_of(&text[from..to]) + count_of(&text[to..]))
     }
 
-    /// The piece of a number from 0 on, `None` from `pieces()` on.
+    /// The piece at an index; `None` from `pieces()` on.
     pub fn piece(&self, number: usize) -> Option<&str>
         ensures { option_map (λ s. s.now) result ≡ slice_get self.now.pieces number }
     {
@@ -53,14 +54,14 @@ impl Document {
         only_piece(&text[to..], number - behind)
     }
 
-    /// For proofs: the text is kept in pieces of its own. It does nothing.
+    /// For proofs: the pieces joined are the text. Does nothing.
     pub(crate) fn has_pieces(&self)
         ensures { (r : ℕ × ℕ) × IsRange self.now.bytes r × (self.now.pieces ≡ pieces_of self.now.bytes r) }
     {
         let _nodes = &self.nodes;
     }
 
-    /// The same document, of which another range of the text was written last.
+    /// The document with another range as that of the last edit.
     pub(crate) fn with_written(self, written: (usize, usize)) -> Document
         requires range { IsRange self.bytes written }
         ensures bytes { result.bytes ≡ self.bytes }
@@ -79,7 +80,7 @@ impl Document {
         }
     }
 
-    /// The same document, kept in the pieces of another one of the same text.
+    /// The document with the pieces of another document of the same text.
     pub(crate) fn with_pieces_of(self, other: &Document) -> Document
         requires same { self.bytes ≡ other.now.bytes }
         ensures bytes { result.bytes ≡ self.bytes }

@@ -1,4 +1,4 @@
-//! Places in a document.
+//! Places: paths to the items of a document.
 ghost use Rattle.std.specs.Prelude.{◌≡◌, IfErr, IfOk};
 ghost use Rattle.edit_base.specs.Errors.{IsMemory};
 ghost use Rattle.edit_tree.specs.Assertions.{at, key};
@@ -7,7 +7,7 @@ ghost use Rattle.edit_document.specs.Items.{place_seen, step_seen};
 use edit_base::CargoResult;
 use std::alloc::Global;
 
-/// A step from a table or an array to one of its parts.
+/// A step from a table or an array to a member or an element.
 #[derive(Debug, PartialEq, Eq, PartialOrd, Ord, Hash, Drop)]
 pub enum Step {
     Key(String),
@@ -17,7 +17,7 @@ pub enum Step {
 /// The steps from the root; the empty list is the root.
 pub type Place = Vec<Step>;
 
-/// The same step, on memory of its own.
+/// A copy of a step.
 fn copied_step(alloc: Global, step: &Step) -> CargoResult<Step>
     ensures ok { IfOk result (λ s. step_seen s ≡ step_seen step.now) }
     ensures refused { IfErr result IsMemory }
@@ -31,7 +31,7 @@ fn copied_step(alloc: Global, step: &Step) -> CargoResult<Step>
     }
 }
 
-/// The same place, on memory of its own.
+/// A copy of a place.
 pub fn copied_place(alloc: Global, steps: &[Step]) -> CargoResult<Place>
     ensures ok { IfOk result (λ p. place_seen p.items ≡ place_seen steps.now) }
     ensures refused { IfErr result IsMemory }
@@ -44,7 +44,7 @@ pub fn copied_place(alloc: Global, steps: &[Step]) -> CargoResult<Place>
     Ok(place)
 }
 
-/// The place of a member of what stands at a place.
+/// The place of a member of the table at a place.
 pub fn member_place(alloc: Global, steps: &[Step], name: &str) -> CargoResult<Place>
     ensures ok { IfOk result (λ p. place_seen p.items ≡ at (place_seen steps.now) (key name.now)) }
     ensures refused { IfErr result IsMemory }

@@ -1,4 +1,4 @@
-//! Literals written in the place of values.
+//! Replaces values by string literals.
 ghost use Rattle.std.specs.Prelude.{◌≡◌, ◌≤◌, ◌+◌, IfOk, IfErr, length, true, map, string_bytes};
 ghost use Rattle.edit_base.specs.Errors.{IsMemory};
 ghost use Rattle.edit_syntax.specs.Grammar.{Text, text as text_of};
@@ -19,7 +19,7 @@ use crate::place::{Place, Step};
 use edit_base::errors::CargoResult;
 use std::alloc::Global;
 
-/// Another text for the value that is written from `start` to `end`.
+/// A replacement for the value in the byte range from `start` to `end`.
 #[derive(Clone, Copy)]
 pub(crate) struct Rewrite<'a> {
     pub(crate) start: usize,
@@ -27,7 +27,7 @@ pub(crate) struct Rewrite<'a> {
     pub(crate) text: &'a str,
 }
 
-/// The text with the literal of each other text in the place of its range, in one pass.
+/// Returns the text with each range replaced by the string literal of its new text, in one pass.
 pub(crate) fn splice(alloc: Global, text: &str, rewrites: &[Rewrite<'_>]) -> CargoResult<String>
     requires { AreInOrder text.now 0 (map range_of rewrites.now) }
     ensures text { IfOk result (λ s. string_bytes s ≡ spliced text.now 0 (map range_of rewrites.now)) }
@@ -44,7 +44,7 @@ pub(crate) fn splice(alloc: Global, text: &str, rewrites: &[Rewrite<'_>]) -> Car
     Ok(out)
 }
 
-/// The same of ranges that stand in any order, each the range of an edit.
+/// Returns the text with the range of each edit replaced by a string literal; the ranges may be in any order.
 pub(crate) fn splice_unordered(
     alloc: Global,
     source: &str,
@@ -61,14 +61,14 @@ pub(crate) fn splice_unordered(
 }
 
 impl Document {
-    /// Whether a value stands at a place: it was written behind an equals sign or as an array's element.
+    /// Whether a value is written at a place, as the value of a pair or as an element of an array.
     pub fn is_value(&self, place: &[Step]) -> bool
         ensures { IfDocument self.now.bytes (λ form. result ≡ is_value_at form (place_seen place.now)) }
     {
         self.value_range(place).is_some()
     }
 
-    /// The rewrite of the value at a place.
+    /// The replacement of the value at a place.
     fn rewrite_of<'a>(&self, place: &[Step], text: &'a str) -> Rewrite<'a>
         requires { IfDocument self.now.bytes (λ form. is_value_at form (place_seen place.now) ≡ true) }
         ensures { IfDocument self.now.bytes (λ form. IsRangeFor form
@@ -81,7 +81,7 @@ impl Document {
         }
     }
 
-    /// The document's text with the literal of another text in the place of a value, and the range of that
+    /// The document's text with the value at a place replaced by a string literal, and the byte range of that
     /// literal.
     fn with_literal(
         &self,
@@ -109,8 +109,8 @@ impl Document {
         }
     }
 
-    /// The document's text with the literals of other texts in the place of values. The places may come in
-    /// any order; what is inside a value goes with it, so none of the places lies inside another.
+    /// The document's text with the values at several places replaced by string literals. The places may be
+    /// in any order; none may lie inside another.
     pub fn with_literals(&self, alloc: Global, edits: &[(Place, String)]) -> CargoResult<String>
         requires values { IfDocument self.now.bytes (λ form. AreValues (edits_seen edits.now) form) }
         requires distinct { AreDistinct (edits_seen edits.now) }
@@ -132,8 +132,8 @@ impl Document {
         splice_unordered(alloc, self.as_str(), &mut rewrites)
     }
 
-    /// Writes the literal of a text in the place of a value; it is one of the pieces then. After a refusal
-    /// the document is as it was.
+    /// Replaces the value at a place by a string literal, which becomes a piece of the text. On an error the
+    /// document is unchanged.
     pub fn set_literal(&mut self, alloc: Global, place: &[Step], text: &str) -> CargoResult<()>
         requires is_value { IfDocument self.old.bytes (λ form. is_value_at form (place_seen place.now)
             ≡ true) }

@@ -1,4 +1,4 @@
--- How the statements of a text stand to a place that is looked for.
+-- How the statements of a text relate to a target place.
 use Rattle.std.specs.Prelude.{◌≡◌, ◌≤◌, ℕ, ◌+◌, ◌-◌, Bool, true, false, not, ◌==◌, nat_lt, if◌then◌else◌, List, [], ◌∷◌, length, slice_get, slice_index, slice_set, take, Option, Some, None, option_map}
 use Rattle.edit_syntax.specs.Characters.{equals, right_bracket}
 use Rattle.edit_syntax.specs.Strings.{◌·◌, Key, key}
@@ -15,104 +15,106 @@ use Rattle.edit_tree.specs.EditBytes.{is_pair, is_own}
 use Rattle.edit_tree.specs.RemovedBytes.{is_gone}
 use Rattle.edit_tree.specs.WalkState.{SaysAt}
 
--- ---- ways
+-- ---- paths
 
--- the way of a place behind so many steps: on the way to what is looked for, below it, or off the way
+-- the relation of a place to the target after n common steps: on the path to it, below it, or off the path
 abbrev pub way_on : ℕ → Place → Place → Way
 way_on done [] [] = On done
 way_on done (s ∷ ss) [] = On done
 way_on done [] (t ∷ ts) = Below
 way_on done (s ∷ ss) (t ∷ ts) = if same_step s t then way_on (done + 1) ss ts else Off
 
--- the way of a place from the root
+-- the relation of a place to the target
 abbrev pub way : Place → Place → Way
 way target place = way_on 0 target place
 
--- the way behind a step, where this one comes next on the way
+-- the relation after one more step, where this step comes next on the path
 abbrev pub gone_on : ℕ → Option Step → Step → Way
 gone_on done None step = Below
 gone_on done (Some s) step = if same_step s step then On (done + 1) else Off
 
--- the way with a step more
+-- the relation after one more step
 abbrev pub next_way : Place → Way → Step → Way
 next_way target (On done) step = gone_on done (slice_get target done) step
 next_way target Below step = Below
 next_way target Off step = Off
 
--- it has come to the place of so many steps
+-- the place is the target, which has this number of steps
 abbrev pub is_at : ℕ → Way → Bool
 is_at total (On done) = done == total
 is_at total _ = false
 
--- it has come to the place of so many steps, or below it
+-- the place is the target, which has this number of steps, or lies below it
 abbrev pub has_come : ℕ → Way → Bool
 has_come total (On done) = done == total
 has_come total Below = true
 has_come total Off = false
 
--- how many elements there are so far, with a number for each count of steps on the way
+-- the number of elements at the place reached; `counts` has a number for each number of steps on the path
 abbrev pub count_on : List ℕ → Way → ℕ
 count_on counts (On done) = slice_index counts done
 count_on counts _ = 0
 
--- the way on to the last element, where there is one
+-- the relation of the last element of the array of tables at the place reached, or of that place where there
+-- is none
 abbrev pub resolved_way : Place → List ℕ → Way → Way
 resolved_way target counts w =
     if nat_lt 0 (count_on counts w) then next_way target w (index (count_on counts w - 1)) else w
 
--- the counts with an element more on the way
+-- the counts with one more element at the place reached
 abbrev pub counted : Way → List ℕ → List ℕ
 counted (On done) counts = slice_set counts done (slice_index counts done + 1)
 counted _ counts = counts
 
--- the counts are those of the arrays of tables on the way
+-- the counts are those of the arrays of tables on the path to the target
 abbrev pub Counts : Place → List Assertion → List ℕ → Type 0
 Counts target earlier counts =
     (d : ℕ) → d ≤ length target → slice_index counts d ≡ elements_at earlier (take d target)
 
 -- ---- keys
 
--- the mark of a part of a key
+-- the kind is that of a part of a key
 abbrev pub is_part : MarkKind → Bool
 is_part kinds.BarePart = true
 is_part kinds.BasicPart = true
 is_part kinds.LiteralPart = true
 is_part _ = false
 
--- the mark of a part of a key comes first
+-- the first token is a part of a key
 abbrev pub begins_part : List Mark → Bool
 begins_part [] = false
 begins_part (m ∷ ms) = is_part m.kind
 
--- the kind of the first mark that is none of a part of a key
+-- the kind of the first token that is not a part of a key
 abbrev pub head_of : List Mark → Option MarkKind
 head_of [] = None
 head_of (m ∷ ms) = if is_part m.kind then head_of ms else Some m.kind
 
--- where the first mark begins
+-- the start of the first token
 abbrev pub first_from : List Mark → ℕ
 first_from [] = 0
 first_from (m ∷ ms) = m.from
 
--- the marks begin with those of these parts of a key, and no part's mark follows
+-- the tokens begin with those of these parts of a key, and another kind of token or none follows
 abbrev pub AreParts : List ℕ → List Named → List Mark → Type 0
 AreParts bytes [] ms = begins_part ms ≡ false
 AreParts bytes (n ∷ ns) [] = ⊥
 AreParts bytes (n ∷ ns) (m ∷ ms) =
     (is_part m.kind ≡ true) × SaysAt bytes m n.0 × (m.to ≡ length n.1) × AreParts bytes ns ms
 
--- the counts lead on as the places do
+-- `resolve` on places agrees with the last element by counts on relations
 abbrev pub Follows : Place → List ℕ → (Place → Place) → Type 0
 Follows target counts resolve =
     (p : Place) → way target (resolve p) ≡ resolved_way target counts (way target p)
 
--- where the parts of a key lead to, from a table on
+-- the place that the parts of a key lead to, from a table on
 abbrev pub led : (Place → Place) → Place → List Named → Place
 led resolve table [] = table
 led resolve table (n ∷ []) = at table (name_step n.0)
 led resolve table (n ∷ m ∷ ns) = led resolve (resolve (at table (name_step n.0))) (m ∷ ns)
 
--- the way behind a key, and the spot behind the part of it, but the last, that names the place
+-- the relation of the place that a key names, and the offset behind the front part of the key that names the
+-- target
 abbrev pub GoesAlong : Place → (Place → Place) → Place → List Named → Way × Option ℕ → Type 0
 GoesAlong target resolve table ns r =
     (r.0 ≡ way target (led resolve table ns))
@@ -129,20 +131,20 @@ key_of s = of_statement s.statement
     of_statement (header a k b) = (k, b · right_bracket ∷ s.behind)
     of_statement (element_header a k b) = (k, b · right_bracket ∷ (right_bracket ∷ s.behind))
 
--- the table that its key begins in
+-- the table that the key of a statement starts from
 abbrev pub begins_in : Stated → Place
 begins_in s = if is_pair s.statement then s.prefix else []
 
--- where a part of its key leads to
+-- where a front part of the statement's key continues from
 abbrev pub leads_to : Stated → Place → Place
 leads_to s place = if is_pair s.statement then place else resolved s.earlier place
 
--- the text behind the part of its key, but the last, that names a place
+-- the text behind the front part of the statement's key that names a place
 abbrev pub front_of : Place → Stated → Option (List ℕ)
 front_of place s =
     behind_part (leads_to s) place (begins_in s) (front_parts (parts (key_of s).0 (key_of s).1))
 
--- how a statement stands to a place
+-- the relation of a statement to a place
 abbrev pub entry_of : Place → Stated → Entry
 entry_of place s = record {
   is_own = is_own place s;

@@ -1,4 +1,4 @@
--- Where the pair is written that names a place.
+-- The position of the pair that names a place.
 use Rattle.std.specs.Prelude.{◌≡◌, ◌≤◌, ℕ, not, ◌&&◌, if◌then◌else◌, List, [], ◌∷◌, length, take, Option, Some, None, MatchOption}
 use Rattle.std.specs.List.{Contains}
 use Rattle.edit_syntax.specs.declared.read.marks.Mark.{Mark}
@@ -13,33 +13,33 @@ use Rattle.edit_tree.specs.SlotTexts.{Ends}
 use Rattle.edit_tree.specs.Statements.{Paired, inner_pairs}
 use Rattle.edit_tree.specs.Written.{Valued}
 
--- a pair that names the place or one below it
+-- the statement, where it is a pair that names the place or one below it
 abbrev pub within_entry : Entry → Option Entry
 within_entry e = if not e.is_header && e.is_within then Some e else None
 
--- where the last part of the key at the front ends, or this spot where none is there
+-- the end of the last part of the key at the front, or `end` where no part is there
 abbrev pub key_end : ℕ → List Mark → ℕ
 key_end end [] = end
 key_end end (m ∷ ms) = if is_part m.kind then key_end m.to ms else end
 
--- where the last token ends, or this spot where none is there
+-- the end of the last token, or `end` where there is none
 abbrev pub last_end : ℕ → List Mark → ℕ
 last_end end [] = end
 last_end end (m ∷ ms) = last_end m.to ms
 
--- where the part ends that names the place of so many steps: one before the last, or the last one
+-- the end of the part of a key that names the place: a front part or the last one
 abbrev pub part_seen : ℕ → Way → Option ℕ → List Mark → Option ℕ
 part_seen total named front ms =
     first_of (front ∷ (if is_at total named then Some (key_end 0 ms) else None) ∷ [])
 
--- a value where it stands in a text: well formed, and at most 80 deep
+-- a value in a text: well formed, and at most 80 deep
 pub record StandsIn (bytes : List ℕ) (w : Valued) : Type 0 where
   pub valid : IsValue w.value
   pub shallow : depth w.value ≤ 80
   pub ends : Ends bytes (value w.value w.after)
 
--- The spots stand around what gives way in one of these pairs: behind the part of its key that names the
--- place, and behind its value. They are told by how many bytes follow.
+-- The offsets of what an edit of the place replaces in one of these pairs: behind the part of its key that
+-- names the place, and behind its value. They are counted from the end of the text.
 pub record IsAround (place : Place) (ps : List Paired) (spots : ℕ × ℕ) : Type 0 where
   pub pair : Paired
   pub among : Contains ps pair
@@ -48,11 +48,12 @@ pub record IsAround (place : Place) (ps : List Paired) (spots : ℕ × ℕ) : Ty
   pub from : spots.0 ≡ length part
   pub to : spots.1 ≡ length pair.behind
 
--- the spots of a pair that names the place, or none of these pairs does
+-- the offsets for the pair that names the place, or `None` where none of these pairs does
 abbrev pub Tells : Place → List Paired → Option (ℕ × ℕ) → Type 0
 Tells place ps r = MatchOption r ((p : Paired) → Contains ps p → part_to place p ≡ None) (IsAround place ps)
 
--- the same of the pairs in the inline table at the place of so many of these steps
+-- the offsets for the pair that names the place in the inline table at its first n steps, or `None` where
+-- there is none
 abbrev pub TellsIn : Text → Place → ℕ → Option (ℕ × ℕ) → Type 0
 TellsIn form place n r = MatchOption r
     ((p : Paired) → Contains (inner_pairs form) p → p.table ≡ take n place → part_to place p ≡ None)

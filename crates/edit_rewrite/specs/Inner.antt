@@ -1,4 +1,4 @@
--- Members of inline tables whose keys go on behind a place.
+-- Pairs of inline tables whose dotted key passes through a place.
 use Rattle.std.specs.Prelude.{◌≤◌, ◌<◌, ℕ, suc, List, length, take, Option, None, option_map, MatchOption}
 use Rattle.edit_syntax.specs.Grammar.{Text}
 use Rattle.edit_rewrite.specs.declared.inner.Inner.{Inner}
@@ -9,28 +9,29 @@ use Rattle.edit_tree.specs.Slots.{Slot, of_value, of_pair}
 use Rattle.edit_rewrite.specs.Spots.{IsSpot, IsFront}
 use Rattle.edit_tree.specs.Statements.{Paired, paired}
 
--- a pair whose key goes on behind the place
+-- the offsets of a pair whose key passes through the place
 abbrev pub inner_of : Place → Paired → Option Inner
 inner_of place p =
     option_map (λ spot. record { from = length p.from; front = length spot; behind = length p.behind })
     (front_to place p)
 
--- the same of a member of a table, with the text behind its value
+-- the offsets of a member of an inline table whose key passes through the place, with the text behind its
+-- value
 abbrev pub inner_in : Place → Place → Slot → List ℕ → Option Inner
 inner_in place table (of_value v) behind = None
 inner_in place table (of_pair k a b v) behind = inner_of place (paired table k a b v behind)
 
--- where it stands in a text
+-- the pair is in the text, and its positions are character boundaries
 pub record HasInner (bytes : List ℕ) (p : Paired) (spot : List ℕ) : Type 0 where
   pub from : IsSpot bytes p.from
   pub front : IsFront bytes p.from spot
   pub behind : IsSpot bytes p.behind
 
--- no inline table is written at a place above this one, so many steps or more from the root
+-- no inline table is written at a prefix of this place of n steps or more
 abbrev pub NoneAbove : Text → Place → ℕ → Type 0
 NoneAbove form place from = (n : ℕ) → from ≤ n → n < length place → HasTable form (take n place) None
 
--- the closest inline table above the place: how many steps lead to it, and where it begins
+-- the innermost inline table around the place: the number of steps to it, and its offset
 abbrev pub IsClosest : Text → Place → Option (ℕ × ℕ) → Type 0
 IsClosest form place r =
     MatchOption r (NoneAbove form place 0)

@@ -1,4 +1,4 @@
--- The innermost value around a place, as the code tells of it.
+-- The innermost value around a place, as the code represents it.
 use Rattle.std.specs.Prelude.{◌≡◌, ℕ, ◌≤◌, List, ◌++◌, length, Option, Some, None, MatchOption}
 use Rattle.std.specs.List.{Contains}
 use Rattle.edit_syntax.specs.Depth.{depth}
@@ -9,15 +9,15 @@ use Rattle.edit_tree.specs.RemovedBytes.{innermost}
 use Rattle.edit_rewrite.specs.Spots.{IsSpot}
 use Rattle.edit_tree.specs.Written.{Valued, values}
 
--- a value of a text, and where the code finds it: how many steps lead to it, and how many bytes follow where
--- it begins and where it ends
+-- a value of a text as the code represents it: the number of steps to it, and the offsets of its start and
+-- its end, counted from the end of the text
 pub record IsFoundAt (form : Text) (w : Valued) (a : Around) : Type 0 where
   pub told : Contains (values form) w
   pub steps : a.steps ≡ length w.place
   pub from : a.from ≡ length (value w.value w.after)
   pub to : a.to ≡ length w.after
 
--- the innermost value around a place, which lies so many steps below that value
+-- the innermost value around a place
 pub record IsAround (form : Text) (gone : Place) (a : Around) : Type 0 where
   pub valued : Valued
   pub found : IsFoundAt form valued a
@@ -25,11 +25,11 @@ pub record IsAround (form : Text) (gone : Place) (a : Around) : Type 0 where
   pub below : Place
   pub parted : gone ≡ valued.place ++ below
 
--- the innermost value around a place, or nothing where there is none
+-- the innermost value around a place, or `None` where there is none
 abbrev pub HasAround : Text → Place → Option Around → Type 0
 HasAround form gone r = MatchOption r (innermost gone form ≡ None) (IsAround form gone)
 
--- a well-formed value where it stands in a text that may be cut there
+-- a well-formed value between two offsets of a text, both at character boundaries
 pub record StandsBetween (bytes : List ℕ) (w : Valued) (from to : ℕ) : Type 0 where
   pub valid : IsValue w.value
   pub shallow : depth w.value ≤ 80

@@ -1,4 +1,4 @@
--- How the statements before one leave a place that is looked for.
+-- The state of the search for a place after some statements of a text.
 use Rattle.std.specs.Prelude.{◌≡◌, ℕ, suc, Bool, true, false, List, length, Option, Some}
 use Rattle.edit_syntax.specs.declared.read.marks.Mark.{Mark}
 use Rattle.edit_syntax.specs.declared.read.marks.MarkKind.{MarkKind}
@@ -11,38 +11,38 @@ use Rattle.edit_tree.specs.Assertions.{Place, Assertion}
 use Rattle.edit_tree.specs.Statements.{Stated, parts}
 use Rattle.edit_rewrite.specs.Entries.{way, Counts, head_of, AreParts, key_of}
 
--- behind these assertions and under this header
+-- the state after these assertions, below this header
 pub record StandsTo (target : Place) (earlier : List Assertion) (prefix : Place)
     (standing : Standing) : Type 0 where
   pub under : standing.prefix ≡ way target prefix
   pub size : length standing.counts.items ≡ suc (length target)
   pub counts : Counts target earlier standing.counts.items
 
--- a header of a table
+-- the statement is a header `[key]`
 abbrev pub is_table_header : Statement → Bool
 is_table_header (header a k b) = true
 is_table_header _ = false
 
--- a header of an element
+-- the statement is a header `[[key]]`
 abbrev pub is_element_header : Statement → Bool
 is_element_header (element_header a k b) = true
 is_element_header _ = false
 
--- the mark of a header of a table stands behind the key
+-- the token behind the key is that of a header `[key]`
 abbrev pub heads_table : Option MarkKind → Bool
 heads_table (Some kinds.Header) = true
 heads_table _ = false
 
--- that of a header of an element does
+-- the token behind the key is that of a header `[[key]]`
 abbrev pub heads_element : Option MarkKind → Bool
 heads_element (Some kinds.ElementHeader) = true
 heads_element _ = false
 
--- the mark behind the key tells what statement it is
+-- the token behind the key is of the kind that the statement requires
 abbrev pub HeadIs : Statement → Option MarkKind → Type 0
 HeadIs s head = (heads_table head ≡ is_table_header s) × (heads_element head ≡ is_element_header s)
 
--- the marks and the spots are those of the statement
+-- the tokens and the offsets are those of the statement
 pub record IsTaken (bytes : List ℕ) (marks : List Mark) (s : Stated) (spots : Spots) : Type 0 where
   pub parts_marked : AreParts bytes (parts (key_of s).0 (key_of s).1) marks
   pub head : HeadIs s.statement (head_of marks)

@@ -1,4 +1,4 @@
-//! A member more in an inline table.
+//! Inserts a member into an inline table.
 ghost use Rattle.std.specs.Prelude.{◌≡◌, ◌≤◌, ℕ, List, [], ◌++◌, ◌∷◌, MatchResult, MatchOption, IfOk, IfErr, None, Some, codes, drop, length, string_bytes};
 ghost use Rattle.edit_base.specs.Errors.{IsMemory};
 ghost use Rattle.edit_syntax.specs.Characters.{right_brace};
@@ -20,8 +20,8 @@ use edit_syntax::read::gaps::past_gap;
 use edit_syntax::read::steps::past_blanks;
 use std::alloc::Global;
 
-/// What follows the value of the last member of the inline table at the front of `table`, an end of `text`,
-/// or its closing brace where it has none.
+/// The input behind the value of the last member of the inline table that `table`, a suffix of `text`, begins
+/// with; its closing brace where it has no member.
 fn past_last<'a>(alloc: Global, text: &str, table: &'a [u8]) -> CargoResult<&'a [u8]>
     ensures { (g : List Between) (ms : Members) (after : List ℕ) → TableAt text.now table.now g ms after
         → MatchResult result (λ r. r.now ≡ behind_last ms (right_brace ∷ after)) IsMemory }
@@ -43,7 +43,7 @@ fn past_last<'a>(alloc: Global, text: &str, table: &'a [u8]) -> CargoResult<&'a 
     Ok(last)
 }
 
-/// The text with a member before a spot, behind `lead`.
+/// The text with `lead` and a member inserted at an offset, counted from the end of the text.
 pub(crate) fn with_lead(
     alloc: Global,
     text: &str,
@@ -61,7 +61,7 @@ pub(crate) fn with_lead(
     with_text(alloc, text, spot, now.as_str())
 }
 
-/// The text with a member between two spots, and a space on each side.
+/// The text with the range between two offsets replaced by a member with a space on each side.
 fn with_alone(
     alloc: Global,
     text: &str,
@@ -80,8 +80,8 @@ fn with_alone(
     with_swap(alloc, text, from, to, now.as_str())
 }
 
-/// The text with a member in the inline table at the front of `table`, which has none: only white space
-/// between the braces gives way to it.
+/// The text with a first member in the empty inline table that `table` begins with; white space between the
+/// braces is replaced, comments and newlines stay.
 fn with_first_member(alloc: Global, text: &str, table: &[u8], member: &str) -> CargoResult<String>
     ensures text { (g : List Between) (after : List ℕ) (s : Splice)
         → TableAt text.now table.now g no_members after
@@ -98,8 +98,8 @@ fn with_first_member(alloc: Global, text: &str, table: &[u8], member: &str) -> C
     }
 }
 
-/// The text with a member more in the inline table at the front of `table`, an end of the text: behind the
-/// last one's value and a comma, or between the braces.
+/// The text with a new member in the inline table that `table`, a suffix of the text, begins with: behind the
+/// last value and a comma, or between the braces.
 pub(crate) fn with_member_in(
     alloc: Global,
     text: &str,
@@ -117,7 +117,7 @@ pub(crate) fn with_member_in(
     with_lead(alloc, text, last.len(), ", ", member)
 }
 
-/// What stands from a position on.
+/// The suffix from a position on.
 pub(crate) fn from_start(s: &[u8], start: usize) -> &[u8]
     requires { start ≤ length s.now }
     ensures { result.now ≡ drop start s.now }
@@ -125,7 +125,7 @@ pub(crate) fn from_start(s: &[u8], start: usize) -> &[u8]
     &s[start..]
 }
 
-/// Where the inline table of a place begins, or `None` where none is written there.
+/// The position of the inline table at a place, or `None` where none is written there.
 pub(crate) fn table_start(document: &Document, place: &[Step]) -> Option<usize>
     ensures { IfDocument document.now.bytes (λ form. HasTable form (place_seen place.now) result) }
 {
@@ -139,7 +139,7 @@ pub(crate) fn table_start(document: &Document, place: &[Step]) -> Option<usize>
     }
 }
 
-/// The document's text with a member more in the inline table at a place, or `None` where none is written
+/// The document's text with a new member in the inline table at a place, or `None` where none is written
 /// there.
 pub(crate) fn with_inline_member(
     document: &Document,

@@ -1,4 +1,4 @@
-//! Members of inline tables whose keys go on behind a place.
+//! Pairs of inline tables whose dotted key passes through a place.
 ghost use Rattle.std.specs.Prelude.{◌≡◌, ℕ, true, List, ◌++◌, ◌∷◌, Some, MatchResult, IfOk, IfErr, codes, length, option_map, string_bytes};
 ghost use Rattle.edit_base.specs.Errors.{IsMemory};
 ghost use Rattle.edit_syntax.specs.Characters.{right_brace};
@@ -23,8 +23,8 @@ use edit_syntax::read::steps::{past_name, past_value};
 use edit_tree::cut::between;
 use std::alloc::Global;
 
-/// A member of an inline table whose key goes on behind a place. The spots from its key, behind the part that
-/// names the place, and behind its value are told by how many bytes follow.
+/// A pair of an inline table whose dotted key passes through a place, by three offsets counted from the end
+/// of the text: from its key, behind the part of the key that reaches the place, and behind its value.
 #[derive(Clone, Copy)]
 pub(crate) struct Inner {
     pub(crate) from: usize,
@@ -32,7 +32,8 @@ pub(crate) struct Inner {
     pub(crate) behind: usize,
 }
 
-/// A member that begins here, whose key goes on behind a place at a spot, and what follows its value.
+/// The pair at the front of `s`, where its key passes through the place at the offset `front`; `behind` is
+/// the input behind its value.
 fn inner_from(s: &[u8], front: Option<usize>, behind: &[u8]) -> Option<Inner>
     ensures { result ≡ option_map
         (λ n. record { from = length s.now; front = n; behind = length behind.now }) front }
@@ -47,8 +48,8 @@ fn inner_from(s: &[u8], front: Option<usize>, behind: &[u8]) -> Option<Inner>
     }
 }
 
-/// The member at the front of `s`, an end of the text, where its key goes on behind a place, and what follows
-/// its value.
+/// The pair at the front of `s`, a suffix of the text, where its key passes through a place, and the input
+/// behind its value.
 fn inner_at<'a>(
     alloc: Global,
     text: &str,
@@ -68,8 +69,8 @@ fn inner_at<'a>(
     Ok((inner_from(s, front, rest), rest))
 }
 
-/// The last member, of the inline table at the front of `table`, an end of the text, whose key goes on behind
-/// a place.
+/// The last pair whose key passes through a place, in the inline table that `table`, a suffix of the text,
+/// begins with.
 pub(crate) fn last_inner(
     alloc: Global,
     text: &str,
@@ -99,7 +100,7 @@ pub(crate) fn last_inner(
     Ok(last)
 }
 
-/// The text with a member more behind one whose key goes on behind the place.
+/// The text with a new pair inserted behind the value of one whose key passes through the place.
 pub(crate) fn with_inner(alloc: Global, text: &str, inner: Inner, pair: &str) -> CargoResult<String>
     ensures text { (place : Place) (p : Paired) (spot : List ℕ) → inner_seen.HasInner text.now p spot
         → front_to place p ≡ Some spot → inner_seen.inner_of place p ≡ Some inner
@@ -113,7 +114,7 @@ pub(crate) fn with_inner(alloc: Global, text: &str, inner: Inner, pair: &str) ->
     with_lead(alloc, text, inner.behind, ", ", member.as_str())
 }
 
-/// The closest inline table above a place: how many steps lead to it, and where it begins.
+/// The innermost inline table around a place: the number of steps to it, and its position.
 fn table_above(document: &Document, place: &[Step]) -> Option<(usize, usize)>
     ensures { IfDocument document.now.bytes (λ form. inner_seen.IsClosest form (place_seen place.now)
         result) }
@@ -127,7 +128,7 @@ fn table_above(document: &Document, place: &[Step]) -> Option<(usize, usize)>
     found
 }
 
-/// The last pair, of the inline tables of the text, whose key goes on behind a place.
+/// The last pair whose key passes through a place, of the innermost inline table around it.
 pub(crate) fn last_inner_of(
     document: &Document,
     alloc: Global,

@@ -1,4 +1,4 @@
-//! A member more in a table.
+//! Inserts a member into a table.
 ghost use Rattle.std.specs.Prelude.{◌≡◌, ◌&&◌, not, is_some, ◌⊎◌, ◌++◌, [], ℕ, List, None, Some, IfOk, IfErr, codes, string_bytes, length, ◌≤◌, ◌+◌};
 ghost use Rattle.edit_base.specs.Errors.{IsMemory};
 ghost use Rattle.edit_base.specs.declared.errors.Error.TheVariants.{EditRefused};
@@ -28,7 +28,7 @@ use edit_syntax::past_mark;
 use edit_tree::cut::between;
 use std::alloc::Global;
 
-/// The last statement of the place's own.
+/// The last statement that is the place's own header or a pair below it.
 fn last_own(found: &[Entry]) -> Option<Entry>
     ensures { result ≡ last_made own_entry found.now }
 {
@@ -41,21 +41,21 @@ fn last_own(found: &[Entry]) -> Option<Entry>
     last
 }
 
-/// Whether it is a pair whose key goes on behind the place.
+/// Whether a statement is a pair whose dotted key passes through the place.
 fn is_dotted(entry: Entry) -> bool
     ensures { result ≡ (not entry.is_header && is_some entry.front) }
 {
     !entry.is_header && entry.front.is_some()
 }
 
-/// Whether it is a header whose key goes on behind the place.
+/// Whether a statement is a header whose key passes through the place.
 fn is_through(entry: Entry) -> bool
     ensures { result ≡ (entry.is_header && is_some entry.front) }
 {
     entry.is_header && entry.front.is_some()
 }
 
-/// The last pair whose key goes on behind the place.
+/// The last pair whose dotted key passes through the place.
 fn last_dotted(found: &[Entry]) -> Option<Entry>
     ensures { result ≡ last_made dotted_entry found.now }
 {
@@ -68,7 +68,7 @@ fn last_dotted(found: &[Entry]) -> Option<Entry>
     last
 }
 
-/// The first header whose key goes on behind the place.
+/// The first header whose key passes through the place.
 fn first_through(found: &[Entry]) -> Option<Entry>
     ensures { result ≡ first_made through_entry found.now }
 {
@@ -80,7 +80,7 @@ fn first_through(found: &[Entry]) -> Option<Entry>
     None
 }
 
-/// What stands in a text from the key of a statement to behind the part that names the place.
+/// The part of a statement's key that names the place, as written.
 fn name_of(text: &str, entry: Entry) -> &str
     ensures { (place : Place) (s : Stated) (spot : List ℕ) → HasSpots text.now s → entry ≡ entry_of place s
         → front_of place s ≡ Some spot → result.now ≡ key_to s spot }
@@ -88,7 +88,7 @@ fn name_of(text: &str, entry: Entry) -> &str
     between(text, entry.key, entry.front.unwrap_or(0))
 }
 
-/// The text with a dotted pair more, behind one whose key goes on behind the place.
+/// The text with a dotted pair inserted on a new line behind one whose key passes through the place.
 fn with_dotted(alloc: Global, text: &str, entry: Entry, pair: &str) -> CargoResult<String>
     ensures text { (place : Place) (s : Stated) (spot : List ℕ) → HasSpots text.now s
         → entry ≡ entry_of place s → front_of place s ≡ Some spot
@@ -102,7 +102,8 @@ fn with_dotted(alloc: Global, text: &str, entry: Entry, pair: &str) -> CargoResu
     with_line(alloc, text, entry.after, line.as_str())
 }
 
-/// The text with a header of the place and a pair, before a header whose key goes on behind the place.
+/// The text with a header of the place and a pair inserted before a header whose key passes through the
+/// place.
 fn with_header(alloc: Global, text: &str, entry: Entry, pair: &str) -> CargoResult<String>
     ensures text { (place : Place) (s : Stated) (spot : List ℕ) → HasSpots text.now s
         → entry ≡ entry_of place s → front_of place s ≡ Some spot
@@ -113,7 +114,7 @@ fn with_header(alloc: Global, text: &str, entry: Entry, pair: &str) -> CargoResu
     with_section(alloc, text, entry.line, name_of(text, entry), pair)
 }
 
-/// The text with a line more at its start.
+/// The text with a new first line.
 fn with_first(alloc: Global, text: &str, pair: &str) -> CargoResult<String>
     ensures text { IfDocument text.now (λ form. IfOk result (λ t. string_bytes t ≡ with_splice text.now
         (at_start pair.now form))) }
@@ -124,8 +125,8 @@ fn with_first(alloc: Global, text: &str, pair: &str) -> CargoResult<String>
     with_text(alloc, text, past_mark(text.as_bytes()).len(), line.as_str())
 }
 
-/// The text with this pair more, in a table that was written as no value: `inner` is the last pair of an
-/// inline table whose key goes on behind the place.
+/// The text with a new pair in a table that is not written as a value; `inner` is the last pair of an inline
+/// table whose key passes through the place.
 fn with_pair(
     alloc: Global,
     text: &str,
@@ -157,7 +158,7 @@ fn with_pair(
     with_first(alloc, text, pair)
 }
 
-/// A name, ` = ` and a literal.
+/// The pair `name = literal`.
 fn pair_text(alloc: Global, name: &str, value: &NewValue) -> CargoResult<String>
     ensures text { IfOk result (λ t. string_bytes t ≡ new_pair name.now (value_seen value.now) []) }
     ensures refused { IfErr result IsMemory }
@@ -167,7 +168,7 @@ fn pair_text(alloc: Global, name: &str, value: &NewValue) -> CargoResult<String>
     Ok(out)
 }
 
-/// The document's text with a member more in the table at a place.
+/// The document's text with a new member in the table at a place.
 pub fn with_member(
     document: &Document,
     alloc: Global,

@@ -1,4 +1,4 @@
-//! Edits inside a value: the bytes of an array or an inline table without some of its elements or members.
+//! Removes elements of an array or members of an inline table from the text of the value.
 ghost use Rattle.std.specs.Prelude.{◌≡◌, ℕ, List, Bool, true, false, if◌then◌else◌, ◌==◌, ◌-◌, ◌≤◌, ◌++◌, ◌∷◌, [], MatchResult, IfOk, IfErr, OnOk, take, drop, length, map};
 ghost use Rattle.edit_base.specs.Errors.{IsMemory};
 ghost use Rattle.edit_syntax.specs.Grammar.{Between, gap, Value, value as value_text, IsValue};
@@ -24,14 +24,14 @@ use edit_tree::nodes::words_in;
 use edit_tree::words::words_of;
 use std::alloc::{AllocError, Global};
 
-/// Whether a byte comes first.
+/// Whether the input begins with this byte.
 pub(crate) fn begins(s: &[u8], b: u8) -> bool
     ensures { result ≡ (reading.first s.now == b) }
 {
     s.first().copied().unwrap_or(0) == b
 }
 
-/// What follows the first byte.
+/// The input behind its first byte.
 pub(crate) fn behind_one(s: &[u8]) -> &[u8]
     ensures { result.now ≡ drop 1 s.now }
 {
@@ -41,7 +41,7 @@ pub(crate) fn behind_one(s: &[u8]) -> &[u8]
     }
 }
 
-/// What stands before a text's end.
+/// The part of `from` before its suffix `to`.
 pub(crate) fn before<'a>(from: &'a [u8], to: &[u8]) -> &'a [u8]
     ensures { result.now ≡ take (length from.now - length to.now) from.now }
 {
@@ -49,9 +49,9 @@ pub(crate) fn before<'a>(from: &'a [u8], to: &[u8]) -> &'a [u8]
     &from[..len]
 }
 
-/// What is left of an array or an inline table, as far as its elements or members were read: the bytes up to
-/// the last one that stays, and two ways to go on behind it. Where one more stays, or a comma stands behind
-/// the last one, the comma behind it stays; else it goes.
+/// What stays of an array or an inline table, as far as its items are read: the bytes up to the last item
+/// that stays, and two ways to continue. If another item stays or a trailing comma follows, the comma behind
+/// that item stays too; else it is removed.
 #[derive(Drop)]
 struct Remainder {
     firm: Vec<u8>,
@@ -60,7 +60,7 @@ struct Remainder {
 }
 
 impl Remainder {
-    /// What stands before the first element or member.
+    /// Starts with the bytes before the first item.
     fn new(alloc: Global, opening: &[u8]) -> Result<Remainder, AllocError>
         ensures firm { IfOk result (λ r. r.firm.items ≡ opening.now) }
         ensures rest { IfOk result (λ r. (r.with_comma.items ≡ []) × (r.without_comma.items ≡ [])) }
@@ -74,7 +74,7 @@ impl Remainder {
         })
     }
 
-    /// An element or a member stays, with the comma behind it if need be.
+    /// Appends an item that stays, and the comma behind it if one is needed.
     fn keep(&mut self, item: &[u8], comma: &[u8]) -> Result<(), AllocError>
         ensures firm { OnOk result (self.new.firm.items
             ≡ (self.old.firm.items ++ self.old.with_comma.items) ++ item.now) }
@@ -89,7 +89,7 @@ impl Remainder {
         Ok(())
     }
 
-    /// One goes: what it leaves behind its comma, and what before the comma.
+    /// Skips an item that is removed: `behind` is left after its comma, `gap` before it.
     fn leave(&mut self, behind: &[u8], gap: &[u8]) -> Result<(), AllocError>
         ensures firm { OnOk result (self.new.firm.items ≡ self.old.firm.items) }
         ensures rest { OnOk result ((self.new.with_comma.items ≡ self.old.with_comma.items ++ behind.now)
@@ -100,8 +100,8 @@ impl Remainder {
         Ok(())
     }
 
-    /// The element or the member at the front of `rest` goes or stays, where a comma stands at `stop`,
-    /// behind the gap at `after`, and another or the end at `next`.
+    /// Appends or skips the item at the front of `rest`; `after` is the input behind the item, `stop` begins
+    /// with its comma, and `next` is the next item or the closing bracket.
     fn take(
         &mut self,
         is_gone: bool,
@@ -123,7 +123,7 @@ impl Remainder {
         }
     }
 
-    /// The whole, where the last one goes or stays and no comma stands behind it.
+    /// The bytes of the whole value, where the last item stays or is removed and no comma follows it.
     fn end(self, is_gone: bool, rest: &[u8], after: &[u8]) -> Result<Vec<u8>, AllocError>
         ensures { IfOk result (λ v. v.items ≡ (if is_gone
             then (self.firm.items ++ self.without_comma.items) ++ after.now
@@ -136,7 +136,7 @@ impl Remainder {
         }
     }
 
-    /// The whole, with a comma before the end.
+    /// The bytes of the whole value, with a comma before its end.
     fn with(self, end: &[u8]) -> Result<Vec<u8>, AllocError>
         ensures { IfOk result (λ v. v.items ≡ (self.firm.items ++ self.with_comma.items) ++ end.now) }
     {
@@ -150,7 +150,7 @@ impl Remainder {
         Ok(firm)
     }
 
-    /// The whole, with none.
+    /// The bytes of the whole value, without a comma before its end.
     fn without(self, end: &[u8]) -> Result<Vec<u8>, AllocError>
         ensures { IfOk result (λ v. v.items ≡ (self.firm.items ++ self.without_comma.items) ++ end.now) }
     {
@@ -165,14 +165,14 @@ impl Remainder {
     }
 }
 
-/// The closing brace or bracket.
+/// The closing brace of a table or bracket of an array.
 fn closer(is_table: bool) -> u8
     ensures { result ≡ closing is_table }
 {
     if is_table { b'}' } else { b']' }
 }
 
-/// Whether the part of a key with this mark is the name of a step.
+/// Whether a token of a part of a key is the name in a step.
 fn is_step(alloc: Global, text: &str, mark: Mark, step: &Step) -> CargoResult<bool>
     ensures { (name : List ℕ) → SaysAt text.now mark name
         → MatchResult result (λ b. b ≡ same_step (step_seen step.now) (name_step name)) IsMemory }
@@ -186,7 +186,7 @@ fn is_step(alloc: Global, text: &str, mark: Mark, step: &Step) -> CargoResult<bo
     }
 }
 
-/// Whether a key whose parts have these marks names the place of the steps or one below it.
+/// Whether a key with these tokens names the place `steps` or one below it.
 fn is_named(alloc: Global, text: &str, marks: &[Mark], steps: &[Step]) -> CargoResult<bool>
     ensures { (ns : List (List ℕ)) → AreSaid text.now marks.now ns
         → MatchResult result (λ b. b ≡ is_within (place_seen steps.now) (map name_step ns)) IsMemory }
@@ -204,7 +204,7 @@ fn is_named(alloc: Global, text: &str, marks: &[Mark], steps: &[Step]) -> CargoR
     }
 }
 
-/// Whether a place is that of the element of a number.
+/// Whether a place is the element at an index.
 fn is_element(index: usize, below: &[Step]) -> bool
     ensures { result ≡ same_place (index_step index ∷ []) (place_seen below.now) }
 {
@@ -214,7 +214,7 @@ fn is_element(index: usize, below: &[Step]) -> bool
     }
 }
 
-/// Whether the element or the member at the front goes, and what follows it.
+/// Whether the item at the front is to be removed, and the input behind it.
 pub(crate) fn past_slot<'a>(
     alloc: Global,
     text: &str,
@@ -238,8 +238,8 @@ pub(crate) fn past_slot<'a>(
     Ok((is_gone, rest))
 }
 
-/// The bytes of an array or an inline table without the
-/// element at a place below it, or the members that name one.
+/// The bytes of an array or an inline table without the element at the place `below`, or without the members
+/// at or below it.
 fn slots_left(alloc: Global, text: &str, below: &[Step]) -> CargoResult<Vec<u8>>
     ensures { (is_table : Bool) (g : List Between) (ss : Slots) → IsEnclosed is_table g ss text.now
         → MatchResult result (λ v. v.items ≡ enclosed_left is_table (place_seen below.now) g ss) IsMemory }
@@ -265,9 +265,8 @@ fn slots_left(alloc: Global, text: &str, below: &[Step]) -> CargoResult<Vec<u8>>
     Ok(left.with(rest)?)
 }
 
-/// The bytes of the array or the inline table that is written as `text`, where the element or the member at
-/// the place `below` it is removed: with the comma behind it
-/// and the white space there, or else with the comma before it.
+/// The bytes of an array or an inline table without the element or the member at the place `below`; it is
+/// removed with the comma and white space behind it, or else with the comma before it.
 pub(crate) fn value_without(alloc: Global, text: &str, below: &[Step]) -> CargoResult<Vec<u8>>
     ensures { (place : Place) (v : Value) → IsContainer v → IsValue v → depth v ≤ 80
         → text.now ≡ value_text v []

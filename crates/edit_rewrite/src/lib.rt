@@ -1,5 +1,5 @@
-//! The text that an edit of a document leaves: with a member more in a table, with another entry at a place, without
-//! an item. Whether that text reads as meant is decided in `edit_changes`.
+//! The text of a document after an edit: a member inserted, an entry replaced, or an item removed. Whether
+//! that text parses to the intended tree is checked in `edit_changes`.
 #![tactic(auto)]
 
 mod inline;

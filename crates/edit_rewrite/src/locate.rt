@@ -1,4 +1,4 @@
-//! How the statements of a text stand to a place.
+//! Locates the statements of a text and relates each of them to a place.
 ghost use Rattle.std.specs.Prelude.{◌≡◌, [], ◌++◌, true, IfOk, IfErr, map};
 ghost use Rattle.edit_base.specs.Errors.{IsMemory};
 ghost use Rattle.edit_tree.specs.Assertions.{of_statement, prefix_after};
@@ -17,24 +17,24 @@ use edit_document::Step;
 use edit_syntax::{Mark, first_line, next_line, past_mark};
 use std::alloc::Global;
 
-/// A statement, as it stands to a place. Spots of the text are told by how many bytes follow.
+/// A statement and its relation to a place. Offsets are counted from the end of the text.
 #[derive(Clone, Copy)]
 pub(crate) struct Entry {
-    /// A header of the place, or a pair under it.
+    /// Whether it is the header of the place or a pair below that header.
     pub(crate) is_own: bool,
-    /// It names the place or one below it.
+    /// Whether it names the place or one below it.
     pub(crate) is_within: bool,
     pub(crate) is_header: bool,
-    /// Behind the part of its key, but the last, that names the place.
+    /// The offset behind the part of its key that reaches the place, where the key goes on from there.
     pub(crate) front: Option<usize>,
-    /// From its line's start, from its key, from its line's end, and from the next line on.
+    /// The offsets of its line, its key, the end of its line, and the next line.
     pub(crate) line: usize,
     pub(crate) key: usize,
     pub(crate) after: usize,
     pub(crate) next: usize,
 }
 
-/// An element more stands in the array of tables that a way has come to.
+/// Counts one more element in the array of tables that a path has reached.
 fn count_more(counts: &mut Vec<usize>, way: Way) -> CargoResult<()>
     ensures counted { IfOk result (λ _. counts.new.items ≡ entries_seen.counted way counts.old.items) }
     ensures refused { IfErr result IsMemory }
@@ -52,8 +52,8 @@ fn count_more(counts: &mut Vec<usize>, way: Way) -> CargoResult<()>
     Ok(())
 }
 
-/// Where a statement stands in the text, told by how many bytes follow: from its line's start, from its key,
-/// from its line's end, and from the next line on.
+/// The offsets of a statement, counted from the end of the text: of its line, its key, the end of its line,
+/// and the next line.
 #[derive(Clone, Copy)]
 struct Spots {
     line: usize,
@@ -63,7 +63,7 @@ struct Spots {
 }
 
 impl Spots {
-    /// The statement that stands here, as it stands to a place.
+    /// The statement at these offsets with its relation to a place.
     fn entry(self, is_own: bool, is_within: bool, is_header: bool, front: Option<usize>) -> Entry
         ensures { result ≡ record {
           is_own = is_own;
@@ -89,8 +89,8 @@ impl Spots {
     }
 }
 
-/// How the statements so far leave a place: the way of the last header, and how many elements each array of
-/// tables on the way has, by the count of steps.
+/// The state after some statements: how far the last header leads to the place, and the number of elements of
+/// each array of tables on the path to it, by number of steps.
 #[derive(Drop)]
 struct Standing {
     prefix: Way,
@@ -98,7 +98,7 @@ struct Standing {
 }
 
 impl Standing {
-    /// Before the first statement.
+    /// The state before the first statement.
     fn new(alloc: Global, place: &[Step]) -> CargoResult<Standing>
         ensures none { IfOk result (λ s. StandsTo (place_seen place.now) [] [] s) }
         ensures refused { IfErr result IsMemory }
@@ -113,7 +113,7 @@ impl Standing {
         })
     }
 
-    /// How a pair stands to the place.
+    /// Relates a pair to the place.
     fn take_pair(
         &self,
         alloc: Global,
@@ -138,7 +138,7 @@ impl Standing {
         ))
     }
 
-    /// How a header stands to the place.
+    /// Relates a header `[key]` to the place.
     fn take_header(
         &mut self,
         alloc: Global,
@@ -160,7 +160,7 @@ impl Standing {
         Ok(spots.entry(is_at(named, place), has_come(named, place), true, front))
     }
 
-    /// How the header of an element stands to the place.
+    /// Relates a header `[[key]]` to the place.
     fn take_element(
         &mut self,
         alloc: Global,
@@ -184,7 +184,7 @@ impl Standing {
         Ok(spots.entry(is_at(element, place), has_come(element, place), true, front))
     }
 
-    /// How the next statement stands to the place.
+    /// Relates the next statement to the place.
     fn take(
         &mut self,
         alloc: Global,
@@ -210,7 +210,7 @@ impl Standing {
     }
 }
 
-/// The statements of a text in their order, as they stand to a place.
+/// The statements of a text in order, each with its relation to a place.
 pub(crate) fn entries(alloc: Global, text: &str, place: &[Step]) -> CargoResult<Vec<Entry>>
     ensures found { IfDocument text.now (λ form. IfOk result (λ v. v.items ≡ map (entries_seen.entry_of
         (place_seen place.now)) (stated form))) }

@@ -1,4 +1,4 @@
-//! The members of an inline table, and the one of them that names a place.
+//! Finds the member of an inline table that names a place.
 ghost use Rattle.std.specs.Prelude.{◌≡◌, true, ℕ, List, IfOk, IfErr, length, option_map};
 ghost use Rattle.edit_base.specs.Errors.{IsMemory};
 ghost use Rattle.edit_syntax.specs.Grammar.{Between, gap, Value, value as value_text};
@@ -22,7 +22,7 @@ use edit_syntax::read::gaps::past_gap;
 use edit_syntax::read::steps::{past_name, past_value};
 use std::alloc::Global;
 
-/// Where the part of a key ends that names the place, by the way along the key.
+/// The offset behind the part of a key that names the place, where the key does.
 fn part_end(named: Way, front: Option<usize>, marks: &[Mark], place: &[Step]) -> Option<usize>
     ensures { result ≡ part_seen (length (place_seen place.now)) named front marks.now }
 {
@@ -36,8 +36,8 @@ fn part_end(named: Way, front: Option<usize>, marks: &[Mark], place: &[Step]) ->
     }
 }
 
-/// Where the part of the key at the front ends that names the place, if one does, and what follows the value.
-/// The way is that of the inline table.
+/// The offset behind the part of the key at the front that names the place, if it does, and the input behind
+/// the pair; `start` is the path to the inline table.
 fn past_member<'a>(
     alloc: Global,
     text: &str,
@@ -64,8 +64,8 @@ fn past_member<'a>(
     Ok((part_end(named, front, seen, place), after))
 }
 
-/// Where a pair is written that names the place, in the inline table at the front of the end of a text, where
-/// one is. The spots are behind the part of the pair's key and behind its value.
+/// The offsets of the pair that names the place in the inline table that a suffix of the text begins with:
+/// behind the part of its key, and behind its value.
 pub(crate) fn table_spots(
     alloc: Global,
     text: &str,

@@ -1,4 +1,4 @@
-//! The text of a document without an item.
+//! The text of a document after an item is removed.
 ghost use Rattle.std.specs.Prelude.{◌≡◌, ◌++◌, [], Some, None, IfOk, IfErr, string_bytes};
 ghost use Rattle.std.specs.Bool.{Decides};
 ghost use Rattle.edit_base.specs.Errors.{IsMemory};
@@ -20,8 +20,8 @@ use edit_syntax::past_mark;
 use edit_tree::cut::between;
 use std::alloc::Global;
 
-/// The text without the statements that name the place or one below it, and without the blank and comment
-/// lines before each of them.
+/// The text without the statements that name the place or one below it, each with the blank and comment lines
+/// before it.
 fn without_lines(alloc: Global, text: &str, place: &[Step]) -> CargoResult<String>
     ensures text { IfDocument text.now (λ form. IfOk result (λ t. string_bytes t
         ≡ byte_order_mark form.marked (lines_left (place_seen place.now) (lines form.lines) (stated form)))) }
@@ -40,8 +40,8 @@ fn without_lines(alloc: Global, text: &str, place: &[Step]) -> CargoResult<Strin
     Ok(out)
 }
 
-/// A value that a place lies below: how many steps lead to it, and where it begins and ends in the text, told
-/// by how many bytes follow.
+/// A value around a place: the number of steps to it, and the offsets of its start and end, counted from the
+/// end of the text.
 #[derive(Clone, Copy)]
 pub(crate) struct Around {
     pub(crate) steps: usize,
@@ -49,7 +49,7 @@ pub(crate) struct Around {
     pub(crate) to: usize,
 }
 
-/// The text with other bytes in the place of what stands from one spot to another.
+/// The text with the range between two offsets, counted from its end, replaced by `now`.
 fn with_part(alloc: Global, text: &str, from: usize, to: usize, now: &str) -> CargoResult<String>
     ensures text { (w : Valued) → StandsBetween text.now w from to
         → IfOk result (λ t. string_bytes t ≡ with_splice text.now
@@ -63,15 +63,15 @@ fn with_part(alloc: Global, text: &str, from: usize, to: usize, now: &str) -> Ca
     Ok(out)
 }
 
-/// Whether the text of a value is that of an array or an inline table.
+/// Whether the text of a value is an array or an inline table.
 fn is_container(written: &[u8]) -> bool
     ensures { (v : Value) → IsValue v → written.now ≡ value v [] → Decides result (IsContainer v) }
 {
     begins(written, b'[') || begins(written, b'{')
 }
 
-/// The text without the element at a place below an array that stands in it, or without the members that name
-/// a place below an inline table, or one below that place.
+/// The text where the array or inline table between two offsets, counted from the end of the text, loses the
+/// element at the place `below` it, or the members at or below that place.
 fn without_members(
     alloc: Global,
     text: &str,
@@ -98,7 +98,7 @@ fn without_members(
     }
 }
 
-/// The innermost value around a place.
+/// The innermost array or inline table around a place.
 fn value_around(document: &Document, place: &[Step]) -> Option<Around>
     ensures { IfDocument document.now.bytes (λ form. HasAround form (place_seen place.now) result) }
 {
@@ -115,7 +115,7 @@ fn value_around(document: &Document, place: &[Step]) -> Option<Around>
     }
 }
 
-/// The document's text without the item at a place. Where nothing stands there, nothing goes.
+/// The document's text without the item at a place; unchanged where no item is there.
 pub fn without(document: &Document, alloc: Global, place: &[Step]) -> CargoResult<String>
     ensures text { IfOk result (λ t. Becomes document.now.bytes (removed_text (place_seen place.now))
         (string_bytes t)) }

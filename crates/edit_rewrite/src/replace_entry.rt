@@ -1,4 +1,4 @@
-//! The entry at a place gives way to another one.
+//! Replaces the entry at a place by another one.
 ghost use Rattle.std.specs.Prelude.{◌≡◌, ◌&&◌, not, true, ◌⊎◌, ◌++◌, ◌≤◌, length, IfOk, IfErr, string_bytes, ◌+◌};
 ghost use Rattle.std.specs.List.{Contains};
 ghost use Rattle.edit_base.specs.Errors.{IsMemory};
@@ -27,7 +27,7 @@ use edit_syntax::{Mark, first_line};
 use edit_tree::cut::between;
 use std::alloc::Global;
 
-/// Whether it is a pair that names the place or one below it.
+/// Whether a statement is a pair that names the place or one below it.
 fn is_pair_within(entry: Entry) -> bool
     ensures { result ≡ (not entry.is_header && entry.is_within) }
 {
@@ -46,7 +46,7 @@ fn first_within(found: &[Entry]) -> Option<Entry>
     None
 }
 
-/// Where the last of some tokens ends, told by how many bytes follow.
+/// The offset behind the last token of a list, counted from the end of the text.
 fn last_to(marks: &[Mark]) -> usize
     ensures { result ≡ last_end 0 marks.now }
 {
@@ -57,7 +57,7 @@ fn last_to(marks: &[Mark]) -> usize
     end
 }
 
-/// Where a pair is written that names the place: behind the part of its key that does, and behind its value.
+/// The offsets of a pair that names the place: behind the part of its key that does, and behind its value.
 fn pair_spots(alloc: Global, text: &str, entry: Entry) -> CargoResult<(usize, usize)>
     ensures around { (form : Text) (place : Place) (s : Stated) → IsDocument text.now form
         → is_one_statement form place ≡ true → Contains (stated form) s → entry ≡ entry_of place s
@@ -72,7 +72,7 @@ fn pair_spots(alloc: Global, text: &str, entry: Entry) -> CargoResult<(usize, us
     Ok((entry.front.unwrap_or(key_end(seen)), last_to(seen)))
 }
 
-/// The same of the pair that is a statement and names the place, where there is one.
+/// The offsets of the pair, written as a statement, that names the place, if there is one.
 fn line_spots(alloc: Global, text: &str, place: &[Step]) -> CargoResult<Option<(usize, usize)>>
     ensures told { IfDocument text.now (λ form. is_one_statement form (place_seen place.now) ≡ true
         → IfOk result (Tells (place_seen place.now) (line_pairs form))) }
@@ -85,7 +85,7 @@ fn line_spots(alloc: Global, text: &str, place: &[Step]) -> CargoResult<Option<(
     }
 }
 
-/// The text with other bytes in the place of what stands from one spot to another.
+/// The text with the range between two offsets, counted from its end, replaced by `now`.
 fn swapped(alloc: Global, text: &str, from: usize, to: usize, now: &str) -> CargoResult<String>
     ensures text { (s : Splice) → IsSpot text.now s.from → IsSpot text.now s.to → from ≡ length s.from
         → to ≡ length s.to → now.now ≡ s.now → IfOk result (λ r. string_bytes r ≡ with_splice text.now s) }
@@ -98,8 +98,8 @@ fn swapped(alloc: Global, text: &str, from: usize, to: usize, now: &str) -> Carg
     Ok(out)
 }
 
-/// Where a pair is written that names the place, in the inline table at the place of so many of its
-/// steps, where one is.
+/// The offsets of the pair that names the place, in the inline table at the first `end` steps of the place, if
+/// there is one.
 fn spots_in(
     document: &Document,
     alloc: Global,
@@ -122,7 +122,7 @@ fn spots_in(
     }
 }
 
-/// The same in the inline tables of the whole text.
+/// The offsets of the pair that names the place, in any inline table around it.
 fn inner_spots(
     document: &Document,
     alloc: Global,
@@ -141,7 +141,7 @@ fn inner_spots(
     Ok(None)
 }
 
-/// Where the pair is written that names a place, of which there is one.
+/// The offsets of the only pair that names a place.
 fn entry_spots(document: &Document, alloc: Global, place: &[Step]) -> CargoResult<(usize, usize)>
     requires one { IfDocument document.now.bytes (λ form. is_one_statement form (place_seen place.now)
         ≡ true) }
@@ -159,7 +159,7 @@ fn entry_spots(document: &Document, alloc: Global, place: &[Step]) -> CargoResul
     }
 }
 
-/// The document's text with another entry at a place.
+/// The document's text with the entry at a place replaced.
 pub fn with_entry(
     document: &Document,
     alloc: Global,

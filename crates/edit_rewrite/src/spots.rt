@@ -1,4 +1,4 @@
-//! Other bytes at a spot of a text, which is told by how many bytes follow.
+//! Insertions and replacements at offsets counted from the end of a text.
 ghost use Rattle.std.specs.Prelude.{◌≡◌, ◌-◌, ℕ, List, ◌++◌, IfOk, IfErr, length, string_bytes};
 ghost use Rattle.edit_base.specs.Errors.{IsMemory};
 ghost use Rattle.edit_syntax.specs.Spans.{cut_from};
@@ -10,7 +10,7 @@ use edit_base::errors::CargoResult;
 use edit_tree::cut::between;
 use std::alloc::Global;
 
-/// The newline that begins here, or LF where none does.
+/// The newline that `rest` begins with, or LF where there is none.
 fn newline_like(rest: &str) -> &'static str
     ensures { (line : List ℕ) → result.now ++ line ≡ line_end (end_like rest.now) line }
 {
@@ -21,7 +21,7 @@ fn newline_like(rest: &str) -> &'static str
     }
 }
 
-/// The text with other bytes in the place of what stands from one spot to another.
+/// The text with the range between two offsets replaced by `now`.
 pub(crate) fn with_swap(
     alloc: Global,
     text: &str,
@@ -41,7 +41,7 @@ pub(crate) fn with_swap(
     Ok(out)
 }
 
-/// The text with other bytes before a spot.
+/// The text with `now` inserted at an offset.
 pub(crate) fn with_text(alloc: Global, text: &str, spot: usize, now: &str) -> CargoResult<String>
     ensures text { (rest : List ℕ) → IsSpot text.now rest → spot ≡ length rest
         → IfOk result (λ s. string_bytes s ≡ with_splice text.now (put_before rest now.now)) }
@@ -50,7 +50,7 @@ pub(crate) fn with_text(alloc: Global, text: &str, spot: usize, now: &str) -> Ca
     with_swap(alloc, text, spot, spot, now)
 }
 
-/// The text with a line more behind the one that ends at a spot.
+/// The text with a new line behind the line that ends at an offset.
 pub(crate) fn with_line(alloc: Global, text: &str, after: usize, line: &str) -> CargoResult<String>
     ensures text { (rest : List ℕ) → IsSpot text.now rest → after ≡ length rest
         → IfOk result (λ s. string_bytes s ≡ with_splice text.now (new_line rest line.now)) }
@@ -61,7 +61,7 @@ pub(crate) fn with_line(alloc: Global, text: &str, after: usize, line: &str) -> 
     with_text(alloc, text, after, now.as_str())
 }
 
-/// The text with a header more before a spot, and a line under it.
+/// The text with a new header inserted at an offset, and a line below it.
 pub(crate) fn with_section(
     alloc: Global,
     text: &str,

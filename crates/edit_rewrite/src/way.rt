@@ -1,4 +1,4 @@
-//! The way to a place that is looked for.
+//! Follows keys on the path to a place.
 ghost use Rattle.std.specs.Prelude.{◌≡◌, List, ◌∷◌, IfOk, IfErr, length};
 ghost use Rattle.edit_base.specs.Errors.{IsMemory};
 ghost use Rattle.edit_tree.specs.Assertions.{Place, key as key_step, index as index_step};
@@ -15,8 +15,7 @@ use edit_tree::nodes::words_in;
 use edit_tree::words::words_of;
 use std::alloc::Global;
 
-/// How a place stands to one that is looked for: on the way
-/// to it by so many steps, below it, or off the way.
+/// How far a path leads to a place: to it by a number of steps, below it, or elsewhere.
 #[derive(Clone, Copy, PartialEq, Eq)]
 pub(crate) enum Way {
     On(usize),
@@ -24,7 +23,7 @@ pub(crate) enum Way {
     Off,
 }
 
-/// Whether a way has come to the place.
+/// Whether a path leads exactly to the place.
 pub(crate) fn is_at(way: Way, place: &[Step]) -> bool
     ensures { result ≡ entries_seen.is_at (length (place_seen place.now)) way }
 {
@@ -34,7 +33,7 @@ pub(crate) fn is_at(way: Way, place: &[Step]) -> bool
     }
 }
 
-/// Whether a way has come to the place or below it.
+/// Whether a path leads to the place or below it.
 pub(crate) fn has_come(way: Way, place: &[Step]) -> bool
     ensures { result ≡ entries_seen.has_come (length (place_seen place.now)) way }
 {
@@ -45,7 +44,7 @@ pub(crate) fn has_come(way: Way, place: &[Step]) -> bool
     }
 }
 
-/// The way behind a step to a member.
+/// The path extended by the key of a member.
 pub(crate) fn step_name(way: Way, place: &[Step], name: &str) -> Way
     ensures { result ≡ entries_seen.next_way (place_seen place.now) way (key_step name.now) }
 {
@@ -70,7 +69,7 @@ pub(crate) fn step_name(way: Way, place: &[Step], name: &str) -> Way
     }
 }
 
-/// The way behind a step to an element.
+/// The path extended by the index of an element.
 pub(crate) fn step_index(way: Way, place: &[Step], number: usize) -> Way
     ensures { result ≡ entries_seen.next_way (place_seen place.now) way (index_step number) }
 {
@@ -95,7 +94,7 @@ pub(crate) fn step_index(way: Way, place: &[Step], number: usize) -> Way
     }
 }
 
-/// How many elements an array of tables on the way has so far.
+/// The number of elements so far of the array of tables that a path has reached.
 pub(crate) fn count_on(way: Way, counts: &[usize]) -> usize
     ensures { result ≡ entries_seen.count_on counts.now way }
 {
@@ -105,7 +104,8 @@ pub(crate) fn count_on(way: Way, counts: &[usize]) -> usize
     }
 }
 
-/// A header that goes on below an array of tables goes on below its last element.
+/// Extends a path that reaches an array of tables to its last element, as headers do (TOML 1.0.0, "Array of
+/// Tables").
 pub(crate) fn resolved(way: Way, place: &[Step], counts: &[usize]) -> Way
     ensures { result ≡ entries_seen.resolved_way (place_seen place.now) counts.now way }
 {
@@ -117,7 +117,7 @@ pub(crate) fn resolved(way: Way, place: &[Step], counts: &[usize]) -> Way
     }
 }
 
-/// Whether a mark is that of a part of a key.
+/// Whether a token is a part of a key.
 fn is_part(kind: MarkKind) -> bool
     ensures { result ≡ entries_seen.is_part kind }
 {
@@ -127,7 +127,7 @@ fn is_part(kind: MarkKind) -> bool
     }
 }
 
-/// Whether a part of a key comes first.
+/// Whether the first token is a part of a key.
 fn begins_part(marks: &[Mark]) -> bool
     ensures { result ≡ entries_seen.begins_part marks.now }
 {
@@ -137,7 +137,8 @@ fn begins_part(marks: &[Mark]) -> bool
     }
 }
 
-/// The way behind a key, and the spot behind the part of it, but the last, that names the place.
+/// The path extended by a key, and the offset behind the part of the key that reaches the place, where the
+/// key goes on.
 pub(crate) fn along(
     alloc: Global,
     text: &str,
@@ -172,7 +173,7 @@ pub(crate) fn along(
     }
 }
 
-/// The kind of the first mark that is none of a part of a key.
+/// The kind of the first token that is not a part of a key.
 fn head_of(marks: &[Mark]) -> Option<MarkKind>
     ensures { result ≡ entries_seen.head_of marks.now }
 {
@@ -184,7 +185,7 @@ fn head_of(marks: &[Mark]) -> Option<MarkKind>
     None
 }
 
-/// Where the first mark begins, told by how many bytes follow.
+/// The offset of the first token, counted from the end of the text.
 pub(crate) fn first_from(marks: &[Mark]) -> usize
     ensures { result ≡ entries_seen.first_from marks.now }
 {
@@ -194,7 +195,7 @@ pub(crate) fn first_from(marks: &[Mark]) -> usize
     }
 }
 
-/// Whether the mark of a header of a table stands behind the key.
+/// Whether the key at the front is that of a header `[key]`.
 pub(crate) fn heads_table(marks: &[Mark]) -> bool
     ensures { result ≡ standings.heads_table (entries_seen.head_of marks.now) }
 {
@@ -204,7 +205,7 @@ pub(crate) fn heads_table(marks: &[Mark]) -> bool
     }
 }
 
-/// Whether that of a header of an element does.
+/// Whether the key at the front is that of a header `[[key]]`.
 pub(crate) fn heads_element(marks: &[Mark]) -> bool
     ensures { result ≡ standings.heads_element (entries_seen.head_of marks.now) }
 {
@@ -214,7 +215,7 @@ pub(crate) fn heads_element(marks: &[Mark]) -> bool
     }
 }
 
-/// Where the last part of the key at the front ends, told by how many bytes follow.
+/// The offset behind the last part of the key at the front, counted from the end of the text.
 pub(crate) fn key_end(marks: &[Mark]) -> usize
     ensures { result ≡ spots_seen.key_end 0 marks.now }
 {

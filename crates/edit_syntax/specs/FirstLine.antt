@@ -1,16 +1,16 @@
--- The first of lines: its marks, and what follows it.
+-- The first of several lines: its tokens, and the text after it.
 use Rattle.std.specs.Prelude.{ℕ, List, []}
 use Rattle.edit_syntax.specs.declared.read.marks.Mark.{Mark}
 use Rattle.edit_syntax.specs.Strings.{line_end}
 use Rattle.edit_syntax.specs.Grammar.{Lines, one_line, more_lines, lines}
 use Rattle.edit_syntax.specs.Marks.{line_marks}
 
--- what follows the first line: nothing, or its newline and the other lines
+-- the text after the first line: empty, or the line's newline and the other lines
 abbrev pub after_first : Lines → List ℕ
 after_first (one_line l) = []
 after_first (more_lines l e ls) = line_end e (lines ls)
 
--- the marks of the first line
+-- the tokens of the first line
 abbrev pub first_marks : Lines → List Mark
 first_marks (one_line l) = line_marks l []
 first_marks (more_lines l e ls) = line_marks l (line_end e (lines ls))

@@ -1,5 +1,4 @@
--- What the private functions of reading promise: what follows
--- the part of the text that they read, and its marks.
+-- What the private functions of the tokenizer guarantee: the rest of the input, and the tokens appended.
 use Rattle.std.specs.Prelude.{◌≡◌, ℕ, Bool, true, false, List, [], ◌∷◌, ◌++◌, Option, Some, None, option_map, Result, MatchResult}
 use Rattle.std.specs.Borrow.{Bor}
 use Rattle.std.specs.Global.{Vec}
@@ -18,7 +17,7 @@ use Rattle.edit_syntax.specs.Grammar.{Value, basic, literal, multi_basic, multi_
 use Rattle.edit_syntax.specs.Marks.{mark, part_mark, key_marks, value_marks, elements_marks, members_marks}
 use Rattle.edit_syntax.specs.Reading.{Read, Pair}
 
--- the bytes of a class
+-- the test for the bytes of a class
 abbrev pub class_test : Class → ℕ → Bool
 class_test Blank = is_blank
 class_test Comment = is_ch
@@ -32,31 +31,31 @@ class_test Hexadecimal = base_digit hexadecimal
 class_test Octal = base_digit octal
 class_test Binary = base_digit binary
 
--- what follows what was read
+-- the function returns the rest of the input, as the parser of the specification does
 abbrev pub Skips : {A : Type 0} → Option (Bor (List ℕ)) → Read A → Type 0
 Skips r read = option_map (λ rest. rest.now) r ≡ option_map (λ p. p.1) read
 
--- what follows what was read, and its marks behind the old ones;
--- nothing is read where reading gives nothing, unless memory ran out
+-- the tokens of what was parsed are appended and the rest of the input is returned; an error other than
+-- memory means that the parser of the specification fails too
 abbrev pub Notes : {A : Type 0} → (A → List ℕ → List Mark) → Vec Mark → Vec Mark
     → Result (Bor (List ℕ)) ReadError → Read A → Type 0
 Notes {A} marks old new r read =
     MatchResult r (λ rest. (x : A) × (read ≡ Some (x, rest.now))
     × (new.items ≡ old.items ++ marks x rest.now)) (λ e. (e ≡ Memory → ⊥) → read ≡ None)
 
--- a mark was added, or memory ran out
+-- one token is appended, or memory ran out
 abbrev pub Noted : Vec Mark → Vec Mark → Result (Unit {0}) ReadError → Mark → Type 0
 Noted old new r m = MatchResult r (λ _. new.items ≡ old.items ++ m ∷ []) (λ e. e ≡ Memory)
 
--- the kind of a token, and what follows it
+-- the kind of a token, and the rest of the input
 abbrev pub seen_token : Option (MarkKind × Bor (List ℕ)) → Option (MarkKind × List ℕ)
 seen_token r = option_map (λ p. (p.0, p.1.now)) r
 
--- the kind of what was read, and what follows it
+-- the kind of what was parsed, and the rest of the input
 abbrev pub told_token : {A : Type 0} → (A → MarkKind) → Read A → Option (MarkKind × List ℕ)
 told_token kind read = option_map (λ p. (kind p.0, p.1)) read
 
--- the kind of a value's first mark
+-- the kind of the first token of a value
 abbrev pub value_kind : Value → MarkKind
 value_kind (basic ps) = kinds.BasicString
 value_kind (literal text) = kinds.LiteralString
@@ -70,21 +69,21 @@ value_kind (datetime d) = kinds.DateTime
 value_kind (array g es) = kinds.OpenArray
 value_kind (inline g ms) = kinds.OpenTable
 
--- the mark of a part
+-- the tokens of a part of a key: exactly one
 abbrev pub part_marks : Part → List ℕ → List Mark
 part_marks p rest = part_mark p rest ∷ []
 
--- the marks of a pair: its key and its value
+-- the tokens of a pair: those of its key and those of its value
 abbrev pub pair_marks : Pair → List ℕ → List Mark
 pair_marks p rest =
     key_marks p.key (p.before · equals ∷ (p.behind · value p.value rest)) ++ value_marks p.value rest
 
--- of an inline table's members and its closing brace
+-- the tokens of the members of an inline table and of its closing brace
 abbrev pub inner_marks : Members → List ℕ → List Mark
 inner_marks ms rest =
     members_marks ms (right_brace ∷ rest) ++ mark kinds.CloseTable (right_brace ∷ rest) rest ∷ []
 
--- of an array's elements and its closing bracket
+-- the tokens of the elements of an array and of its closing bracket
 abbrev pub array_marks : Elements → List ℕ → List Mark
 array_marks es rest =
     elements_marks es (right_bracket ∷ rest) ++ mark kinds.CloseArray (right_bracket ∷ rest) rest ∷ []

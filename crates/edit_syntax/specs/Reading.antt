@@ -1,5 +1,5 @@
--- Reading from left to right: a part of the grammar and the text behind it, or nothing. The contracts of the
--- private functions cite these; what they have to do with the grammar is proved in proofs/.
+-- A parser, as definitions: each gives a part of the grammar and the rest of the input, or nothing. The
+-- contracts of private functions cite them; proofs/ relates them to the grammar.
 use Rattle.std.specs.Prelude.{ℕ, zero, suc, ◌+◌, Bool, true, false, ◌&&◌, ◌||◌, ◌==◌, if◌then◌else◌, List, length, drop, slice_index, Option, Some, None}
 use Rattle.edit_syntax.specs.Characters.{line_feed, carriage_return, quote, hash, apostrophe, comma, equals, left_bracket, right_bracket, left_brace, right_brace, is_ch}
 use Rattle.edit_syntax.specs.Strings.{Key}
@@ -10,12 +10,12 @@ unfoldable pub use Rattle.edit_syntax.specs.ReadingTexts.{line_end_at, between_a
 
 -- ---- values
 
--- these bytes come first
+-- the input begins with these four bytes
 abbrev pub starts : ℕ → ℕ → ℕ → ℕ → List ℕ → Bool
 starts a b c d text =
     first text == a && slice_index text 1 == b && slice_index text 2 == c && slice_index text 3 == d
 
--- a value that is one token
+-- a value that is a single token
 unfoldable pub scalar_at : List ℕ → Read Value
 scalar_at text =
     if begins quote quote quote text then (multi_at quote (drop 3 text) >>= λ p. Some (multi_basic p.0, p.1))
@@ -27,14 +27,14 @@ scalar_at text =
     else (if starts 102 97 108 115 text && slice_index text 4 == 101 then Some (boolean false, drop 5 text)
     else number_at text)))))
 
--- a key, an equals sign and a value, with the white space beside the sign
+-- a pair: a key, an equals sign and a value, with the white space around the sign
 pub record Pair : Type 0 where
   pub key : Key
   pub before : List ℕ
   pub behind : List ℕ
   pub value : Value
 
--- the pair at the front, whose value is read by this reader
+-- the pair at the front, whose value is parsed by the given parser
 unfoldable pub pair_at : (List ℕ → Read Value) → List ℕ → Read Pair
 pair_at value_at text = do
   k ← key_at text
@@ -42,7 +42,7 @@ pair_at value_at text = do
   v ← value_at (past_blanks rest)
   Some (record { key = k.0; before = blanks k.1; behind = blanks rest; value = v.0 }, v.1)
 
--- from a member or the closing brace on, in fewer than n members, up to the closing brace
+-- the members at the front, fewer than n, up to and with the closing brace
 unfoldable pub members_at : (List ℕ → Read Value) → ℕ → List ℕ → Read Members
 members_at value_at zero text = None
 members_at value_at (suc n) text =
@@ -58,7 +58,7 @@ members_at value_at (suc n) text =
     else (past right_brace (past_gap p.1)
     >>= λ rest. Some (last_member p.0.key p.0.before p.0.behind p.0.value (gap_front p.1), rest)))
 
--- from an element or the closing bracket on, in fewer than n elements, up to the closing bracket
+-- the elements at the front, fewer than n, up to and with the closing bracket
 unfoldable pub elements_at : (List ℕ → Read Value) → ℕ → List ℕ → Read Elements
 elements_at value_at zero text = None
 elements_at value_at (suc n) text =
@@ -69,7 +69,7 @@ elements_at value_at (suc n) text =
     >>= λ es. Some (element v.0 (gap_front v.1) (gap_front (drop 1 (past_gap v.1))) es.0, es.1))
     else (past right_bracket (past_gap v.1) >>= λ rest. Some (last_element v.0 (gap_front v.1), rest)))
 
--- a value with arrays and inline tables at most n deep in one another
+-- a value whose arrays and inline tables nest at most n deep
 unfoldable pub value_at : ℕ → List ℕ → Read Value
 value_at zero text = scalar_at text
 value_at (suc n) text =
@@ -83,37 +83,37 @@ value_at (suc n) text =
 
 -- ---- lines
 
--- a header, from its opening bracket on
+-- a header `[key]`; the input begins with its bracket
 unfoldable pub header_at : List ℕ → Read Statement
 header_at text = key_at (past_blanks (drop 1 text)) >>= λ k. past right_bracket (past_blanks k.1)
     >>= λ rest. Some (header (blanks (drop 1 text)) k.0 (blanks k.1), rest)
 
--- the header of an element, from its opening brackets on
+-- a header `[[key]]`; the input begins with its brackets
 unfoldable pub element_header_at : List ℕ → Read Statement
 element_header_at text = key_at (past_blanks (drop 2 text)) >>= λ k. past right_bracket (past_blanks k.1)
     >>= λ inner. past right_bracket inner
     >>= λ rest. Some (element_header (blanks (drop 2 text)) k.0 (blanks k.1), rest)
 
--- a header, the header of an element, or a pair
+-- a header `[key]`, a header `[[key]]` or a pair
 unfoldable pub statement_at : ℕ → List ℕ → Read Statement
 statement_at depth text =
     if first text == left_bracket
     then (if slice_index text 1 == left_bracket then element_header_at text else header_at text)
     else (pair_at (value_at depth) text >>= λ p. Some (pair p.0.key p.0.before p.0.behind p.0.value, p.1))
 
--- the comment at the front, or nothing
+-- the optional comment at the front
 abbrev pub comment_front : List ℕ → Option (List ℕ)
 comment_front text = if first text == hash then Some (front is_ch (drop 1 text)) else None
 
--- what follows a comment or nothing
+-- the rest behind an optional comment
 abbrev pub past_comment : List ℕ → List ℕ
 past_comment text = if first text == hash then after is_ch (drop 1 text) else text
 
--- nothing, a comment, or a line end comes
+-- the byte ends a line without a statement: the end of the text, a comment or a newline begins here
 abbrev pub is_line_over : ℕ → Bool
 is_line_over b = b == 0 || b == hash || b == line_feed || b == carriage_return
 
--- a line, up to its newline
+-- a line up to its newline
 unfoldable pub line_at : ℕ → List ℕ → Read Line
 line_at depth text =
     if is_line_over (first (past_blanks text))
@@ -125,22 +125,22 @@ line_at depth text =
       past_comment (past_blanks s.1),
     ))
 
--- all of the text, in at most n lines
+-- all lines of a text, at most n
 unfoldable pub lines_at : ℕ → ℕ → List ℕ → Option Lines
 lines_at depth zero text = None
 lines_at depth (suc n) text = line_at depth text >>= λ l.
     if length l.1 == 0 then Some (one_line l.0)
     else (line_end_at l.1 >>= λ e. lines_at depth n e.1 >>= λ ls. Some (more_lines l.0 e.0 ls))
 
--- a byte order mark comes first
+-- the text begins with a byte order mark
 abbrev pub is_marked : List ℕ → Bool
 is_marked text = first text == 0xEF && slice_index text 1 == 0xBB && slice_index text 2 == 0xBF
 
--- what follows a byte order mark or nothing
+-- the text without a byte order mark at its start
 abbrev pub past_mark : List ℕ → List ℕ
 past_mark text = if is_marked text then drop 3 text else text
 
--- a text with arrays and inline tables at most so deep in one another
+-- a text whose arrays and inline tables nest at most the given depth
 unfoldable pub read_text : ℕ → List ℕ → Option Text
 read_text depth text = lines_at depth (length (past_mark text) + 1) (past_mark text)
     >>= λ ls. Some (record { marked = is_marked text; lines = ls })

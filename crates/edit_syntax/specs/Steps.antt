@@ -1,4 +1,4 @@
--- What stands before a step over a value or a key of an array or an inline table.
+-- Values and keys where they are written in an array or an inline table.
 use Rattle.std.specs.Prelude.{◌≡◌, ℕ, ◌≤◌, Bool, true, false, ◌||◌, ◌==◌, List}
 use Rattle.edit_syntax.specs.Characters.{comma, right_bracket, right_brace, is_blank, All}
 use Rattle.edit_syntax.specs.Strings.{Key, IsKey}
@@ -6,18 +6,20 @@ use Rattle.edit_syntax.specs.Grammar.{Between, IsGap, Value, IsValue}
 use Rattle.edit_syntax.specs.Depth.{depth}
 use Rattle.edit_syntax.specs.ReadingSteps.{first}
 
--- a comma or a closing bracket or brace, which ends a value and the gap behind it
+-- a comma, bracket or brace, one of which ends a value and the gap behind it
 abbrev pub ends_item : ℕ → Bool
 ends_item b = b == comma || b == right_bracket || b == right_brace
 
--- a value and the gap behind it, up to what ends them, with arrays and inline tables at most 80 deep
+-- a value and the gap behind it, before a comma, bracket or brace, with arrays and inline tables at most 80
+-- deep
 pub record IsItem (v : Value) (g : List Between) (rest : List ℕ) : Type 0 where
   pub valid : IsValue v
   pub shallow : depth v ≤ 80
   pub between : IsGap g
   pub ends : ends_item (first rest) ≡ true
 
--- a key with the white space before its equals sign and behind it, up to what begins with neither
+-- a key with the white space before and after its equals sign, before input that begins with neither tab nor
+-- space
 pub record IsNaming (k : Key) (a b more : List ℕ) : Type 0 where
   pub key : IsKey k
   pub before : All is_blank a

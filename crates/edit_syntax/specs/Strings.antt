@@ -1,6 +1,6 @@
--- Line ends, strings and keys: what they are made of, how they are spelled, when
--- they are well formed and what they say (TOML 1.0.0, "Spec", "String" and "Keys").
--- Each spelling takes the text that follows, so that a row reads from left to right.
+-- Newlines, strings and keys: their parts, how these are written, when they are well formed, and their
+-- decoded values (TOML 1.0.0, "Spec", "String" and "Keys"). The definition of a text takes the text that
+-- follows, so that a sequence reads from left to right.
 use Rattle.std.specs.Prelude.{◌≡◌, ℕ, zero, suc, ◌<◌, Bool, true, false, ◌&&◌, ◌||◌, ◌==◌, nat_lt, nat_le, if◌then◌else◌, List, [], ◌∷◌, ◌++◌, length, ⊤, encode_utf8}
 use Rattle.std.specs.List.{AllByRecursion, flat_map}
 use Rattle.std.specs.Char.{is_digit}
@@ -8,7 +8,7 @@ use Rattle.std.specs.Str.Parse.{digits_value}
 use Rattle.edit_syntax.specs.Characters.{line_feed, carriage_return, quote, apostrophe, backslash, is_blank, is_bare, is_literal_ch, is_basic_ch, All}
 
 infixr 20 ◌·◌
--- one text and then another
+-- two texts joined
 abbrev pub ◌·◌ : List ℕ → List ℕ → List ℕ
 a · b = a ++ b
 
@@ -19,19 +19,19 @@ pub data LineEnd : Type 0 where
   lf : LineEnd
   crlf : LineEnd
 
--- how a newline is spelled
+-- the text of a newline, before the text that follows
 abbrev pub line_end : LineEnd → List ℕ → List ℕ
 line_end lf rest = line_feed ∷ rest
 line_end crlf rest = carriage_return ∷ (line_feed ∷ rest)
 
 -- ---- pieces of strings
 
--- a tab, a space or a newline, behind the backslash that ends a line ("String", multi-line basic strings)
+-- a tab, a space or a newline after the backslash of a line fold ("String", multi-line basic strings)
 pub data Space : Type 0 where
   blank : ℕ → Space
   break : LineEnd → Space
 
--- how these are spelled
+-- the text of the white space of a line fold, before the text that follows
 abbrev pub spaces : List Space → List ℕ → List ℕ
 spaces [] rest = rest
 spaces (blank b ∷ more) rest = b ∷ spaces more rest
@@ -44,19 +44,19 @@ IsSpace (break e) = ⊤
 
 -- a piece of a string between its delimiters ("String")
 pub data Piece : Type 0 where
-  -- a byte that stands for itself
+  -- a byte that needs no escape
   plain : ℕ → Piece
-  -- a backslash and a letter; \u and four, \U and eight hexadecimal digits
+  -- an escape: a backslash and a letter; `\u` and four or `\U` and eight hexadecimal digits
   letter : ℕ → Piece
   short : List ℕ → Piece
   long : List ℕ → Piece
-  -- of multi-line strings: a line end, a fold (white space, a line end,
-  -- and what white space and line ends follow), a delimiter that is text
+  -- of multi-line strings: a newline, a line fold (a backslash, white space, a newline, and more white space
+  -- and newlines), and a delimiter that is part of the string
   feed : LineEnd → Piece
   fold : List ℕ → LineEnd → List Space → Piece
   delimiter : Piece
 
--- how a piece is spelled, in a string with this delimiter
+-- the text of a piece in a string with this delimiter, before the text that follows
 abbrev pub piece : ℕ → Piece → List ℕ → List ℕ
 piece mark (plain b) rest = b ∷ rest
 piece mark (letter c) rest = backslash ∷ (c ∷ rest)
@@ -66,7 +66,7 @@ piece mark (feed e) rest = line_end e rest
 piece mark (fold ws e more) rest = backslash ∷ (ws · line_end e (spaces more rest))
 piece mark delimiter rest = mark ∷ rest
 
--- how pieces are spelled
+-- the text of pieces in a string with this delimiter, before the text that follows
 abbrev pub pieces : ℕ → List Piece → List ℕ → List ℕ
 pieces mark [] rest = rest
 pieces mark (p ∷ ps) rest = piece mark p (pieces mark ps rest)
@@ -83,7 +83,7 @@ is_scalar c = nat_lt c 0xD800 || (nat_le 0xE000 c && nat_le c 0x10_FFFF)
 abbrev pub is_hex : ℕ → Bool
 is_hex c = is_digit c 16
 
--- so many hexadecimal digits that name a Unicode scalar value ("String", \u and \U)
+-- n hexadecimal digits of a Unicode scalar value ("String", `\u` and `\U`)
 abbrev pub NamesScalar : ℕ → List ℕ → Type 0
 NamesScalar n digits = (length digits ≡ n) × All is_hex digits × (is_scalar (digits_value 16 digits) ≡ true)
 
@@ -117,7 +117,7 @@ IsRawPiece (feed e) = ⊤
 IsRawPiece (fold ws e more) = ⊥
 IsRawPiece delimiter = ⊤
 
--- delimiters stand in runs of one or two: at most n more may come here ("String", multi-line strings)
+-- at most two delimiters follow one another, and at most n come first ("String", multi-line strings)
 abbrev pub RunsFit : ℕ → List Piece → Type 0
 RunsFit n [] = ⊤
 RunsFit zero (delimiter ∷ ps) = ⊥
@@ -135,20 +135,20 @@ begins_with_space (plain b ∷ ps) = is_blank b
 begins_with_space (feed e ∷ ps) = true
 begins_with_space _ = false
 
--- a backslash at the end of a line takes all white space and newlines that follow ("String")
+-- a line fold is followed by neither white space nor a newline: it includes them all ("String")
 abbrev pub FoldsAreWhole : List Piece → Type 0
 FoldsAreWhole [] = ⊤
 FoldsAreWhole (fold ws e more ∷ ps) = (begins_with_space ps ≡ false) × FoldsAreWhole ps
 FoldsAreWhole (_ ∷ ps) = FoldsAreWhole ps
 
--- ---- what strings say
+-- ---- decoded values of strings
 
--- the character that the letter of an escape names ("String")
+-- the character that an escape letter stands for ("String")
 abbrev pub escaped : ℕ → ℕ
 escaped c = if c == 98 then 8 else (if c == 116
     then 9 else (if c == 110 then 10 else (if c == 102 then 12 else (if c == 114 then 13 else c))))
 
--- what a piece says
+-- the decoded value of a piece in a string with this delimiter
 abbrev pub said : ℕ → Piece → List ℕ
 said mark (plain b) = b ∷ []
 said mark (letter c) = escaped c ∷ []
@@ -158,11 +158,12 @@ said mark (feed e) = line_end e []
 said mark (fold ws e more) = []
 said mark delimiter = mark ∷ []
 
--- what the pieces of a string say
+-- the decoded value of the pieces of a string
 abbrev pub says : ℕ → List Piece → List ℕ
 says mark ps = flat_map (said mark) ps
 
--- what those of a multi-line string say: a newline just behind the opening delimiter is not in it ("String")
+-- the decoded value of a multi-line string, which leaves out a newline right behind the opening delimiter
+-- ("String")
 abbrev pub says_multi : ℕ → List Piece → List ℕ
 says_multi mark (feed e ∷ ps) = says mark ps
 says_multi mark ps = says mark ps
@@ -175,53 +176,54 @@ pub data Part : Type 0 where
   basic_part : List Piece → Part
   literal_part : List ℕ → Part
 
--- how a basic string is spelled
+-- the text of a basic string, before the text that follows
 abbrev pub basic_text : List Piece → List ℕ → List ℕ
 basic_text ps rest = quote ∷ pieces quote ps (quote ∷ rest)
 
--- how a literal string is spelled
+-- the text of a literal string, before the text that follows
 abbrev pub literal_text : List ℕ → List ℕ → List ℕ
 literal_text text rest = apostrophe ∷ (text · apostrophe ∷ rest)
 
--- how a part is spelled
+-- the text of a part of a key, before the text that follows
 abbrev pub part : Part → List ℕ → List ℕ
 part (bare text) rest = text · rest
 part (basic_part ps) rest = basic_text ps rest
 part (literal_part text) rest = literal_text text rest
 
--- a bare part has a character, and each is one of bare keys; a quoted one is a string
+-- a part of a key is well formed: a bare one is not empty and has bare characters only, a quoted one is a
+-- string
 abbrev pub IsPart : Part → Type 0
 IsPart (bare text) = (0 < length text) × All is_bare text
 IsPart (basic_part ps) = AllByRecursion IsBasicPiece ps
 IsPart (literal_part text) = All is_literal_ch text
 
--- the name that a part says
+-- the decoded name of a part of a key
 abbrev pub name : Part → List ℕ
 name (bare text) = text
 name (basic_part ps) = says quote ps
 name (literal_part text) = text
 
--- a part behind a dot, with the white space before the dot and after it ("Keys", dotted keys)
+-- a part of a key that follows a dot, with the white space before and after the dot ("Keys", dotted keys)
 pub record Dotted : Type 0 where
   pub before : List ℕ
   pub behind : List ℕ
   pub part : Part
 
--- a key: its first part and those behind dots
+-- a key: its first part, and the parts that follow a dot
 pub record Key : Type 0 where
   pub first : Part
   pub others : List Dotted
 
--- how the parts behind dots are spelled
+-- the text of the parts that follow a dot, before the text that follows
 abbrev pub dotted : List Dotted → List ℕ → List ℕ
 dotted [] rest = rest
 dotted (d ∷ ds) rest = d.before · 46 ∷ (d.behind · part d.part (dotted ds rest))
 
--- how a key is spelled
+-- the text of a key, before the text that follows
 abbrev pub key : Key → List ℕ → List ℕ
 key k rest = part k.first (dotted k.others rest)
 
--- each part is well formed, with white space alone beside the dots
+-- a key is well formed: each part is, and only white space is around the dots
 abbrev pub IsKey : Key → Type 0
 IsKey k = IsPart k.first × AllByRecursion (λ d. All is_blank d.before × All is_blank d.behind
     × IsPart d.part) k.others

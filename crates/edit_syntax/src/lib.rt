@@ -1,5 +1,5 @@
-//! The grammar of manifests: characters, strings, numbers,
-//! the reading of a text into marks, and what its tokens say.
+//! The grammar of TOML manifests: character classes, strings and numbers, the tokenizer, and the decoding of
+//! tokens.
 #![tactic(auto)]
 
 pub mod read;

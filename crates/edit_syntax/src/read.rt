@@ -1,4 +1,4 @@
-//! The reading of a text into marks.
+//! The tokenizer: reads a text into a list of tokens (`Mark`).
 ghost use Rattle.std.specs.Prelude.{◌≡◌, ◌≤◌, IfOk, IfErr, MatchResult, length};
 ghost use Rattle.edit_base.specs.Errors.{IsMemory};
 ghost use Rattle.edit_syntax.specs.Grammar.{Text, Spells};
@@ -28,7 +28,7 @@ use marks::ReadError;
 pub use marks::{Mark, MarkKind};
 use std::alloc::Global;
 
-/// What follows a byte order mark or nothing.
+/// Skips the UTF-8 byte order mark at the start of a text, if there is one.
 pub fn past_mark(text: &[u8]) -> &[u8]
     ensures { result.now ≡ reading.past_mark text.now }
 {
@@ -39,17 +39,17 @@ pub fn past_mark(text: &[u8]) -> &[u8]
     }
 }
 
-/// The marks of a text, with arrays and inline tables at most 80 deep in one another.
-/// A refusal tells the byte at which the part begins that could not be read.
+/// The tokens of a text, with arrays and inline tables nested at most 80 deep.
+/// `Error::NotToml` holds the offset of the part that could not be read.
 pub fn read_marks(alloc: Global, text: &[u8]) -> CargoResult<Vec<Mark>>
-    // What is read is in the grammar.
+    // A text that is read without an error is in the grammar.
     ensures found { IfOk result (λ v.
         (form : Text) × Spells text.now form × (text_depth form ≤ 80)
         × (v.items ≡ text_marks form)) }
-    // Whatever is in the grammar is read, in whichever way the text was split, unless memory runs out.
+    // Every text in the grammar is read, whichever form it is spelled from, unless memory runs out.
     ensures only { (form : Text) → Spells text.now form → text_depth form ≤ 80 →
         MatchResult result (λ v. v.items ≡ text_marks form) IsMemory }
-    // The byte that a refusal tells lies in the text.
+    // The offset in an error is at most the length of the text.
     ensures refused { IfErr result (IsReadRefusal (length text.now)) }
 {
     let body = past_mark(text);

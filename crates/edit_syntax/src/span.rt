@@ -1,4 +1,4 @@
-//! Where a part of a text stands.
+//! The position of a part of a text, counted from the end of the text.
 
 /// Where a value is written: how many bytes there are from its first
 /// byte to the text's end, and from its own end to the text's end.

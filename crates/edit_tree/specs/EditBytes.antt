@@ -1,4 +1,5 @@
--- What setting a value, replacing an entry and inserting a member write, at one spot; all other bytes stay.
+-- The texts after setting a value, replacing an entry and inserting a member: each changes one range; other
+-- bytes stay.
 use Rattle.std.specs.Prelude.{ℕ, ◌-◌, Bool, true, false, not, ◌&&◌, ◌==◌, if◌then◌else◌, List, [], ◌∷◌, ◌++◌, length, take, Option, Some, None, is_some, option_map, unwrap_or, codes}
 use Rattle.std.specs.List.{list_all, list_any, filter}
 use Rattle.edit_syntax.specs.Characters.{comma, line_feed, carriage_return, right_brace}
@@ -9,50 +10,50 @@ use Rattle.edit_tree.specs.NewItems.{NewValue, NewItem, new_value, new_pair, new
 use Rattle.edit_tree.specs.Statements.{Stated, stated, front_parts, behind_part, Paired, paired_statement, line_pairs, inner_pairs, Headed, headers}
 use Rattle.edit_tree.specs.Written.{Valued, values}
 
--- ---- spots of a text
+-- ---- replacing a range of a text
 
--- what stands from one spot of a text to another gives way to other bytes
+-- a replacement of a range of a text, given by the suffixes at its start and its end, by other bytes
 pub record Splice : Type 0 where
   pub from : List ℕ
   pub to : List ℕ
   pub now : List ℕ
 
--- other bytes before a spot
+-- the insertion of bytes before a suffix of the text
 abbrev pub put_before : List ℕ → List ℕ → Splice
 put_before spot now = record { from = spot; to = spot; now = now }
 
--- the text before a spot
+-- the text before its suffix
 abbrev pub before : List ℕ → List ℕ → List ℕ
 before bytes spot = take (length bytes - length spot) bytes
 
--- a text with other bytes at a spot
+-- the text after a replacement
 abbrev pub with_splice : List ℕ → Splice → List ℕ
 with_splice bytes s = before bytes s.from ++ (s.now ++ s.to)
 
--- a text with a splice, or as it is where there is none
+-- the text after an optional replacement
 abbrev pub with_any : List ℕ → Option Splice → List ℕ
 with_any bytes None = bytes
 with_any bytes (Some s) = with_splice bytes s
 
--- ---- choices
+-- ---- searching lists
 
--- the first of a list that there is
+-- the first value that is there in a list of options
 abbrev pub first_of : {A : Type 0} → List (Option A) → Option A
 first_of [] = None
 first_of (None ∷ more) = first_of more
 first_of (Some x ∷ more) = Some x
 
--- what is made of the first of a list of which something is made
+-- the first result of a partial function over a list
 abbrev pub first_made : {A B : Type 0} → (A → Option B) → List A → Option B
 first_made f [] = None
 first_made f (x ∷ xs) = first_of (f x ∷ first_made f xs ∷ [])
 
--- what is made of the last of a list of which something is made
+-- the last result of a partial function over a list
 abbrev pub last_made : {A B : Type 0} → (A → Option B) → List A → Option B
 last_made f [] = None
 last_made f (x ∷ xs) = first_of (last_made f xs ∷ f x ∷ [])
 
--- the second place is the first or lies below it
+-- the second place is the first one or lies below it
 abbrev pub is_within : Place → Place → Bool
 is_within [] q = true
 is_within (s ∷ ss) [] = false
@@ -60,7 +61,7 @@ is_within (s ∷ ss) (t ∷ ts) = same_step s t && is_within ss ts
 
 -- ---- set_value
 
--- the value at the place gives way to the new one
+-- the replacement of the value at the place by the new one
 abbrev pub value_set : Place → NewValue → Text → Option Splice
 value_set place v t = first_made set (values t)
   where
@@ -70,13 +71,13 @@ value_set place v t = first_made set (values t)
         then Some (record { from = value w.value w.after; to = w.after; now = value (new_value v) [] })
         else None
 
--- the text with another value at a place
+-- the text with the value at a place replaced
 abbrev pub set_text : Place → NewValue → Text → List ℕ
 set_text place v t = with_any (text t) (value_set place v t)
 
 -- ---- replace_entry
 
--- the key of a pair goes on at the place that it names
+-- parts of a pair's key lead to the place that they name, and not to the last element of an array of tables
 abbrev pub as_it_is : Place → Place
 as_it_is place = place
 
@@ -84,7 +85,8 @@ as_it_is place = place
 abbrev pub part_to : Place → Paired → Option (List ℕ)
 part_to place p = behind_part as_it_is place p.table p.parts
 
--- in the pair that names the place, all from that part's end to the value's end gives way to the item
+-- the replacement in the pair that names the place: from the end of that part of its key to the end of its
+-- value
 abbrev pub entry_replaced : Place → NewItem → Text → Option Splice
 entry_replaced place item t = first_made replace (line_pairs t ++ inner_pairs t)
   where
@@ -94,45 +96,46 @@ entry_replaced place item t = first_made replace (line_pairs t ++ inner_pairs t)
     replace : Paired → Option Splice
     replace p = option_map (λ spot. from_to spot p.behind) (part_to place p)
 
--- the text with another entry at a place
+-- the text with the entry at a place replaced
 abbrev pub replaced_text : Place → NewItem → Text → List ℕ
 replaced_text place item t = with_any (text t) (entry_replaced place item t)
 
--- it is a pair
+-- the statement is a pair
 abbrev pub is_pair : Statement → Bool
 is_pair (pair k a b v) = true
 is_pair _ = false
 
--- it is a header that names the place by some part of its key
+-- the statement is a header whose key leads to or through the place
 abbrev pub is_header_of : Place → Stated → Bool
 is_header_of place s =
     not (is_pair s.statement) && is_within place (place_named s.earlier s.prefix s.statement)
 
--- exactly one pair names the place by some part of its key, and no header does
+-- exactly one pair has a key that leads to or through the place, and no header does
 abbrev pub is_one_statement : Text → Place → Bool
 is_one_statement t place =
     (length (filter (λ p. is_some (part_to place p)) (line_pairs t ++ inner_pairs t)) == 1)
     && not (list_any (is_header_of place) (stated t))
 
--- ---- insert, by what the table is
+-- ---- insert, by the kind of the table
 
--- the newline that begins here, or LF where none does
+-- the newline that the text begins with, or LF where there is none
 abbrev pub end_like : List ℕ → LineEnd
 end_like [] = lf
 end_like (b ∷ rest) = if b == carriage_return then crlf else lf
 
--- A line behind the line that ends here. Where no newline ends that one, LF does, and the new one has none.
+-- The insertion of a line behind the one that ends here. At the end of a text without a newline, LF is put
+-- before the new line and none after it.
 abbrev pub new_line : List ℕ → List ℕ → Splice
 new_line after now = put_before after (line_end (end_like after) now)
 
--- the text behind the value of the last member, with this text behind the members
+-- the text behind the value of the last member, or all of it where there is no member
 abbrev pub behind_last : Members → List ℕ → List ℕ
 behind_last no_members rest = rest
 behind_last (last_member k a b v c) rest = gap c rest
 behind_last (member k a b v c d no_members) rest = gap c (comma ∷ gap d rest)
 behind_last (member k a b v c d ms) rest = behind_last ms rest
 
--- tabs and spaces alone: no newline and no comment
+-- the gap has only tabs and spaces: no newline and no comment
 abbrev pub is_blank_gap : List Between → Bool
 is_blank_gap g = list_all is_blank_between g
   where
@@ -140,8 +143,9 @@ is_blank_gap g = list_all is_blank_between g
     is_blank_between (blank b) = true
     is_blank_between _ = false
 
--- Behind the last member's value, a comma before it. In an empty table the white space between the braces
--- gives way to a space, the member and a space; a newline or a comment stays behind a space and the member.
+-- The insertion into an inline table: `, ` and the member behind the last value. In an empty table, white
+-- space between the braces is replaced by the member with a space on each side; before a newline or a
+-- comment, a space and the member are inserted.
 abbrev pub inline_grown : List ℕ → Value → List ℕ → Option Splice
 inline_grown m (inline g no_members) after =
     let close = right_brace ∷ after in
@@ -151,33 +155,35 @@ inline_grown m (inline g ms) after =
     Some (put_before (behind_last ms (right_brace ∷ after)) (codes ", " · m))
 inline_grown m _ after = None
 
--- of an inline table
+-- the insertion into a table that is an inline table
 abbrev pub in_inline : Place → List ℕ → Text → Option Splice
 in_inline table m t = first_made grow (values t)
   where
     grow : Valued → Option Splice
     grow w = if same_place w.place table then inline_grown m w.value w.after else None
 
--- a pair under the header of the table, or the header itself; of the root a pair before any header
+-- the statement is the header of the table or a pair below it; for the root, a pair before any header
 abbrev pub is_own : Place → Stated → Bool
 is_own table s = same_place (prefix_after s.earlier s.prefix s.statement) table
 
--- of a table with a header, an element of an array of tables, or the root: behind its last pair or header
+-- the insertion into a table with a header, an element of an array of tables, or the root: behind its last
+-- pair or header
 abbrev pub in_section : Place → List ℕ → Text → Option Splice
 in_section table m t = last_made grow (stated t)
   where
     grow : Stated → Option Splice
     grow s = if is_own table s then Some (new_line s.after m) else None
 
--- the text behind the part, but the last, of a pair's key that names the table
+-- the text behind the part of a pair's key that names the table, where the key goes on from there
 abbrev pub front_to : Place → Paired → Option (List ℕ)
 front_to table p = behind_part as_it_is table p.table (front_parts p.parts)
 
--- the key of a pair up to a spot, a dot, and the member
+-- the key of a pair up to a suffix of the text, a dot, and the member
 abbrev pub dotted_pair : Paired → List ℕ → List ℕ → List ℕ
 dotted_pair p spot m = before p.from spot · codes "." · m
 
--- of a table made by dotted keys: behind the last such pair, its key up to the table, a dot and the member
+-- the insertion into a table made by dotted keys: a line behind the last pair that passes through it, with
+-- the key of that pair up to the table, a dot and the member
 abbrev pub in_dotted : Place → List ℕ → Text → Option Splice
 in_dotted table m t = last_made grow (stated t)
   where
@@ -187,14 +193,16 @@ in_dotted table m t = last_made grow (stated t)
     grow : Stated → Option Splice
     grow s = first_made (line_of s) (paired_statement s)
 
--- the same inside an inline table: behind the value of that member, a comma before it
+-- the insertion into a table made by dotted keys inside an inline table: behind the value of the last pair
+-- that passes through it
 abbrev pub in_inner_dotted : Place → List ℕ → Text → Option Splice
 in_inner_dotted table m t = last_made grow (inner_pairs t)
   where
     grow : Paired → Option Splice
     grow p = option_map (λ spot. put_before p.behind (codes ", " · dotted_pair p spot m)) (front_to table p)
 
--- of a table that headers only go through: a header of its own and the member, before the first one's line
+-- the insertion into a table that only headers pass through: its own header and the member, before the line
+-- of the first such header
 abbrev pub in_super : Place → List ℕ → Text → Option Splice
 in_super table m t = first_made grow (headers t)
   where
@@ -206,11 +214,11 @@ in_super table m t = first_made grow (headers t)
         option_map (λ spot. put_before h.line (section (before h.from spot)))
         (behind_part (resolved h.earlier) table [] (front_parts h.parts))
 
--- of the root without pairs of its own: at the start of the text, behind U+FEFF
+-- the insertion into the root where it has no pair of its own: at the start of the text, behind U+FEFF
 abbrev pub at_start : List ℕ → Text → Splice
 at_start m t = put_before (lines t.lines) (m · line_feed ∷ [])
 
--- the first of these that there is; what a table is decides which one
+-- the insertion of a member into a table: the first rule that applies, by the kind of the table
 abbrev pub inserted : Place → List ℕ → NewValue → Text → Splice
 inserted table name v t =
     let m = new_pair name v [] in
@@ -218,6 +226,6 @@ inserted table name v t =
     let dotted = in_dotted table m t ∷ in_inner_dotted table m t ∷ [] in
     unwrap_or (first_of (tabled ++ dotted ++ in_super table m t ∷ [])) (at_start m t)
 
--- the text with a member more in the table
+-- the text with a member inserted into the table
 abbrev pub inserted_text : Place → List ℕ → NewValue → Text → List ℕ
 inserted_text table name v t = with_splice (text t) (inserted table name v t)

@@ -1,10 +1,10 @@
--- The string literal of a text: how a new string is written (TOML 1.0.0, "String", basic strings).
+-- The string literal of a text: how new strings are written (TOML 1.0.0, "String", basic strings).
 use Rattle.std.specs.Prelude.{ℕ, Bool, ◌+◌, ◌/◌, ◌%◌, ◌||◌, ◌==◌, nat_lt, if◌then◌else◌, List, [], ◌∷◌, map}
 use Rattle.edit_syntax.specs.Characters.{quote, backslash}
 use Rattle.edit_syntax.specs.Strings.{Piece, plain, letter, short, piece, pieces}
 use Rattle.edit_syntax.specs.Grammar.{Value, basic, value}
 
--- an upper-case hexadecimal digit
+-- the code of an upper-case hexadecimal digit
 abbrev pub hex_digit : ℕ → ℕ
 hex_digit d = if nat_lt d 10 then 48 + d else 55 + d
 
@@ -21,11 +21,11 @@ literal_piece b =
     else (if nat_lt b 32 || b == 127 then short (48 ∷ 48 ∷ hex_digit (b / 16) ∷ hex_digit (b % 16) ∷ [])
     else plain b))))))
 
--- the literal of a text
+-- the string literal of a text
 abbrev pub literal_of : List ℕ → Value
 literal_of said = basic (map literal_piece said)
 
--- its bytes
+-- the bytes of the string literal of a text
 abbrev pub literal_bytes : List ℕ → List ℕ
 literal_bytes said = value (literal_of said) []
 
@@ -33,10 +33,10 @@ literal_bytes said = value (literal_of said) []
 abbrev pub escaped : ℕ → List ℕ
 escaped b = piece quote (literal_piece b) []
 
--- the bytes between the quotes
+-- the bytes of a string literal between its quotes
 abbrev pub literal_body : List ℕ → List ℕ
 literal_body said = pieces quote (map literal_piece said) []
 
--- a byte that does not stand for itself
+-- the byte is escaped in a string literal
 abbrev pub is_escaped : ℕ → Bool
 is_escaped b = nat_lt b 32 || b == 127 || b == quote || b == backslash

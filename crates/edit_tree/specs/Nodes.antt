@@ -1,5 +1,5 @@
--- The nodes of a document: one for each place that a statement
--- asserts, the root first and then in the order of first assertions.
+-- The model of a document's nodes: one for each place that a statement defines, the root first and then in
+-- the order of first definitions.
 use Rattle.std.specs.Prelude.{◌≡◌, ℕ, ⊤, List, [], length, map, drop, slice_get, Option, Some, None, String, string_bytes, ◌⊎◌}
 use Rattle.std.specs.Global.{Box, Global}
 use Rattle.std.specs.Map.{lookup}
@@ -24,7 +24,7 @@ use Rattle.edit_syntax.specs.declared.read.marks.MarkKind.{MarkKind}
 use Rattle.edit_syntax.specs.declared.read.marks.MarkKind.TheVariants as kinds
 use Rattle.edit_tree.specs.Tree.{View, string, truth, whole, fractional, moment, static_array, table_array, inline_table, table}
 
--- what stands at a place, but for its members
+-- the kind and content of a node, without its members
 pub data Shape : Type 0 where
   scalar : View → Shape
   listed : Shape
@@ -32,15 +32,15 @@ pub data Shape : Type 0 where
   section : Shape
   sections : Shape
 
--- what a value shows whose token of this kind says this: a string, or a number, a date or a time (own)
+-- the shape of a value with a token of this kind and this decoded text (own)
 abbrev pub shape_said : MarkKind → List ℕ → Shape
 shape_said kinds.Integer text = scalar (whole text)
 shape_said kinds.Float text = scalar (fractional text)
 shape_said kinds.DateTime text = scalar (moment text)
 shape_said _ text = scalar (string text)
 
--- a place, its shape, by what it is taken, the names and numbers of its members in the order of their first
--- assertions, the numbers of its elements, and where its value is written
+-- a node of the model: its place, its shape, how it was defined, the names and node indices of its members in
+-- the order of first definitions, the node indices of its elements, and the span of its value
 pub record Spot : Type 0 where
   pub place : Place
   pub shape : Shape
@@ -49,11 +49,11 @@ pub record Spot : Type 0 where
   pub elements : List ℕ
   pub span : Option Span
 
--- the names of a spot's members
+-- the names of a node's members
 abbrev pub names_of : Spot → List (List ℕ)
 names_of s = map (λ e. e.0) s.members
 
--- what a place shows, with members of these names and so many elements
+-- the view of a node with this shape, these member names and this number of elements
 abbrev pub view_of_shape : Shape → List (List ℕ) → ℕ → View
 view_of_shape (scalar v) names n = v
 view_of_shape listed names n = static_array n
@@ -61,18 +61,18 @@ view_of_shape inline names n = inline_table (map key names)
 view_of_shape section names n = table (map key names)
 view_of_shape sections names n = table_array n
 
--- the place of a spot, and what it shows
+-- the place of a node and its view
 abbrev pub shown_spot : Spot → Place × View
 shown_spot s = (s.place, view_of_shape s.shape (names_of s) (length s.elements))
 
--- ---- what the table of nodes keeps of each spot
+-- ---- how the table of nodes represents the model
 
--- what a string or a name of a text says
+-- the decoded text of a string or of a part of a key
 abbrev pub bytes_of : List ℕ → Words → List ℕ
 bytes_of text (Kept span) = bytes_at text span
 bytes_of text (Made boxed) = string_bytes boxed.value
 
--- what stands at a node's place, but for its members, in the document of a text
+-- the shape that the content of a node represents
 abbrev pub shape_of : List ℕ → Content → Shape
 shape_of text (content.Text words) = scalar (string (bytes_of text words))
 shape_of text (content.Truth b) = scalar (truth b)
@@ -84,31 +84,31 @@ shape_of text content.Inline = inline
 shape_of text content.Table = section
 shape_of text content.Tables = sections
 
--- the number that a table has of a name, and none where there is no table
+-- the index stored for a name; none where there is no map
 abbrev pub number_by : Option (Box (BTreeMap (String Global) ℕ)) → List ℕ → Option ℕ
 number_by None name = None
 number_by (Some boxed) name = get_by_text boxed.value name
 
--- the number that a look-up has of a name
+-- the index that a lookup has for a name
 abbrev pub number_of : Lookup → List ℕ → Option ℕ
 number_of names name = number_by names.table name
 
--- the names of some members of a text, and their numbers
+-- the decoded names of a list of members, each with its node index
 abbrev pub entries_in : List ℕ → List Member → List (List ℕ × ℕ)
 entries_in text members = map (λ e. (bytes_of text e.name, e.number)) members
 
--- the names and numbers of the members of a list
+-- the decoded names of the members of a list, each with its node index
 abbrev pub entries_listed : List ℕ → MemberList → List (List ℕ × ℕ)
 entries_listed text members = entries_in text members.list.items
 
--- the names and numbers of the members among parts
+-- the decoded names of the members among the parts below a node, each with its node index
 abbrev pub entries_by : List ℕ → Parts → List (List ℕ × ℕ)
 entries_by text parts.Nothing = []
 entries_by text (parts.Members members) = entries_listed text members.value
 entries_by text (parts.Elements elements) = []
 entries_by text (parts.Both pair) = entries_listed text pair.value.members.value
 
--- the names and numbers of the members of a place
+-- the decoded names of all members, each with its node index
 abbrev pub entries_of : List ℕ → Members → List (List ℕ × ℕ)
 entries_of text members = entries_by text members.parts
 
@@ -123,31 +123,31 @@ elements_by (parts.Both pair) = pair.value.elements.value.items
 abbrev pub elements_of : Members → List ℕ
 elements_of members = elements_by members.parts
 
--- the names alone
+-- the names of these entries
 abbrev pub names_in : List (List ℕ × ℕ) → List (List ℕ)
 names_in entries = map (λ e. e.0) entries
 
--- the number of a name
+-- the index of the first entry with this name
 abbrev pub number_in : List (List ℕ × ℕ) → List ℕ → Option ℕ
 number_in entries name = lookup (λ n. bytes_eq name n) entries
 
--- all members but the first few are looked up by their names
+-- the map of a list has exactly the members behind the first eight
 abbrev pub IsListIndexed : List ℕ → MemberList → Type 0
 IsListIndexed text members =
     (name : List ℕ) → number_of members.others name ≡ number_in (drop 8 (entries_listed text members)) name
 
--- so are the members among parts, if there are some
+-- the map of the members among the parts below a node, if it has some, has exactly those behind the first eight
 abbrev pub IsIndexedBy : List ℕ → Parts → Type 0
 IsIndexedBy text parts.Nothing = ⊤
 IsIndexedBy text (parts.Members members) = IsListIndexed text members.value
 IsIndexedBy text (parts.Elements elements) = ⊤
 IsIndexedBy text (parts.Both pair) = IsListIndexed text pair.value.members.value
 
--- so are the members of a place
+-- the map has exactly the members behind the first eight
 abbrev pub IsIndexed : List ℕ → Members → Type 0
 IsIndexed text members = IsIndexedBy text members.parts
 
--- a node keeps a spot of the document of a text; of its place it keeps how many steps there are
+-- a node represents a node of the model; of its place it stores the number of steps
 pub record Keeps (text : List ℕ) (node : Node) (spot : Spot) : Type 0 where
   pub shape : shape_of text node.content ≡ spot.shape
   pub taken : node.taken ≡ spot.taken
@@ -157,7 +157,7 @@ pub record Keeps (text : List ℕ) (node : Node) (spot : Spot) : Type 0 where
   pub elements : elements_of node.members ≡ spot.elements
   pub span : node.span ≡ spot.span
 
--- each node keeps the spot of its number
+-- each node represents the node of the model at its index
 pub record Holds (text : List ℕ) (nodes : List Node) (spots : List Spot) : Type 0 where
   pub len : length nodes ≡ length spots
   pub each : (n : ℕ) (node : Node) (spot : Spot) → slice_get nodes n ≡ Some node
@@ -165,16 +165,16 @@ pub record Holds (text : List ℕ) (nodes : List Node) (spots : List Spot) : Typ
 
 -- ---- places
 
--- the place stands at this number
+-- the node at this index is at this place
 abbrev pub StandsAt : List Spot → ℕ → Place → Type 0
 StandsAt spots n place = (s : Spot) × (slice_get spots n ≡ Some s) × (s.place ≡ place)
 
--- the number of what stands one step below a spot
+-- the index of the child of a node at this step
 abbrev pub below : Spot → Step → Option ℕ
 below s (key name) = lookup (λ n. bytes_eq name n) s.members
 below s (index i) = slice_get s.elements i
 
--- a place that is one step below one that stands
+-- the place is a child of a node of the model, which lists it at this index
 pub record IsBelow (spots : List Spot) (number : ℕ) (place : Place) : Type 0 where
   pub upper : Spot
   pub above : ℕ
@@ -183,8 +183,8 @@ pub record IsBelow (spots : List Spot) (number : ℕ) (place : Place) : Type 0 w
   pub place_is : place ≡ at upper.place step
   pub listed : below upper step ≡ Some number
 
--- the spots of a tree: the root stands first, no place stands twice, and the places one step below those
--- that stand are those that their members and elements number
+-- the nodes of a tree: the root comes first, no two nodes have the same place, and each node but the root is
+-- listed as the child of its parent
 pub record IsTree (spots : List Spot) : Type 0 where
   pub root : StandsAt spots 0 []
   pub unique : (i j : ℕ) (s t : Spot) → slice_get spots i ≡ Some s → slice_get spots j ≡ Some t

@@ -1,4 +1,4 @@
--- What removing an item leaves of a text.
+-- The text after an item is removed.
 use Rattle.std.specs.Prelude.{ℕ, suc, Bool, true, false, not, ◌&&◌, if◌then◌else◌, List, [], ◌∷◌, ◌++◌, Option, Some, None}
 use Rattle.edit_syntax.specs.Characters.{comma, equals, left_bracket, right_bracket, left_brace, right_brace, is_blank}
 use Rattle.edit_syntax.specs.Strings.{◌·◌, key}
@@ -10,12 +10,12 @@ use Rattle.edit_tree.specs.EditBytes.{before, with_splice, last_made, is_within}
 
 -- ---- lines
 
--- the statement names the place or one below it
+-- the statement names the place or one below it, so that it is removed
 abbrev pub is_gone : Place → Stated → Bool
 is_gone gone s = is_within gone (place_named s.earlier s.prefix s.statement)
 
--- What is left of lines from a spot on. A statement that goes takes the
--- blank and comment lines before it, and its own lines with the newline.
+-- What is left of lines from here on. A removed statement takes with it the blank and comment lines before
+-- it, and its own lines with their newline.
 abbrev pub lines_left : Place → List ℕ → List Stated → List ℕ
 lines_left gone from [] = from
 lines_left gone from (s ∷ ss) =
@@ -23,16 +23,16 @@ lines_left gone from (s ∷ ss) =
 
 -- ---- arrays and inline tables
 
--- what is left from the start of a member on, and whether the comma before that member is left
+-- the text that is left from a member on, and whether the comma before that member stays
 pub record Left : Type 0 where
   pub comma_stays : Bool
   pub rest : List ℕ
 
--- what is left of a text with a comma before it
+-- the text is left with a comma before it
 abbrev pub with_it : List ℕ → Left
 with_it rest = record { comma_stays = true; rest = rest }
 
--- what is left where that comma goes
+-- the text is left without a comma before it
 abbrev pub without_it : List ℕ → Left
 without_it rest = record { comma_stays = false; rest = rest }
 
@@ -41,17 +41,17 @@ abbrev pub without_blanks : List ℕ → List ℕ
 without_blanks [] = []
 without_blanks (b ∷ rest) = if is_blank b then without_blanks rest else b ∷ rest
 
--- behind a member that stays: the comma and the gap behind it, unless that comma goes
+-- the text behind a member that stays: a comma and the gap after it, unless that comma is removed
 abbrev pub behind_comma : (List ℕ → List ℕ) → Left → List ℕ
 behind_comma lead l = if l.comma_stays then comma ∷ lead l.rest else l.rest
 
--- A member that goes takes the comma behind it and the tabs and spaces there; where no comma is behind it,
--- it takes the comma before it and leaves the gap behind itself.
+-- The text in the place of a removed member. The comma behind it and the tabs and spaces after that are
+-- removed too; where no comma follows, the comma before it is removed and the gap behind it stays.
 abbrev pub without_member : (List ℕ → List ℕ) → (List ℕ → List ℕ) → Left → Left
 without_member trail lead l =
     if l.comma_stays then with_it (without_blanks (lead l.rest)) else without_it (trail l.rest)
 
--- the elements of an array from the one of this number on, without the one at a place
+-- the elements of an array from an index on, without the one at a place
 abbrev pub elements_left : Place → Place → ℕ → Elements → List ℕ → Left
 elements_left gone place i no_elements rest = with_it rest
 elements_left gone place i (last_element v g) rest =
@@ -72,7 +72,7 @@ members_left gone place (member k a b v c d ms) rest =
     if is_within gone (named place (names k)) then without_member (gap c) (gap d) l
     else with_it (key k (a · equals ∷ (b · value v (gap c (behind_comma (gap d) l)))))
 
--- an array or an inline table at its place; before its first member stands no comma
+-- the text of an array or an inline table without what is at or below a place
 abbrev pub value_left : Place → Place → Value → List ℕ → List ℕ
 value_left gone place (array g es) rest =
     left_bracket ∷ gap g (elements_left gone place 0 es (right_bracket ∷ rest)).rest
@@ -82,7 +82,7 @@ value_left gone place v rest = value v rest
 
 -- ---- texts
 
--- the place lies below that of the value, which is an array or an inline table then
+-- the place lies below a value, which thus is an array or an inline table
 abbrev pub is_around : Place → Valued → Bool
 is_around gone w = is_within w.place gone && not (same_place w.place gone)
 
@@ -90,7 +90,8 @@ is_around gone w = is_within w.place gone && not (same_place w.place gone)
 abbrev pub innermost : Place → Text → Option Valued
 innermost gone t = last_made (λ w. if is_around gone w then Some w else None) (values t)
 
--- members of the innermost array or inline table around the place go, else whole lines do; U+FEFF stays
+-- the text without the item at a place: members of the innermost array or inline table around it are removed,
+-- or else whole lines; U+FEFF stays
 abbrev pub removed_text : Place → Text → List ℕ
 removed_text gone t = without (innermost gone t)
   where

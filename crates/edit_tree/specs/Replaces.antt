@@ -1,5 +1,5 @@
--- Values written at places: the form that a text then has, the bytes that are kept, and the tree that is
--- meant where strings are written.
+-- Values replaced at places: the syntax tree after it, the bytes that stay, and the intended tree where the
+-- new values are strings.
 use Rattle.std.specs.Prelude.{◌≡◌, ℕ, suc, Bool, true, false, ◌&&◌, ◌||◌, if◌then◌else◌, List, [], ◌∷◌, ◌++◌, Option, Some, None, option_map, ⊤}
 use Rattle.std.specs.List.{AllByRecursion, filter_map}
 use Rattle.edit_syntax.specs.Grammar.{Value, basic, literal, multi_basic, multi_literal, boolean, integer, float, datetime, array, inline, value, Elements, no_elements, last_element, element, Members, no_members, last_member, member, Statement, pair, header, element_header, empty_line, full_line, Lines, one_line, more_lines, Text, text}
@@ -8,33 +8,33 @@ use Rattle.edit_tree.specs.Tree.{View, string, view_at, is_value_at}
 use Rattle.edit_tree.specs.Literals.{literal_of}
 use Rattle.edit_tree.specs.Written.{Valued, values}
 
--- places, each with the text to be written there
+-- edits: places, each with its new text
 abbrev pub Edits : Type 0
 Edits = List (Place × List ℕ)
 
--- the text to be written at a place
+-- the new text for a place
 abbrev pub new_text : Edits → Place → Option (List ℕ)
 new_text [] place = None
 new_text (e ∷ es) place = if same_place e.0 place then Some e.1 else new_text es place
 
 -- ---- the form
 
--- how the value is written that is made of the text to be written
+-- how a new text is written as a value
 abbrev pub Writer : Type 0
 Writer = List ℕ → Value
 
--- what is made of the text to be written, or the value where there is none
+-- the value for a new text, or the old value where there is none
 abbrev pub written_or : Writer → Option (List ℕ) → Value → Value
 written_or write None v = v
 written_or write (Some said) v = write said
 
--- a value, or what is to be written at its place
+-- the value at a place after the edits
 abbrev pub put : Writer → Edits → Place → Value → Value
 put write edits place v = written_or write (new_text edits place) v
 
--- a value whose inner values are replaced at the places
+-- the replacement of values inside other values
 abbrev mutual
-  -- each value inside it gives way where a text is to be written
+  -- a value with the values inside it replaced
   pub replaced_inside : Writer → Edits → Place → Value → Value
   replaced_inside write edits place (basic ps) = basic ps
   replaced_inside write edits place (literal text) = literal text
@@ -47,7 +47,7 @@ abbrev mutual
   replaced_inside write edits place (array g es) = array g (replaced_elements write edits place 0 es)
   replaced_inside write edits place (inline g ms) = inline g (replaced_members write edits place ms)
 
-  -- the same of elements, from the one of this number on
+  -- the elements of an array from an index on, with values replaced
   pub replaced_elements : Writer → Edits → Place → ℕ → Elements → Elements
   replaced_elements write edits place i no_elements = no_elements
   replaced_elements write edits place i (last_element v g) =
@@ -58,7 +58,7 @@ abbrev mutual
       (replaced_inside write edits (at place (index i)) v)) g h
       (replaced_elements write edits place (suc i) es)
 
-  -- the same of members
+  -- the members of an inline table, with values replaced
   pub replaced_members : Writer → Edits → Place → Members → Members
   replaced_members write edits place no_members = no_members
   replaced_members write edits place (last_member k a b v c) =
@@ -71,18 +71,18 @@ abbrev mutual
       (replaced_inside write edits (named place (names k)) v)) c d
       (replaced_members write edits place ms)
 
--- a value at its place
+-- a value at its place, with itself or the values inside it replaced
 abbrev pub replaced_value : Writer → Edits → Place → Value → Value
 replaced_value write edits place v = put write edits place (replaced_inside write edits place v)
 
--- the same of a statement under a header
+-- a statement below a header, with values replaced
 abbrev pub replaced_statement : Writer → Edits → Place → Statement → Statement
 replaced_statement write edits prefix (pair k a b v) =
     pair k a b (replaced_value write edits (named prefix (names k)) v)
 replaced_statement write edits prefix (header a k b) = header a k b
 replaced_statement write edits prefix (element_header a k b) = element_header a k b
 
--- lines behind these assertions and under this header
+-- lines after these assertions and below this header, with values replaced
 abbrev pub replaced_lines : Writer → Edits → List Assertion → Place → Lines → Lines
 replaced_lines write edits earlier prefix (one_line (empty_line a c)) = one_line (empty_line a c)
 replaced_lines write edits earlier prefix (one_line (full_line a s b c)) =
@@ -94,23 +94,22 @@ replaced_lines write edits earlier prefix (more_lines (full_line a s b c) e ls) 
     (replaced_lines write edits (earlier ++ of_statement earlier prefix s)
     (prefix_after earlier prefix s) ls)
 
--- the form in which each value at one of the places gives
--- way to what is made of the text to be written there
+-- the syntax tree of a text with the value at each place of the edits replaced, as written by `Writer`
 abbrev pub replaced_by : Writer → Edits → Text → Text
 replaced_by write edits t = record { marked = t.marked; lines = replaced_lines write edits [] [] t.lines }
 
--- the same with the literals of the texts
+-- the syntax tree of a text with the value at each place of the edits replaced by a string literal
 abbrev pub replaced : Edits → Text → Text
 replaced edits t = replaced_by literal_of edits t
 
 -- ---- the bytes
 
--- the values at the places, in the order of the text, each with the text to be written there
+-- the values at the places of the edits, in the order of the text, each with its new text
 abbrev pub edited : Edits → Text → List (Valued × List ℕ)
 edited edits t = filter_map (λ w. option_map (λ said. (w, said)) (new_text edits w.place)) (values t)
 
--- `t0 v1 t1 .. vn tn` and `t0 l1 t1 .. ln tn`: each value gives way to what is made of its text, and every
--- other byte is kept
+-- from `t0 v1 t1 .. vn tn` to `t0 l1 t1 .. ln tn`: each value is replaced by its new text as written, and all
+-- other bytes stay
 pub data Swaps (write : Writer) : List (Valued × List ℕ) → List ℕ → List ℕ → Type 0 where
   rest : (t : List ℕ) → Swaps write [] t t
   next : (t : List ℕ) (w : Valued) (said : List ℕ) (more : List (Valued × List ℕ)) (new : List ℕ)
@@ -119,37 +118,37 @@ pub data Swaps (write : Writer) : List (Valued × List ℕ) → List ℕ → Lis
 
 -- ---- the tree
 
--- q lies below the place
+-- the second place lies below the first and is not the same
 abbrev pub is_below : Place → Place → Bool
 is_below [] [] = false
 is_below [] (t ∷ ts) = true
 is_below (s ∷ ss) [] = false
 is_below (s ∷ ss) (t ∷ ts) = same_step s t && is_below ss ts
 
--- q lies below one of the places
+-- the place lies below one of those of the edits
 abbrev pub is_below_any : Edits → Place → Bool
 is_below_any [] q = false
 is_below_any (e ∷ es) q = is_below e.0 q || is_below_any es q
 
--- a tree with other strings at some places
+-- a tree with the strings of the edits at their places
 abbrev pub written : Edits → (Place → Option View) → Place → Option View
 written [] tree q = tree q
 written (e ∷ es) tree q = if same_place e.0 q then Some (string e.1) else written es tree q
 
--- a tree with nothing below some places
+-- a tree with nothing below the places of the edits
 abbrev pub emptied : Edits → (Place → Option View) → Place → Option View
 emptied edits tree q = if is_below_any edits q then None else tree q
 
--- a string stands there
+-- the view is that of a string
 abbrev pub is_string : Option View → Bool
 is_string (Some (string said)) = true
 is_string view = false
 
--- a string stands at each of the places
+-- the item at each place of the edits is a string
 abbrev pub AreStrings : Edits → (Place → Option View) → Type 0
 AreStrings edits tree = AllByRecursion (λ e. is_string (tree e.0) ≡ true) edits
 
--- a value stands at each of the places: it was written behind an equals sign or as an array's element
+-- a value is written at each place of the edits, as the value of a pair or as an element of an array
 abbrev pub AreValues : Edits → Text → Type 0
 AreValues edits form = AllByRecursion (λ e. is_value_at form e.0 ≡ true) edits
 
@@ -158,12 +157,12 @@ abbrev pub AreDistinct : Edits → Type 0
 AreDistinct [] = ⊤
 AreDistinct (e ∷ es) = AllByRecursion (λ f. same_place e.0 f.0 ≡ false) es × AreDistinct es
 
--- none of the places lies below another: what holds one of the values is no other of them
+-- none of the places lies below another
 abbrev pub AreOutside : Edits → Type 0
 AreOutside edits = AllByRecursion (λ e. is_below_any edits e.0 ≡ false) edits
 
--- the new bytes are the old document with the texts written at the places: only the literals differ, and
--- the tree has these strings there, nothing below them, and is else the old one
+-- the new bytes are the old document with the values at the places replaced by string literals: only these
+-- differ, and the tree has the strings there, nothing below them, and is unchanged elsewhere
 pub record Replaces (edits : Edits) (old new : List ℕ) : Type 0 where
   pub form : Text
   pub was : IsDocument old form

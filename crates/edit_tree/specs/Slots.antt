@@ -1,4 +1,4 @@
--- Elements of arrays and members of inline tables alike, and what is left of them where some go.
+-- Elements of arrays and members of inline tables treated alike, and what is left when some are removed.
 use Rattle.std.specs.Prelude.{◌≡◌, ℕ, suc, ◌≤◌, Bool, true, false, if◌then◌else◌, List, [], ◌∷◌, map, ⊤}
 use Rattle.edit_syntax.specs.Characters.{comma, equals, left_bracket, right_bracket, left_brace, right_brace, is_blank, All}
 use Rattle.edit_syntax.specs.Strings.{◌·◌, Key, key, IsKey}
@@ -8,37 +8,38 @@ use Rattle.edit_tree.specs.Assertions.{Place, key as name_step, index, same_plac
 use Rattle.edit_tree.specs.EditBytes.{is_within}
 use Rattle.edit_tree.specs.RemovedBytes.{Left, with_it, without_it, behind_comma, without_member}
 
--- ---- what stands between commas
+-- ---- items between commas
 
--- an element, or a member with the white space beside its equals sign
+-- an item: an element, or a member with the white space around its equals sign
 pub data Slot : Type 0 where
   of_value : Value → Slot
   of_pair : Key → List ℕ → List ℕ → Value → Slot
 
--- how it is spelled
+-- the text of an item, before the text that follows
 abbrev pub slot : Slot → List ℕ → List ℕ
 slot (of_value v) rest = value v rest
 slot (of_pair k a b v) rest = key k (a · equals ∷ (b · value v rest))
 
--- from there to the closing bracket or brace
+-- the items up to the closing bracket or brace, with the gaps after them and after their commas
 pub data Slots : Type 0 where
   no_slots : Slots
   last_slot : Slot → List Between → Slots
   more_slots : Slot → List Between → List Between → Slots → Slots
 
--- how they are spelled
+-- the text of items, before the text that follows
 abbrev pub slots : Slots → List ℕ → List ℕ
 slots no_slots rest = rest
 slots (last_slot s c) rest = slot s (gap c rest)
 slots (more_slots s c d ss) rest = slot s (gap c (comma ∷ gap d (slots ss rest)))
 
--- well formed: a member of an inline table, or an element of an array; its value is at most 80 deep
+-- an item is well formed, as a member of an inline table or an element of an array; its value is at most 80
+-- deep
 abbrev pub IsSlot : Bool → Slot → Type 0
 IsSlot is_table (of_value v) = (is_table ≡ false) × IsValue v × (depth v ≤ 80)
 IsSlot is_table (of_pair k a b v) =
     (is_table ≡ true) × IsKey k × All is_blank a × All is_blank b × IsValue v × (depth v ≤ 80)
 
--- each of them is
+-- each item is well formed
 abbrev pub AreSlots : Bool → Slots → Type 0
 AreSlots is_table no_slots = ⊤
 AreSlots is_table (last_slot s c) = IsSlot is_table s × IsGap c
@@ -48,11 +49,11 @@ AreSlots is_table (more_slots s c d ss) = IsSlot is_table s × IsGap c × IsGap 
 abbrev pub closing : Bool → ℕ
 closing is_table = if is_table then right_brace else right_bracket
 
--- the opening one
+-- the opening brace or bracket
 abbrev pub opening : Bool → ℕ
 opening is_table = if is_table then left_brace else left_bracket
 
--- an array or an inline table from its opening bracket or brace on
+-- the text of an array or an inline table with these items
 abbrev pub enclosed : Bool → List Between → Slots → List ℕ
 enclosed is_table g ss = opening is_table ∷ gap g (slots ss (closing is_table ∷ []))
 
@@ -68,15 +69,15 @@ of_members no_members = no_slots
 of_members (last_member k a b v c) = last_slot (of_pair k a b v) c
 of_members (member k a b v c d ms) = more_slots (of_pair k a b v) c d (of_members ms)
 
--- ---- what goes
+-- ---- removal
 
--- The element of this number is the one at a place below the array;
--- the member names a place below the inline table, or one below that.
+-- The item at this index is removed: it is the element at the place, or a member that names the place or one
+-- below it. The place is relative to the array or inline table.
 abbrev pub goes : Place → ℕ → Slot → Bool
 goes below i (of_value v) = same_place (index i ∷ []) below
 goes below i (of_pair k a b v) = is_within below (map name_step (names k))
 
--- those that are left, from the one of this number on
+-- the items that are left, from this index on
 abbrev pub slots_left : Place → ℕ → Slots → List ℕ → Left
 slots_left below i no_slots rest = with_it rest
 slots_left below i (last_slot s c) rest =
@@ -86,12 +87,12 @@ slots_left below i (more_slots s c d ss) rest =
     if goes below i s then without_member (gap c) (gap d) l
     else with_it (slot s (gap c (behind_comma (gap d) l)))
 
--- what is left of an array or an inline table
+-- the text of an array or an inline table without what is removed
 abbrev pub enclosed_left : Bool → Place → List Between → Slots → List ℕ
 enclosed_left is_table below g ss =
     opening is_table ∷ gap g (slots_left below 0 ss (closing is_table ∷ [])).rest
 
--- well formed, with this text
+-- an array or an inline table with these items is well formed and has this text
 pub record IsEnclosed (is_table : Bool) (g : List Between) (ss : Slots) (text : List ℕ) : Type 0 where
   pub between : IsGap g
   pub slots_valid : AreSlots is_table ss
@@ -99,7 +100,7 @@ pub record IsEnclosed (is_table : Bool) (g : List Between) (ss : Slots) (text : 
 
 -- ---- values
 
--- it is an array or an inline table
+-- the value is an array or an inline table
 abbrev pub IsContainer : Value → Type 0
 IsContainer (array g es) = ⊤
 IsContainer (inline g ms) = ⊤

@@ -1,5 +1,5 @@
--- The statements of a text, their keys, and the pairs of its inline tables, each with the text around it.
--- A spot of a text is told by the text that follows it.
+-- The statements of a text, their keys, and the pairs of its inline tables, each with the text around it. A
+-- position is given by the suffix of the text that begins there.
 use Rattle.std.specs.Prelude.{ℕ, List, [], ◌∷◌, ◌++◌, Option, Some, None, if◌then◌else◌}
 use Rattle.std.specs.List.{flat_map}
 use Rattle.edit_syntax.specs.Characters.{comma, equals, right_bracket, right_brace}
@@ -10,8 +10,8 @@ use Rattle.edit_tree.specs.Written.{Valued, values}
 
 -- ---- statements
 
--- A statement: the header that it stands under and the assertions before it; the text from its line's start,
--- behind the statement, from its line's end, and from the next line on.
+-- A statement: the header in force and the assertions before it, and the suffixes of the text at the start of
+-- its line, behind the statement, at the end of its line, and at the next line.
 pub record Stated : Type 0 where
   pub prefix : Place
   pub earlier : List Assertion
@@ -21,8 +21,7 @@ pub record Stated : Type 0 where
   pub after : List ℕ
   pub next : List ℕ
 
--- a statement with the white space before it, the text
--- behind it, from its line's end, and from the next line
+-- a statement on a line, with the white space before it and the suffixes of the text behind it
 abbrev pub stated_line : List Assertion → Place → List ℕ → Statement → List ℕ → List ℕ → List ℕ → Stated
 stated_line earlier prefix a s behind after next = record {
   prefix = prefix;
@@ -34,7 +33,7 @@ stated_line earlier prefix a s behind after next = record {
   next = next;
 }
 
--- the statements of lines, behind these assertions and under this header
+-- the statements of lines, after these assertions and below this header
 abbrev pub stated_in : List Assertion → Place → Lines → List Stated
 stated_in earlier prefix (one_line (empty_line a c)) = []
 stated_in earlier prefix (one_line (full_line a s b c)) =
@@ -45,17 +44,17 @@ stated_in earlier prefix (more_lines (full_line a s b c) e ls) =
     stated_line earlier prefix a s (b · comment c after) after (lines ls)
     ∷ stated_in (earlier ++ of_statement earlier prefix s) (prefix_after earlier prefix s) ls
 
--- the statements of a text, in its order
+-- the statements of a text, in order
 abbrev pub stated : Text → List Stated
 stated t = stated_in [] [] t.lines
 
 -- ---- keys
 
--- a part of a key: its name, and the text behind it
+-- a part of a key: its decoded name, and the text behind it
 abbrev pub Named : Type 0
 Named = List ℕ × List ℕ
 
--- the parts behind dots
+-- the parts of a key that follow a dot
 abbrev pub dotted_parts : List Dotted → List ℕ → List Named
 dotted_parts [] rest = []
 dotted_parts (d ∷ ds) rest = (name d.part, dotted ds rest) ∷ dotted_parts ds rest
@@ -70,7 +69,8 @@ front_parts [] = []
 front_parts (n ∷ []) = []
 front_parts (n ∷ m ∷ ns) = n ∷ front_parts (m ∷ ns)
 
--- the text behind the part that names a place; each part goes on where the one before it resolves to
+-- the text behind the part of a key that names a place; each part continues from where the one before it
+-- resolves to
 abbrev pub behind_part : (Place → Place) → Place → Place → List Named → Option (List ℕ)
 behind_part resolve place table [] = None
 behind_part resolve place table (n ∷ ns) =
@@ -79,7 +79,8 @@ behind_part resolve place table (n ∷ ns) =
 
 -- ---- pairs
 
--- a pair: the table that its key begins in, the text from its key on, its parts, the text behind its value
+-- a pair: the table that its key starts from, the suffix of the text at its key, its parts, and the suffix
+-- behind its value
 pub record Paired : Type 0 where
   pub table : Place
   pub from : List ℕ
@@ -99,7 +100,7 @@ paired_members table (last_member k a b v c) rest = paired table k a b v (gap c 
 paired_members table (member k a b v c d ms) rest =
     paired table k a b v (gap c (comma ∷ gap d (members ms rest))) ∷ paired_members table ms rest
 
--- those of a value that is an inline table
+-- the pairs of a value, where it is an inline table
 abbrev pub paired_value : Valued → List Paired
 paired_value w = of_value w.value
   where
@@ -107,7 +108,7 @@ paired_value w = of_value w.value
     of_value (inline g ms) = paired_members w.place ms (right_brace ∷ w.after)
     of_value v = []
 
--- a statement that is a pair
+-- the statement as a pair, where it is one
 abbrev pub paired_statement : Stated → List Paired
 paired_statement s = of_statement s.statement
   where
@@ -115,24 +116,24 @@ paired_statement s = of_statement s.statement
     of_statement (pair k a b v) = paired s.prefix k a b v s.behind ∷ []
     of_statement _ = []
 
--- the pairs that are statements
+-- the pairs of a text that are statements
 abbrev pub line_pairs : Text → List Paired
 line_pairs t = flat_map paired_statement (stated t)
 
--- the pairs that stand in inline tables
+-- the pairs of a text that are in inline tables
 abbrev pub inner_pairs : Text → List Paired
 inner_pairs t = flat_map paired_value (values t)
 
 -- ---- headers
 
--- a header: the assertions before it, the text from its line's start on and from its key on, and its parts
+-- a header: the assertions before it, the suffixes of the text at its line and at its key, and its parts
 pub record Headed : Type 0 where
   pub earlier : List Assertion
   pub line : List ℕ
   pub from : List ℕ
   pub parts : List Named
 
--- a statement that is a header ("Table", "Array of Tables")
+-- the statement as a header, where it is one ("Table", "Array of Tables")
 abbrev pub headed_statement : Stated → List Headed
 headed_statement s = of_statement s.statement
   where

@@ -1,11 +1,10 @@
--- By what a place is taken, and what may take it again: the assertions of a place are kept as one word,
--- which tells what may still be asserted there.
+-- How a place was defined, in one value that decides what may still be added to it.
 use Rattle.std.specs.Prelude.{Bool, true, false}
 use Rattle.edit_tree.specs.declared.nodes.Taken.{Taken}
 use Rattle.edit_tree.specs.declared.nodes.Taken.TheVariants.{Dotted, Value, Super, Header, Array, Element}
 use Rattle.edit_tree.specs.Assertions.{Kind, dotted, leaf, super, header_kind, array_kind, element_kind}
 
--- by what an assertion of a kind takes its place
+-- how an assertion of this kind defines its place
 abbrev pub taken_of : Kind → Taken
 taken_of (dotted b) = Dotted
 taken_of (leaf v) = Value
@@ -14,7 +13,7 @@ taken_of header_kind = Header
 taken_of array_kind = Array
 taken_of element_kind = Element
 
--- whether a place that is taken so may be taken again
+-- a place defined in the first way may be extended in the second
 abbrev pub joins : Taken → Taken → Bool
 joins Dotted Dotted = true
 joins Dotted Super = true
@@ -27,12 +26,12 @@ joins Element Super = true
 joins Array Array = true
 joins _ _ = false
 
--- how a place is taken that was taken twice: headers that go on below it leave it as it is
+-- how a place counts as defined after it was extended; a super-table takes over the later definition
 abbrev pub stronger : Taken → Taken → Taken
 stronger Super t = t
 stronger s t = s
 
--- by a value, or by a header of its own
+-- the place is defined by a value or a header of its own
 abbrev pub is_own : Taken → Bool
 is_own Value = true
 is_own Header = true

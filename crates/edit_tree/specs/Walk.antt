@@ -1,5 +1,5 @@
--- How the spots of a text come from its marks, one after the other. The contracts of the private functions
--- cite this; what it has to do with the assertions of a form is proved in proofs/.
+-- How the nodes of a text are built from its tokens, one after the other. The contracts of private functions
+-- cite these definitions; proofs/ relates them to the assertions of a syntax tree.
 use Rattle.std.specs.Prelude.{ℕ, ◌-◌, Bool, true, false, nat_le, nat_lt, if◌then◌else◌, List, [], ◌∷◌, ◌++◌, length, take, drop, slice_get, slice_set, Option, Some, None, option_map, option_to_list, unwrap_or}
 use Rattle.std.specs.Str.{is_utf8}
 use Rattle.edit_syntax.specs.declared.read.marks.Mark.{Mark}
@@ -16,29 +16,29 @@ use Rattle.edit_tree.specs.Tree.{truth}
 use Rattle.edit_tree.specs.Nodes.{Shape, shape_said, scalar, listed, inline, section, sections, Spot, below}
 use Rattle.edit_tree.specs.Taking.{joins, stronger}
 
--- the last of some numbers
+-- the last number of a list
 abbrev pub last_of : List ℕ → Option ℕ
 last_of numbers = slice_get numbers (length numbers - 1)
 
--- ---- what tokens say
+-- ---- decoded tokens
 
--- the text from a byte on that has so many bytes
+-- the suffix of the text with this number of bytes
 abbrev pub suffix : List ℕ → ℕ → List ℕ
 suffix bytes n = drop (length bytes - n) bytes
 
--- what a basic string says, from behind its opening quote on
+-- the decoded value of a basic string; the input begins behind its opening quote
 abbrev pub basic_said : List ℕ → Option (List ℕ)
 basic_said text = option_map (λ p. says quote p.0) (basic_at text)
 
--- what a literal string says, from behind its opening apostrophe on
+-- the decoded value of a literal string; the input begins behind its opening apostrophe
 abbrev pub literal_said : List ℕ → Option (List ℕ)
 literal_said text = option_map (λ p. p.0) (literal_at text)
 
--- what a string over several lines says, from behind its opening delimiters up to its end
+-- the decoded value of a multi-line string; the input begins behind its opening delimiter
 abbrev pub multi_said : ℕ → List ℕ → Option (List ℕ)
 multi_said mark text = option_map (λ p. says_multi mark p.0) (multi_at mark text)
 
--- what a token of this kind says that begins a text, and is so long
+-- the decoded value of a token of this kind and length at the front of a text
 abbrev pub told : MarkKind → List ℕ → ℕ → Option (List ℕ)
 told kinds.BarePart text n = Some (take n text)
 told kinds.BasicPart text n = basic_said (drop 1 text)
@@ -52,55 +52,54 @@ told kinds.Float text n = Some (take n text)
 told kinds.DateTime text n = Some (take n text)
 told _ text n = None
 
--- the bytes, where they are a text
+-- the bytes, where they are UTF-8
 abbrev pub as_text : List ℕ → Option (List ℕ)
 as_text bytes = if is_utf8 bytes then Some bytes else None
 
--- what the token of a mark says
+-- the decoded value of a token
 unfoldable pub said : List ℕ → Mark → Option (List ℕ)
 said bytes m = told m.kind (suffix bytes m.from) (m.from - m.to) >>= as_text
 
--- ---- spots
+-- ---- nodes
 
--- a spot without members
+-- a node without members and elements
 abbrev pub spot_at : Place → Shape → Taken → Option Span → Spot
 spot_at place shape taken span =
     record { place = place; shape = shape; taken = taken; members = []; elements = []; span = span }
 
--- the number of the member of a name of the spot of a number
+-- the index of the member of this name of the node at an index
 unfoldable pub child : List Spot → ℕ → List ℕ → Option ℕ
 child spots number name = slice_get spots number >>= λ s. below s (key name)
 
--- the last table of an array of tables
+-- the index of the last table of an array of tables
 abbrev pub last_table : Shape → List ℕ → Option ℕ
 last_table sections numbers = last_of numbers
 last_table _ numbers = None
 
--- the spot whose place is taken: a header that goes on below
--- an array of tables goes on below its last element
+-- the index of the node to extend: a header that passes through an array of tables refers to its last element
 unfoldable pub target_of : List Spot → ℕ → Taken → ℕ
 target_of spots number Super =
     unwrap_or (slice_get spots number >>= λ s. last_table s.shape s.elements) number
 target_of spots number _ = number
 
--- a spot whose place is taken again
+-- a node with another way in which it counts as defined
 abbrev pub with_taken : Spot → Taken → Spot
 with_taken s taken = record s { taken = stronger s.taken taken }
 
--- the place of a spot is taken again, refused where it may not be
+-- the nodes after one is extended; none where TOML does not allow it
 unfoldable pub taken_again : List Spot → ℕ → Taken → Option (List Spot)
 taken_again spots number taken = slice_get spots number >>= λ s.
     if joins s.taken taken then Some (slice_set spots number (with_taken s taken)) else None
 
--- a spot with a member more
+-- a node with one more member
 abbrev pub with_member : Spot → List ℕ → ℕ → Spot
 with_member s name number = record s { members = s.members ++ (name, number) ∷ [] }
 
--- a spot with an element more
+-- a node with one more element
 abbrev pub with_element : Spot → ℕ → Spot
 with_element s number = record s { elements = s.elements ++ number ∷ [] }
 
--- a member more of the spot of a number, and its own number; refused past 80 steps
+-- the nodes with a new member of one of them, and the index of the new one; none beyond 80 steps
 unfoldable pub added : List Spot → ℕ → List ℕ → Shape → Taken → Option Span → Option (List Spot × ℕ)
 added spots number name shape taken span = slice_get spots number >>= λ s.
     if nat_le 80 (length s.place) then None
@@ -110,7 +109,7 @@ added spots number name shape taken span = slice_get spots number >>= λ s.
       length spots,
     )
 
--- an element more of the spot of a number, and its own number; refused past 80 steps
+-- the nodes with a new element of one of them, and the index of the new one; none beyond 80 steps
 unfoldable pub element_added : List Spot → ℕ → Shape → Taken → Option Span → Option (List Spot × ℕ)
 element_added spots number shape taken span = slice_get spots number >>= λ s.
     if nat_le 80 (length s.place) then None
@@ -120,27 +119,28 @@ element_added spots number shape taken span = slice_get spots number >>= λ s.
       length spots,
     )
 
--- the spots, and the number of one of them
+-- the nodes, with the index of one of them
 abbrev pub numbered : ℕ → Option (List Spot) → Option (List Spot × ℕ)
 numbered number o = option_map (λ spots. (spots, number)) o
 
--- the member of this number, if there is one, is taken again, else a member is added
+-- the nodes after the member at this index is extended, or after a member is added where there is none
 abbrev pub asserted_at : Option ℕ → List Spot → ℕ → List ℕ → Shape → Taken → Option Span
     → Option (List Spot × ℕ)
 asserted_at None spots number name shape taken span = added spots number name shape taken span
 asserted_at (Some j) spots number name shape taken span =
     numbered (target_of spots j taken) (taken_again spots (target_of spots j taken) taken)
 
--- a member of the spot of a number is asserted, with the number of the spot whose place is taken
+-- the nodes after a member of one of them is defined, and the index of the defined node
 unfoldable pub asserted : List Spot → ℕ → List ℕ → Shape → Taken → Option Span → Option (List Spot × ℕ)
 asserted spots number name shape taken span =
     asserted_at (child spots number name) spots number name shape taken span
 
--- what stands at the place of a front part of a key
+-- the shape of a table that a front part of a key makes
 abbrev pub front_shape : Bool → Shape
 front_shape is_inline = if is_inline then inline else section
 
--- the table in which the last part of a key stands, from a table on
+-- the nodes after all front parts of a key are followed from a table on, and the index of the table of its
+-- last part
 unfoldable pub reached : List Spot → ℕ → List (List ℕ) → Shape → Taken → Option (List Spot × ℕ)
 reached spots number [] shape taken = Some (spots, number)
 reached spots number (name ∷ names) shape taken =
@@ -148,58 +148,59 @@ reached spots number (name ∷ names) shape taken =
 
 -- ---- the walk
 
--- the spots so far; the numbers of the header and of the arrays and inline tables that are open, the
--- innermost last; the parts of the key that waits for its value: the last one, and those before it
+-- the state of the walk: the nodes so far, the indices of the open tables and arrays (the innermost last),
+-- and the pending key, split into its last part and the parts before it
 pub record State : Type 0 where
   pub spots : List Spot
   pub tables : List ℕ
   pub fronts : List (List ℕ)
   pub name : Option (List ℕ)
 
--- all numbers but the last
+-- the list without its last number
 abbrev pub without_last : List ℕ → List ℕ
 without_last numbers = take (length numbers - 1) numbers
 
--- a part of a key waits, behind those before it
+-- the state with a part appended to the pending key
 abbrev pub awaiting : State → List ℕ → State
 awaiting st name = record st { fronts = st.fronts ++ option_to_list st.name; name = Some name }
 
--- a state in which no key waits
+-- a state without a pending key
 abbrev pub settled_state : List Spot → List ℕ → State
 settled_state spots tables = record { spots = spots; tables = tables; fronts = []; name = None }
 
--- a dotted key stands in an inline table, where more tables are open than that of the header
+-- a dotted key is in an inline table: more tables are open than that of the header
 abbrev pub is_dotted_within : ℕ → Taken → Bool
 is_dotted_within count Dotted = nat_lt 1 count
 is_dotted_within count _ = false
 
--- the waiting key takes a place below a table, with its number
+-- the state after the pending key is defined below a table, and the index of its node
 unfoldable pub settled : State → ℕ → Taken → Shape → Taken → Option Span → Option (State × ℕ)
 settled st number front shape taken span = st.name
     >>= λ name. reached st.spots number st.fronts
     (front_shape (is_dotted_within (length st.tables) front)) front >>= λ r.
     asserted r.0 r.1 name shape taken span >>= λ q. Some (settled_state q.0 st.tables, q.1)
 
--- the waiting key becomes a member of a table; where none waits, an element more stands in an array
+-- the state after a value becomes the member of the pending key, or an element where no key is pending
 abbrev pub entered_below : Option (List ℕ) → State → ℕ → Shape → Option Span → Option (State × ℕ)
 entered_below (Some name) st number shape span = settled st number Dotted shape Value span
 entered_below None st number shape span =
     element_added st.spots number shape Value span >>= λ q. Some (record st { spots = q.0 }, q.1)
 
--- a value enters the innermost table or array, with its number
+-- the state after a value is added to the innermost table or array, and the index of its node
 abbrev pub entered_at : State → Shape → Option Span → Option (State × ℕ)
 entered_at st shape span = last_of st.tables >>= λ number. entered_below st.name st number shape span
 
--- a value enters the innermost table or array
+-- the state after a value is added to the innermost table or array
 abbrev pub entered : State → Shape → Option Span → Option State
 entered st shape span = entered_at st shape span >>= λ r. Some r.0
 
--- an array or an inline table opens
+-- the state after an array or an inline table is opened
 abbrev pub opened : State → Shape → Option Span → Option State
 opened st shape span =
     entered_at st shape span >>= λ r. Some (record r.0 { tables = r.0.tables ++ r.1 ∷ [] })
 
--- the innermost table or array ends before so many bytes
+-- the state after the innermost array or inline table is closed; its text ends n bytes before the end of the
+-- text
 abbrev pub closed : State → ℕ → Option State
 closed st to = last_of st.tables >>= λ number. slice_get st.spots number >>= λ s. s.span >>= λ span.
     Some (record st {
@@ -208,29 +209,29 @@ closed st to = last_of st.tables >>= λ number. slice_get st.spots number >>= λ
       tables = without_last st.tables;
     })
 
--- this table and no other is open
+-- the state with one table open and no other
 abbrev pub turned : State × ℕ → State
 turned r = record r.0 { tables = r.1 ∷ [] }
 
--- the waiting key becomes a header
+-- the state after the pending key becomes a header `[key]`
 abbrev pub headed : State → Option State
 headed st = settled st 0 Super section Header None >>= λ r. Some (turned r)
 
--- the waiting key becomes the header of an element
+-- the state after the pending key becomes a header `[[key]]`
 abbrev pub element_headed : State → Option State
 element_headed st =
     settled st 0 Super sections Array None >>= λ r. element_added r.0.spots r.1 section Element None >>= λ q.
     Some (turned (record r.0 { spots = q.0 }, q.1))
 
--- the span of a mark's token
+-- the span of a token
 abbrev pub span_of_mark : Mark → Span
 span_of_mark m = record { from = m.from; to = m.to }
 
--- a string, a number, a date or a time becomes what stands at the waiting name
+-- the state after a string, a number, a date or a time is added
 abbrev pub worded : List ℕ → Mark → State → Option State
 worded bytes m st = said bytes m >>= λ text. entered st (shape_said m.kind text) (Some (span_of_mark m))
 
--- the state behind a mark of this kind
+-- the state after a token of this kind
 abbrev pub act : MarkKind → List ℕ → Mark → State → Option State
 act kinds.BarePart bytes m st = said bytes m >>= λ name. Some (awaiting st name)
 act kinds.BasicPart bytes m st = said bytes m >>= λ name. Some (awaiting st name)
@@ -251,15 +252,15 @@ act kinds.CloseTable bytes m st = closed st m.to
 act kinds.Header bytes m st = headed st
 act kinds.ElementHeader bytes m st = element_headed st
 
--- the state behind a mark
+-- the state after a token
 unfoldable pub step : List ℕ → Mark → State → Option State
 step bytes m st = act m.kind bytes m st
 
--- the root alone
+-- the state at the start, with the root alone
 abbrev pub start : State
 start = settled_state (spot_at [] section Header None ∷ []) (0 ∷ [])
 
--- the state behind these marks
+-- the state after a list of tokens
 unfoldable pub walked : List ℕ → List Mark → State → Option State
 walked bytes [] st = Some st
 walked bytes (m ∷ ms) st = step bytes m st >>= λ next. walked bytes ms next

@@ -1,4 +1,4 @@
--- Where the values of a text stand: each with its place and the text behind it.
+-- The values of a text, each with its place and the text behind it.
 use Rattle.std.specs.Prelude.{◌≡◌, ℕ, suc, ◌-◌, List, [], ◌∷◌, ◌++◌, length}
 use Rattle.std.specs.List.{Contains}
 use Rattle.edit_syntax.specs.Characters.{comma, right_bracket, right_brace}
@@ -6,7 +6,7 @@ use Rattle.edit_syntax.specs.Strings.{◌·◌, line_end}
 use Rattle.edit_syntax.specs.Grammar.{gap, Value, basic, literal, multi_basic, multi_literal, boolean, integer, float, datetime, array, inline, value, Elements, no_elements, last_element, element, elements, Members, no_members, last_member, member, members, Statement, pair, header, element_header, empty_line, full_line, comment, Lines, one_line, more_lines, lines, Text, text}
 use Rattle.edit_tree.specs.Assertions.{Place, index, at, names, named, Assertion, of_statement, prefix_after}
 
--- a value, and the text behind it
+-- a value at a place, and the text behind it
 pub record Valued : Type 0 where
   pub place : Place
   pub value : Value
@@ -18,7 +18,7 @@ valued place v after = record { place = place; value = v; after = after }
 
 -- the values inside a value, an outer one before those inside it
 abbrev mutual
-  -- those of an array or an inline table
+  -- the values inside an array or an inline table
   pub inside : Place → Value → List ℕ → List Valued
   inside place (basic ps) after = []
   inside place (literal text) after = []
@@ -31,7 +31,7 @@ abbrev mutual
   inside place (array g es) after = in_elements place 0 es (right_bracket ∷ after)
   inside place (inline g ms) after = in_members place ms (right_brace ∷ after)
 
-  -- each element from the one of this number on, and the values inside it
+  -- each element of an array from an index on, and the values inside it
   pub in_elements : Place → ℕ → Elements → List ℕ → List Valued
   in_elements place i no_elements rest = []
   in_elements place i (last_element v g) rest =
@@ -41,7 +41,7 @@ abbrev mutual
       ∷ (inside (at place (index i)) v (gap g (comma ∷ gap h (elements es rest)))
       ++ in_elements place (suc i) es rest)
 
-  -- each member's value, and the values inside it
+  -- the value of each member, and the values inside it
   pub in_members : Place → Members → List ℕ → List Valued
   in_members place no_members rest = []
   in_members place (last_member k a b v c) rest =
@@ -51,14 +51,14 @@ abbrev mutual
       ∷ (inside (named place (names k)) v (gap c (comma ∷ gap d (members ms rest)))
       ++ in_members place ms rest)
 
--- the values of a statement under a header
+-- the values of a statement below a header
 abbrev pub in_statement : Place → Statement → List ℕ → List Valued
 in_statement prefix (pair k a b v) after =
     valued (named prefix (names k)) v after ∷ inside (named prefix (names k)) v after
 in_statement prefix (header a k b) after = []
 in_statement prefix (element_header a k b) after = []
 
--- the values of lines, behind these assertions and under this header
+-- the values of lines, after these assertions and below this header
 abbrev pub in_lines : List Assertion → Place → Lines → List Valued
 in_lines earlier prefix (one_line (empty_line a c)) = []
 in_lines earlier prefix (one_line (full_line a s b c)) = in_statement prefix s (b · comment c [])
@@ -67,19 +67,19 @@ in_lines earlier prefix (more_lines (full_line a s b c) e ls) =
     in_statement prefix s (b · comment c (line_end e (lines ls)))
     ++ in_lines (earlier ++ of_statement earlier prefix s) (prefix_after earlier prefix s) ls
 
--- the values of a text, in its order
+-- the values of a text, in order
 abbrev pub values : Text → List Valued
 values t = in_lines [] [] t.lines
 
--- where a value begins, as a number of bytes from the start of a text of this length
+-- the offset of the start of a value in a text of this length
 abbrev pub start_of : ℕ → Valued → ℕ
 start_of total w = total - length (value w.value w.after)
 
--- the same of its end
+-- the offset of the end of a value in a text of this length
 abbrev pub end_of : ℕ → Valued → ℕ
 end_of total w = total - length w.after
 
--- the value of a place is written from one position to another
+-- the value at a place is written from one offset to another
 pub record IsWrittenAt (t : Text) (place : Place) (start end : ℕ) : Type 0 where
   pub valued : Valued
   pub told : Contains (values t) valued

@@ -1,4 +1,5 @@
-//! What an assertion makes of the nodes: a new node, or an old one whose place is taken again.
+//! Adds the nodes that the statements of a document define, and checks that no key is defined twice (TOML
+//! 1.0.0, "Table" and "Keys").
 ghost use Rattle.std.specs.Prelude.{◌≡◌, ℕ, List, IfOk, None, map, nat_le};
 ghost use Rattle.edit_tree.specs.Nodes.{Spot, Holds, bytes_of, elements_of, shape_of};
 ghost use Rattle.edit_tree.specs.Taking as taking;
@@ -11,7 +12,7 @@ use crate::nodes::{Content, Node, Taken, Words, copied, words_in};
 use edit_syntax::Span;
 use std::alloc::{AllocError, Global};
 
-/// Whether a place that is taken so may be taken again.
+/// Whether a table or key already defined in the way `before` may be extended in the way `after`.
 fn joins(before: Taken, after: Taken) -> bool
     ensures { result ≡ taking.joins before after }
 {
@@ -30,7 +31,8 @@ fn joins(before: Taken, after: Taken) -> bool
     }
 }
 
-/// How a place is taken that was taken twice.
+/// How a node counts as defined after it was defined in the way `before` and then extended in the way
+/// `after`.
 fn stronger(before: Taken, after: Taken) -> Taken
     ensures { result ≡ taking.stronger before after }
 {
@@ -40,7 +42,7 @@ fn stronger(before: Taken, after: Taken) -> Taken
     }
 }
 
-/// Takes the place of a node again. Answers whether it may be.
+/// Extends a node that is already defined. Returns false where TOML does not allow it.
 fn take_again(nodes: &mut Vec<Node>, number: usize, taken: Taken) -> bool
     ensures { (text : List ℕ) (spots : List Spot) → Holds text nodes.old.items spots
         → Adds text nodes.new.items (taken_again spots number taken) result }
@@ -57,7 +59,7 @@ fn take_again(nodes: &mut Vec<Node>, number: usize, taken: Taken) -> bool
     true
 }
 
-/// The number of the member of a name.
+/// The index of the node's member of this name.
 fn find(text: &str, nodes: &[Node], number: usize, name: &str) -> Option<usize>
     ensures { (spots : List Spot) → Holds text.now nodes.now spots → result ≡ child spots number name.now }
 {
@@ -68,7 +70,7 @@ fn find(text: &str, nodes: &[Node], number: usize, name: &str) -> Option<usize>
     node.members.get(text, name)
 }
 
-/// The last table of an array of tables.
+/// The index of the last table of an array of tables.
 fn last_table(node: &Node) -> Option<usize>
     ensures { (text : List ℕ) → result
         ≡ last_table (shape_of text node.now.content) (elements_of node.now.members) }
@@ -86,7 +88,7 @@ fn last_table(node: &Node) -> Option<usize>
     }
 }
 
-/// The last element of an array of tables, and any other node itself.
+/// The index of the last element where the node is an array of tables, else `number`.
 fn last_element(nodes: &[Node], number: usize) -> usize
     ensures { (text : List ℕ) (spots : List Spot) → Holds text nodes.now spots
         → result ≡ target_of spots number Super }
@@ -97,8 +99,7 @@ fn last_element(nodes: &[Node], number: usize) -> usize
     last_table(&nodes[number]).unwrap_or(number)
 }
 
-/// The node whose place is taken: a header that goes on
-/// below an array of tables goes on below its last element.
+/// The node to extend: a header that passes through an array of tables refers to its last element.
 fn target(nodes: &[Node], number: usize, taken: Taken) -> usize
     ensures { (text : List ℕ) (spots : List Spot) → Holds text nodes.now spots
         → result ≡ target_of spots number taken }
@@ -109,15 +110,15 @@ fn target(nodes: &[Node], number: usize, taken: Taken) -> usize
     }
 }
 
-/// Whether a node has as many steps from the root as a place may have, so that nothing may stand below it.
+/// Whether a node is 80 steps below the root, the limit of a place, so that nothing may be added below it.
 fn is_deepest(node: &Node) -> bool
     ensures { result ≡ nat_le 80 node.now.steps }
 {
     node.steps >= 80
 }
 
-/// Adds a member to the node of a number, which has none of this name. Answers the number of the new node,
-/// which comes last, or nothing where it would have more than 80 steps.
+/// Appends a new member to a node that has none of this name. Returns the index of the new node, or `None`
+/// where it would lie more than 80 steps below the root.
 fn add(
     alloc: Global,
     text: &str,
@@ -153,7 +154,8 @@ fn add(
     Ok(Some(count))
 }
 
-/// Adds an element to an array. Answers its number, or nothing where it would have more than 80 steps.
+/// Appends an element to an array. Returns the index of its node, or `None` where it would lie more than 80
+/// steps below the root.
 pub(crate) fn add_element(
     alloc: Global,
     nodes: &mut Vec<Node>,
@@ -186,8 +188,8 @@ pub(crate) fn add_element(
     Ok(Some(count))
 }
 
-/// Asserts a member of the node of a number: the one of the name where there is one, else a new one. Answers
-/// the number of the node whose place is taken, or nothing where it may not be.
+/// Defines a member of the node at `number`: extends the member of this name, or adds a new one. Returns the
+/// index of the defined node, or `None` where TOML does not allow it.
 pub(crate) fn assert_member(
     alloc: Global,
     text: &str,
@@ -212,8 +214,8 @@ pub(crate) fn assert_member(
     Ok(Some(place))
 }
 
-/// The number of the table in which the last part of a key stands,
-/// from the table of a number on: each part before it takes a place.
+/// Follows all parts of a key but its last from the table at `number`, defining each on the way. Returns the
+/// index of the table that the last part belongs to.
 pub(crate) fn reach(
     alloc: Global,
     text: &str,
@@ -239,7 +241,7 @@ pub(crate) fn reach(
     Ok(Some(table))
 }
 
-/// What stands at the place of a front part of a key.
+/// The content of a table that is made by a part of a dotted key.
 fn front_content(is_inline: bool) -> Content
     ensures { (text : List ℕ) → shape_of text result ≡ front_shape is_inline }
 {

@@ -1,8 +1,9 @@
-//! What stands in a text between two spots, which are told by how many bytes follow.
+//! Slices of a text between two offsets, each counted from the end of the text.
 ghost use Rattle.std.specs.Prelude.{◌≡◌, ◌-◌, length};
 ghost use Rattle.edit_syntax.specs.Spans.{cut_from};
 
-/// What stands in a text from one spot to another, or nothing where it cannot be cut out.
+/// The slice of a text between two offsets from its end; empty where these are out of range or cut a
+/// character.
 pub fn between(text: &str, from: usize, to: usize) -> &str
     ensures { result.now ≡ cut_from text.now (length text.now - from) (length text.now - to) }
 {

@@ -1,4 +1,4 @@
-//! The walk at headers: the table that they open, and no other.
+//! Headers: each opens one table and closes all others.
 ghost use Rattle.std.specs.Prelude.{◌≡◌, ◌∷◌, [], ℕ, List, IfOk, IfErr};
 ghost use Rattle.edit_base.specs.Errors.{IsMemory};
 ghost use Rattle.edit_tree.specs.Walk.{State, headed, element_headed};
@@ -11,7 +11,7 @@ use edit_base::errors::CargoResult;
 use std::alloc::{AllocError, Global};
 
 impl Walk {
-    /// This table and no other is open.
+    /// Makes this the only open table.
     fn turn_to(&mut self, number: usize) -> Result<(), AllocError>
         ensures turned { IfOk result (λ _. (text : List ℕ) (st : State) → Walks text self.old st
             → Walks text self.new (record st { tables = number ∷ [] })) }
@@ -21,7 +21,7 @@ impl Walk {
         Ok(())
     }
 
-    /// The waiting key becomes a header.
+    /// Opens the table that the pending `[key]` names; returns false where TOML does not allow it.
     pub(crate) fn head(&mut self, alloc: Global, text: &str) -> CargoResult<bool>
         ensures goes { (st : State) → Walks text.now self.old st
             → IfOk result (Goes text.now self.new (headed st)) }
@@ -43,7 +43,8 @@ impl Walk {
         Ok(true)
     }
 
-    /// The waiting key becomes the header of an element.
+    /// Opens the next element of the array of tables that the pending `[[key]]` names; returns false where
+    /// the key is already defined as something else.
     pub(crate) fn head_element(&mut self, alloc: Global, text: &str) -> CargoResult<bool>
         ensures goes { (st : State) → Walks text.now self.old st
             → IfOk result (Goes text.now self.new (element_headed st)) }

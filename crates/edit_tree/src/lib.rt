@@ -1,5 +1,5 @@
-//! What the statements of a document assert, the table of nodes that a walk over its marks makes of them,
-//! and, as definitions, what each edit of a document writes and means.
+//! The tree of a document: what each statement defines, the table of nodes built from the tokens of the text,
+//! and, as definitions, the text and the tree after each edit.
 #![tactic(auto)]
 
 mod assertions;

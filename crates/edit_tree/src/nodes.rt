@@ -11,26 +11,26 @@ use edit_syntax::Span;
 use std::alloc::{AllocError, Global};
 use std::collections::BTreeMap;
 
-/// What a string or a name says, after escapes.
+/// The decoded text of a string or of a part of a key.
 #[derive(Drop)]
 pub enum Words {
-    /// What stands there in the text, between the delimiters.
+    /// It is the text between the delimiters as written, at this position.
     Kept(Span),
-    /// What is said otherwise than it is written, which few strings and names are.
+    /// It differs from the text as written, because of an escape or a line fold.
     Made(Box<String>),
 }
 
-/// What stands at a place, but for its members.
+/// What a node is, without its members.
 #[derive(Drop)]
 pub enum Content {
     /// A string.
     Text(Words),
     Truth(bool),
-    /// A number, a date or a time, as it stands there in the text.
+    /// A number, a date or a time, by its position in the text.
     Integer(Span),
     Float(Span),
     DateTime(Span),
-    /// An array that was written as a value.
+    /// An array written as a value.
     Array,
     Inline,
     Table,
@@ -38,38 +38,38 @@ pub enum Content {
     Tables,
 }
 
-/// By what a place is taken, which tells what else may be asserted of it.
+/// How a table or key was defined, which decides what may still be added to it (TOML 1.0.0, "Table").
 #[derive(Clone, Copy, Debug, PartialEq, Eq)]
 pub enum Taken {
-    /// By a dotted key that goes on below it.
+    /// By a dotted key that passes through it.
     Dotted,
-    /// By a value.
+    /// As the value of a pair or the element of an array.
     Value,
-    /// By headers alone that go on below it.
+    /// Only by headers that pass through it.
     Super,
-    /// By a header.
+    /// By its own header.
     Header,
-    /// By headers of its elements.
+    /// As an array of tables, by headers `[[key]]`.
     Array,
-    /// By the header of an element.
+    /// As an element of an array of tables, by its header.
     Element,
 }
 
-/// Numbers by names, and no table where there are none.
+/// A map from names to indices of nodes, allocated once it has an entry.
 #[derive(Drop)]
 pub struct Lookup {
     table: Option<Box<BTreeMap<String, usize>>>,
 }
 
 impl Lookup {
-    /// No names.
+    /// An empty map.
     fn none() -> Lookup
         ensures { (name : List ℕ) → number_of result name ≡ None }
     {
         Lookup { table: None }
     }
 
-    /// The number of a name.
+    /// The index stored for a name.
     fn get(&self, name: &str) -> Option<usize>
         ensures { result ≡ number_of self.now name.now }
     {
@@ -79,7 +79,7 @@ impl Lookup {
         }
     }
 
-    /// Takes the table out, or makes one where there is none.
+    /// Takes the map out of `self`, or allocates an empty one.
     fn take_table(&mut self, alloc: Global) -> Result<Box<BTreeMap<String, usize>>, AllocError>
         ensures same { IfOk result (λ table. (name : List ℕ) → get_by_text table.value name
             ≡ number_of self.old name) }
@@ -90,7 +90,7 @@ impl Lookup {
         }
     }
 
-    /// Adds a name.
+    /// Adds a name and its index.
     fn insert(&mut self, alloc: Global, name: String, number: usize) -> Result<(), AllocError>
         ensures added { IfOk result (λ _. (other : List ℕ) → number_of self.new other
             ≡ (if bytes_eq (string_bytes name) other then Some number else number_of self.old other)) }
@@ -102,25 +102,25 @@ impl Lookup {
     }
 }
 
-/// The name of a member, and its number.
+/// The name of a member and the index of its node.
 #[derive(Drop)]
 pub struct Member {
     name: Words,
     number: usize,
 }
 
-/// How many members are looked through one by one.
+/// The number of members that are searched linearly; the members behind them are in a map.
 const FEW: usize = 8;
 
-/// The members of a place in the order of their first assertions,
-/// and the numbers of those behind the first few by their names.
+/// The members of a table in the order in which they are defined, with a map from names to nodes for those
+/// behind the first `FEW`.
 #[derive(Drop)]
 pub(crate) struct MemberList {
     list: Vec<Member>,
     others: Lookup,
 }
 
-/// The number of a name, which is looked for one by one.
+/// Searches the members for a name, one by one.
 fn number_among(text: &str, members: &[Member], name: &str) -> Option<usize>
     ensures { result ≡ number_in (entries_in text.now members.now) name.now }
 {
@@ -132,7 +132,7 @@ fn number_among(text: &str, members: &[Member], name: &str) -> Option<usize>
     None
 }
 
-/// Adds a member: the first takes no more room than it needs, since many tables have one alone.
+/// Appends a member; the first one allocates room for itself only, since many tables have a single member.
 fn push_exact(list: &mut Vec<Member>, member: Member) -> Result<(), AllocError>
     ensures items { IfOk result (λ _. list.new.items ≡ list.old.items ++ member ∷ []) }
 {
@@ -144,7 +144,7 @@ fn push_exact(list: &mut Vec<Member>, member: Member) -> Result<(), AllocError>
 }
 
 impl MemberList {
-    /// No members.
+    /// An empty list of members.
     pub(crate) fn none(alloc: Global) -> MemberList
         ensures empty { (text : List ℕ) → entries_listed text result ≡ [] }
         ensures indexed { (text : List ℕ) → IsListIndexed text result }
@@ -155,14 +155,14 @@ impl MemberList {
         }
     }
 
-    /// How many members there are.
+    /// The number of members.
     pub(crate) fn len(&self) -> usize
         ensures { (text : List ℕ) → result ≡ length (entries_listed text self.now) }
     {
         self.list.len()
     }
 
-    /// The first few members.
+    /// The first `FEW` members, which are searched linearly.
     fn few(&self) -> &[Member]
         ensures { result.now ≡ take 8 self.now.list.items }
     {
@@ -173,7 +173,7 @@ impl MemberList {
         }
     }
 
-    /// The number of the member of a name.
+    /// The index of the node of the member of this name.
     pub(crate) fn get(&self, text: &str, name: &str) -> Option<usize>
         ensures { IsListIndexed text.now self.now → result ≡ number_in (entries_listed text.now self.now) name.now }
     {
@@ -183,7 +183,7 @@ impl MemberList {
         }
     }
 
-    /// The name of the member that comes behind so many others.
+    /// The name of the member at an index.
     pub(crate) fn name<'a>(&'a self, text: &'a str, index: usize) -> Option<&'a str>
         ensures { option_map (λ s. s.now) result
             ≡ slice_get (names_in (entries_listed text.now self.now)) index }
@@ -192,7 +192,7 @@ impl MemberList {
         Some(words_in(text, &member.name))
     }
 
-    /// Adds a member.
+    /// Appends a member.
     pub(crate) fn insert(
         &mut self,
         alloc: Global,
@@ -215,27 +215,27 @@ impl MemberList {
     }
 }
 
-/// A place that a statement asserts.
+/// A place of the document: the root, or a place that a statement defines.
 #[derive(Drop)]
 pub struct Node {
     pub content: Content,
     pub taken: Taken,
-    /// How many steps there are from the root.
+    /// The number of steps from the root.
     pub steps: u8,
-    /// Where its value is written, if it has one.
+    /// The position of its value, if it has one.
     pub span: Option<Span>,
     /// What stands below it.
     pub members: Members,
 }
 
-/// What stands there in a text, or nothing where it cannot be cut out.
+/// The slice of a text at a position; empty where that is out of range or cuts a character.
 pub fn cut(text: &str, span: Span) -> &str
     ensures { result.now ≡ bytes_at text.now span }
 {
     between(text, span.from as usize, span.to as usize)
 }
 
-/// Whether what stands there may have so many bytes: as many as lie between its ends, or none.
+/// Whether the slice at a position can be `len` bytes long. A cheap test before the slice is taken.
 fn may_have(text: &str, span: Span, len: usize) -> bool
     ensures { length (bytes_at text.now span) ≡ len → IsTrue result }
 {
@@ -247,7 +247,7 @@ fn may_have(text: &str, span: Span, len: usize) -> bool
     end.saturating_sub(start) == len
 }
 
-/// Whether a name is what stands there in a text. Most names are told apart by their lengths.
+/// Whether a name equals the slice of the text at a position; lengths are compared first.
 fn is_kept(text: &str, span: Span, name: &str) -> bool
     ensures { result ≡ bytes_eq name.now (bytes_at text.now span) }
 {
@@ -257,7 +257,7 @@ fn is_kept(text: &str, span: Span, name: &str) -> bool
     name == cut(text, span)
 }
 
-/// Whether a name is what these words of a text say.
+/// Whether a name equals the decoded text.
 fn is_named(text: &str, words: &Words, name: &str) -> bool
     ensures { result ≡ bytes_eq name.now (bytes_of text.now words.now) }
 {
@@ -267,7 +267,7 @@ fn is_named(text: &str, words: &Words, name: &str) -> bool
     }
 }
 
-/// What a string or a name of a text says.
+/// The decoded text of a string or of a part of a key.
 pub fn words_in<'a>(text: &'a str, words: &'a Words) -> &'a str
     ensures { result.now ≡ bytes_of text.now words.now }
 {
@@ -277,7 +277,7 @@ pub fn words_in<'a>(text: &'a str, words: &'a Words) -> &'a str
     }
 }
 
-/// The same words once more.
+/// A copy of the decoded text.
 pub(crate) fn copied(alloc: Global, words: &Words) -> Result<Words, AllocError>
     ensures same { (text : List ℕ) → IfOk result (λ copy. bytes_of text copy ≡ bytes_of text words.now) }
 {

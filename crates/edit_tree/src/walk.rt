@@ -1,4 +1,4 @@
-//! The walk over the marks of a text, which makes its nodes.
+//! Builds the nodes of a text from its tokens.
 ghost use Rattle.std.specs.Prelude.{◌≡◌, ◌∷◌, [], ℕ, List, IfOk, IfErr, MatchResult, length, Some, None};
 ghost use Rattle.edit_base.specs.Errors.{IsMemory};
 ghost use Rattle.edit_tree.specs.Nodes.{bytes_of, shape_of};
@@ -16,8 +16,8 @@ use edit_syntax::Span;
 use edit_syntax::read::{Mark, MarkKind};
 use std::alloc::{AllocError, Global};
 
-/// The nodes so far; the numbers of the header and of the arrays and inline tables that are open, the
-/// innermost last; and the parts of the key that waits for its value: the last one, and those before it.
+/// The state of the walk over the tokens: the nodes so far, the indices of the open tables and arrays (the
+/// innermost last), and the pending key, split into its last part and the parts before it.
 #[derive(Drop)]
 pub(crate) struct Walk {
     pub(crate) nodes: Vec<Node>,
@@ -27,7 +27,7 @@ pub(crate) struct Walk {
 }
 
 impl Walk {
-    /// The root alone, with room for so many nodes.
+    /// The state with the root alone, with room for `count` nodes.
     fn new(alloc: Global, count: usize) -> Result<Walk, AllocError>
         ensures root { IfOk result (λ w. (text : List ℕ) → Walks text w start) }
     {
@@ -49,7 +49,7 @@ impl Walk {
         })
     }
 
-    /// The nodes, without the rest.
+    /// Returns the nodes and drops the rest of the state.
     fn into_nodes(self) -> Vec<Node>
         ensures { result ≡ self.nodes }
     {
@@ -62,7 +62,7 @@ impl Walk {
         nodes
     }
 
-    /// A part of a key waits, behind those before it.
+    /// Appends a part to the pending key.
     fn await_name(&mut self, name: Words) -> Result<(), AllocError>
         ensures goes { IfOk result (λ _. (text : List ℕ) (st : State) → Walks text self.old st
             → Walks text self.new (awaiting st (bytes_of text name))) }
@@ -74,7 +74,7 @@ impl Walk {
         Ok(())
     }
 
-    /// Whether a dotted key stands in an inline table.
+    /// Whether a dotted key belongs to an inline table.
     fn is_within(&self, front: Taken) -> bool
         ensures { result ≡ is_dotted_within (length self.now.tables.items) front }
     {
@@ -84,7 +84,7 @@ impl Walk {
         }
     }
 
-    /// The waiting key takes a place below a table. Answers the number of its node.
+    /// Defines the table or value that the pending key names below a table. Returns the index of its node.
     pub(crate) fn settle(
         &mut self,
         alloc: Global,
@@ -128,7 +128,7 @@ impl Walk {
         )
     }
 
-    /// A value enters the innermost table or array. Answers the number of its node.
+    /// Adds a value to the innermost open table or array. Returns the index of its node.
     fn enter_at(
         &mut self,
         alloc: Global,
@@ -156,7 +156,7 @@ impl Walk {
         }
     }
 
-    /// A value enters the innermost table or array.
+    /// Adds a value to the innermost open table or array; returns false where TOML does not allow it.
     fn enter(
         &mut self,
         alloc: Global,
@@ -171,7 +171,7 @@ impl Walk {
         Ok(self.enter_at(alloc, text, content, span)?.is_some())
     }
 
-    /// An array or an inline table opens.
+    /// Opens an array or an inline table.
     fn open(&mut self, alloc: Global, text: &str, content: Content, span: Span) -> CargoResult<bool>
         ensures goes { (st : State) → Walks text.now self.old st
             → IfOk result (Goes text.now self.new (opened st (shape_of text.now content) (Some span))) }
@@ -184,7 +184,7 @@ impl Walk {
         Ok(true)
     }
 
-    /// The innermost table or array ends before so many bytes.
+    /// Closes the innermost array or inline table, whose text ends `to` bytes before the end of the text.
     fn close(&mut self, to: u32) -> bool
         ensures { (text : List ℕ) (st : State) → Walks text self.old st
             → Goes text self.new (closed st to) result }
@@ -206,7 +206,7 @@ impl Walk {
         true
     }
 
-    /// Takes the next mark. Answers whether the document may go on so.
+    /// Processes the next token; returns false where TOML does not allow it here.
     fn take(&mut self, alloc: Global, text: &str, mark: Mark) -> CargoResult<bool>
         ensures goes { (st : State) → Walks text.now self.old st → IsToken text.now mark
             → IfOk result (Goes text.now self.new (step text.now mark st)) }
@@ -243,7 +243,7 @@ impl Walk {
     }
 }
 
-/// The nodes of a text with these marks.
+/// Builds the nodes of a text from its tokens.
 pub fn nodes_of(alloc: Global, text: &str, marks: &[Mark]) -> CargoResult<Vec<Node>>
     ensures nodes { AllByRecursion (IsToken text.now) marks.now
         → MatchResult result (λ v. KeepsState text.now v.items (walked text.now marks.now start))

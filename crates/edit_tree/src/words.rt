@@ -1,4 +1,4 @@
-//! What the tokens of a text say and show.
+//! Decodes tokens into the contents of nodes.
 ghost use Rattle.std.specs.Prelude.{◌≡◌, ℕ, List, IfOk, IfErr};
 ghost use Rattle.edit_base.specs.Errors.{IsMemory};
 ghost use Rattle.edit_tree.specs.Nodes.{bytes_of, shape_of, shape_said};
@@ -10,7 +10,8 @@ use edit_syntax::read::decode::{content, content_span, is_plain, said};
 use edit_syntax::read::{Mark, MarkKind};
 use std::alloc::Global;
 
-/// What a token says that may have delimiters: where that is what is written, it stays in the text.
+/// Decodes a token with or without delimiters; where the decoded text is the text as written, only its
+/// position is stored.
 fn delimited_words(alloc: Global, text: &str, mark: Mark) -> CargoResult<Words>
     ensures says { (name : List ℕ) → SaysAt text.now mark name
         → IfOk result (λ w. bytes_of text.now w ≡ name) }
@@ -24,7 +25,7 @@ fn delimited_words(alloc: Global, text: &str, mark: Mark) -> CargoResult<Words>
     }
 }
 
-/// What the token of a string or of a key's part says.
+/// Decodes the token of a string or of a part of a key.
 pub fn words_of(alloc: Global, text: &str, mark: Mark) -> CargoResult<Words>
     ensures says { (name : List ℕ) → SaysAt text.now mark name
         → IfOk result (λ w. bytes_of text.now w ≡ name) }
@@ -36,7 +37,7 @@ pub fn words_of(alloc: Global, text: &str, mark: Mark) -> CargoResult<Words>
     }
 }
 
-/// What the token of a string, a number, a date or a time shows.
+/// The content of the node of a string, a number, a date or a time.
 pub(crate) fn worded(alloc: Global, text: &str, mark: Mark) -> CargoResult<Content>
     ensures shows { (name : List ℕ) → SaysAt text.now mark name
         → IfOk result (λ c. shape_of text.now c ≡ shape_said mark.kind name) }

@@ -1,5 +1,4 @@
-//! Versions, requirements, the words that name a crate, versions of Rust, and what an index tells of a
-//! version.
+//! Versions, version requirements, crate specifications, Rust versions, and the index entries of versions.
 #![tactic(auto)]
 
 pub mod candidates;

@@ -1,4 +1,4 @@
-//! Steps over the bytes of a text.
+//! Classes of bytes, and reading bytes and runs of bytes off the front of a slice.
 ghost use Rattle.std.specs.Prelude.{◌≡◌, ◌≤◌, length, drop, slice_index, option_map};
 ghost use Rattle.std.specs.List.{prefix_len};
 ghost use Rattle.std.specs.Char as chars;
@@ -6,7 +6,7 @@ ghost use Rattle.edit_syntax.specs.Characters as spec;
 ghost use Rattle.edit_syntax.specs.Reading as reading;
 ghost use Rattle.edit_syntax.specs.Noting.{class_test};
 
-/// The sets of bytes of which runs are read.
+/// The classes of bytes that `run_len` can count.
 #[derive(Clone, Copy)]
 pub(crate) enum Class {
     Blank,
@@ -139,21 +139,21 @@ pub(crate) fn run_len(s: &[u8], class: Class) -> usize
     s.iter().take_while(|b| is_in(class, **b)).count()
 }
 
-/// What follows the first `n` bytes, or nothing where there are fewer.
+/// The slice behind the first `n` bytes; empty where there are fewer.
 pub(crate) fn skip(s: &[u8], n: usize) -> &[u8]
     ensures { result.now ≡ drop n s.now }
 {
     if n <= s.len() { &s[n..] } else { &[] }
 }
 
-/// What follows the longest front of the class.
+/// The slice behind the longest run of bytes of the class.
 pub(crate) fn past_run(s: &[u8], class: Class) -> &[u8]
     ensures { result.now ≡ reading.after (class_test class) s.now }
 {
     skip(s, run_len(s, class))
 }
 
-/// What follows the first byte, where it is this one.
+/// The slice behind the first byte, where that byte is `b`.
 pub(crate) fn past(s: &[u8], b: u8) -> Option<&[u8]>
     ensures { option_map (λ rest. rest.now) result ≡ reading.past b s.now }
 {

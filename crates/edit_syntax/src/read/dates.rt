@@ -1,4 +1,4 @@
-//! Where dates and times end.
+//! Finds where dates and times end (TOML 1.0.0, "Offset Date-Time" to "Local Time").
 ghost use Rattle.std.specs.Prelude.{◌≡◌};
 ghost use Rattle.edit_syntax.specs.ReadingNumbers as reading;
 ghost use Rattle.edit_syntax.specs.Noting.{Skips, seen_token, told_token, value_kind};
@@ -6,7 +6,7 @@ ghost use Rattle.edit_syntax.specs.Noting.{Skips, seen_token, told_token, value_
 use super::bytes::{Class, first, is_in, past, past_run, run_len, skip};
 use super::marks::MarkKind;
 
-/// What follows `n` digits.
+/// The input behind `n` digits.
 #[tactic(auto, unfolding(crate::specs::ReadingNumbers::count_at))]
 fn past_count(s: &[u8], n: usize) -> Option<&[u8]>
     ensures { Skips result (reading.count_at n s.now) }
@@ -18,7 +18,7 @@ fn past_count(s: &[u8], n: usize) -> Option<&[u8]>
     }
 }
 
-/// What follows `n` digits and this byte behind them.
+/// The input behind `n` digits and the separator that follows them.
 #[tactic(auto, unfolding(crate::specs::ReadingNumbers::group_at))]
 fn past_group(s: &[u8], n: usize, b: u8) -> Option<&[u8]>
     ensures { Skips result (reading.group_at n b s.now) }
@@ -26,7 +26,7 @@ fn past_group(s: &[u8], n: usize, b: u8) -> Option<&[u8]>
     past(past_count(s, n)?, b)
 }
 
-/// What follows a date.
+/// The input behind a date.
 #[tactic(auto, unfolding(crate::specs::ReadingNumbers::date_at))]
 fn past_date(s: &[u8]) -> Option<&[u8]>
     ensures { Skips result (reading.date_at s.now) }
@@ -36,7 +36,7 @@ fn past_date(s: &[u8]) -> Option<&[u8]>
     past_count(day, 2)
 }
 
-/// What follows a fraction of a second or nothing.
+/// The input behind an optional fraction of a second.
 #[tactic(auto, unfolding(crate::specs::ReadingNumbers::second_at))]
 fn past_second(s: &[u8]) -> Option<&[u8]>
     ensures { Skips result (reading.second_at s.now) }
@@ -52,7 +52,7 @@ fn past_second(s: &[u8]) -> Option<&[u8]>
     }
 }
 
-/// What follows a time, with its fraction of a second.
+/// The input behind a time and its optional fraction of a second.
 #[tactic(auto, unfolding(crate::specs::ReadingNumbers::time_at))]
 fn past_time(s: &[u8]) -> Option<&[u8]>
     ensures { Skips result (reading.time_at s.now) }
@@ -63,7 +63,7 @@ fn past_time(s: &[u8]) -> Option<&[u8]>
     past_second(fraction)
 }
 
-/// What follows an offset or nothing.
+/// The input behind an optional time offset.
 #[tactic(auto, unfolding(crate::specs::ReadingNumbers::offset_at))]
 fn past_offset(s: &[u8]) -> Option<&[u8]>
     ensures { Skips result (reading.offset_at s.now) }
@@ -87,7 +87,7 @@ fn joins(s: &[u8]) -> bool
         || (first(s) == b' ' && is_in(Class::Decimal, first(skip(s, 1))))
 }
 
-/// What follows a date, or a date and a time.
+/// The input behind a date and the time that may follow it.
 #[tactic(auto, unfolding(crate::specs::ReadingNumbers::dated_at))]
 pub(crate) fn past_dated(s: &[u8]) -> Option<(MarkKind, &[u8])>
     ensures { seen_token result ≡ told_token value_kind (reading.dated_at s.now) }
@@ -101,7 +101,7 @@ pub(crate) fn past_dated(s: &[u8]) -> Option<(MarkKind, &[u8])>
     Some((MarkKind::DateTime, rest))
 }
 
-/// The kind of a time, and what follows it.
+/// The kind of the token of a local time, and the input behind it.
 #[tactic(auto, unfolding(crate::specs::ReadingNumbers::timed_at))]
 pub(crate) fn past_timed(s: &[u8]) -> Option<(MarkKind, &[u8])>
     ensures { seen_token result ≡ told_token value_kind (reading.timed_at s.now) }

@@ -1,4 +1,4 @@
-//! What keys and strings say.
+//! Decodes the tokens of keys and strings: delimiters, escapes and line folds.
 ghost use Rattle.std.specs.Prelude.{◌≡◌, ℕ, ◌+◌, ◌-◌, ◌<◌, ◌≤◌, List, [], length, take, drop, ◌++◌, false, IfOk, IfErr, IsTrue, string_bytes, encode_utf8, IsUtf8};
 ghost use Rattle.std.specs.Str.{IsCharBoundary};
 ghost use Rattle.edit_base.specs.Errors.{IsMemory};
@@ -18,7 +18,7 @@ use crate::span::Span;
 use edit_base::errors::CargoResult;
 use std::alloc::Global;
 
-/// How long the delimiter of a token is.
+/// The length of the delimiter of a token of this kind, in bytes.
 fn delimiter_len(kind: MarkKind) -> u32
     ensures { result ≡ length (delimiter kind) }
 {
@@ -30,9 +30,9 @@ fn delimiter_len(kind: MarkKind) -> u32
     }
 }
 
-/// What stands between the delimiters of the token with this mark, as it is written.
+/// The text between the delimiters of a token, with its escapes as written.
 pub fn content(text: &str, mark: Mark) -> &str
-    // However the text is split at the token.
+    // Holds for any way to split the text around the token.
     ensures { (before content rest said : List ℕ) → text.now ≡ before ++ delimited mark.kind content rest →
         mark.from ≡ length (delimited mark.kind content rest) → mark.to ≡ length rest →
         Says mark.kind content said → result.now ≡ content }
@@ -46,9 +46,9 @@ pub fn content(text: &str, mark: Mark) -> &str
     text.get(start..end).unwrap_or("")
 }
 
-/// Where the content of the token with this mark stands.
+/// The position of the text between the delimiters of a token.
 pub fn content_span(mark: Mark) -> Span
-    // However the text is split at the token.
+    // Holds for any way to split the text around the token.
     ensures { (text before content rest said : List ℕ) → IsUtf8 text → text ≡ before
         ++ delimited mark.kind content rest →
         mark.from ≡ length (delimited mark.kind content rest) → mark.to ≡ length rest →
@@ -61,7 +61,7 @@ pub fn content_span(mark: Mark) -> Span
     }
 }
 
-/// Whether a content of this kind says what is written.
+/// Whether the content of a token is its own decoded value, so that it needs no decoding.
 pub fn is_plain(kind: MarkKind, content: &str) -> bool
     ensures written { (said : List ℕ) → Says kind content.now said → IsTrue result → content.now ≡ said }
     // A content on one line that says itself is found to do so.
@@ -76,7 +76,7 @@ pub fn is_plain(kind: MarkKind, content: &str) -> bool
     }
 }
 
-/// The character that the letter of an escape names.
+/// The character that an escape letter stands for (TOML 1.0.0, "String").
 fn escaped(letter: u8) -> char
     ensures { result ≡ strings.escaped letter }
 {
@@ -90,7 +90,7 @@ fn escaped(letter: u8) -> char
     }
 }
 
-/// The character that the first `n` digits name.
+/// The character whose code point the first `n` hexadecimal digits give.
 fn coded(bytes: &[u8], n: usize) -> char
     requires { n ≤ 8 }
     ensures { (digits rest : List ℕ) → bytes.now ≡ digits ++ rest → NamesScalar n digits →
@@ -102,7 +102,7 @@ fn coded(bytes: &[u8], n: usize) -> char
     scalar(&bytes[..n]).unwrap_or(char::REPLACEMENT_CHARACTER)
 }
 
-/// The character that the escape at the front names, and how many bytes the escape has.
+/// The character of the escape at the front, and the length of the escape in bytes.
 fn escape(bytes: &[u8]) -> (char, usize)
     ensures some { 2 ≤ result.1 }
     ensures names { (p : Piece) (rest : List ℕ) → IsEscape p → IsBasicPiece p → bytes.now
@@ -119,7 +119,7 @@ fn escape(bytes: &[u8]) -> (char, usize)
     (escaped(letter), 2)
 }
 
-/// The first `n` bytes of a text, where it may be cut there.
+/// The first `n` bytes of a text; empty where `n` is not a character boundary.
 fn front(s: &str, n: usize) -> &str
     ensures { IsCharBoundary s.now n → result.now ≡ take n s.now }
 {
@@ -129,7 +129,7 @@ fn front(s: &str, n: usize) -> &str
     }
 }
 
-/// What follows the first `n` bytes of a text, where it may be cut there.
+/// The text behind its first `n` bytes; empty where `n` is not a character boundary.
 fn behind(s: &str, n: usize) -> &str
     ensures text { IsCharBoundary s.now n → result.now ≡ drop n s.now }
     ensures shorter { length result.now ≤ length s.now - n }
@@ -140,7 +140,7 @@ fn behind(s: &str, n: usize) -> &str
     }
 }
 
-/// Takes the escape or the fold at the front, and tells how many bytes it has.
+/// Decodes the escape or the line fold at the front into `out` and returns its length in bytes.
 fn push_piece(out: &mut String, bytes: &[u8]) -> CargoResult<usize>
     ensures says { (p : Piece) (rest : List ℕ) → IsMarked p → IsMultiPiece p
         → FoldStops p (reading.first rest) → bytes.now ≡ piece quote p rest →
@@ -157,7 +157,7 @@ fn push_piece(out: &mut String, bytes: &[u8]) -> CargoResult<usize>
     Ok(len)
 }
 
-/// What the content of a basic string says, but for a newline that is left out.
+/// Decodes the content of a basic string; a newline right behind the opening delimiter is not skipped here.
 fn decoded(alloc: Global, content: &str) -> CargoResult<String>
     ensures text { (said : List ℕ) → LineSays content.now said → IfOk result (λ s. string_bytes s ≡ said) }
     ensures refused { IfErr result IsMemory }
@@ -177,7 +177,7 @@ fn decoded(alloc: Global, content: &str) -> CargoResult<String>
     Ok(out)
 }
 
-/// What follows a newline that comes first.
+/// Skips a newline at the front of the content of a multi-line string.
 fn past_break(content: &str) -> &str
     ensures { result.now ≡ decoding.past_break content.now }
 {
@@ -191,7 +191,7 @@ fn past_break(content: &str) -> &str
     content
 }
 
-/// What a content of this kind says.
+/// The decoded value of a token with this content (TOML 1.0.0, "String" and "Keys").
 pub fn said(alloc: Global, kind: MarkKind, content: &str) -> CargoResult<String>
     ensures text { (said : List ℕ) → Says kind content.now said → IfOk result (λ s. string_bytes s ≡ said) }
     ensures refused { IfErr result IsMemory }

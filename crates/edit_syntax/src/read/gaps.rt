@@ -1,11 +1,12 @@
-//! What may stand between the values of an array and between the pairs of an inline table.
+//! Finds where the white space, newlines and comments between values of an array or pairs of an inline table
+//! end.
 ghost use Rattle.std.specs.Prelude.{◌≡◌};
 ghost use Rattle.edit_syntax.specs.Reading as reading;
 ghost use Rattle.edit_syntax.specs.Noting.{Skips};
 
 use super::bytes::{Class, byte_at, first, is_in, past_run, skip};
 
-/// What follows a newline.
+/// The input behind a newline.
 #[tactic(auto, unfolding(crate::specs::Reading::line_end_at))]
 pub(crate) fn past_line_end(s: &[u8]) -> Option<&[u8]>
     ensures { Skips result (reading.line_end_at s.now) }
@@ -19,7 +20,7 @@ pub(crate) fn past_line_end(s: &[u8]) -> Option<&[u8]>
     }
 }
 
-/// What follows a tab or a space, a newline, or a comment and its newline.
+/// The input behind a tab or a space, a newline, or a comment and its newline.
 #[tactic(auto, unfolding(crate::specs::Reading::between_at))]
 fn past_between(s: &[u8]) -> Option<&[u8]>
     ensures { Skips result (reading.between_at s.now) }
@@ -33,7 +34,7 @@ fn past_between(s: &[u8]) -> Option<&[u8]>
     past_line_end(s)
 }
 
-/// What follows the white space, newlines and comments at the front.
+/// The input behind all white space, newlines and comments at the front.
 pub fn past_gap(s: &[u8]) -> &[u8]
     ensures { result.now ≡ reading.past_gap s.now }
 {

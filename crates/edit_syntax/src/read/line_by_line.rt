@@ -1,4 +1,4 @@
-//! The reading of one line of a text.
+//! Tokenizing a text one line at a time.
 ghost use Rattle.std.specs.Prelude.{◌≡◌, ◌≤◌, ℕ, List, ◌++◌, [], MatchResult};
 ghost use Rattle.edit_base.specs.Errors.{IsMemory};
 ghost use Rattle.edit_syntax.specs.Strings.{LineEnd, line_end};
@@ -11,10 +11,10 @@ use super::lines::line;
 use super::marks::{Mark, ReadError};
 use edit_base::errors::{CargoResult, Error};
 
-/// Notes down the first of some lines, with arrays and inline tables at most 80 deep in one another, and
-/// answers what follows it: nothing, or its newline and the other lines.
+/// Appends the tokens of the first line, with arrays and inline tables nested at most 80 deep, and returns
+/// the rest: empty, or the line's newline and the other lines.
 pub fn first_line<'a>(out: &mut Vec<Mark>, text: &'a [u8]) -> CargoResult<&'a [u8]>
-    // The first line of whatever is in the grammar is read, unless memory runs out.
+    // The first line of any lines in the grammar is read, unless memory runs out.
     ensures only { (form : Lines) → text.now ≡ lines_text form → AreLines form → lines_depth form ≤ 80 →
         MatchResult result
         (λ rest. (rest.now ≡ after_first form) × (out.new.items ≡ out.old.items ++ first_marks form))
@@ -29,7 +29,7 @@ pub fn first_line<'a>(out: &mut Vec<Mark>, text: &'a [u8]) -> CargoResult<&'a [u
     }
 }
 
-/// What follows a newline, or nothing where the text ends.
+/// The input behind a newline; empty where there is none.
 pub fn next_line(text: &[u8]) -> &[u8]
     ensures next { (e : LineEnd) (rest : List ℕ) → text.now ≡ line_end e rest → result.now ≡ rest }
     ensures end { text.now ≡ [] → result.now ≡ [] }

@@ -1,4 +1,4 @@
-//! Lines, noted down from left to right.
+//! Tokenizes lines: pairs, headers and comments.
 ghost use Rattle.std.specs.Prelude.{◌≡◌, ◌<◌, ◌≤◌, slice_index, IfOk, MatchResult};
 ghost use Rattle.edit_syntax.specs.declared.read.marks.ReadError.TheVariants.{Memory};
 ghost use Rattle.edit_syntax.specs.Characters.{left_bracket};
@@ -14,7 +14,7 @@ use super::marks::{Mark, MarkKind, ReadError};
 use super::values::{key, note, pair};
 use std::alloc::Global;
 
-/// A header, with its brackets.
+/// Reads the header of a table, `[key]`.
 #[tactic(auto, unfolding(crate::specs::Reading::header_at))]
 fn header<'a>(out: &mut Vec<Mark>, s: &'a [u8]) -> Result<&'a [u8], ReadError>
     requires { reading.first s.now ≡ left_bracket }
@@ -29,7 +29,7 @@ fn header<'a>(out: &mut Vec<Mark>, s: &'a [u8]) -> Result<&'a [u8], ReadError>
     Ok(rest)
 }
 
-/// The header of an element, with its brackets.
+/// Reads the header of an element of an array of tables, `[[key]]`.
 #[tactic(auto, unfolding(crate::specs::Reading::element_header_at))]
 fn element_header<'a>(out: &mut Vec<Mark>, s: &'a [u8]) -> Result<&'a [u8], ReadError>
     requires first { reading.first s.now ≡ left_bracket }
@@ -48,7 +48,7 @@ fn element_header<'a>(out: &mut Vec<Mark>, s: &'a [u8]) -> Result<&'a [u8], Read
     Ok(rest)
 }
 
-/// A pair, a header or the header of an element.
+/// Reads a statement: a key/value pair, a `[key]` header or a `[[key]]` header.
 #[tactic(auto, unfolding(crate::specs::Reading::statement_at))]
 fn statement<'a>(out: &mut Vec<Mark>, s: &'a [u8], depth: usize) -> Result<&'a [u8], ReadError>
     requires { depth < 1000 }
@@ -63,7 +63,7 @@ fn statement<'a>(out: &mut Vec<Mark>, s: &'a [u8], depth: usize) -> Result<&'a [
     header(out, s)
 }
 
-/// What follows a comment or nothing.
+/// The input behind an optional comment.
 fn past_comment(s: &[u8]) -> &[u8]
     ensures { result.now ≡ reading.past_comment s.now }
 {
@@ -74,14 +74,15 @@ fn past_comment(s: &[u8]) -> &[u8]
     }
 }
 
-/// Whether no statement begins here.
+/// Whether a line without a statement ends with this byte: a comment, a newline or the end of the text begins
+/// here.
 fn is_line_over(b: u8) -> bool
     ensures { result ≡ reading.is_line_over b }
 {
     b == 0 || b == b'#' || b == b'\n' || b == b'\r'
 }
 
-/// A line, up to its newline.
+/// Reads a line up to its newline.
 pub(crate) fn line<'a>(
     out: &mut Vec<Mark>,
     s: &'a [u8],
@@ -98,7 +99,7 @@ pub(crate) fn line<'a>(
     Ok(past_comment(past_run(rest, Class::Blank)))
 }
 
-/// The marks of lines, with arrays and inline tables at most 80 deep in one another.
+/// The tokens of all lines of a text, with arrays and inline tables nested at most 80 deep.
 pub(crate) fn lines(alloc: Global, text: &[u8]) -> Result<Vec<Mark>, ReadError>
     ensures found { IfOk result (λ v. (form : Lines) × (text.now ≡ lines form) × AreLines form
         × (lines_depth form ≤ 80) × (v.items ≡ lines_marks form)) }

@@ -1,18 +1,18 @@
-//! What reading notes down.
+//! The tokens of a text, and why tokenizing fails.
 ghost use Rattle.std.specs.Prelude.{◌≡◌};
 ghost use Rattle.edit_syntax.specs.declared.read.marks.ReadError.TheVariants.{Memory};
 
 use std::alloc::{AllocError, AllocFailed};
 
-/// What a mark stands for.
+/// The kind of a token.
 #[derive(Clone, Copy, Debug, PartialEq, Eq)]
 pub enum MarkKind {
-    /// A part of a key. Those of one key follow one another, and behind the last comes what the key is for:
-    /// the first mark of a pair's value, or the mark of a header.
+    /// A part of a key. The parts of one key follow one another; behind the last comes what the key names:
+    /// the first token of a pair's value, or the token of a header.
     BarePart,
     BasicPart,
     LiteralPart,
-    /// A header with its brackets, behind the parts of its key.
+    /// A header with its brackets; it follows the parts of its key.
     Header,
     ElementHeader,
     /// A string with its delimiters.
@@ -25,16 +25,15 @@ pub enum MarkKind {
     Integer,
     Float,
     DateTime,
-    /// The opening bracket or brace alone, and the closing one behind the marks of what stands between.
+    /// An opening bracket or brace alone; its closing one follows the tokens between them.
     OpenArray,
     CloseArray,
     OpenTable,
     CloseTable,
 }
 
-/// A token of a text: how many bytes there are from its first byte to the text's end, and from its own end
-/// to the text's end. A text of 4 GB and more is refused for
-/// want of memory, which its marks would take ten times.
+/// A token of a text: the number of bytes from its first byte to the end of the text, and from its own end to
+/// the end of the text. A text of 4 GB or more fails with `Error::Memory`.
 #[derive(Clone, Copy, Debug, PartialEq, Eq)]
 pub struct Mark {
     pub kind: MarkKind,
@@ -42,7 +41,7 @@ pub struct Mark {
     pub to: u32,
 }
 
-/// Why reading stops: out of memory, or nothing of the grammar begins where so many bytes are left.
+/// Why tokenizing fails: out of memory, or a syntax error with `left` bytes of the text left to read.
 #[derive(Debug, Drop)]
 pub enum ReadError {
     Memory,

@@ -1,4 +1,4 @@
-//! Where strings over several lines end.
+//! Finds where multi-line strings end (TOML 1.0.0, "String").
 ghost use Rattle.std.specs.Prelude.{◌≡◌, ◌+◌, length};
 ghost use Rattle.edit_syntax.specs.Reading as reading;
 ghost use Rattle.edit_syntax.specs.Noting.{Skips};
@@ -14,7 +14,7 @@ fn is_line_break(b: u8) -> bool
     b == b'\n' || b == b'\r'
 }
 
-/// Whether a tab, a space or a newline comes first.
+/// Whether the input begins with a tab, a space or a newline.
 fn begins_space(s: &[u8]) -> bool
     ensures { result ≡ reading.begins_space s.now }
 {
@@ -23,7 +23,7 @@ fn begins_space(s: &[u8]) -> bool
         || (first(s) == b'\r' && byte_at(s, 1) == b'\n')
 }
 
-/// What follows a tab, a space or a newline.
+/// The input behind a tab, a space or a newline.
 #[tactic(auto, unfolding(crate::specs::Reading::space_at))]
 fn past_space(s: &[u8]) -> Option<&[u8]>
     ensures { Skips result (reading.space_at s.now) }
@@ -35,7 +35,7 @@ fn past_space(s: &[u8]) -> Option<&[u8]>
     }
 }
 
-/// What follows all tabs, spaces and newlines that come first.
+/// The input behind all tabs, spaces and newlines at the front.
 fn past_spaces(s: &[u8]) -> Option<&[u8]>
     ensures { Skips result (reading.spaces_at (length s.now + 1) s.now) }
 {
@@ -49,7 +49,7 @@ fn past_spaces(s: &[u8]) -> Option<&[u8]>
     None
 }
 
-/// What follows a backslash at the end of a line, and all white space and newlines behind it.
+/// The input behind a backslash at the end of a line and all white space and newlines after it.
 #[tactic(auto, unfolding(crate::specs::Reading::fold_at))]
 fn past_fold(s: &[u8]) -> Option<&[u8]>
     ensures { Skips result (reading.fold_at s.now) }
@@ -58,7 +58,7 @@ fn past_fold(s: &[u8]) -> Option<&[u8]>
     past_spaces(next_line)
 }
 
-/// What follows a newline that is text.
+/// The input behind a newline that is part of the string.
 #[tactic(auto, unfolding(crate::specs::Reading::feed_at))]
 fn past_feed(s: &[u8]) -> Option<&[u8]>
     ensures { Skips result (reading.feed_at s.now) }
@@ -66,7 +66,7 @@ fn past_feed(s: &[u8]) -> Option<&[u8]>
     past_line_end(s)
 }
 
-/// What follows one piece of a basic string, but a quote.
+/// The input behind one piece of a multi-line basic string that is not a quote.
 #[tactic(auto, unfolding(crate::specs::Reading::spot_at))]
 fn past_spot(s: &[u8]) -> Option<&[u8]>
     ensures { Skips result (reading.spot_at s.now) }
@@ -87,7 +87,7 @@ fn past_spot(s: &[u8]) -> Option<&[u8]>
     }
 }
 
-/// What follows one piece of a literal string, but an apostrophe.
+/// The input behind one piece of a multi-line literal string that is not an apostrophe.
 #[tactic(auto, unfolding(crate::specs::Reading::raw_at))]
 fn past_raw(s: &[u8]) -> Option<&[u8]>
     ensures { Skips result (reading.raw_at s.now) }
@@ -102,7 +102,7 @@ fn past_raw(s: &[u8]) -> Option<&[u8]>
     }
 }
 
-/// What follows one piece, but a delimiter.
+/// The input behind one piece of a multi-line string that is not the delimiter `mark`.
 #[tactic(auto, unfolding(crate::specs::Reading::line_piece_at))]
 fn past_line_piece(s: &[u8], mark: u8) -> Option<&[u8]>
     ensures { Skips result (reading.line_piece_at mark s.now) }
@@ -114,14 +114,14 @@ fn past_line_piece(s: &[u8], mark: u8) -> Option<&[u8]>
     }
 }
 
-/// Whether three delimiters and no fourth come first.
+/// Whether the input begins with exactly three delimiters, which close the string.
 fn closes(s: &[u8], mark: u8) -> bool
     ensures { result ≡ reading.closes mark s.now }
 {
     first(s) == mark && byte_at(s, 1) == mark && byte_at(s, 2) == mark && byte_at(s, 3) != mark
 }
 
-/// What follows the closing delimiters of a string over several lines, from behind the opening ones on.
+/// The input behind the closing delimiter of a multi-line string; `s` begins behind the opening one.
 pub(crate) fn past_multi(s: &[u8], mark: u8) -> Option<&[u8]>
     ensures { Skips result (reading.multi_at mark s.now) }
 {

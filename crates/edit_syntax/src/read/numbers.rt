@@ -1,4 +1,4 @@
-//! Where numbers end, and what begins as one.
+//! Finds where numbers end and of which kind they are (TOML 1.0.0, "Integer" and "Float").
 ghost use Rattle.std.specs.Prelude.{◌≡◌, ℕ, ◌≤◌, ◌==◌, ◌&&◌, List, length, slice_index};
 ghost use Rattle.std.specs.List.{prefix_len};
 ghost use Rattle.edit_syntax.specs.Numbers as numbers;
@@ -11,7 +11,7 @@ use super::bytes::{Class, byte_at, first, is_in, past_run, skip};
 use super::dates::{past_dated, past_timed};
 use super::marks::MarkKind;
 
-/// Whether these are digits of the class, with single underscores between them.
+/// Whether the bytes are digits of the class with single underscores between them.
 fn are_digits(s: &[u8], class: Class) -> bool
     ensures { result ≡ numbers.are_digits (class_test class) s.now }
 {
@@ -28,7 +28,7 @@ fn are_digits(s: &[u8], class: Class) -> bool
     !wanted
 }
 
-/// Whether these are the digits of a decimal integer.
+/// Whether the bytes are the digits of a decimal integer.
 fn is_whole(s: &[u8]) -> bool
     ensures { result ≡ numbers.is_whole s.now }
 {
@@ -39,7 +39,7 @@ fn is_whole(s: &[u8]) -> bool
     }
 }
 
-/// How many bytes at the front are digits of the class or underscores.
+/// The number of bytes at the front that are digits of the class or underscores.
 fn digits_len(s: &[u8], class: Class) -> usize
     ensures len { result ≡ prefix_len (reading.is_marked (class_test class)) s.now }
     ensures within { result ≤ length s.now }
@@ -49,7 +49,7 @@ fn digits_len(s: &[u8], class: Class) -> usize
         .count()
 }
 
-/// What follows the digits at the front.
+/// The input behind the digits at the front.
 #[tactic(auto, unfolding(crate::specs::ReadingNumbers::digits_at))]
 fn past_digits(s: &[u8], class: Class) -> Option<&[u8]>
     ensures { Skips result (reading.digits_at (class_test class) s.now) }
@@ -62,7 +62,7 @@ fn past_digits(s: &[u8], class: Class) -> Option<&[u8]>
     }
 }
 
-/// What follows the whole part of a number.
+/// The input behind the integer part of a number.
 #[tactic(auto, unfolding(crate::specs::ReadingNumbers::whole_at))]
 fn past_whole(s: &[u8]) -> Option<&[u8]>
     ensures { Skips result (reading.whole_at s.now) }
@@ -75,7 +75,7 @@ fn past_whole(s: &[u8]) -> Option<&[u8]>
     }
 }
 
-/// What follows a sign or none.
+/// The input behind an optional sign.
 fn past_sign(s: &[u8]) -> &[u8]
     ensures { result.now ≡ reading.past_sign s.now }
 {
@@ -86,14 +86,14 @@ fn past_sign(s: &[u8]) -> &[u8]
     }
 }
 
-/// Whether an exponent begins with this byte.
+/// Whether this byte is `e` or `E`, which begins an exponent.
 fn is_power(b: u8) -> bool
     ensures { result ≡ reading.is_power b }
 {
     b == b'e' || b == b'E'
 }
 
-/// What follows an exponent, from its letter on.
+/// The input behind an exponent; `s` begins with its letter.
 #[tactic(auto, unfolding(crate::specs::ReadingNumbers::exponent_at))]
 fn past_exponent(s: &[u8]) -> Option<&[u8]>
     ensures { Skips result (reading.exponent_at s.now) }
@@ -101,7 +101,7 @@ fn past_exponent(s: &[u8]) -> Option<&[u8]>
     past_digits(past_sign(skip(s, 1)), Class::Decimal)
 }
 
-/// The kind of a float, and what follows it, from behind its fraction on.
+/// The kind of a float and the input behind it; `s` begins behind the fraction.
 #[tactic(auto, unfolding(crate::specs::ReadingNumbers::fraction_read))]
 fn behind_fraction(s: &[u8]) -> Option<(MarkKind, &[u8])>
     ensures { (sign : Sign) (whole fraction : List ℕ)
@@ -114,7 +114,7 @@ fn behind_fraction(s: &[u8]) -> Option<(MarkKind, &[u8])>
     Some((MarkKind::Float, s))
 }
 
-/// The kind of a number, and what follows it, from behind its whole part on.
+/// The kind of a number and the input behind it; `s` begins behind the integer part.
 #[tactic(auto, unfolding(crate::specs::ReadingNumbers::whole_read))]
 fn behind_whole(s: &[u8]) -> Option<(MarkKind, &[u8])>
     ensures { (sign : Sign) (whole : List ℕ)
@@ -131,14 +131,14 @@ fn behind_whole(s: &[u8]) -> Option<(MarkKind, &[u8])>
     Some((MarkKind::Integer, s))
 }
 
-/// Whether these three bytes come next.
+/// Whether the input begins with these three bytes.
 pub(crate) fn begins(s: &[u8], word: [u8; 3]) -> bool
     ensures { result ≡ reading.begins (slice_index word 0) (slice_index word 1) (slice_index word 2) s.now }
 {
     first(s) == word[0] && byte_at(s, 1) == word[1] && byte_at(s, 2) == word[2]
 }
 
-/// The kind of a decimal number, and what follows it, from behind its sign on.
+/// The kind of a decimal number and the input behind it; `s` begins behind the sign.
 #[tactic(auto, unfolding(crate::specs::ReadingNumbers::decimal_at))]
 fn past_decimal(s: &[u8]) -> Option<(MarkKind, &[u8])>
     ensures { (sign : Sign) → seen_token result ≡ told_token value_kind (reading.decimal_at sign s.now) }
@@ -153,7 +153,7 @@ fn past_decimal(s: &[u8]) -> Option<(MarkKind, &[u8])>
     behind_whole(behind)
 }
 
-/// The kind of an integer with a prefix, and what follows it, from behind the prefix on.
+/// The kind of an integer with a base prefix and the input behind it; `s` begins behind the prefix.
 #[tactic(auto, unfolding(crate::specs::ReadingNumbers::based_at))]
 fn past_based(s: &[u8], class: Class) -> Option<(MarkKind, &[u8])>
     ensures { (base : Base) → class_test class ≡ numbers.base_digit base
@@ -163,14 +163,14 @@ fn past_based(s: &[u8], class: Class) -> Option<(MarkKind, &[u8])>
     Some((MarkKind::Integer, rest))
 }
 
-/// Whether a prefix of this letter comes next.
+/// Whether the input begins with the base prefix `0` and this letter.
 fn has_prefix(s: &[u8], letter: u8) -> bool
     ensures { result ≡ (steps.first s.now == 48 && slice_index s.now 1 == letter) }
 {
     first(s) == b'0' && byte_at(s, 1) == letter
 }
 
-/// The kind of what has no sign, and what follows it.
+/// The kind of a number without a sign and the input behind it.
 #[tactic(auto, unfolding(crate::specs::ReadingNumbers::unsigned_at))]
 fn past_unsigned(s: &[u8]) -> Option<(MarkKind, &[u8])>
     ensures { seen_token result ≡ told_token value_kind (reading.unsigned_at s.now) }
@@ -194,7 +194,7 @@ fn past_unsigned(s: &[u8]) -> Option<(MarkKind, &[u8])>
     past_decimal(s)
 }
 
-/// The kind of a number, a date or a time, and what follows it.
+/// The kind of a number, a date or a time, and the input behind it.
 #[tactic(auto, unfolding(crate::specs::ReadingNumbers::number_at))]
 pub(crate) fn past_number(s: &[u8]) -> Option<(MarkKind, &[u8])>
     ensures { seen_token result ≡ told_token value_kind (reading.number_at s.now) }

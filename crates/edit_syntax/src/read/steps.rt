@@ -1,4 +1,4 @@
-//! Steps over the values and the keys of an array or an inline table, for those who edit it.
+//! Finds where a value or a key of an array or an inline table ends, for edits of these.
 ghost use Rattle.std.specs.Prelude.{◌≡◌, ℕ, List, ◌∷◌, ◌++◌, MatchResult};
 ghost use Rattle.edit_base.specs.Errors.{IsMemory};
 ghost use Rattle.edit_syntax.specs.declared.read.marks.ReadError.TheVariants.{Memory};
@@ -15,7 +15,7 @@ use super::values::{key, value};
 use edit_base::errors::{CargoResult, Error};
 use std::alloc::Global;
 
-/// The refusal of a text of so many bytes that could not be read.
+/// The error of this crate for a tokenizer error in a text of `len` bytes.
 fn refusal(error: ReadError, len: usize) -> Error
     ensures { error ≡ Memory → IsMemory result }
 {
@@ -27,14 +27,14 @@ fn refusal(error: ReadError, len: usize) -> Error
     }
 }
 
-/// What follows the tabs and spaces at the front (TOML 1.0.0, "Spec").
+/// The input behind the tabs and spaces at the front (TOML 1.0.0, "Spec").
 pub fn past_blanks(s: &[u8]) -> &[u8]
     ensures { result.now ≡ reading.past_blanks s.now }
 {
     past_run(s, Class::Blank)
 }
 
-/// What follows the value at the front, in an array or an inline table (TOML 1.0.0, "Key/Value Pair").
+/// The input behind the value at the front of an array or an inline table (TOML 1.0.0, "Key/Value Pair").
 pub fn past_value(alloc: Global, s: &[u8]) -> CargoResult<&[u8]>
     ensures { (v : Value) (g : List Between) (rest : List ℕ) → IsItem v g rest
         → s.now ≡ value_text v (gap g rest) → MatchResult result (λ r. r.now ≡ gap g rest) IsMemory }
@@ -46,8 +46,8 @@ pub fn past_value(alloc: Global, s: &[u8]) -> CargoResult<&[u8]>
     }
 }
 
-/// What follows the key at the front, its equals sign and the white space beside it, with the marks of the
-/// key's parts in `out` (TOML 1.0.0, "Keys").
+/// The input behind the key at the front, its equals sign and the white space around it; the tokens of the
+/// key's parts are appended to `out` (TOML 1.0.0, "Keys").
 pub fn past_name<'a>(out: &mut Vec<Mark>, s: &'a [u8]) -> CargoResult<&'a [u8]>
     ensures { (k : Key) (a b more : List ℕ) → IsNaming k a b more
         → s.now ≡ key_text k (a · equals ∷ (b · more))

@@ -1,4 +1,4 @@
-//! Where strings, parts of keys and values that are one token end.
+//! Finds where strings, parts of keys and values of a single token end.
 ghost use Rattle.std.specs.Prelude.{◌≡◌, ℕ, ◌≤◌, List, length, slice_index};
 ghost use Rattle.edit_syntax.specs.Reading as reading;
 ghost use Rattle.edit_syntax.specs.Strings.{Piece};
@@ -10,7 +10,7 @@ use super::marks::MarkKind;
 use super::multi::past_multi;
 use super::numbers::{begins, past_number};
 
-/// The scalar value that these hexadecimal digits name.
+/// The Unicode scalar value with these hexadecimal digits.
 pub(crate) fn scalar(digits: &[u8]) -> Option<char>
     requires { length digits.now ≤ 8 }
     ensures { result ≡ reading.scalar digits.now }
@@ -22,7 +22,7 @@ pub(crate) fn scalar(digits: &[u8]) -> Option<char>
     char::from_u32(code)
 }
 
-/// What follows `n` digits that name a scalar value.
+/// The input behind `n` hexadecimal digits of a Unicode scalar value.
 fn past_code(s: &[u8], n: usize) -> Option<&[u8]>
     requires { n ≤ 8 }
     ensures { (made : List ℕ → Piece) → Skips result (reading.coded_at made n s.now) }
@@ -34,7 +34,7 @@ fn past_code(s: &[u8], n: usize) -> Option<&[u8]>
     Some(skip(s, n))
 }
 
-/// What follows an escape, from its backslash on.
+/// The input behind an escape; `s` begins with its backslash.
 #[tactic(auto, unfolding(crate::specs::Reading::escape_at))]
 pub(crate) fn past_escape(s: &[u8]) -> Option<&[u8]>
     ensures { Skips result (reading.escape_at s.now) }
@@ -47,7 +47,7 @@ pub(crate) fn past_escape(s: &[u8]) -> Option<&[u8]>
     }
 }
 
-/// What follows one byte or one escape of a basic string.
+/// The input behind one byte or one escape of a basic string.
 #[tactic(auto, unfolding(crate::specs::Reading::piece_at))]
 fn past_piece(s: &[u8]) -> Option<&[u8]>
     ensures { Skips result (reading.piece_at s.now) }
@@ -62,7 +62,7 @@ fn past_piece(s: &[u8]) -> Option<&[u8]>
     }
 }
 
-/// What follows the closing quote of a basic string.
+/// The input behind the closing quote of a basic string.
 fn past_basic(s: &[u8]) -> Option<&[u8]>
     ensures { Skips result (reading.basic_at s.now) }
 {
@@ -77,7 +77,7 @@ fn past_basic(s: &[u8]) -> Option<&[u8]>
     None
 }
 
-/// What follows the closing apostrophe of a literal string.
+/// The input behind the closing apostrophe of a literal string.
 #[tactic(auto, unfolding(crate::specs::Reading::literal_at))]
 fn past_literal(s: &[u8]) -> Option<&[u8]>
     ensures { Skips result (reading.literal_at s.now) }
@@ -85,7 +85,7 @@ fn past_literal(s: &[u8]) -> Option<&[u8]>
     past(past_run(s, Class::Literal), b'\'')
 }
 
-/// The kind of a key's part, and what follows it.
+/// The kind of a part of a key, and the input behind it.
 #[tactic(auto, unfolding(crate::specs::Reading::part_at))]
 pub(crate) fn past_part(s: &[u8]) -> Option<(MarkKind, &[u8])>
     ensures { seen_token result ≡ told_token part_kind (reading.part_at s.now) }
@@ -105,7 +105,7 @@ pub(crate) fn past_part(s: &[u8]) -> Option<(MarkKind, &[u8])>
     None
 }
 
-/// Whether these four bytes come next.
+/// Whether the input begins with these four bytes.
 fn starts(s: &[u8], word: [u8; 4]) -> bool
     ensures { result ≡ reading.starts (slice_index word 0) (slice_index word 1) (slice_index word 2)
         (slice_index word 3) s.now }
@@ -116,7 +116,7 @@ fn starts(s: &[u8], word: [u8; 4]) -> bool
         && byte_at(s, 3) == word[3]
 }
 
-/// The kind of a value that is one token, and what follows it.
+/// The kind of a value of a single token, and the input behind it.
 #[tactic(auto, unfolding(crate::specs::Reading::scalar_at))]
 pub(crate) fn past_scalar(s: &[u8]) -> Option<(MarkKind, &[u8])>
     ensures { seen_token result ≡ told_token value_kind (reading.scalar_at s.now) }

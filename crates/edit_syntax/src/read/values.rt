@@ -1,4 +1,4 @@
-//! Keys, values and pairs, noted down from left to right.
+//! Tokenizes keys, values and pairs; each function appends to `out` and returns the rest of the input.
 ghost use Rattle.std.specs.Prelude.{◌≡◌, ◌+◌, ◌<◌, MatchResult, drop, length};
 ghost use Rattle.edit_syntax.specs.declared.read.marks.ReadError.TheVariants.{Memory};
 ghost use Rattle.edit_syntax.specs.Characters.{left_brace, left_bracket};
@@ -11,14 +11,14 @@ use super::gaps::past_gap;
 use super::marks::{Mark, MarkKind, ReadError};
 use super::tokens::{past_part, past_scalar};
 
-/// How many bytes are left, as a mark keeps it.
+/// The number of bytes left, as a token stores it. `ReadError::Memory` where it exceeds 32 bits.
 fn left(s: &[u8]) -> Result<u32, ReadError>
     ensures { MatchResult result (λ n. n ≡ length s.now) (λ e. e ≡ Memory) }
 {
     u32::try_from(s.len()).map_err(|_| ReadError::Memory)
 }
 
-/// Notes the token that stands before `to` in `from`.
+/// Appends the token that begins at `from` and ends where `to` begins.
 pub(crate) fn note(
     out: &mut Vec<Mark>,
     kind: MarkKind,
@@ -36,7 +36,7 @@ pub(crate) fn note(
     Ok(())
 }
 
-/// A part of a key.
+/// Reads a part of a key.
 fn part<'a>(out: &mut Vec<Mark>, s: &'a [u8]) -> Result<&'a [u8], ReadError>
     ensures { Notes part_marks out.old out.new result (reading.part_at s.now) }
 {
@@ -47,7 +47,7 @@ fn part<'a>(out: &mut Vec<Mark>, s: &'a [u8]) -> Result<&'a [u8], ReadError>
     Ok(rest)
 }
 
-/// A key: a part, and more of them behind dots.
+/// Reads a key: one part or several joined by dots.
 pub(crate) fn key<'a>(out: &mut Vec<Mark>, s: &'a [u8]) -> Result<&'a [u8], ReadError>
     ensures { Notes key_marks out.old out.new result (reading.key_at s.now) }
 {
@@ -62,7 +62,7 @@ pub(crate) fn key<'a>(out: &mut Vec<Mark>, s: &'a [u8]) -> Result<&'a [u8], Read
     Err(ReadError::NotToml { left: rest.len() })
 }
 
-/// A value that is one token.
+/// Reads a value of a single token.
 fn scalar<'a>(out: &mut Vec<Mark>, s: &'a [u8]) -> Result<&'a [u8], ReadError>
     ensures { Notes value_marks out.old out.new result (reading.scalar_at s.now) }
 {
@@ -73,7 +73,7 @@ fn scalar<'a>(out: &mut Vec<Mark>, s: &'a [u8]) -> Result<&'a [u8], ReadError>
     Ok(rest)
 }
 
-/// A key, an equals sign and a value.
+/// Reads a pair: a key, an equals sign and a value.
 #[cycle(values)]
 #[tactic(auto, unfolding(crate::specs::Reading::pair_at))]
 pub(crate) fn pair<'a>(
@@ -92,14 +92,14 @@ pub(crate) fn pair<'a>(
     value(out, past_run(rest, Class::Blank), depth)
 }
 
-/// What follows a comma and the gap behind it.
+/// The input behind a comma and the white space, newlines and comments after it.
 fn past_comma(s: &[u8]) -> &[u8]
     ensures { result.now ≡ reading.past_gap (drop 1 s.now) }
 {
     past_gap(skip(s, 1))
 }
 
-/// The pairs of an inline table, and its closing brace.
+/// Reads the pairs of an inline table and its closing brace.
 #[cycle(values)]
 fn members<'a>(
     out: &mut Vec<Mark>,
@@ -132,7 +132,7 @@ fn members<'a>(
     Err(ReadError::NotToml { left: rest.len() })
 }
 
-/// The elements of an array, and its closing bracket.
+/// Reads the elements of an array and its closing bracket.
 #[cycle(values)]
 fn elements<'a>(
     out: &mut Vec<Mark>,
@@ -165,7 +165,7 @@ fn elements<'a>(
     Err(ReadError::NotToml { left: rest.len() })
 }
 
-/// An array whose elements stand at most so deep.
+/// Reads an array whose elements nest at most `depth` deep.
 #[cycle(values)]
 fn array<'a>(out: &mut Vec<Mark>, s: &'a [u8], depth: usize) -> Result<&'a [u8], ReadError>
     requires shallow { depth < 1000 }
@@ -177,7 +177,7 @@ fn array<'a>(out: &mut Vec<Mark>, s: &'a [u8], depth: usize) -> Result<&'a [u8],
     elements(out, past_gap(behind), depth, s.len())
 }
 
-/// An inline table whose members' values stand at most so deep.
+/// Reads an inline table whose values nest at most `depth` deep.
 #[cycle(values)]
 fn inline_table<'a>(out: &mut Vec<Mark>, s: &'a [u8], depth: usize) -> Result<&'a [u8], ReadError>
     requires shallow { depth < 1000 }
@@ -189,7 +189,7 @@ fn inline_table<'a>(out: &mut Vec<Mark>, s: &'a [u8], depth: usize) -> Result<&'
     members(out, past_gap(behind), depth, s.len())
 }
 
-/// A value whose arrays and inline tables stand at most so deep.
+/// Reads a value whose arrays and inline tables nest at most `depth` deep.
 #[cycle(values)]
 #[tactic(auto, unfolding(crate::specs::Reading::value_at))]
 pub(crate) fn value<'a>(
