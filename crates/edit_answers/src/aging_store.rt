@@ -1,11 +1,12 @@
-//! Caches that say when their files were last written.
+//! The trait of a cache that knows the age of its files.
 ghost use Rattle.std.specs.Prelude.{◌≡◌, IfOk, filter, map, not};
 ghost use Rattle.edit_answers.specs.Aging.{AgingView, Lists, Removes, aged_text, is_same, memory_aging};
 
 use edit_base::CargoResult;
 use std::alloc::{AllocError, Global};
 
-/// A file of a cache, or the folder of a run in it, and for how many whole days nothing was written to it.
+/// A file of a cache, or the working folder of a run in it, and the number of whole days since it was last
+/// modified.
 #[derive(Debug, Drop)]
 pub struct Aged {
     pub path: String,
@@ -13,33 +14,33 @@ pub struct Aged {
     pub days: u64,
 }
 
-/// A cache that says when its files were last written. Its member `aging` is what contracts see of it.
+/// A cache that knows the age of its files. `aging` is its model in contracts.
 pub trait AgingStore {
     ghost aging: { Self → AgingView };
 
-    /// The files of the cache, and the folders of runs.
+    /// Lists the files of the cache, and the working folders of runs.
     fn list(&mut self, alloc: Global) -> CargoResult<Vec<Aged>>
         ensures { Lists (aging self.old) (aging self.new) result };
 
-    /// Removes a file, or the folder of a run with all that is in it.
+    /// Removes a file, or the working folder of a run with its contents.
     fn remove(&mut self, alloc: Global, aged: &Aged) -> CargoResult<()>
         ensures { Removes (aged_text aged.now) (aging self.old) (aging self.new) result };
 }
 
-/// A cache in memory.
+/// A cache in memory, for tests.
 #[derive(Debug, Drop)]
 pub struct MemoryCache {
     pub files: Vec<Aged>,
 }
 
-/// Whether a file is this one, by its path and its kind.
+/// Whether two files are the same, by path and kind.
 fn is_same(a: &Aged, b: &Aged) -> bool
     ensures { result ≡ is_same (aged_text a.now) (aged_text b.now) }
 {
     a.path.as_str() == b.path.as_str() && if a.is_run { b.is_run } else { !b.is_run }
 }
 
-/// A second one of a file.
+/// Returns a copy of a file's data.
 fn copy_of(alloc: Global, aged: &Aged) -> Result<Aged, AllocError>
     ensures { IfOk result (λ a. aged_text a ≡ aged_text aged.now) }
 {
@@ -50,7 +51,7 @@ fn copy_of(alloc: Global, aged: &Aged) -> Result<Aged, AllocError>
     })
 }
 
-/// These files without this one.
+/// Returns copies of these files, without one of them.
 fn without(alloc: Global, files: &[Aged], aged: &Aged) -> Result<Vec<Aged>, AllocError>
     ensures { IfOk result (λ v. map aged_text v.items
         ≡ filter (λ b. not (is_same (aged_text aged.now) b)) (map aged_text files.now)) }
@@ -64,7 +65,7 @@ fn without(alloc: Global, files: &[Aged], aged: &Aged) -> Result<Vec<Aged>, Allo
     Ok(left)
 }
 
-/// These files.
+/// Returns copies of these files.
 fn copies_of(alloc: Global, files: &[Aged]) -> Result<Vec<Aged>, AllocError>
     ensures { IfOk result (λ v. map aged_text v.items ≡ map aged_text files.now) }
 {

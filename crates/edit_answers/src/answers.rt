@@ -1,11 +1,11 @@
-//! What curl says of its transfers.
+//! Parses the outcomes of transfers that curl writes.
 ghost use Rattle.std.specs.Prelude.{◌≡◌, ◌⊎◌, ◌+◌, ◌<◌, ℕ, Some, None, IfNone, IfOk, IfSome, length, replicate, slice_get};
 ghost use Rattle.edit_answers.specs.Answers.{AreFirst, AreFound, HasOne, SaysAnswer};
 ghost use Rattle.edit_answers.specs.declared.answers.Answer.{Answer};
 
 use std::alloc::{AllocError, Global};
 
-/// What curl says of a transfer: the status of the answer, curl's exit code, how many redirects it followed,
+/// The outcome of a transfer: the HTTP status, curl's exit code, the number of redirects that it followed,
 /// and its message, which may be empty.
 #[derive(Clone, Copy, Debug)]
 pub struct Answer<'a> {
@@ -15,8 +15,8 @@ pub struct Answer<'a> {
     pub message: &'a str,
 }
 
-/// The number of a transfer and what curl says of it, by a line `NUMBER TAB CODE TAB EXIT TAB REDIRECTS TAB
-/// MESSAGE`.
+/// Parses a line `NUMBER TAB CODE TAB EXIT TAB REDIRECTS TAB MESSAGE`: the number of a transfer, and its
+/// outcome.
 fn read_answer<'a>(line: &'a str) -> Option<(usize, Answer<'a>)>
     ensures some { IfSome result (λ x. SaysAnswer line.now x.0 x.1) }
     ensures none { IfNone result ((number : ℕ) (a : Answer) → SaysAnswer line.now number a → ⊥) }
@@ -47,7 +47,7 @@ fn read_answer<'a>(line: &'a str) -> Option<(usize, Answer<'a>)>
     }
 }
 
-/// A table without answers.
+/// Returns a table of `count` absent outcomes.
 fn no_answers<'a>(alloc: Global, count: usize) -> Result<Vec<Option<Answer<'a>>>, AllocError>
     ensures { IfOk result (λ v. v.items ≡ replicate count None) }
 {
@@ -58,7 +58,7 @@ fn no_answers<'a>(alloc: Global, count: usize) -> Result<Vec<Option<Answer<'a>>>
     Ok(table)
 }
 
-/// Puts an answer into a table, where the table has a place of its number, from 1, and that is free.
+/// Puts an outcome into the slot of its number, from 1, if the table has that slot and it is empty.
 fn put<'a>(table: &mut Vec<Option<Answer<'a>>>, number: usize, answer: Answer<'a>)
     ensures put { (k : ℕ) (a : Answer) → slice_get table.new.items k ≡ Some (Some a)
         → (slice_get table.old.items k ≡ Some (Some a)) ⊎ ((k + 1 ≡ number) × (a ≡ answer.entry)) }
@@ -75,8 +75,8 @@ fn put<'a>(table: &mut Vec<Option<Answer<'a>>>, number: usize, answer: Answer<'a
     }
 }
 
-/// What curl says of its transfers number 1 to `count`, by the lines that it wrote: of more lines for one
-/// transfer the first counts. A line without a line end was cut, and is not read.
+/// Parses the outcomes of the transfers number 1 to `count` from the lines that curl wrote. Of several lines
+/// for one transfer the first counts. A last line without a line end was truncated, and is ignored.
 pub fn read_answers<'a>(
     alloc: Global,
     text: &'a str,

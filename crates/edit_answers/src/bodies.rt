@@ -1,4 +1,4 @@
-//! Which bodies are index files.
+//! Checks whether a body is an index file.
 ghost use Rattle.std.specs.Prelude.{◌≡◌, ◌↔◌, All, IsTrue, IfOk, MatchBool, MatchOption, map, string_bytes};
 ghost use Rattle.edit_answers.specs.Bodies.{AreNamed, EndsLine, IsDamaged, IsSameName, IsWholeIndex};
 ghost use Rattle.edit_version.specs.IndexEntry.{entry_of};
@@ -8,17 +8,17 @@ use edit_sources::index_lines::read_lines;
 use edit_version::fetch::IndexVersion;
 use std::alloc::{AllocError, Global};
 
-/// Why a file is not the whole index file of a crate.
+/// Why a file is not a complete index file of a crate.
 #[derive(Clone, Copy, Debug)]
 pub enum Damage {
-    /// The line of this number, from 1, is the first one that is no line of an index.
+    /// The line of this number, from 1, is the first malformed one.
     BadLine(usize),
-    /// Each line is one of an index, but the file has none, does not end with a line end, or has a line of
+    /// No line is malformed, but the file has no entry, does not end with a line end, or has an entry of
     /// another crate.
     NotWhole,
 }
 
-/// Whether a name is this one, the case of letters of ASCII aside.
+/// Whether an entry has this name, ignoring ASCII case.
 fn is_named(entry: &IndexVersion, name: &str) -> bool
     ensures { IsTrue result ↔ IsSameName (string_bytes entry.now.name) name.now }
 {
@@ -43,7 +43,7 @@ fn are_named(entries: &[IndexVersion], name: &str) -> bool
     !entries.is_empty() && all_named(entries, name)
 }
 
-/// Whether a text ends with a line end.
+/// Whether a text ends with a line feed.
 fn ends_with_line_end(body: &[u8]) -> bool
     ensures { IsTrue result ↔ EndsLine body.now }
 {
@@ -53,9 +53,8 @@ fn ends_with_line_end(body: &[u8]) -> bool
     }
 }
 
-/// Why a body is not the whole index file of a crate; none where it is: it ends with a line end, it has
-/// entries, each line that is not blank is one, and each has the name of the crate, the case of letters of
-/// ASCII aside.
+/// Why a body is not a complete index file of a crate; `None` if it is one: it ends with a line end, it has
+/// entries, no line is malformed, and each entry has the name of the crate, ignoring ASCII case.
 pub fn damage_of(alloc: Global, name: &str, body: &[u8]) -> Result<Option<Damage>, AllocError>
     ensures { IfOk result (λ o. MatchOption o (IsWholeIndex name.now body.now)
         (IsDamaged name.now body.now)) }
@@ -71,12 +70,12 @@ pub fn damage_of(alloc: Global, name: &str, body: &[u8]) -> Result<Option<Damage
             Ok(None)
         }
         Err(Error::IndexLine { line }) => Ok(Some(Damage::BadLine(line))),
-        // the only other error is want of memory
+        // the only other error is lack of memory
         Err(_) => Err(AllocError),
     }
 }
 
-/// Whether a body is the whole index file of a crate.
+/// Whether a body is a complete index file of a crate.
 pub fn is_whole_index(alloc: Global, name: &str, body: &[u8]) -> Result<bool, AllocError>
     ensures { IfOk result (λ b. MatchBool b (IsWholeIndex name.now body.now)
         (IsWholeIndex name.now body.now → ⊥)) }

@@ -1,4 +1,4 @@
-//! The cache on this machine, with the times of its files.
+//! The cache on this machine, with the age of its files.
 ghost use Rattle.std.specs.Prelude.{◌≡◌};
 ghost use Rattle.edit_answers.specs.Aging.{folder_aging, folder_faults};
 
@@ -11,10 +11,10 @@ use std::io::ErrorKind;
 use std::time::{Clock, SystemTime};
 use std::{fs, io};
 
-/// The seconds of a day.
+/// The number of seconds in a day.
 const DAY: u64 = 24 * 60 * 60;
 
-/// A cache on this machine, by its folder. No clause can say what its files hold.
+/// A cache in a folder of this machine. Its contracts do not state what the files hold.
 #[derive(Debug, Drop)]
 pub struct CacheFolder<R> {
     rt: R,
@@ -23,7 +23,7 @@ pub struct CacheFolder<R> {
 }
 
 impl<R: Files<File = File> + Alloc<A = Global> + Clock + Clone + Drop> CacheFolder<R> {
-    /// The cache at a path.
+    /// Returns the cache in a folder.
     pub fn new(rt: R, folder: String) -> CacheFolder<R>
         ensures { folder_faults result ≡ 0 }
     {
@@ -35,17 +35,17 @@ impl<R: Files<File = File> + Alloc<A = Global> + Clock + Clone + Drop> CacheFold
     }
 }
 
-/// For how many whole days nothing was written to what stands at a path; none where the machine does not say.
+/// The number of whole days since a file was last modified; `None` where the system does not report it.
 fn days_since<R: Files<File = File>>(rt: &R, path: &str, now: SystemTime) -> Option<u64> {
     let modified = fs::metadata(rt, path).ok()?.modified().ok()?;
     match now.duration_since(modified) {
         Ok(since) => Some(since.as_secs() / DAY),
-        // (the time is one that is still to come)
+        // (the time is in the future)
         Err(_) => Some(0),
     }
 }
 
-/// Adds the files in a folder and the folders of runs; each other folder in it is added to `folders`.
+/// Adds the files of a folder and the working folders of runs; every other subfolder is added to `folders`.
 fn add_files<R: Files<File = File> + Alloc<A = Global> + Clone + Drop>(
     rt: &R,
     folder: &str,
@@ -67,7 +67,7 @@ fn add_files<R: Files<File = File> + Alloc<A = Global> + Clone + Drop>(
     Ok(())
 }
 
-/// The files below a folder, and the folders of runs. What the machine does not list is left out.
+/// The files below a folder, and the working folders of runs. A folder that cannot be listed is skipped.
 fn files_below<R: Files<File = File> + Alloc<A = Global> + Clock + Clone + Drop>(
     rt: &R,
     folder: &str,
@@ -88,7 +88,7 @@ fn files_below<R: Files<File = File> + Alloc<A = Global> + Clock + Clone + Drop>
     Ok(files)
 }
 
-/// Removes a file, or the folder of a run.
+/// Removes a file, or the working folder of a run.
 fn remove<R: Files<File = File> + Alloc<A = Global> + Drop>(rt: &R, aged: &Aged) -> io::Result<()> {
     let path = aged.path.as_str();
     if aged.is_run {

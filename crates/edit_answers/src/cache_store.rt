@@ -1,4 +1,4 @@
-//! The files of the machine below a cache.
+//! The store of the files of a cache.
 ghost use Rattle.std.specs.Prelude.{◌≡◌, []};
 ghost use Rattle.edit_answers.specs.CacheStore.{cache_faults, cache_view, cache_writes};
 ghost use Rattle.edit_store.specs.Host.{IsRefusal};
@@ -13,19 +13,20 @@ use std::io::{ErrorKind, Write};
 use std::os::unix::fs::{DirBuilderExt, OpenOptionsExt};
 use std::{fs, io};
 
-/// The files of the machine below a cache: missing folders are made, for their owner alone, and a file is
-/// replaced whole or not at all. No clause can say what they hold.
+/// The store of the files of a cache: missing folders are created, for their owner only, and files are
+/// replaced atomically. Its contracts do not state what the files hold.
 #[derive(Debug, Drop)]
 pub struct CacheStore<R> {
     rt: R,
     run: u32,
     failed: u64,
-    /// The path of each write that was begun, in order: contracts count the writes by it.
+    /// The path of each write that was begun, in order, so that contracts can count the writes.
     writes: Vec<String>,
 }
 
 impl<R: Files<File = File> + Alloc<A = Global> + Drop> CacheStore<R> {
-    /// The files that the runtime reaches; `run` is the number of the process, for the names of new files.
+    /// Returns a store of the files that the runtime reaches; `run` is the number of the process, for the
+    /// names of new files.
     pub fn new(rt: R, run: u32) -> CacheStore<R>
         ensures faults { cache_faults result ≡ 0 }
         ensures writes { cache_writes result ≡ [] }
@@ -40,7 +41,7 @@ impl<R: Files<File = File> + Alloc<A = Global> + Drop> CacheStore<R> {
     }
 }
 
-/// The error of a call. Each but want of memory is counted.
+/// Turns an error of the system into the error of a call. Every error except lack of memory is counted.
 pub(crate) fn refused(failed: &mut u64, call: DeviceCall, error: io::Error) -> Error
     ensures { IsRefusal call failed.old failed.new result }
 {
@@ -51,7 +52,7 @@ pub(crate) fn refused(failed: &mut u64, call: DeviceCall, error: io::Error) -> E
     Error::Device(call)
 }
 
-/// Makes the missing folders above a file, for their owner alone.
+/// Creates the missing folders above a file, for their owner only.
 fn make_folders<R: Files<File = File>>(rt: &R, path: &str) -> io::Result<()> {
     DirBuilder::new()
         .recursive(true)
@@ -59,8 +60,8 @@ fn make_folders<R: Files<File = File>>(rt: &R, path: &str) -> io::Result<()> {
         .create(rt, folder(path))
 }
 
-/// A new empty file in the folder of another one, and its path. A file of such a name that is there already
-/// was left by a process that was killed, or is another one's.
+/// Creates an empty file in the folder of another one, and returns it with its path. Names that exist
+/// already are skipped: they belong to other processes, or were left by killed ones.
 fn make_beside<R: Files<File = File>>(
     rt: &R,
     alloc: Global,
@@ -84,8 +85,8 @@ fn make_beside<R: Files<File = File>>(
     Err(io::Error::from(ErrorKind::AlreadyExists))
 }
 
-/// Fills a new file. A validator counts only beside the body whose sum it has, so it is not flushed to the
-/// disk.
+/// Writes the bytes of a new file and flushes them. A validator is not flushed, since it counts only
+/// together with the body whose checksum it has.
 fn fill(file: &mut File, path: &str, bytes: &[u8]) -> io::Result<()> {
     file.write_all(bytes)?;
     if path.ends_with(".etag") {
@@ -94,7 +95,7 @@ fn fill(file: &mut File, path: &str, bytes: &[u8]) -> io::Result<()> {
     file.sync_data()
 }
 
-/// Replaces a file, or makes it: the bytes are written beside it and moved over it.
+/// Replaces or creates a file: the bytes are written to a new file, which is renamed to `path`.
 fn replace<R: Files<File = File>>(
     rt: &R,
     alloc: Global,
@@ -114,7 +115,7 @@ fn replace<R: Files<File = File>>(
     done
 }
 
-/// Puts a file at a second path, as a link.
+/// Creates a hard link to a file, and the missing folders above it.
 fn link<R: Files<File = File>>(rt: &R, from: &str, to: &str) -> io::Result<()> {
     make_folders(rt, to)?;
     fs::hard_link(rt, from, to)
@@ -164,7 +165,7 @@ impl<R: Files<File = File> + Alloc<A = Global> + Drop> LinkStore for CacheStore<
     }
 }
 
-/// Whether the machine says that no file stands at a path.
+/// Whether an error of the system means that no file exists at a path.
 fn is_absent(kind: ErrorKind) -> bool {
     matches!(
         kind,

@@ -1,15 +1,15 @@
-//! Which curl can fetch index entries.
+//! Which versions of curl can fetch index entries.
 ghost use Rattle.std.specs.Prelude.{◌≡◌, ◌↔◌, ℕ, IfNone, IfSome, IsTrue};
 ghost use Rattle.edit_answers.specs.CurlVersion.{HasVariables, IsNewEnough, SaysVersion};
 
-/// Whether a version of curl has all options and variables that the transfers use.
+/// Whether a version of curl has all the options and variables that the transfers use.
 fn has_variables(major: u32, minor: u32) -> bool
     ensures { IsTrue result ↔ HasVariables major minor }
 {
     major > 7 || (major == 7 && minor >= 75)
 }
 
-/// The version that a text names as that of curl: `curl MAJOR.MINOR.`, and anything behind it.
+/// Parses the output of `curl --version`: `curl MAJOR.MINOR.`, and anything after it.
 fn version_in(text: &str) -> Option<(u32, u32)>
     ensures some { IfSome result (λ v. SaysVersion text.now v.0 v.1) }
     ensures none { IfNone result ((major minor : ℕ) → SaysVersion text.now major minor → ⊥) }
@@ -35,7 +35,7 @@ fn version_in(text: &str) -> Option<(u32, u32)>
     Some((major, minor))
 }
 
-/// Whether this is what `curl --version` prints of a version from 7.75 on, the first that has all options and
+/// Whether a text is the output of `curl --version` for version 7.75 or later, which has all the options and
 /// variables that the transfers use.
 pub fn is_new_enough(text: &str) -> bool
     ensures { IsTrue result ↔ IsNewEnough text.now }

@@ -1,4 +1,4 @@
-//! The lookups that were not had, by registry.
+//! The lookups without a fetched entry, grouped by registry.
 ghost use Rattle.std.specs.Prelude.{◌≡◌, ◌++◌, IfOk, map};
 ghost use Rattle.edit_answers.specs.Groups.{AreGroups, IsGroup, failure_with, group_text, is_excluded, is_fatal, is_listed, is_offline, lost, missed, names_at, served, upgraded};
 ghost use Rattle.edit_answers.specs.Reasons.{IsReason};
@@ -8,19 +8,19 @@ use crate::reasons::reason_of;
 use edit_lookups::Lookup;
 use std::alloc::{AllocError, Global};
 
-/// What comes of a lookup whose entry was not fetched.
+/// What follows for a lookup whose entry was not fetched.
 #[derive(Clone, Copy, Debug)]
 pub enum Standing {
-    /// The cached entry serves.
+    /// The cached entry is used.
     Cached,
-    /// There is none, and the crate stays as it is.
+    /// There is no cached entry, and the crate is not upgraded.
     Left,
-    /// There is none, and an upgrade cannot go on.
+    /// There is no cached entry, and the upgrade cannot proceed.
     Missing,
 }
 
-/// The lookups of a registry that have one standing: the registry's address, why the first of them was not
-/// had, and the names of the crates.
+/// The lookups in one registry with the same consequence: the registry's address, the reason for the first
+/// of them, and the names of the crates.
 #[derive(Debug, Drop)]
 pub struct Group<'a> {
     pub address: &'a str,
@@ -28,14 +28,14 @@ pub struct Group<'a> {
     pub names: Vec<&'a str>,
 }
 
-/// Whether a name is among those of crates that are not upgraded.
+/// Whether a crate is excluded from the upgrade.
 fn is_excluded(excluded: &[&str], name: &str) -> bool
     ensures { result ≡ is_excluded excluded.now name.now }
 {
     excluded.iter().any(|other| *other == name)
 }
 
-/// The lookups of crates that are upgraded, with their outcomes.
+/// The lookups of crates that are not excluded, with their outcomes.
 pub(crate) fn upgraded<'a, 'b>(
     alloc: Global,
     excluded: &[&str],
@@ -53,14 +53,14 @@ pub(crate) fn upgraded<'a, 'b>(
     Ok(pairs)
 }
 
-/// Whether nothing is fetched offline.
+/// Whether a failure is that nothing is fetched offline.
 fn is_offline(failure: Failure) -> bool
     ensures { result ≡ is_offline failure.entry }
 {
     matches!(failure, Failure::Offline)
 }
 
-/// Why an entry was not fetched whose cached one serves; none where nothing is said of that.
+/// Why an entry was not fetched whose cached version is used; `None` where there is nothing to report.
 fn served<'b>(outcome: Outcome<'b>) -> Option<Failure<'b>>
     ensures { result ≡ served outcome.entry }
 {
@@ -74,7 +74,7 @@ fn served<'b>(outcome: Outcome<'b>) -> Option<Failure<'b>>
     }
 }
 
-/// Why an entry was not had that no cached one stands for.
+/// Why an entry is not available, neither fetched nor cached.
 fn lost<'b>(outcome: Outcome<'b>) -> Option<Failure<'b>>
     ensures { result ≡ lost outcome.entry }
 {
@@ -85,8 +85,8 @@ fn lost<'b>(outcome: Outcome<'b>) -> Option<Failure<'b>>
     }
 }
 
-/// Whether an upgrade cannot go on without an entry. Offline it can, unless a registry on this machine is
-/// wrong.
+/// Whether an upgrade cannot proceed without an entry. Offline it can, unless a registry on this machine is
+/// broken.
 fn is_fatal(failure: Failure, offline: bool) -> bool
     ensures { result ≡ is_fatal offline failure.entry }
 {
@@ -97,7 +97,7 @@ fn is_fatal(failure: Failure, offline: bool) -> bool
     }
 }
 
-/// Why an entry was not had, where its lookup has a standing.
+/// Why an entry was not fetched, if that has this consequence for its lookup.
 fn failure_with<'b>(standing: Standing, offline: bool, outcome: Outcome<'b>) -> Option<Failure<'b>>
     ensures { result ≡ failure_with standing offline outcome.entry }
 {
@@ -122,7 +122,7 @@ fn failure_with<'b>(standing: Standing, offline: bool, outcome: Outcome<'b>) -> 
     }
 }
 
-/// The lookups that have a standing, each with why its entry was not had.
+/// The lookups with this consequence, each with its failure.
 fn missed<'a, 'b>(
     alloc: Global,
     standing: Standing,
@@ -184,7 +184,7 @@ fn group_of<'a>(
     })
 }
 
-/// The groups of lookups by their registries, in the order of the first lookup of each.
+/// Groups lookups by registry, in the order of the first lookup of each.
 fn groups_of<'a>(
     alloc: Global,
     found: &[(Lookup<'a>, Failure<'_>)],
@@ -203,7 +203,7 @@ fn groups_of<'a>(
     Ok(groups)
 }
 
-/// The groups of the lookups that have a standing.
+/// The groups of the lookups with this consequence.
 pub(crate) fn groups_with<'a>(
     alloc: Global,
     standing: Standing,

@@ -1,5 +1,5 @@
-//! What becomes of the answers to a fetch of index entries: which entries are stored in the cache, which are
-//! put where an upgrade reads them, and what is said of the others.
+//! Processes the results of a fetch of index entries: stores them in the cache, puts them where an upgrade
+//! reads them, and reports the missing ones.
 #![tactic(auto)]
 
 pub mod aging_store;

@@ -1,18 +1,18 @@
-//! Stores in which a file can be put at a second path.
+//! The trait of a store that can link files.
 ghost use Rattle.edit_answers.specs.Links.{Links};
 
 use edit_base::errors::CargoResult;
 use edit_store::{FaultStore, MemoryStore, Store};
 use std::alloc::Global;
 
-/// A store in which a file can be put at a second path.
+/// A store that can make a file available at a second path.
 pub trait LinkStore: Store {
-    /// Puts the bytes of the file at `from` at `to`, and answers whether there is such a file.
+    /// Makes the bytes of the file at `from` available at `to`; returns whether that file exists.
     fn link(&mut self, alloc: Global, from: &str, to: &str) -> CargoResult<bool>
         ensures { Links from.now to.now (Self.view self.old) (Self.view self.new) result };
 }
 
-/// Reads a file and writes it at another path.
+/// Copies a file to another path; returns whether it exists.
 pub fn copy<S: Store>(alloc: Global, files: &mut S, from: &str, to: &str) -> CargoResult<bool>
     ensures { Links from.now to.now (S.view files.old) (S.view files.new) result }
 {

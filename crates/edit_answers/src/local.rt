@@ -1,4 +1,4 @@
-//! Registries in folders of this machine.
+//! Lookups in registries that are folders of this machine.
 ghost use Rattle.std.specs.Prelude.{◌≡◌, ℕ, List, true, false, IfErr, IfOk, MatchOption, string_bytes};
 ghost use Rattle.edit_answers.specs.Changes.{Changes, Fails};
 ghost use Rattle.edit_answers.specs.Locals.{HasNoFolder, IsLocalFile, IsLocalFolder, IsPathText, IsStanding, SettlesLocal, folder_of, without_slash};
@@ -18,7 +18,7 @@ use std::alloc::{AllocError, Global};
 use std::str;
 use url::{ParseError, Url};
 
-/// Whether U+0000 stands in a text.
+/// Whether a text contains U+0000.
 fn has_nul(bytes: &[u8]) -> bool
     ensures free { result ≡ false → HasNo 0 bytes.now }
     ensures found { result ≡ true → HasNo 0 bytes.now → ⊥ }
@@ -26,7 +26,7 @@ fn has_nul(bytes: &[u8]) -> bool
     bytes.iter().any(|b| *b == 0)
 }
 
-/// A path without the slash at its end, the root aside.
+/// Removes the slash at the end of a path; the root stays `/`.
 fn without_slash(path: &[u8]) -> &[u8]
     ensures { result.now ≡ without_slash path.now }
 {
@@ -37,7 +37,7 @@ fn without_slash(path: &[u8]) -> &[u8]
     }
 }
 
-/// A path as text; none where it is no UTF-8, or has U+0000.
+/// Converts a path to text; `None` where it is not UTF-8, or contains U+0000.
 fn path_text(bytes: &[u8]) -> Option<&str>
     ensures { MatchOption result (IsPathText bytes.now → ⊥)
         (λ s. (s.now ≡ bytes.now) × IsPathText bytes.now) }
@@ -51,7 +51,8 @@ fn path_text(bytes: &[u8]) -> Option<&str>
     }
 }
 
-/// The folder that the path of a URL names, its escapes read; none where that is no path of this machine.
+/// Percent-decodes the path of a URL, without a slash at its end; `None` where the result is not UTF-8 or
+/// contains U+0000.
 fn decoded(alloc: Global, path: &str) -> Result<Option<String>, AllocError>
     ensures { IfOk result (λ o. MatchOption o (IsPathText (folder_of path.now) → ⊥)
         (λ s. (string_bytes s ≡ folder_of path.now) × IsPathText (folder_of path.now))) }
@@ -64,14 +65,14 @@ fn decoded(alloc: Global, path: &str) -> Result<Option<String>, AllocError>
     }
 }
 
-/// The folder that an address of the scheme `file` names; none where the address names none.
+/// The folder that a `file` URL names; `None` where the address is no such URL.
 pub fn local_folder(alloc: Global, address: &str) -> Result<Option<String>, AllocError>
     ensures { IfOk result (λ o. MatchOption o ((folder : List ℕ) → IsLocalFolder address.now folder → ⊥)
         (λ s. IsLocalFolder address.now (string_bytes s))) }
 {
     let url = match Url::parse(alloc, address) {
         Ok(url) => url,
-        // (a URL of 4 GB or more has no room either)
+        // (a URL of 4 GB or more counts as lack of memory)
         Err(ParseError::OutOfMemory | ParseError::Overflow) => return Err(AllocError),
         Err(_) => return Ok(None),
     };
@@ -81,7 +82,7 @@ pub fn local_folder(alloc: Global, address: &str) -> Result<Option<String>, Allo
     decoded(alloc, url.path())
 }
 
-/// The folder of a registry on this machine, where it stands.
+/// The folder of a registry on this machine, if it exists.
 fn standing_folder<S: Store>(
     alloc: Global,
     files: &mut S,
@@ -104,7 +105,7 @@ fn standing_folder<S: Store>(
     }
 }
 
-/// The file of an entry below the folder of a registry on this machine.
+/// The path of an entry's file below the folder of a registry on this machine.
 pub fn local_path(alloc: Global, folder: &str, path: &str) -> Result<String, AllocError>
     ensures { IfOk result (λ s. string_bytes s ≡ local_path folder.now path.now) }
 {
@@ -114,8 +115,8 @@ pub fn local_path(alloc: Global, folder: &str, path: &str) -> Result<String, All
     format!(in alloc; "{folder}/{path}")
 }
 
-/// Puts the bytes of a file of a registry on this machine where an upgrade reads them, where they are index
-/// lines.
+/// Writes the bytes of a local registry's file to where the upgrade reads them; `Failure::BadLine` where a
+/// line is malformed, and then nothing is written.
 fn put_local<'a, S: Store>(
     alloc: Global,
     files: &mut S,
@@ -140,7 +141,7 @@ fn put_local<'a, S: Store>(
     }
 }
 
-/// What becomes of a lookup in a registry on this machine.
+/// Processes a lookup in a registry on this machine.
 pub fn settle_local<'a, S: Store>(
     alloc: Global,
     files: &mut S,
@@ -171,7 +172,7 @@ mod tests {
     use super::*;
     use std::test::Fail;
 
-    /// The folder of an address, or a `-`.
+    /// The folder of an address, or `-` where it names none.
     fn shown(alloc: Global, address: &str) -> Result<String, Fail> {
         match local_folder(alloc, address)? {
             Some(folder) => Ok(folder),

@@ -1,4 +1,4 @@
-//! What becomes of all lookups of a run.
+//! Processes the lookups of a run.
 ghost use Rattle.std.specs.Prelude.{◌≡◌, true, IfOk, length, map};
 ghost use Rattle.edit_answers.specs.Changes.{Changes};
 ghost use Rattle.edit_answers.specs.Followed.{AllFollow, Follows, MeansFor, answer_at, is_local, is_sparse};
@@ -15,7 +15,7 @@ use edit_base::CargoResult;
 use edit_lookups::Lookup;
 use std::alloc::Global;
 
-/// Whether an address is that of a sparse registry.
+/// Whether an address is that of a registry with the sparse protocol.
 fn is_sparse(address: &[u8]) -> bool
     ensures { result ≡ is_sparse address.now }
 {
@@ -29,7 +29,8 @@ fn is_local(address: &[u8]) -> bool
     address.starts_with(b"file:")
 }
 
-/// What an answer to a lookup means: by the kind of its registry, whether this run is offline, and by curl.
+/// Interprets the transfer for a lookup: by the protocol of the registry, whether the run is offline, and
+/// the outcome that curl reports.
 fn meaning_for<'a>(address: &str, offline: bool, answer: Option<Answer<'a>>) -> Meaning<'a>
     ensures { MeansFor address.now offline answer.entry result }
 {
@@ -42,7 +43,7 @@ fn meaning_for<'a>(address: &str, offline: bool, answer: Option<Answer<'a>>) -> 
     meaning_of(answer)
 }
 
-/// What becomes of a lookup, by the kind of its registry and the answer to it.
+/// Processes a lookup, given its number from 1 and the outcome of its transfer.
 fn settle_one<'a, S: LinkStore>(
     alloc: Global,
     files: &mut S,
@@ -66,7 +67,7 @@ fn settle_one<'a, S: LinkStore>(
     settle(alloc, files, places, lookup, number, meaning)
 }
 
-/// The answer at a place of a table; none after its end.
+/// The outcome at an index of a table; `None` past its end.
 fn answer_at<'a>(answers: &[Option<Answer<'a>>], place: usize) -> Option<Answer<'a>>
     ensures { result ≡ answer_at answers.now place }
 {
@@ -76,8 +77,8 @@ fn answer_at<'a>(answers: &[Option<Answer<'a>>], place: usize) -> Option<Answer<
     }
 }
 
-/// What becomes of each lookup, in order. The answer to lookup number `k`, from 1, is number `k` of the
-/// answers.
+/// Processes the lookups, in order. The outcome of the transfer for lookup number `k`, from 1, is element `k
+/// - 1` of `answers`.
 pub fn settle_all<'a, S: LinkStore>(
     alloc: Global,
     files: &mut S,

@@ -1,4 +1,4 @@
-//! What answers mean for entries.
+//! Interprets the outcomes of transfers.
 ghost use Rattle.std.specs.Prelude.{◌≡◌, ◌↔◌, IsTrue, codes};
 ghost use Rattle.std.specs.Str.{bytes_eq};
 ghost use Rattle.edit_answers.specs.Meanings.{IsAbsence, Means, MeansBy, new_meaning};
@@ -6,71 +6,72 @@ ghost use Rattle.edit_answers.specs.Meanings.{IsAbsence, Means, MeansBy, new_mea
 use crate::answers::Answer;
 use crate::bodies::Damage;
 
-/// Why an entry is not had by this run.
+/// Why an entry could not be fetched.
 #[derive(Clone, Copy, Debug)]
 pub enum Failure<'a> {
     /// Nothing is fetched offline.
     Offline,
-    /// Registries of this kind cannot be fetched.
+    /// The registry does not use the sparse protocol.
     NotFetchable,
-    /// Curl says nothing of the transfer.
+    /// Curl did not report on the transfer.
     Unanswered,
     /// The transfer failed, with curl's exit code and message.
     Curl(&'a str, &'a str),
-    /// The answer has a status that says neither the entry nor its absence.
+    /// The response has an HTTP status that means neither an entry nor its absence.
     Status(&'a str),
-    /// The body is no whole index file of the crate.
+    /// The body is not a complete index file of the crate.
     NotAnIndex,
-    /// The folder of a registry on this machine is not there.
+    /// The folder of a registry on this machine does not exist.
     NoFolder,
     /// A line of a file of a registry on this machine is malformed.
     BadLine(usize),
 }
 
-/// What an answer means for its entry.
+/// The meaning of a transfer for its entry.
 #[derive(Clone, Copy, Debug)]
 pub enum Meaning<'a> {
-    /// A body came, which may be a new entry.
+    /// A body was received, without a redirect.
     New,
-    /// The same behind a redirect: an ETag that curl saved may be that of the answer which redirects.
+    /// A body was received after a redirect: the ETag that curl saved may be that of the redirecting
+    /// response.
     Moved,
-    /// The cached entry is the one that the registry has.
+    /// The cached entry is up to date.
     NotModified,
-    /// The registry has no such crate.
+    /// The registry has no crate of this name.
     Absent,
-    /// Nothing came of use.
+    /// The transfer yielded nothing usable.
     Failed(Failure<'a>),
 }
 
-/// What became of a lookup.
+/// The result of a lookup.
 #[derive(Clone, Copy, Debug)]
 pub enum Outcome<'a> {
     /// A new body was stored in the cache.
     Fetched,
-    /// A new body, which came behind a redirect, was stored in the cache without a validator.
+    /// A new body, received after a redirect, was stored in the cache without a validator.
     Moved,
-    /// The cached entry is the one that the registry has.
+    /// The cached entry is up to date.
     Current,
     /// The entry was read from a folder of this machine.
     Local,
-    /// The registry has no such crate.
+    /// The registry has no crate of this name.
     Absent,
-    /// The entry was not had, and the cached one serves.
+    /// The entry could not be fetched, and the cached one is used.
     Cached(Failure<'a>),
-    /// The entry was not had, and none is cached.
+    /// The entry could not be fetched, and none is cached.
     Missing(Failure<'a>),
-    /// The entry was not had, and the cached one is damaged.
+    /// The entry could not be fetched, and the cached one is damaged.
     Damaged(Damage, Failure<'a>),
 }
 
-/// Whether a status says that there is no such crate.
+/// Whether an HTTP status means that there is no crate of this name: 404, 410 or 451.
 fn is_absence(code: &str) -> bool
     ensures { IsTrue result ↔ IsAbsence code.now }
 {
     code == "404" || code == "410" || code == "451"
 }
 
-/// What a body means that came behind so many redirects.
+/// The meaning of a body, given the number of redirects before it.
 fn body_meaning<'a>(redirects: &str) -> Meaning<'a>
     ensures { result ≡ new_meaning (bytes_eq redirects.now (codes "0")) }
 {
@@ -81,7 +82,7 @@ fn body_meaning<'a>(redirects: &str) -> Meaning<'a>
     }
 }
 
-/// What the status and the redirects of a transfer that did not fail mean.
+/// The meaning of a transfer that did not fail, by its HTTP status and its redirects.
 fn meaning_by<'a>(code: &'a str, redirects: &str) -> Meaning<'a>
     ensures { MeansBy code.entry redirects.now result }
 {
@@ -97,7 +98,7 @@ fn meaning_by<'a>(code: &'a str, redirects: &str) -> Meaning<'a>
     Meaning::Failed(Failure::Status(code))
 }
 
-/// What the answer to a transfer means.
+/// The meaning of a transfer, given the outcome that curl reported, if it did.
 pub fn meaning_of<'a>(answer: Option<Answer<'a>>) -> Meaning<'a>
     ensures { Means answer.entry result }
 {

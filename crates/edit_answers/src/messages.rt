@@ -1,4 +1,4 @@
-//! What is said of entries that were not had.
+//! The messages about entries that could not be fetched.
 ghost use Rattle.std.specs.Prelude.{◌≡◌, ◌++◌, IfOk, OnOk, codes, length, map, option_map, string_bytes};
 ghost use Rattle.std.specs.Fmt.{decimal};
 ghost use Rattle.std.specs.List.{flat_map};
@@ -14,23 +14,24 @@ use crate::reasons::escaped;
 use edit_lookups::{Lookup, cached_path, push_escaped, shown_address};
 use std::alloc::{AllocError, Global};
 
-/// What is said of a run: its warnings, each with a line end, and why it ends with status 1, if it does.
+/// The messages of a run: its warnings, each with a line end, and the error that ends it with status 1, if
+/// there is one.
 #[derive(Debug, Drop)]
 pub struct Report {
     pub warnings: String,
     pub error: Option<String>,
 }
 
-/// What the user asked for.
+/// The options of the user that affect the messages.
 #[derive(Clone, Copy, Debug)]
 pub struct StoreOptions<'a> {
-    /// Nothing is fetched.
+    /// Whether nothing may be fetched.
     pub offline: bool,
-    /// The names of crates that are not upgraded, so that their entries need not be had.
+    /// The names of crates that are not upgraded, so that their entries are not needed.
     pub excluded: &'a [&'a str],
 }
 
-/// The address of a registry as messages show it.
+/// Formats the address of a registry for messages: without userinfo, and with control characters escaped.
 fn shown_text(alloc: Global, address: &str) -> Result<String, AllocError>
     ensures { IfOk result (λ s. string_bytes s ≡ shown_text address.now) }
 {
@@ -38,7 +39,7 @@ fn shown_text(alloc: Global, address: &str) -> Result<String, AllocError>
     escaped(alloc, shown.as_str())
 }
 
-/// Adds names, a comma before each.
+/// Appends names, each after a comma and a space.
 fn push_names(text: &mut String, names: &[&str]) -> Result<(), AllocError>
     ensures { OnOk result (string_bytes text.new ≡ string_bytes text.old
         ++ flat_map (λ n. codes ", " ++ escaped n.now) names.now) }
@@ -50,7 +51,7 @@ fn push_names(text: &mut String, names: &[&str]) -> Result<(), AllocError>
     Ok(())
 }
 
-/// Names, parted by commas.
+/// Joins names by commas.
 fn names_text(alloc: Global, names: &[&str]) -> Result<String, AllocError>
     ensures { IfOk result (λ s. string_bytes s ≡ names_text (map (λ n. n.now) names.now)) }
 {
@@ -64,21 +65,21 @@ fn names_text(alloc: Global, names: &[&str]) -> Result<String, AllocError>
     }
 }
 
-/// A number in decimal digits.
+/// Formats a number in decimal digits.
 fn number_text(alloc: Global, number: usize) -> Result<String, AllocError>
     ensures { IfOk result (λ s. string_bytes s ≡ decimal number) }
 {
     format!(in alloc; "{number}")
 }
 
-/// How many crates a group has.
+/// The number of crates in a group.
 fn count_of(group: &Group<'_>) -> usize
     ensures { result ≡ length (group_text group.now).names }
 {
     group.names.len()
 }
 
-/// How many crates a group has, in decimal digits.
+/// Formats the number of crates in a group in decimal digits.
 fn count_text(alloc: Global, group: &Group<'_>) -> Result<String, AllocError>
     ensures { IfOk result (λ s. string_bytes s ≡ decimal (length (group_text group.now).names)) }
 {
@@ -86,7 +87,7 @@ fn count_text(alloc: Global, group: &Group<'_>) -> Result<String, AllocError>
     number_text(alloc, count)
 }
 
-/// Which index entries of a registry could not be fetched, and why.
+/// Formats how many index entries of a registry could not be fetched, and why.
 #[tactic(auto, unfolding(crate::specs::Messages::unfetched_text))]
 fn unfetched_text(
     alloc: Global,
@@ -99,7 +100,7 @@ fn unfetched_text(
     format!(in alloc; "{count} index entries of {shown} could not be fetched ({reason})")
 }
 
-/// What a warning says of a group whose cached entries serve.
+/// The first part of the warning about a group whose cached entries are used.
 #[tactic(auto, unfolding(crate::specs::Messages::cached_text))]
 fn cached_text(alloc: Global, group: &Group<'_>) -> Result<String, AllocError>
     ensures { IfOk result (λ s. string_bytes s ≡ cached_text (group_text group.now)) }
@@ -110,7 +111,7 @@ fn cached_text(alloc: Global, group: &Group<'_>) -> Result<String, AllocError>
     unfetched_text(alloc, count.as_str(), shown.as_str(), reason)
 }
 
-/// The warning of a group whose cached entries serve.
+/// The warning about a group whose cached entries are used.
 fn cached_line(alloc: Global, group: &Group<'_>) -> Result<String, AllocError>
     ensures { IfOk result (λ s. string_bytes s ≡ cached_line (group_text group.now)) }
 {
@@ -119,7 +120,7 @@ fn cached_line(alloc: Global, group: &Group<'_>) -> Result<String, AllocError>
     format!(in alloc; "warning: {what}: the cached ones are used ({names})\n")
 }
 
-/// The warning of a group whose crates stay as they are.
+/// The warning about a group whose crates are not upgraded.
 fn left_line(alloc: Global, group: &Group<'_>) -> Result<String, AllocError>
     ensures { IfOk result (λ s. string_bytes s ≡ left_line (group_text group.now)) }
 {
@@ -130,7 +131,7 @@ fn left_line(alloc: Global, group: &Group<'_>) -> Result<String, AllocError>
     format!(in alloc; "warning: {what}: these crates stay as they are\n")
 }
 
-/// The line of a group without which an upgrade cannot go on.
+/// The line of the error for a group that the upgrade cannot proceed without.
 fn missing_line(alloc: Global, group: &Group<'_>) -> Result<String, AllocError>
     ensures { IfOk result (λ s. string_bytes s ≡ missing_line (group_text group.now)) }
 {
@@ -140,7 +141,7 @@ fn missing_line(alloc: Global, group: &Group<'_>) -> Result<String, AllocError>
     format!(in alloc; "\n  {shown}: {names} ({reason})")
 }
 
-/// The line of a group whose lookups have a standing.
+/// The line for a group of lookups with this consequence.
 fn line_of(alloc: Global, standing: Standing, group: &Group<'_>) -> Result<String, AllocError>
     ensures { IfOk result (λ s. string_bytes s ≡ line_of standing (group_text group.now)) }
 {
@@ -151,7 +152,7 @@ fn line_of(alloc: Global, standing: Standing, group: &Group<'_>) -> Result<Strin
     }
 }
 
-/// Adds the lines of groups whose lookups have a standing.
+/// Appends the lines for groups of lookups with this consequence.
 fn push_lines(
     alloc: Global,
     text: &mut String,
@@ -167,7 +168,7 @@ fn push_lines(
     Ok(())
 }
 
-/// The report of a run whose lookups are malformed.
+/// The report of a run whose file of lookups is malformed.
 pub fn unreadable(alloc: Global) -> Result<Report, AllocError>
     ensures { IfOk result IsUnreadable }
 {
@@ -177,7 +178,7 @@ pub fn unreadable(alloc: Global) -> Result<Report, AllocError>
     })
 }
 
-/// The warning of a damaged file in the cache.
+/// The warning about a damaged file in the cache.
 fn damage_text(alloc: Global, path: &str, damage: Damage) -> Result<String, AllocError>
     ensures { IfOk result (λ s. string_bytes s ≡ damage_text path.now damage) }
 {
@@ -194,7 +195,7 @@ fn damage_text(alloc: Global, path: &str, damage: Damage) -> Result<String, Allo
     }
 }
 
-/// The warning of a lookup whose cached entry is damaged; empty for any other.
+/// The warning about a lookup whose cached entry is damaged; empty for any other lookup.
 fn damage_line(
     alloc: Global,
     cache: &str,
@@ -209,7 +210,7 @@ fn damage_line(
     damage_text(alloc, path.as_str(), damage)
 }
 
-/// The warnings of the lookups whose cached entries are damaged.
+/// The warnings about the lookups whose cached entries are damaged.
 fn damage_lines(
     alloc: Global,
     cache: &str,
@@ -224,7 +225,7 @@ fn damage_lines(
     Ok(text)
 }
 
-/// The error of the groups without which an upgrade cannot go on; none where there are none.
+/// The error about the groups that the upgrade cannot proceed without; `None` if there are none.
 fn error_of(alloc: Global, groups: &[Group<'_>]) -> Result<Option<String>, AllocError>
     ensures { IfOk result (λ o. option_map string_bytes o ≡ error_text (map group_text groups.now)) }
 {
@@ -240,9 +241,10 @@ fn error_of(alloc: Global, groups: &[Group<'_>]) -> Result<Option<String>, Alloc
     Ok(Some(text))
 }
 
-/// What is said of the outcomes of lookups: a warning of each damaged entry, one of each registry whose
-/// cached entries serve, one of each registry whose crates stay as they are, and an error with a line for
-/// each registry without which an upgrade cannot go on. Nothing is said of crates that are not upgraded.
+/// Formats the messages about the results of lookups: a warning for each damaged entry, one for each
+/// registry whose cached entries are used, one for each registry whose crates are not upgraded, and an error
+/// with a line for each registry that the upgrade cannot proceed without. Crates that are excluded from the
+/// upgrade are not mentioned.
 pub fn report_of(
     alloc: Global,
     places: &Places,

@@ -1,4 +1,4 @@
-//! What goes from a cache because no run has used it for a long time.
+//! Removes what no run has used for a long time from a cache.
 ghost use Rattle.std.specs.Prelude.{◌≡◌, ◌&&◌, ℕ, List, true, IfOk, OnOk, codes, if◌then◌else◌, map, string_bytes};
 ghost use Rattle.std.specs.BTreeSet.{contains_text};
 ghost use Rattle.std.specs.Str.{bytes_eq};
@@ -9,13 +9,15 @@ use edit_base::{CargoResult, Error};
 use std::alloc::{AllocError, Global};
 use std::collections::BTreeSet;
 
-/// For how many days an entry stays that no run uses. A run that uses one writes its validator anew.
+/// The number of days after which an unused entry is removed. A run that uses an entry rewrites its
+/// validator.
 const UNUSED: u64 = 90;
 
-/// For how many days the folder of a run stays that was killed. A run that ends removes its own.
+/// The number of days after which the working folder of a killed run is removed. A run that ends removes its
+/// own.
 const LEFT: u64 = 1;
 
-/// The file of an entry, by its path or that of its validator.
+/// The path of an entry, given its own path or that of its validator.
 fn entry_of(path: &str) -> &str
     ensures { result.now ≡ entry_of path.now }
 {
@@ -25,7 +27,7 @@ fn entry_of(path: &str) -> &str
     }
 }
 
-/// What a file belongs to: its entry, or the folder of a run.
+/// The path of what a file belongs to: its entry, or the working folder of a run.
 fn owner_of(alloc: Global, aged: &Aged) -> Result<String, AllocError>
     ensures { IfOk result (λ s. string_bytes s ≡ owner_of (aged_text aged.now)) }
 {
@@ -36,7 +38,7 @@ fn owner_of(alloc: Global, aged: &Aged) -> Result<String, AllocError>
     String::from_str(alloc, entry_of(path))
 }
 
-/// Whether a file was written not long ago.
+/// Whether a file was modified recently enough to stay.
 fn is_recent(aged: &Aged) -> bool
     ensures { result ≡ is_recent (aged_text aged.now) }
 {
@@ -47,7 +49,7 @@ fn is_recent(aged: &Aged) -> bool
     }
 }
 
-/// Adds the owner of a file that was written not long ago.
+/// Adds the owner of a file that was modified recently.
 fn add_used(alloc: Global, used: &mut BTreeSet<String>, aged: &Aged) -> Result<(), AllocError>
     ensures { OnOk result ((q : List ℕ) → contains_text used.new q
         ≡ (if is_recent (aged_text aged.now) && bytes_eq (owner_of (aged_text aged.now)) q then true
@@ -59,7 +61,7 @@ fn add_used(alloc: Global, used: &mut BTreeSet<String>, aged: &Aged) -> Result<(
     Ok(())
 }
 
-/// The owners of files that were written not long ago.
+/// The owners of files that were modified recently.
 fn used_owners(alloc: Global, files: &[Aged]) -> Result<BTreeSet<String>, AllocError>
     ensures { IfOk result (λ s. (q : List ℕ) → contains_text s q ≡ is_used (map aged_text files.now) q) }
 {
@@ -70,7 +72,7 @@ fn used_owners(alloc: Global, files: &[Aged]) -> Result<BTreeSet<String>, AllocE
     Ok(used)
 }
 
-/// Whether the owner of a file is among these.
+/// Whether the owner of a file is in a set.
 fn is_used(alloc: Global, used: &BTreeSet<String>, aged: &Aged) -> Result<bool, AllocError>
     ensures { IfOk result (λ b. b ≡ contains_text used.now (owner_of (aged_text aged.now))) }
 {
@@ -78,7 +80,7 @@ fn is_used(alloc: Global, used: &BTreeSet<String>, aged: &Aged) -> Result<bool, 
     Ok(used.contains(owner.as_str()))
 }
 
-/// Removes a file unless it is used. A file that the machine does not remove is left.
+/// Removes a file, unless it is used. A file that the system does not let be removed stays.
 fn remove_unused<S: AgingStore>(
     alloc: Global,
     cache: &mut S,
@@ -92,15 +94,15 @@ fn remove_unused<S: AgingStore>(
     }
     match cache.remove(alloc, aged) {
         Ok(()) => Ok(()),
-        // (a file that cannot be removed does no harm)
+        // (a file that stays does no harm)
         Err(Error::Device(_)) => Ok(()),
         Err(error) => Err(error),
     }
 }
 
-/// Removes each entry of a cache, with its validator, to neither of which something was written for 90 days,
-/// and the folder of each run that nothing was written to for a day. A file that the machine does not remove
-/// is left; the error is want of memory, or that the machine does not list the files.
+/// Removes the entries of a cache with their validators that were not modified for 90 days, and the working
+/// folders of runs that were not modified for a day. A file that the system does not let be removed stays;
+/// errors are lack of memory, and a failure to list the files.
 pub fn prune<S: AgingStore>(alloc: Global, cache: &mut S) -> CargoResult<()>
     ensures { Prunes (S.aging cache.old) (S.aging cache.new) result }
 {

@@ -1,4 +1,4 @@
-//! Why entries were not had, as messages say it.
+//! The reasons in messages why entries could not be fetched.
 ghost use Rattle.std.specs.Prelude.{◌≡◌, ◌++◌, ℕ, List, IfOk, MatchOption, codes, string_bytes};
 ghost use Rattle.edit_answers.specs.Reasons.{IsFileOf, IsReason, bad_line_text, curl_text, status_text};
 ghost use Rattle.edit_lookups.specs.Escaped.{escaped};
@@ -9,7 +9,7 @@ use crate::meaning::Failure;
 use edit_lookups::{Lookup, push_escaped};
 use std::alloc::{AllocError, Global};
 
-/// A text, each control character as its number.
+/// Escapes the control characters of a text.
 pub(crate) fn escaped(alloc: Global, text: &str) -> Result<String, AllocError>
     ensures { IfOk result (λ s. string_bytes s ≡ escaped text.now) }
 {
@@ -18,7 +18,7 @@ pub(crate) fn escaped(alloc: Global, text: &str) -> Result<String, AllocError>
     Ok(shown)
 }
 
-/// The file of an entry in a registry on this machine; empty where its address names no folder.
+/// The path of an entry's file in a registry on this machine; empty where the address names no folder.
 fn file_of(alloc: Global, lookup: &Lookup) -> Result<String, AllocError>
     ensures { IfOk result (λ s. IsFileOf (lookup_text lookup.now) (string_bytes s)) }
 {
@@ -28,7 +28,7 @@ fn file_of(alloc: Global, lookup: &Lookup) -> Result<String, AllocError>
     }
 }
 
-/// What is said of a transfer that failed: curl's message, and its exit code.
+/// Formats a failed transfer: curl's message, and its exit code.
 fn curl_text(alloc: Global, exit: &str, message: &str) -> Result<String, AllocError>
     ensures { IfOk result (λ s. string_bytes s ≡ curl_text exit.now message.now) }
 {
@@ -42,7 +42,7 @@ fn curl_text(alloc: Global, exit: &str, message: &str) -> Result<String, AllocEr
     format!(in alloc; "{message}, curl: {exit}")
 }
 
-/// What is said of an answer with a status.
+/// Formats an HTTP status.
 fn status_text(alloc: Global, code: &str) -> Result<String, AllocError>
     ensures { IfOk result (λ s. string_bytes s ≡ status_text code.now) }
 {
@@ -55,7 +55,7 @@ fn status_text(alloc: Global, code: &str) -> Result<String, AllocError>
     format!(in alloc; "status {code}")
 }
 
-/// What is said of a line that is no line of an index.
+/// Formats a malformed line of an index.
 fn bad_line_text(alloc: Global, line: usize, path: &str) -> Result<String, AllocError>
     ensures { IfOk result (λ s. string_bytes s ≡ bad_line_text line path.now) }
 {
@@ -63,7 +63,7 @@ fn bad_line_text(alloc: Global, line: usize, path: &str) -> Result<String, Alloc
     format!(in alloc; "invalid index line {line} of {path}")
 }
 
-/// Why an entry was not had.
+/// Formats why an entry could not be fetched.
 pub(crate) fn reason_of(
     alloc: Global,
     lookup: &Lookup,

@@ -1,4 +1,4 @@
-//! What becomes of a lookup.
+//! Processes a lookup.
 ghost use Rattle.std.specs.Prelude.{◌≡◌, ℕ, List, Some, true, IfErr, IfOk, IfSome, MatchOption};
 ghost use Rattle.edit_answers.specs.Bodies.{IsWholeIndex};
 ghost use Rattle.edit_answers.specs.Changes.{Changes, Fails};
@@ -19,7 +19,7 @@ use edit_lookups::{Lookup, cached_path, validator_path};
 use edit_store::Store;
 use std::alloc::Global;
 
-/// The body at a path, where it is a whole index file of a crate.
+/// Reads the body at a path, if it is a complete index file of a crate.
 fn read_body<S: Store>(
     alloc: Global,
     files: &mut S,
@@ -45,7 +45,7 @@ fn read_body<S: Store>(
     }
 }
 
-/// What a lookup comes to by whether there is a cached entry.
+/// The result of a lookup: `had` if there is a cached entry, else `Outcome::Missing`.
 fn by_link<'a>(is_cached: bool, had: Outcome<'a>, lost: Failure<'a>) -> Outcome<'a>
     ensures { result ≡ by_link is_cached had.entry lost.entry }
 {
@@ -56,7 +56,7 @@ fn by_link<'a>(is_cached: bool, had: Outcome<'a>, lost: Failure<'a>) -> Outcome<
     }
 }
 
-/// What is wrong with the cached entry at a path; none where it is whole, or there is none.
+/// Why the cached entry at a path is damaged; `None` where it is complete, or there is none.
 fn cached_damage<S: Store>(
     alloc: Global,
     files: &mut S,
@@ -75,8 +75,8 @@ fn cached_damage<S: Store>(
     }
 }
 
-/// Puts the file of a lookup in the cache where an upgrade reads it. What became of the lookup is `had`,
-/// where there is such a file.
+/// Links the cached entry of a lookup to where the upgrade reads it. The result is `had` if there is such an
+/// entry.
 fn link_cached<'a, S: LinkStore>(
     alloc: Global,
     files: &mut S,
@@ -102,8 +102,8 @@ fn link_cached<'a, S: LinkStore>(
     }
 }
 
-/// Puts the cached entry of a lookup where an upgrade reads it, unless it is damaged. What became of the
-/// lookup is `had`, where there is such an entry.
+/// Links the cached entry of a lookup to where the upgrade reads it, unless it is damaged. The result is
+/// `had` if there is such an entry.
 fn from_cache<'a, S: LinkStore>(
     alloc: Global,
     files: &mut S,
@@ -126,8 +126,8 @@ fn from_cache<'a, S: LinkStore>(
     }
 }
 
-/// Stores the body of an answer as the entry of a lookup, where it is one. `is_direct` says that no redirect
-/// was followed.
+/// Stores the body of a transfer as the entry of a lookup, if it is a complete index file. With `is_direct`
+/// no redirect was followed.
 fn settle_new<'a, S: LinkStore>(
     alloc: Global,
     files: &mut S,
@@ -170,7 +170,7 @@ fn settle_new<'a, S: LinkStore>(
     )
 }
 
-/// What becomes of a lookup whose new body is stored.
+/// The result of a lookup whose new body is stored.
 fn stored<'a>(is_direct: bool) -> Outcome<'a>
     ensures { result ≡ stored is_direct }
 {
@@ -181,7 +181,7 @@ fn stored<'a>(is_direct: bool) -> Outcome<'a>
     }
 }
 
-/// Stores a body as the entry of a lookup, and its validator where no redirect was followed.
+/// Stores a body as the entry of a lookup, with its validator if no redirect was followed.
 fn store_body<'a, S: LinkStore>(
     alloc: Global,
     files: &mut S,
@@ -227,7 +227,7 @@ fn store_body<'a, S: LinkStore>(
     }
 }
 
-/// Takes the cached entry of a lookup, which the registry has not changed.
+/// Uses the cached entry of a lookup, which is up to date.
 fn settle_current<'a, S: LinkStore>(
     alloc: Global,
     files: &mut S,
@@ -259,7 +259,7 @@ fn settle_current<'a, S: LinkStore>(
     }
 }
 
-/// What becomes of a lookup whose answer has this meaning.
+/// Processes a lookup, given the meaning of its transfer.
 pub fn settle<'a, S: LinkStore>(
     alloc: Global,
     files: &mut S,

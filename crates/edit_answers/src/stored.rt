@@ -1,4 +1,4 @@
-//! The whole step behind a fetch.
+//! Processes the results of a fetch.
 ghost use Rattle.std.specs.Prelude.{◌≡◌, ◌∷◌, ◌++◌, true, IfErr, IfOk, map, string_bytes};
 ghost use Rattle.edit_answers.specs.Changes.{Changes, Fails};
 ghost use Rattle.edit_answers.specs.Outcomes.{PutsSome};
@@ -16,7 +16,7 @@ use edit_lookups::{Lookup, read_lookups};
 use edit_store::Store;
 use std::alloc::Global;
 
-/// The text of a file; empty where no file stands.
+/// The text of a file, lossily decoded; empty where no file exists.
 fn read_text<S: Store>(alloc: Global, files: &mut S, path: &str) -> CargoResult<String>
     ensures reads { OnlyReads (S.view files.old) (S.view files.new) }
     ensures text { IfOk result (λ s. (S.view files.old).tells ≡ true
@@ -30,7 +30,7 @@ fn read_text<S: Store>(alloc: Global, files: &mut S, path: &str) -> CargoResult<
     }
 }
 
-/// The text of a file of a run's room; empty where no file stands.
+/// The text of a file in the working folder of a run; empty where no file exists.
 fn read_from_room<S: Store>(
     alloc: Global,
     files: &mut S,
@@ -46,7 +46,7 @@ fn read_from_room<S: Store>(
     read_text(alloc, files, path.as_str())
 }
 
-/// Stores the good answers to these lookups, and says what was not had.
+/// Stores the bodies that were fetched for these lookups, and reports the missing entries.
 fn store_lookups<S: LinkStore>(
     alloc: Global,
     files: &mut S,
@@ -71,8 +71,8 @@ fn store_lookups<S: LinkStore>(
     Ok(report_of(alloc, places, lookups, &outcomes, options)?)
 }
 
-/// Stores the good answers to the lookups of a run in the cache, puts each entry that the run has where an
-/// upgrade reads it, and says what was not had.
+/// Stores the bodies that were fetched for the lookups of a run in the cache, links each available entry to
+/// where the upgrade reads it, and reports the missing entries.
 pub fn store_answers<S: LinkStore>(
     alloc: Global,
     files: &mut S,

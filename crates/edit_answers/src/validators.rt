@@ -14,8 +14,7 @@ use edit_store::Store;
 use std::alloc::Global;
 use std::str;
 
-/// The ETag in what curl saved of an answer's headers: the text before the first line end; none where that is
-/// empty.
+/// The ETag in the file that curl saved: the text before the first line end; `None` where that is empty.
 fn etag_of(text: &[u8]) -> Option<&str>
     ensures valid { IfSome result (λ e. IsEtag e.now) }
     ensures first { IfSome result (λ e. (rest : List ℕ) × (text.now ≡ e.now ++ 10 ∷ rest)) }
@@ -32,7 +31,7 @@ fn etag_of(text: &[u8]) -> Option<&str>
     }
 }
 
-/// Writes the validator of a body that was stored, where the answer had an ETag.
+/// Writes the validator of a stored body, if the response had an ETag.
 fn store_validator<S: Store>(
     alloc: Global,
     files: &mut S,
@@ -56,8 +55,8 @@ fn store_validator<S: Store>(
     files.write(alloc, path.as_str(), &line)
 }
 
-/// The same where no redirect was followed: else nothing, since the ETag that curl saved may be that of the
-/// answer which redirects.
+/// Writes the validator of a stored body, if no redirect was followed: otherwise the ETag that curl saved
+/// may be that of the redirecting response.
 pub(crate) fn store_direct<S: Store>(
     alloc: Global,
     files: &mut S,
@@ -75,7 +74,7 @@ pub(crate) fn store_direct<S: Store>(
     store_validator(alloc, files, entry, etag_path, body)
 }
 
-/// Writes the validator of an entry anew, so that its time says when it was last used.
+/// Rewrites the validator of an entry, so that its modification time tells when it was last used.
 pub(crate) fn renew_validator<S: Store>(
     alloc: Global,
     files: &mut S,

@@ -1,4 +1,4 @@
-//! A cache of the answers of an index.
+//! A cache of the results of an index.
 ghost use Rattle.std.specs.Prelude.{◌≡◌, ◌≢◌, ◌⊎◌, ◌↔◌, ℕ, List, Some, None, Ok, IsOk, IsSome, IsTrue, IfOk, IfErr, IfSome, OnOk, OnErr, Option, option_and_then, option_map, option_copied};
 ghost use Rattle.std.specs.BTreeMap.{get_by_text};
 ghost use Rattle.url.specs.Parts.{serialize};
@@ -18,8 +18,8 @@ use std::collections::BTreeMap;
 use std::mem;
 use url::Url;
 
-/// A cache of the answers of an index: what it gave for an address and a name at the first successful
-/// lookup since the last `update_krate`.
+/// A cache of the results of an index: for each address and name, the result of the first successful lookup
+/// since the last `update_krate`.
 #[derive(Debug, Drop)]
 pub struct IndexCache<I> {
     index: I,
@@ -27,7 +27,7 @@ pub struct IndexCache<I> {
 }
 
 impl<I: Index> IndexCache<I> {
-    /// A cache without answers.
+    /// Returns an empty cache over an index.
     pub fn new(alloc: Global, index: I) -> IndexCache<I>
         ensures index { index_of result ≡ index }
         ensures empty { (address name : List ℕ) → kept_at result address name ≡ None }
@@ -38,7 +38,7 @@ impl<I: Index> IndexCache<I> {
         }
     }
 
-    /// Puts another index in the place of this one, which is handed back. The answers stay.
+    /// Replaces the index and returns the old one. The cached results stay.
     pub fn replace_index(&mut self, index: I) -> I
         ensures was { result ≡ index_of self.old }
         ensures is { index_of self.new ≡ index }
@@ -47,7 +47,8 @@ impl<I: Index> IndexCache<I> {
         mem::replace(&mut self.index, index)
     }
 
-    /// The entries in the cache; none where it has no answer, or where the index has no such name.
+    /// The cached entries of a crate; `None` where nothing is cached, or the index has no crate of that
+    /// name.
     pub fn shown(&self, registry: &Url, name: &str) -> Option<&IndexKrate>
         ensures { option_copied result ≡ krate_at self.now (serialize registry.now) name.now }
     {
@@ -57,14 +58,14 @@ impl<I: Index> IndexCache<I> {
         }
     }
 
-    /// The answer in the cache, if there is one.
+    /// The cached result and its ranking, if there is one.
     fn kept(&self, address: &str, name: &str) -> Option<&Kept>
         ensures { option_copied result ≡ told_at self.now address.now name.now }
     {
         self.answers.get(address)?.get(name)
     }
 
-    /// Forgets the answer for a name. It takes no memory and never fails.
+    /// Removes the cached result for a crate. It needs no memory and never fails.
     pub fn update_krate(&mut self, registry: &Url, name: &str) -> CargoResult<()>
         ensures done { result ≡ Ok tt }
         ensures index { index_of self.new ≡ index_of self.old }
@@ -75,7 +76,7 @@ impl<I: Index> IndexCache<I> {
         Ok(())
     }
 
-    /// Forgets the answer for a name at an address.
+    /// Removes the cached result for a crate at an address.
     fn forget(&mut self, address: &str, name: &str)
         ensures index { self.new.index ≡ self.old.index }
         ensures forgotten { kept_at self.new address.now name.now ≡ None }
@@ -86,7 +87,7 @@ impl<I: Index> IndexCache<I> {
         }
     }
 
-    /// Adds an answer to the cache.
+    /// Adds a result to the cache.
     fn keep(
         &mut self,
         alloc: Global,
@@ -113,9 +114,9 @@ impl<I: Index> IndexCache<I> {
         Ok(())
     }
 
-    /// Looks a name up, unless the cache has an answer for it; `shown` then gives the entries.
+    /// Looks up a crate, unless the result is cached; `shown` then returns the entries.
     ///
-    /// Its errors are those of a lookup in the index, and want of memory; then no answer is added.
+    /// The errors are those of the lookup, and lack of memory; nothing is cached then.
     pub fn fetch(&mut self, alloc: Global, registry: &Url, name: &str) -> CargoResult<()>
         ensures { Fetches (I.view (index_of self.old)) (I.view
             (index_of self.new)) registry.now name.now self.old self.new result }
@@ -130,9 +131,10 @@ impl<I: Index> IndexCache<I> {
         self.keep(alloc, registry.as_str(), name, answer)
     }
 
-    /// The entries of a name; none where the index has no such name. It is `fetch` and then `shown`: an error
-    /// is not stored, so a later call makes the lookup again. The contract of `fetch` says what the cache has
-    /// afterwards; of this call, whose result lies in the cache, tests show it.
+    /// Returns the entries of a crate; `None` where the index has no crate of that name. It is `fetch` and
+    /// then `shown`: errors are not cached, so that a later call makes the lookup again. The contract of
+    /// `fetch` describes the cache afterwards; for this call, whose result borrows from the cache, tests
+    /// show it.
     pub fn krate(
         &mut self,
         alloc: Global,
@@ -144,7 +146,7 @@ impl<I: Index> IndexCache<I> {
         ensures given { kept_at self.old (serialize registry.now) name.now ≡ None → IfOk result
             (λ o. (I.view (index_of self.old)).gives registry.now name.now (Ok (answer_of
             (option_copied o)))) }
-        // an answer in the cache is given without an error
+        // a cached result is returned without an error
         ensures kept_answers { IsSome (kept_at self.old (serialize registry.now) name.now) → IsOk result }
         ensures refused { IfErr result (IsMissed (I.view (index_of self.old)).gives registry.now name.now
             (kept_at self.old (serialize registry.now) name.now)) }
@@ -155,7 +157,7 @@ impl<I: Index> IndexCache<I> {
         }
     }
 
-    /// Whether the index has a name.
+    /// Whether the index has a crate of this name.
     pub fn has_krate(&mut self, alloc: Global, registry: &Url, name: &str) -> CargoResult<bool>
         ensures answer { IfOk result (λ b. IsTrue b
             ↔ IsSome (krate_at self.new (serialize registry.now) name.now)) }
@@ -168,7 +170,8 @@ impl<I: Index> IndexCache<I> {
         }
     }
 
-    /// Whether the index has a version of a name, by its text; none where it has no such name.
+    /// Whether the index has a version of a crate, compared as text; `None` where it has no crate of that
+    /// name.
     pub fn has_krate_version(
         &mut self,
         alloc: Global,
@@ -187,13 +190,13 @@ impl<I: Index> IndexCache<I> {
         }
     }
 
-    /// Looks a name up and ranks its entries, each unless the cache has that already; `shown_ranking` then
-    /// gives the ranking.
+    /// Looks up a crate and ranks its entries, each unless that is cached; `shown_ranking` then returns the
+    /// ranking.
     ///
-    /// Its errors are those of `fetch`. Want of memory while the entries are ranked leaves them in the cache
-    /// without a ranking, and a later call ranks them without a lookup. Tests show this, as no contract
-    /// counts lookups. A caller whose proof needs it calls `fetch` and then `rank_kept`, whose contract says
-    /// that each answer stays.
+    /// The errors are those of `fetch`. If memory runs out while the entries are ranked, they stay cached
+    /// without a ranking, and a later call ranks them without a lookup. Tests show this, since contracts do
+    /// not count lookups. For a proof of it, call `fetch` and then `rank_kept`, whose contract states that
+    /// every cached result stays.
     pub fn rank(&mut self, alloc: Global, registry: &Url, name: &str) -> CargoResult<()>
         ensures { Ranks (I.view (index_of self.old)) (I.view
             (index_of self.new)) registry.now name.now self.old self.new result }
@@ -204,7 +207,7 @@ impl<I: Index> IndexCache<I> {
         }
     }
 
-    /// Ranks the answer in the cache for a name, once; `shown_ranking` then gives the ranking. It makes no
+    /// Ranks the cached result for a crate, once; `shown_ranking` then returns the ranking. It makes no
     /// lookup.
     pub fn rank_kept(&mut self, alloc: Global, registry: &Url, name: &str) -> CargoResult<()>
         ensures index { index_of self.new ≡ index_of self.old }
@@ -216,7 +219,7 @@ impl<I: Index> IndexCache<I> {
         self.rank_at(alloc, registry.as_str(), name)
     }
 
-    /// `rank_kept` by the text of an address.
+    /// `rank_kept`, with the address as text.
     fn rank_at(&mut self, alloc: Global, address: &str, name: &str) -> CargoResult<()>
         ensures index { self.new.index ≡ self.old.index }
         ensures kept { SameKept self.old self.new }
@@ -233,7 +236,8 @@ impl<I: Index> IndexCache<I> {
         }
     }
 
-    /// The ranking in the cache; none where no answer was ranked, or the index has no such name.
+    /// The cached ranking of a crate; `None` where nothing is ranked, or the index has no crate of that
+    /// name.
     pub fn shown_ranking(&self, registry: &Url, name: &str) -> Option<&Ranked>
         ensures { option_copied result ≡ ranking_at self.now (serialize registry.now) name.now }
     {
@@ -243,10 +247,10 @@ impl<I: Index> IndexCache<I> {
         }
     }
 
-    /// The ranking of the entries of a name; none where the index has no such name. It is `rank` and then
-    /// `shown_ranking`: an error of the lookup is not stored, and want of memory while the entries are ranked
-    /// leaves them in the cache without a ranking, so that a later call makes no lookup. Tests show this, as
-    /// the result lies in the cache.
+    /// Returns the ranking of the entries of a crate; `None` where the index has no crate of that name. It
+    /// is `rank` and then `shown_ranking`: errors of the lookup are not cached, and if memory runs out while
+    /// the entries are ranked they stay cached without a ranking, so that a later call makes no lookup.
+    /// Tests show this, since the result borrows from the cache.
     pub fn ranked(
         &mut self,
         alloc: Global,
@@ -259,7 +263,7 @@ impl<I: Index> IndexCache<I> {
             (λ o. (k : Option IndexKrate)
             × (I.view (index_of self.old)).gives registry.now name.now (Ok (answer_of k))
             × IsRanked k (option_copied o)) }
-        // with an answer in the cache the one error is want of memory while it is ranked
+        // with a cached result the only error is lack of memory during the ranking
         ensures kept_answers { IsSome (kept_at self.old (serialize registry.now) name.now)
             → IfErr result IsMemory }
         ensures refused { IfErr result (IsMissed (I.view (index_of self.old)).gives registry.now name.now
@@ -272,7 +276,7 @@ impl<I: Index> IndexCache<I> {
     }
 }
 
-/// Whether one of the entries has a version of this text; none where there are no entries.
+/// Whether one of the entries has this version, compared as text; `None` where there are no entries.
 fn holds_version(krate: Option<&IndexKrate>, version: &str) -> Option<bool>
     ensures { result ≡ option_map (λ k. has_version k version.now) (option_copied krate.entry) }
 {
@@ -282,7 +286,7 @@ fn holds_version(krate: Option<&IndexKrate>, version: &str) -> Option<bool>
     }
 }
 
-/// Whether one of the entries has a version of this text.
+/// Whether one of the entries has this version, compared as text.
 fn is_among(krate: &IndexKrate, version: &str) -> bool
     ensures { result ≡ has_version krate.now version.now }
 {

@@ -1,4 +1,4 @@
-//! What requirements lead to among the ranks of a crate, remembered.
+//! A cache of the versions that are chosen for requirements on a crate.
 ghost use Rattle.std.specs.Prelude.{◌≡◌, All, IfSome, List, ℕ};
 ghost use Rattle.edit_cache.specs.Choices.{AreChoices, IsChoice};
 ghost use Rattle.edit_cache.specs.Ranks.{Ranking};
@@ -7,11 +7,11 @@ use edit_version::RustVersion;
 use std::alloc::{AllocError, Global};
 use std::collections::BTreeMap;
 
-/// For how many Rust versions the choice of a text is remembered.
+/// The greatest number of Rust versions for which the choices of one requirement are cached.
 const MOST: usize = 64;
 
-/// What a requirement leads to for a Rust version: the places among the ranks of the greatest version that it
-/// admits and of the latest.
+/// The choice for a requirement and a Rust version: the indices among the ranks of the greatest version that
+/// the requirement admits and of the latest version.
 #[derive(Clone, Copy, Debug)]
 pub struct Choice {
     pub(crate) rust_version: Option<RustVersion>,
@@ -19,10 +19,10 @@ pub struct Choice {
     pub(crate) latest: Option<usize>,
 }
 
-/// Choices by the texts of requirements.
+/// The cached choices, by the text of the requirement.
 pub(crate) type Choices = BTreeMap<String, Vec<Choice>>;
 
-/// The first of the choices that is for a Rust version.
+/// The first choice for a Rust version.
 fn choice_for(known: &[Choice], rust_version: Option<RustVersion>) -> Option<Choice>
     ensures asked { IfSome result (λ c. c.rust_version ≡ rust_version) }
     ensures among { (ranks : List Ranking) (text : List ℕ) → All (IsChoice ranks text) known.now
@@ -36,7 +36,7 @@ fn choice_for(known: &[Choice], rust_version: Option<RustVersion>) -> Option<Cho
     None
 }
 
-/// The choice of a text for a Rust version that is remembered, if one is.
+/// The cached choice for a requirement and a Rust version, if there is one.
 pub(crate) fn known_choice(
     choices: &Choices,
     text: &str,
@@ -52,7 +52,7 @@ pub(crate) fn known_choice(
     }
 }
 
-/// Remembers the choice of a text, but for no more than so many Rust versions.
+/// Caches the choice for a requirement, unless `MOST` are cached for it.
 pub(crate) fn remember(
     alloc: Global,
     choices: &mut Choices,

@@ -1,4 +1,4 @@
-//! An answer of an index in the cache, with the ranking of its entries once that is made.
+//! A cached result of an index, with the ranking of its entries once that is made.
 ghost use Rattle.std.specs.Prelude.{◌≡◌, IfErr, OnOk, OnErr};
 ghost use Rattle.edit_base.specs.Errors.{IsMemory};
 ghost use Rattle.edit_cache.specs.Kept.{FitsAnswer, FitsAnswer-prop, IsRanked};
@@ -9,7 +9,7 @@ use edit_sources::index::IndexKrate;
 use edit_version::{Requirement, RustVersion};
 use std::alloc::Global;
 
-/// An answer of an index, and the ranking of its entries.
+/// A cached result of an index, with the ranking of its entries once that is made.
 #[derive(Debug, Drop)]
 pub struct Kept {
     pub answer: Option<IndexKrate>,
@@ -18,7 +18,7 @@ pub struct Kept {
 }
 
 impl Kept {
-    /// An answer without a ranking.
+    /// Returns a result without a ranking.
     pub(crate) fn new(answer: Option<IndexKrate>) -> Kept
         ensures answer { result.answer ≡ answer }
     {
@@ -28,7 +28,7 @@ impl Kept {
         }
     }
 
-    /// Ranks the entries, once.
+    /// Ranks the entries, unless that is done.
     pub(crate) fn rank(&mut self, alloc: Global) -> CargoResult<()>
         ensures answer { self.new.answer ≡ self.old.answer }
         ensures ranked { OnOk result (IsRanked self.new.answer self.new.ranked) }
@@ -44,7 +44,7 @@ impl Kept {
         Ok(())
     }
 
-    /// Ranks the entries, once, and remembers what a requirement leads to for a Rust version.
+    /// Ranks the entries, unless that is done, and caches the choice for a requirement and a Rust version.
     pub(crate) fn rank_for(
         &mut self,
         alloc: Global,

@@ -1,4 +1,4 @@
-//! A cache of the answers of an index, each of which is ranked once.
+//! A cache of the results of an index, each of which is ranked once.
 #![tactic(auto)]
 
 pub mod cache;

@@ -1,4 +1,4 @@
-//! An entry of an answer that is ranked, and searches among them.
+//! The rank of an index entry, and searches in a list of ranks.
 ghost use Rattle.std.specs.Prelude.{◌≡◌, ◌++◌, IfOk, IfErr, OnOk, map, option_copied};
 ghost use Rattle.std.specs.List.{find, position, position_from};
 ghost use Rattle.semver.specs.Identifiers.{parts_text};
@@ -24,9 +24,9 @@ use semver::{Version, VersionReq};
 use std::alloc::Global;
 use std::cmp::Reverse;
 
-/// An entry that is readable and not yanked, with what is read of it.
+/// An index entry with valid versions that is not yanked, in parsed form.
 ///
-/// Ranks are ordered by version, the greatest first, and then by place, the later first.
+/// Ranks are ordered by version, the greatest first, and then by index, the last first.
 #[derive(Debug, Drop)]
 #[derive_where(PartialEq, Eq, PartialOrd, Ord)]
 pub struct Rank {
@@ -38,7 +38,7 @@ pub struct Rank {
     pub(crate) name: String,
 }
 
-/// Adds the rank of an entry that is readable and not yanked.
+/// Appends the rank of an entry, unless it is yanked or a version in it is invalid.
 fn push_rank(
     alloc: Global,
     ranks: &mut Vec<Rank>,
@@ -73,7 +73,7 @@ pub(crate) fn read_ranks(alloc: Global, entries: &[IndexVersion]) -> CargoResult
     Ok(ranks)
 }
 
-/// The dependency on the entry of a rank. The version's text is written anew, as it was read.
+/// Returns a dependency on the version of a rank. The version is formatted anew.
 pub(crate) fn dependency_of(alloc: Global, rank: &Rank) -> CargoResult<Dependency>
     ensures ok { IfOk result
         (IsRegistryDependency (rank_of rank.now).name (parts_text (rank_of rank.now).version)) }
@@ -89,7 +89,8 @@ pub(crate) fn dependency_of(alloc: Global, rank: &Rank) -> CargoResult<Dependenc
     dependency_on(alloc, &told)
 }
 
-/// The first rank that is for a Rust version and whose version is wanted.
+/// The first rank that supports a Rust version and whose version matches. Without `req`, pre-releases match
+/// only if they are allowed.
 pub(crate) fn first_wanted<'a>(
     ranks: &'a [Rank],
     allow_prerelease: bool,
@@ -105,7 +106,7 @@ pub(crate) fn first_wanted<'a>(
         .find(|rank| is_first(rank, allow_prerelease, req, rust_version))
 }
 
-/// Whether a rank is for a Rust version and its version is wanted.
+/// Whether a rank supports a Rust version and its version matches.
 fn is_first(
     rank: &Rank,
     allow_prerelease: bool,
@@ -118,7 +119,7 @@ fn is_first(
     is_for(rank.rust_version, rust_version) && is_wanted(&rank.version.0, allow_prerelease, req)
 }
 
-/// The place of the first rank that is for a Rust version and whose version is wanted.
+/// The index of the first rank that supports a Rust version and whose version matches.
 fn first_place(
     ranks: &[Rank],
     allow_prerelease: bool,
@@ -133,7 +134,7 @@ fn first_place(
         .position(|rank| is_first(rank, allow_prerelease, req, rust_version))
 }
 
-/// The place of the first rank that is for a Rust version and that a requirement admits.
+/// The index of the first rank that supports a Rust version and that a requirement admits.
 fn compatible_place(
     ranks: &[Rank],
     old: &Requirement<'_>,
@@ -148,7 +149,8 @@ fn compatible_place(
     }
 }
 
-/// The place of the first rank that is for a Rust version and that a requirement offers.
+/// The index of the latest version for a requirement: the first rank that supports a Rust version,
+/// pre-releases included only where the requirement allows them.
 fn latest_place(
     ranks: &[Rank],
     old: &Requirement<'_>,
@@ -160,7 +162,7 @@ fn latest_place(
     first_place(ranks, allows_prerelease(old.text()), None, rust_version)
 }
 
-/// What a requirement leads to for a Rust version.
+/// Finds the choice for a requirement and a Rust version.
 pub(crate) fn choose(
     ranks: &[Rank],
     old: &Requirement<'_>,

@@ -1,4 +1,4 @@
-//! The entries of an answer, ranked once.
+//! The entries of a crate, ranked once.
 ghost use Rattle.std.specs.Prelude.{◌≡◌, ℕ, List, IfOk, IfErr, IsTrue, map, option_map, slice_get};
 ghost use Rattle.semver.specs.Parse.{Parts};
 ghost use Rattle.edit_base.specs.Errors.{IsMemory};
@@ -27,11 +27,11 @@ use semver::{Version, VersionReq};
 use std::alloc::{AllocError, Global};
 use std::collections::BTreeMap;
 
-/// Among how many ranks a search is as fast as what is remembered.
+/// Up to this number of ranks a search is as fast as the cached choice.
 const FEW: usize = 16;
 
-/// The entries of an answer that are readable and not yanked, the greatest version first and among
-/// equal ones the later entry.
+/// The index entries of a crate with valid versions that are not yanked, the greatest version first and, of
+/// equal versions, the last entry first.
 #[derive(Debug, Drop)]
 pub struct Ranked {
     ranks: Vec<Rank>,
@@ -39,7 +39,7 @@ pub struct Ranked {
     ghost known: { AreChoices (map rank_of ranks.items) choices } by { AreChoices-prop (map rank_of ranks.items) choices },
 }
 
-/// The greatest version that a requirement admits, and the latest.
+/// The greatest version that a requirement admits, and the latest version.
 #[derive(Clone, Copy)]
 pub struct VersionPair<'a> {
     pub compatible: Option<&'a Version>,
@@ -49,7 +49,7 @@ pub struct VersionPair<'a> {
 impl Ranked {
     ghost use Rattle.edit_cache.specs.Ranking.{IsRanking, OfEntries, ranks_of};
 
-    /// Ranks entries.
+    /// Ranks the entries of a crate.
     pub fn new(alloc: Global, entries: &[IndexVersion]) -> CargoResult<Ranked>
         ensures ok { IfOk result (λ r. IsRanking (map entry_of entries.now) (ranks_of r)) }
         ensures refused { IfErr result IsMemory }
@@ -62,7 +62,7 @@ impl Ranked {
         })
     }
 
-    /// The version of a rank, from 0; none past the last.
+    /// The version of rank number `n`, from 0; `None` past the last.
     pub fn version(&self, n: usize) -> Option<&Version>
         ensures { parts_in result ≡ option_map (λ r. r.version) (slice_get (ranks_of self.now) n) }
     {
@@ -72,7 +72,7 @@ impl Ranked {
         }
     }
 
-    /// The version at a place.
+    /// The version at an index, if there is one.
     fn version_at(&self, place: Option<usize>) -> Option<&Version>
         ensures { parts_in result ≡ version_at (ranks_of self.now) place }
     {
@@ -82,7 +82,7 @@ impl Ranked {
         }
     }
 
-    /// What a requirement leads to for a Rust version, as it is remembered, or else found anew.
+    /// The choice for a requirement and a Rust version: the cached one, or else a new search.
     fn choice(&self, old: &Requirement<'_>, rust_version: Option<RustVersion>) -> Choice
         ensures asked { result.rust_version ≡ rust_version }
         ensures is { IsChoice (ranks_of self.now) (text_in old.now) result }
@@ -93,7 +93,7 @@ impl Ranked {
         }
     }
 
-    /// The greatest version that a requirement admits and the latest, of those that may be taken.
+    /// The greatest version that a requirement admits and the latest version, of those that may be chosen.
     pub fn version_pair(
         &self,
         old: &Requirement<'_>,
@@ -113,8 +113,8 @@ impl Ranked {
         }
     }
 
-    /// Remembers what a requirement leads to for a Rust version, so that `version_pair` need not find it
-    /// anew: where the ranks are few, that is not worth it.
+    /// Caches the choice for a requirement and a Rust version, so that `version_pair` need not search again.
+    /// Nothing is cached for up to `FEW` ranks.
     pub(crate) fn remember_choice(
         &mut self,
         alloc: Global,
@@ -133,7 +133,7 @@ impl Ranked {
         remember(alloc, &mut self.choices, old.text(), choice)
     }
 
-    /// The dependency on the first rank that is for a Rust version and whose version is wanted.
+    /// Returns a dependency on the first rank that supports a Rust version and whose version matches.
     fn best(
         &self,
         alloc: Global,
@@ -151,7 +151,7 @@ impl Ranked {
         }
     }
 
-    /// What `find_latest_version` finds among the entries that are ranked.
+    /// The result of `find_latest_version` for the ranked entries.
     pub fn latest(
         &self,
         alloc: Global,
@@ -160,8 +160,8 @@ impl Ranked {
     ) -> CargoResult<Option<Dependency>>
         ensures found { OfEntries self.now (λ entries.
             IfOk result (IsFound (numbers_in rust_version) (is_allowed allow_prerelease) entries)) }
-        // where a requirement has a greatest version, this one is not less, if pre-releases are allowed
-        // where the requirement has a `-`
+        // the result is at least the greatest version that any requirement admits, provided that
+        // pre-releases are allowed where the requirement has a `-`
         ensures at_least { OfEntries self.now (λ entries. IfOk result (λ o.
             (req : List ℕ) → (IsTrue (holds_dash req) → IsTrue allow_prerelease) → (e : IndexEntry)
             → IsGreatestKept (is_kept (numbers_in rust_version) (is_admitted req)) entry_order entries e
@@ -171,7 +171,7 @@ impl Ranked {
         self.best(alloc, allow_prerelease, None, rust_version)
     }
 
-    /// What `find_compatible_version` finds among the entries that are ranked.
+    /// The result of `find_compatible_version` for the ranked entries.
     pub fn compatible(
         &self,
         alloc: Global,

@@ -1,4 +1,4 @@
-//! Sources of configuration files that have no address, as that of a vendored project.
+//! Sources of configuration files without a URL, as those of vendored projects.
 ghost use Rattle.std.specs.Prelude.{◌≡◌, ◌++◌, All, IfOk, OnOk, find, option_map, string_bytes};
 ghost use Rattle.std.specs.List.{flat_map};
 ghost use Rattle.std.specs.Str.{bytes_eq};
@@ -12,17 +12,17 @@ use edit_sources::config::ConfigSource;
 use edit_sources::registry::CRATES_IO_INDEX;
 use std::alloc::{AllocError, Global};
 
-/// A source that names neither a registry nor another source: a vendored folder, a local registry or a git
-/// repository of packages.
+/// A source with neither `registry` nor `replace-with`: a vendored folder, a local registry or a git
+/// repository.
 #[derive(Clone, Copy, Debug)]
 pub struct AddresslessSource<'a> {
-    /// Its key below `source`.
+    /// Its key in the table `source`.
     pub key: &'a str,
-    /// The path of the configuration file that names it.
+    /// The path of the configuration file that defines it.
     pub file: &'a str,
 }
 
-/// What a file gives a key of `registries`, where it has that key.
+/// The entry of a key in `registries`, if the file has it.
 fn registry_at<'a>(config: &'a Config, key: &str) -> Option<&'a (String, Option<String>)>
     ensures { option_map (λ r. r.now) result
         ≡ find (λ r. bytes_eq key.now (string_bytes r.0)) config.now.registries.items }
@@ -33,7 +33,7 @@ fn registry_at<'a>(config: &'a Config, key: &str) -> Option<&'a (String, Option<
         .find(|entry| key == entry.0.as_str())
 }
 
-/// What a file gives a key of `source`, where it has that key.
+/// The entry of a key in `source`, if the file has it.
 fn source_at<'a>(config: &'a Config, key: &str) -> Option<&'a (String, ConfigSource)>
     ensures { option_map (λ s. s.now) result
         ≡ find (λ s. bytes_eq key.now (string_bytes s.0)) config.now.sources.items }
@@ -41,15 +41,15 @@ fn source_at<'a>(config: &'a Config, key: &str) -> Option<&'a (String, ConfigSou
     config.sources.iter().find(|entry| key == entry.0.as_str())
 }
 
-/// Whether a source names neither a registry nor another source.
+/// Whether a source has neither `registry` nor `replace-with`.
 fn is_empty_source(source: &ConfigSource) -> bool
     ensures { result ≡ is_empty_source (source_view source.now) }
 {
     source.registry.is_none() && source.replace_with.is_none()
 }
 
-/// Whether the first definition of a key in a file has no address and no replacement, where the file has
-/// that key.
+/// Whether the first definition of a key in a file has neither a URL nor a replacement; `None` where the
+/// file has no such key.
 fn is_empty_in(config: &Config, key: &str) -> Option<bool>
     ensures { result ≡ option_map is_empty_source
         (first key.now (definitions_of (configuration config.now))) }
@@ -61,7 +61,8 @@ fn is_empty_in(config: &Config, key: &str) -> Option<bool>
     Some(is_empty_source(&entry.1))
 }
 
-/// Whether the first definition of a key in these files, in their order, has no address and no replacement.
+/// Whether the first definition of a key in these files, in their order, has neither a URL nor a
+/// replacement.
 fn is_empty(configs: &[Config], key: &str) -> bool
     ensures { result ≡ is_empty_definition (first key.now (all_definitions configs.now)) }
 {
@@ -73,19 +74,19 @@ fn is_empty(configs: &[Config], key: &str) -> bool
     false
 }
 
-/// Whether a key is another than those of the default registry, which has an address where none is given.
+/// Whether a key is not one of the default registry, which always has a URL.
 fn is_own_key(key: &str) -> bool
     ensures { result ≡ is_own_key key.now }
 {
     key != "crates-io" && key != CRATES_IO_INDEX
 }
 
-/// Whether a source is listed.
+/// Whether a list of sources has this key.
 fn is_listed(sources: &[AddresslessSource<'_>], key: &str) -> bool {
     sources.iter().any(|source| source.key == key)
 }
 
-/// The sources without an address, each once: those that these files define, in their order, without one.
+/// The keys of `source` whose first definition in these files has no URL, each once and in order.
 pub fn addressless_sources<'a>(
     alloc: Global,
     configs: &'a [Config],
@@ -105,14 +106,14 @@ pub fn addressless_sources<'a>(
     Ok(found)
 }
 
-/// The address that stands for a source without one: its key after `source:`, a scheme that no registry has.
+/// The placeholder URL of a source without one: `source:` and its key. No registry has that scheme.
 pub fn stand_in_address(alloc: Global, key: &str) -> Result<String, AllocError>
     ensures { IfOk result (λ s. string_bytes s ≡ stand_in_address key.now) }
 {
     format!(in alloc; "source:{key}")
 }
 
-/// Adds the line that gives a source its address.
+/// Appends the line of a configuration file that sets the URL of a source.
 #[tactic(auto, unfolding(crate::specs::Addressless::source_line))]
 fn push_source(text: &mut Vec<u8>, key: &[u8], address: &[u8]) -> Result<(), AllocError>
     ensures { OnOk result (text.new.items ≡ text.old.items ++ source_line key.now address.now) }
@@ -124,8 +125,8 @@ fn push_source(text: &mut Vec<u8>, key: &[u8], address: &[u8]) -> Result<(), All
     Ok(())
 }
 
-/// The lines of a configuration file that give each of these sources an address that no registry has, so
-/// that an upgrade is planned and tells the crates of them from others.
+/// The lines of a configuration file that give each of these sources its placeholder URL, so that an upgrade
+/// can be planned and can recognise the crates of these sources.
 pub fn sources_text(alloc: Global, sources: &[AddresslessSource<'_>]) -> Result<Vec<u8>, AllocError>
     ensures { IfOk result (λ v. v.items ≡ flat_map stand_in_line sources.now) }
 {

@@ -1,11 +1,11 @@
-//! Lines of a configuration file of curl.
+//! Writes a configuration file of curl.
 ghost use Rattle.std.specs.Prelude.{◌≡◌, ◌++◌, OnOk};
 ghost use Rattle.std.specs.List.{flat_map};
 ghost use Rattle.edit_fetch.specs.CurlConfig.{bare, escape_of, option_line, parting, quoted, valued};
 
 use std::alloc::AllocError;
 
-/// Adds a byte as it stands in double quotes.
+/// Appends a byte, escaped for a quoted value; NUL is dropped.
 fn push_escaped(text: &mut Vec<u8>, byte: u8) -> Result<(), AllocError>
     ensures { OnOk result (text.new.items ≡ text.old.items ++ escape_of byte) }
 {
@@ -21,7 +21,7 @@ fn push_escaped(text: &mut Vec<u8>, byte: u8) -> Result<(), AllocError>
     }
 }
 
-/// Adds the bytes of a value as they stand in double quotes.
+/// Appends the bytes of a value, escaped for a quoted value.
 fn push_inner(text: &mut Vec<u8>, value: &[u8]) -> Result<(), AllocError>
     ensures { OnOk result (text.new.items ≡ text.old.items ++ flat_map escape_of value.now) }
 {
@@ -31,7 +31,7 @@ fn push_inner(text: &mut Vec<u8>, value: &[u8]) -> Result<(), AllocError>
     Ok(())
 }
 
-/// Adds a value in double quotes.
+/// Appends a quoted value.
 fn push_quoted(text: &mut Vec<u8>, value: &[u8]) -> Result<(), AllocError>
     ensures { OnOk result (text.new.items ≡ text.old.items ++ quoted value.now) }
 {
@@ -41,7 +41,7 @@ fn push_quoted(text: &mut Vec<u8>, value: &[u8]) -> Result<(), AllocError>
     Ok(())
 }
 
-/// Adds the line of an option without a value.
+/// Appends the line of an option without a value.
 #[tactic(auto, unfolding(crate::specs::CurlConfig::option_line))]
 pub(crate) fn push_bare(text: &mut Vec<u8>, name: &str) -> Result<(), AllocError>
     ensures { OnOk result (text.new.items ≡ text.old.items ++ option_line (bare name.now)) }
@@ -51,7 +51,7 @@ pub(crate) fn push_bare(text: &mut Vec<u8>, name: &str) -> Result<(), AllocError
     Ok(())
 }
 
-/// Adds the line of an option with its value.
+/// Appends the line of an option with a value.
 #[tactic(auto, unfolding(crate::specs::CurlConfig::option_line))]
 pub(crate) fn push_valued(text: &mut Vec<u8>, name: &str, value: &[u8]) -> Result<(), AllocError>
     ensures { OnOk result (text.new.items ≡ text.old.items ++ option_line (valued name.now value.now)) }
@@ -63,7 +63,7 @@ pub(crate) fn push_valued(text: &mut Vec<u8>, name: &str, value: &[u8]) -> Resul
     Ok(())
 }
 
-/// Adds what parts a transfer from as many before it.
+/// Appends the line `next` between transfers, unless this is the first one.
 pub(crate) fn push_parting(text: &mut Vec<u8>, before: usize) -> Result<(), AllocError>
     ensures { OnOk result (text.new.items ≡ text.old.items ++ flat_map option_line (parting before)) }
 {

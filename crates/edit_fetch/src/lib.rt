@@ -1,4 +1,4 @@
-//! What is to be fetched from registries, as a configuration of curl.
+//! Plans the transfers of index entries, as a configuration file of curl.
 #![tactic(auto)]
 
 pub mod addressless;

@@ -1,4 +1,4 @@
-//! What is fetched for lookups, written down for curl.
+//! Plans the transfers for lookups and writes the files that curl reads.
 ghost use Rattle.std.specs.Prelude.{◌≡◌, ◌≤◌, ◌⊎◌, Some, true, IfErr, IfOk, MatchOption, OnOk, codes};
 ghost use Rattle.edit_base.specs.Errors.{IsMemory};
 ghost use Rattle.edit_fetch.specs.Plans.{HasFailedIn, IsPlanned, IsUnreadable, SameButRoom, room_file};
@@ -13,18 +13,18 @@ use edit_lookups::read_lookups;
 use edit_store::Store;
 use std::alloc::Global;
 
-/// How lookups are fetched.
+/// The parameters of a fetch.
 #[derive(Clone, Copy, Debug)]
 pub struct FetchPlan<'a> {
     /// The folder of the cache.
     pub cache: &'a str,
-    /// The folder that the transfers of this run use.
+    /// The working folder of this run.
     pub room: &'a str,
     pub settings: &'a NetSettings,
     pub tokens: &'a [Token<'a>],
 }
 
-/// Writes a file of the folder that the transfers use.
+/// Writes a file of the working folder.
 fn write_in_room<S: Store>(
     alloc: Global,
     store: &mut S,
@@ -48,7 +48,7 @@ fn write_in_room<S: Store>(
     }
 }
 
-/// Writes the text of lookups and the configuration of curl.
+/// Writes the files `lookups` and `curl` of the working folder.
 fn write_plan<S: Store>(
     alloc: Global,
     store: &mut S,
@@ -76,11 +76,11 @@ fn write_plan<S: Store>(
     }
 }
 
-/// Writes down what is fetched for the lookups of a text, as files of the folder that the transfers use:
-/// `lookups`, the text, and `curl`, the configuration of curl. It answers how many transfers there are;
-/// none where the text is not the lines of lookups, and then no file is written.
+/// Plans the transfers for the lookups in a text and writes two files of the working folder: `lookups`, the
+/// text, and `curl`, the configuration of curl. Returns the number of transfers; `None` where the text is
+/// malformed, and then no file is written.
 ///
-/// An entry is fetched where its registry speaks the sparse protocol, unless the settings are offline.
+/// An entry is fetched if its registry uses the sparse protocol, unless the settings are offline.
 pub fn fetch_plan<S: Store>(
     alloc: Global,
     store: &mut S,

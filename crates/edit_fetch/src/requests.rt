@@ -1,4 +1,4 @@
-//! The requests of lookups.
+//! The requests for lookups.
 ghost use Rattle.std.specs.Prelude.{◌≡◌, ◌++◌, ◌⊎◌, true, IfErr, IfOk, map, option_map, string_bytes};
 ghost use Rattle.edit_base.specs.Errors.{IsMemory};
 ghost use Rattle.edit_fetch.specs.Plans.{AreMade, AreRequests, IsCachedEtag, IsRequest, fetched_url, is_fetched, with_slash};
@@ -15,14 +15,14 @@ use edit_lookups::{Lookup, cached_path, usable_etag, validator_path};
 use edit_store::Store;
 use std::alloc::{AllocError, Global};
 
-/// Whether the entries of a registry are fetched.
+/// Whether a registry uses the sparse protocol, so that its entries are fetched.
 fn is_fetched(address: &[u8]) -> bool
     ensures { result ≡ is_fetched address.now }
 {
     address.starts_with(b"sparse+http://") || address.starts_with(b"sparse+https://")
 }
 
-/// Adds a slash where a text does not end with one.
+/// Appends a slash, unless the text ends with one.
 fn end_with_slash(text: &mut Vec<u8>) -> Result<(), AllocError>
     ensures { IfOk result (λ _. text.new.items ≡ with_slash text.old.items) }
 {
@@ -32,7 +32,7 @@ fn end_with_slash(text: &mut Vec<u8>) -> Result<(), AllocError>
     Ok(())
 }
 
-/// Where an entry is fetched.
+/// The URL of an index entry.
 fn fetched_url(alloc: Global, lookup: &Lookup<'_>) -> Result<Vec<u8>, AllocError>
     ensures { IfOk result (λ v. v.items ≡ fetched_url (lookup_text lookup.now)) }
 {
@@ -45,7 +45,7 @@ fn fetched_url(alloc: Global, lookup: &Lookup<'_>) -> Result<Vec<u8>, AllocError
     Ok(url)
 }
 
-/// The ETag of a validator, where that belongs to the bytes of an entry.
+/// The ETag of a validator, if the validator belongs to the bytes of the entry.
 fn etag_of(alloc: Global, body: &[u8], line: &[u8]) -> Result<Option<String>, AllocError>
     ensures { IfOk result (λ e. IsCachedEtag (Some body.now) (Some line.now) (option_map string_bytes e)) }
 {
@@ -55,7 +55,7 @@ fn etag_of(alloc: Global, body: &[u8], line: &[u8]) -> Result<Option<String>, Al
     }
 }
 
-/// The ETag of an entry in the cache.
+/// The ETag of a cached entry, if the entry has a validator that belongs to it.
 fn cached_etag<S: Store>(alloc: Global, store: &mut S, entry: &str) -> CargoResult<Option<String>>
     ensures store { OnlyReads (S.view store.old) (S.view store.new) }
     ensures etag { IfOk result (λ e. (S.view store.old).tells ≡ true
@@ -77,7 +77,7 @@ fn cached_etag<S: Store>(alloc: Global, store: &mut S, entry: &str) -> CargoResu
     }
 }
 
-/// The request of a lookup.
+/// The request for a lookup.
 fn request<'a, S: Store>(
     alloc: Global,
     store: &mut S,
@@ -106,7 +106,7 @@ fn request<'a, S: Store>(
     })
 }
 
-/// The requests of lookups, in their order.
+/// The requests for lookups, in their order; none for a registry without the sparse protocol.
 pub(crate) fn requests<'a, S: Store>(
     alloc: Global,
     store: &mut S,
@@ -132,7 +132,7 @@ pub(crate) fn requests<'a, S: Store>(
     Ok(requests)
 }
 
-/// The requests that are made for lookups: none offline.
+/// The requests for lookups; none offline.
 pub(crate) fn requests_made<'a, S: Store>(
     alloc: Global,
     store: &mut S,

@@ -1,4 +1,4 @@
-//! The network settings of cargo that count for a transfer.
+//! The network settings of cargo that affect transfers.
 ghost use Rattle.std.specs.Prelude.{◌≡◌, ◌⊎◌, true, IfErr, IfOk};
 ghost use Rattle.edit_base.specs.Errors.{IsMemory};
 ghost use Rattle.edit_fetch.specs.Settings.{AreSettings, no_values, settings_of, settings_view, values_of, values_or};
@@ -15,22 +15,22 @@ pub use environment::Environment;
 use file::values_at;
 use std::alloc::Global;
 
-/// The network settings that count.
+/// The effective network settings (Cargo reference, "Configuration", `net` and `http`).
 #[derive(Debug, Drop)]
 pub struct NetSettings {
-    /// Whether nothing is to be fetched.
+    /// Whether nothing may be fetched.
     pub offline: bool,
-    /// How often a transfer is tried again.
+    /// How often a failed transfer is retried.
     pub retry: u32,
-    /// How many seconds a connection may take, and a transfer stand still.
+    /// The limit in seconds for connecting, and for a transfer without progress.
     pub timeout: u32,
-    /// The proxy that transfers go through.
+    /// The proxy for transfers.
     pub proxy: Option<String>,
-    /// The file of the certificates that are trusted.
+    /// The file of trusted certificates.
     pub cainfo: Option<String>,
 }
 
-/// The network settings that one place gives: the environment, or a configuration file.
+/// The network settings of one source: the environment, or a configuration file.
 #[derive(Debug, Drop)]
 pub struct NetValues {
     pub offline: Option<bool>,
@@ -40,7 +40,7 @@ pub struct NetValues {
     pub cainfo: Option<String>,
 }
 
-/// No settings.
+/// Returns settings with nothing set.
 fn no_values() -> NetValues
     ensures { values_of result ≡ no_values }
 {
@@ -53,7 +53,7 @@ fn no_values() -> NetValues
     }
 }
 
-/// The settings of a place, and those of a later place where the first gives none.
+/// Merges two settings: where `first` does not set a value, that of `later` counts.
 fn values_or(first: NetValues, later: NetValues) -> NetValues
     ensures { values_of result ≡ values_or (values_of first) (values_of later) }
 {
@@ -66,7 +66,7 @@ fn values_or(first: NetValues, later: NetValues) -> NetValues
     }
 }
 
-/// The settings that count: cargo's defaults where none are given.
+/// The effective settings, with cargo's defaults where a value is not set.
 fn settings_of(values: NetValues) -> NetSettings
     ensures { settings_view result ≡ settings_of (values_of values) }
 {
@@ -79,9 +79,9 @@ fn settings_of(values: NetValues) -> NetSettings
     }
 }
 
-/// The network settings that count, by the environment and then by the files of these configurations, in
-/// their order: `net.offline`, `net.retry`, `http.timeout`, `http.proxy` and `http.cainfo`. A value of
-/// another type than cargo's counts as absent.
+/// The effective network settings, from the environment and then from the files of these configurations, in
+/// their order: `net.offline`, `net.retry`, `http.timeout`, `http.proxy` and `http.cainfo`. A value of a
+/// wrong type is ignored.
 pub fn net_settings<S: Store>(
     alloc: Global,
     store: &mut S,

@@ -1,4 +1,4 @@
-//! The tokens of registries.
+//! The authentication tokens of registries.
 ghost use Rattle.std.specs.Prelude.{◌≡◌, ◌<◌, ℕ, List, IfOk, IfSome, MatchOption, option_map, string_bytes};
 ghost use Rattle.std.specs.Str.{IsAscii};
 ghost use Rattle.edit_fetch.specs.Tokens.{IsAddressOf, IsTokenOf, token_of, token_variable, variable_byte};
@@ -6,16 +6,16 @@ ghost use Rattle.edit_fetch.specs.Tokens.{IsAddressOf, IsTokenOf, token_of, toke
 use std::alloc::{AllocError, Global};
 use url::{ParseError, Url};
 
-/// The token of a registry.
+/// The authentication token of a registry.
 #[derive(Clone, Copy, Debug)]
 pub struct Token<'a> {
-    /// The address of the registry's index, as a lookup has it.
+    /// The address of the registry's index, as in lookups.
     pub address: &'a str,
-    /// The token, as a header has it.
+    /// The token, as in the header `Authorization`.
     pub token: &'a str,
 }
 
-/// The token of the first registry with an address.
+/// The token of the first registry with this address.
 fn first_token<'a>(tokens: &[Token<'a>], address: &str) -> Option<&'a str>
     ensures { option_map (λ t. t.now) result ≡ token_of tokens.now address.now }
 {
@@ -23,17 +23,17 @@ fn first_token<'a>(tokens: &[Token<'a>], address: &str) -> Option<&'a str>
     Some(found.token)
 }
 
-/// The token of the registry with an address, where there is one: the first.
+/// The token of the registry with this address, the first if there are several.
 pub(crate) fn token_of<'a>(tokens: &[Token<'a>], address: &str) -> Option<&'a str>
     ensures first { option_map (λ t. t.now) result ≡ token_of tokens.now address.now }
-    // it is sent to no other registry than its own
+    // a token is never sent to another registry
     ensures own { IfSome result (λ t. IsTokenOf tokens.now address.now t.now) }
 {
     let token = first_token(tokens, address)?;
     Some(token)
 }
 
-/// A byte of a registry's name as a variable's name has it: a capital letter, and `_` for `-`.
+/// Maps a byte of a registry's name to that of the environment variable: upper case, and `_` for `-`.
 fn variable_byte(byte: u8) -> u8
     ensures byte { result ≡ variable_byte byte }
     ensures ascii { byte < 128 → result < 128 }
@@ -45,7 +45,8 @@ fn variable_byte(byte: u8) -> u8
     }
 }
 
-/// The variable of the environment that has the token of a registry; none for a name that is not ASCII.
+/// The name of the environment variable with the token of a registry; `None` where the registry's name is
+/// not ASCII.
 pub fn token_variable(alloc: Global, name: &str) -> Result<Option<String>, AllocError>
     ensures { IfOk result (λ o. MatchOption o (IsAscii name.now → ⊥)
         (λ s. string_bytes s ≡ token_variable name.now)) }
@@ -61,14 +62,14 @@ pub fn token_variable(alloc: Global, name: &str) -> Result<Option<String>, Alloc
     Ok(Some(variable))
 }
 
-/// The address of an index as lookups have it; none where the text is no URL.
+/// Normalises the address of an index, as in lookups; `None` where the text is no URL.
 pub fn registry_address(alloc: Global, index: &str) -> Result<Option<String>, AllocError>
     ensures { IfOk result (λ o. MatchOption o ((address : List ℕ) → IsAddressOf index.now address → ⊥)
         (λ s. IsAddressOf index.now (string_bytes s))) }
 {
     match Url::parse(alloc, index) {
         Ok(url) => Ok(Some(String::from_str(alloc, url.as_str())?)),
-        // (a URL of 4 GB or more has no room either)
+        // (a URL of 4 GB or more counts as lack of memory)
         Err(ParseError::OutOfMemory | ParseError::Overflow) => Err(AllocError),
         Err(_) => Ok(None),
     }

@@ -1,4 +1,4 @@
-//! Strings of a TOML text.
+//! Writes TOML strings.
 ghost use Rattle.std.specs.Prelude.{◌≡◌, ◌∷◌, ◌++◌, ◌/◌, ◌%◌, ◌<◌, [], OnOk};
 ghost use Rattle.std.specs.List.{flat_map};
 ghost use Rattle.edit_fetch.specs.TomlText.{escape_of, hex_digit, is_control, quoted, value_line};
@@ -24,7 +24,7 @@ fn is_control(byte: u8) -> bool
     byte < 32 || byte == 127
 }
 
-/// Adds a control character by its number: `\u00`, and two hex digits.
+/// Appends a control character as an escape: `\u00` and two hex digits.
 fn push_number(text: &mut Vec<u8>, byte: u8) -> Result<(), AllocError>
     requires { byte < 256 }
     ensures { OnOk result (text.new.items
@@ -36,7 +36,7 @@ fn push_number(text: &mut Vec<u8>, byte: u8) -> Result<(), AllocError>
     Ok(())
 }
 
-/// Adds a byte as it stands in a basic string.
+/// Appends a byte, escaped for a basic string.
 fn push_escaped(text: &mut Vec<u8>, byte: u8) -> Result<(), AllocError>
     ensures { OnOk result (text.new.items ≡ text.old.items ++ escape_of byte) }
 {
@@ -52,7 +52,7 @@ fn push_escaped(text: &mut Vec<u8>, byte: u8) -> Result<(), AllocError>
     Ok(())
 }
 
-/// Adds the bytes of a value as they stand in a basic string.
+/// Appends the bytes of a value, escaped for a basic string.
 fn push_inner(text: &mut Vec<u8>, value: &[u8]) -> Result<(), AllocError>
     ensures { OnOk result (text.new.items ≡ text.old.items ++ flat_map escape_of value.now) }
 {
@@ -62,8 +62,8 @@ fn push_inner(text: &mut Vec<u8>, value: &[u8]) -> Result<(), AllocError>
     Ok(())
 }
 
-/// Adds a value as a basic string, which has every text: `"` and `\` stand behind a `\`, and control
-/// characters by their numbers.
+/// Appends a value as a basic string, which can express any text (TOML v1.0 "String"): `"` and `\` are
+/// escaped with `\`, and control characters with `\u00XX`.
 pub(crate) fn push_quoted(text: &mut Vec<u8>, value: &[u8]) -> Result<(), AllocError>
     ensures { OnOk result (text.new.items ≡ text.old.items ++ quoted value.now) }
 {
@@ -73,7 +73,7 @@ pub(crate) fn push_quoted(text: &mut Vec<u8>, value: &[u8]) -> Result<(), AllocE
     Ok(())
 }
 
-/// Adds a value as a basic string, and a line end.
+/// Appends a value as a basic string, and a line end.
 pub(crate) fn push_value_line(text: &mut Vec<u8>, value: &[u8]) -> Result<(), AllocError>
     ensures { OnOk result (text.new.items ≡ text.old.items ++ value_line value.now) }
 {

@@ -1,4 +1,4 @@
-//! The transfers that fetch index entries, as text for curl.
+//! The transfers of index entries, as a configuration file of curl.
 ghost use Rattle.std.specs.Prelude.{◌≡◌, ◌==◌, ◌++◌, true, IfOk, IsSome, OnOk, decimal, map, option_map, string_bytes};
 ghost use Rattle.std.specs.List.{flat_map, list_any};
 ghost use Rattle.edit_fetch.specs.CurlConfig.{in_a_row, option_line, options_in, without_nuls};
@@ -8,27 +8,27 @@ use crate::curl_config::{push_bare, push_parting, push_valued};
 use crate::settings::NetSettings;
 use std::alloc::{AllocError, Global};
 
-/// An index entry that is to be fetched.
+/// A request for an index entry.
 #[derive(Debug, Drop)]
 pub struct Request<'a> {
     /// The number of its lookup, from 1.
     pub number: usize,
-    /// Where it is fetched, an `http` or `https` address.
+    /// The URL, of the scheme `http` or `https`.
     pub url: Vec<u8>,
-    /// The ETag of the cached entry, where that counts.
+    /// The ETag of the cached entry, if that is usable.
     pub etag: Option<String>,
-    /// The token of its registry, where there is one.
+    /// The token of the registry, if there is one.
     pub token: Option<&'a str>,
 }
 
-/// Whether an address is reached by TLS.
+/// Whether a URL has the scheme `https`.
 fn is_https(url: &[u8]) -> bool
     ensures { result ≡ is_https url.now }
 {
     url.starts_with(b"https://")
 }
 
-/// Whether an address begins with one of two texts.
+/// Whether a URL begins with one of two texts.
 #[tactic(auto, unfolding(crate::specs::Transfers::has_either))]
 fn has_either(url: &[u8], first: &[u8], second: &[u8]) -> bool
     ensures { result ≡ has_either url.now first.now second.now }
@@ -36,7 +36,7 @@ fn has_either(url: &[u8], first: &[u8], second: &[u8]) -> bool
     url.starts_with(first) || url.starts_with(second)
 }
 
-/// Whether an address names the loopback interface after its scheme.
+/// Whether a URL names the loopback interface directly after its scheme.
 fn begins_at_loopback(url: &[u8]) -> bool
     ensures { result ≡ begins_at_loopback url.now }
 {
@@ -45,28 +45,28 @@ fn begins_at_loopback(url: &[u8]) -> bool
         || has_either(url, b"http://[::1]/", b"http://[::1]:")
 }
 
-/// Whether `@` stands in an address.
+/// Whether a URL contains `@`.
 fn has_at_sign(url: &[u8]) -> bool
     ensures { result ≡ list_any (λ b. b == 64) url.now }
 {
     url.iter().any(|b| *b == b'@')
 }
 
-/// Whether an address is one of the loopback interface.
+/// Whether a URL leads to the loopback interface; one with `@` never counts.
 fn is_loopback(url: &[u8]) -> bool
     ensures { result ≡ is_loopback url.now }
 {
     !has_at_sign(url) && begins_at_loopback(url)
 }
 
-/// Whether a text may stand in a header: no control character is in it.
+/// Whether a text is allowed in a header: it contains no control character.
 pub fn is_header_text(text: &[u8]) -> bool
     ensures { result ≡ is_header_text text.now }
 {
     text.iter().all(|b| 32 <= *b && *b != 127)
 }
 
-/// A text, where it may stand in a header.
+/// Returns a text if it is allowed in a header.
 fn header_text<'a>(text: Option<&'a str>) -> Option<&'a str>
     ensures { option_map (λ t. t.now) result ≡ header_text (option_map (λ t. t.now) text.entry) }
 {
@@ -78,7 +78,7 @@ fn header_text<'a>(text: Option<&'a str>) -> Option<&'a str>
     }
 }
 
-/// The token that is sent.
+/// The token that is sent: only over TLS or to the loopback interface.
 fn sent_token<'a>(request: &Request<'a>) -> Option<&'a str>
     ensures token { option_map (λ t. t.now) result ≡ sent_token request.now }
     ensures secure { IsSome result → is_secure request.now.url.items ≡ true }
@@ -90,7 +90,7 @@ fn sent_token<'a>(request: &Request<'a>) -> Option<&'a str>
     }
 }
 
-/// Adds the header with the ETag of the cached entry.
+/// Appends the header `If-None-Match` with the ETag of the cached entry, if there is one.
 #[tactic(auto, unfolding(crate::specs::Transfers::etag_options))]
 fn push_etag(alloc: Global, text: &mut Vec<u8>, request: &Request<'_>) -> Result<(), AllocError>
     ensures { OnOk result (text.new.items
@@ -104,7 +104,7 @@ fn push_etag(alloc: Global, text: &mut Vec<u8>, request: &Request<'_>) -> Result
     Ok(())
 }
 
-/// Adds the header with a token, or that redirects are followed.
+/// Appends the header `Authorization` with the token or, without a token, the options that follow redirects.
 #[tactic(auto, unfolding(crate::specs::Transfers::token_options))]
 fn push_token(alloc: Global, text: &mut Vec<u8>, request: &Request<'_>) -> Result<(), AllocError>
     ensures { OnOk result (text.new.items
@@ -120,7 +120,7 @@ fn push_token(alloc: Global, text: &mut Vec<u8>, request: &Request<'_>) -> Resul
     Ok(())
 }
 
-/// The protocols that may be used, as curl has them.
+/// The protocols that curl may use, in its syntax.
 fn protocols(url: &[u8]) -> &'static str
     ensures { result.now ≡ protocols url.now }
 {
@@ -131,7 +131,7 @@ fn protocols(url: &[u8]) -> &'static str
     }
 }
 
-/// Adds the protocols that may be used.
+/// Appends the options for the protocols that curl may use.
 #[tactic(auto, unfolding(crate::specs::Transfers::protocol_options))]
 fn push_protocols(text: &mut Vec<u8>, url: &[u8]) -> Result<(), AllocError>
     ensures { OnOk result (text.new.items
@@ -143,14 +143,14 @@ fn push_protocols(text: &mut Vec<u8>, url: &[u8]) -> Result<(), AllocError>
     Ok(())
 }
 
-/// The path of a transfer's file.
+/// The path of a file of a transfer.
 fn numbered(alloc: Global, room: &str, number: usize, ending: &str) -> Result<String, AllocError>
     ensures { IfOk result (λ s. string_bytes s ≡ numbered room.now number ending.now) }
 {
     format!(in alloc; "{room}/{number}{ending}")
 }
 
-/// Adds where to get an entry, and where to put what comes.
+/// Appends the URL of an entry, and the options for the files with its body, its ETag and its outcome.
 #[tactic(auto, unfolding(crate::specs::Transfers::file_options))]
 fn push_files(
     alloc: Global,
@@ -174,7 +174,7 @@ fn push_files(
     Ok(())
 }
 
-/// Adds what all transfers have alike.
+/// Appends the options that all transfers share.
 #[tactic(auto, unfolding(crate::specs::Transfers::common_options))]
 fn push_common(text: &mut Vec<u8>) -> Result<(), AllocError>
     ensures { OnOk result (text.new.items ≡ text.old.items ++ flat_map option_line common_options) }
@@ -186,7 +186,7 @@ fn push_common(text: &mut Vec<u8>) -> Result<(), AllocError>
     Ok(())
 }
 
-/// Adds how long to wait, and how often to try again.
+/// Appends the timeouts and the number of retries.
 #[tactic(auto, unfolding(crate::specs::Transfers::time_options))]
 fn push_times(alloc: Global, text: &mut Vec<u8>, settings: &NetSettings) -> Result<(), AllocError>
     ensures { OnOk result (text.new.items
@@ -201,7 +201,7 @@ fn push_times(alloc: Global, text: &mut Vec<u8>, settings: &NetSettings) -> Resu
     Ok(())
 }
 
-/// Adds the proxy and the file of certificates, where settings name them.
+/// Appends the proxy and the file of certificates, if the settings have them.
 #[tactic(auto, unfolding(crate::specs::Transfers::named_options))]
 fn push_named(text: &mut Vec<u8>, settings: &NetSettings) -> Result<(), AllocError>
     ensures { OnOk result (text.new.items
@@ -216,7 +216,7 @@ fn push_named(text: &mut Vec<u8>, settings: &NetSettings) -> Result<(), AllocErr
     Ok(())
 }
 
-/// Adds the options of a transfer.
+/// Appends the options of a transfer.
 #[tactic(auto, unfolding(crate::specs::Transfers::transfer_options))]
 fn push_transfer(
     alloc: Global,
@@ -238,7 +238,7 @@ fn push_transfer(
     Ok(())
 }
 
-/// The lines of the options of transfers, parted by `next`.
+/// The lines of the options of transfers, separated by `next`.
 fn transfers_text(
     alloc: Global,
     settings: &NetSettings,
@@ -255,7 +255,7 @@ fn transfers_text(
     Ok(text)
 }
 
-/// The configuration of curl that fetches these entries, each into a file of the folder `room`.
+/// The configuration file of curl that fetches these entries, each into a file of the folder `room`.
 pub fn requests_text(
     alloc: Global,
     settings: &NetSettings,
@@ -263,7 +263,7 @@ pub fn requests_text(
     requests: &[Request<'_>],
 ) -> Result<Vec<u8>, AllocError>
     ensures text { IfOk result (λ v. v.items ≡ requests_text settings.now room.now requests.now) }
-    // no value ends its string or adds an option: curl reads these options and no others
+    // no value ends its string or adds an option: curl reads exactly these options
     ensures read { IfOk result (λ v. options_in v.items
         ≡ map without_nuls (in_a_row (map (transfer_options settings.now room.now) requests.now))) }
 {

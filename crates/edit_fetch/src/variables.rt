@@ -1,4 +1,4 @@
-//! Registries that variables of the environment define, as lines of a configuration file of cargo.
+//! Registries that environment variables define, as lines of a configuration file of cargo.
 ghost use Rattle.std.specs.Prelude.{◌≡◌, ◌++◌, ◌<◌, ◌==◌, IfOk, OnOk, length, map};
 ghost use Rattle.std.specs.List.{flat_map, list_any};
 ghost use Rattle.edit_fetch.specs.Variables.{dashed, dashed_byte, default_registry_text, is_between, is_index_variable, is_name, is_name_byte, key_byte, registry_key, registry_line, registry_lines, registry_part, variable_lines, variable_texts};
@@ -7,15 +7,15 @@ use crate::toml_text::push_value_line;
 use edit_sources::registry::CRATES_IO_INDEX;
 use std::alloc::{AllocError, Global};
 
-/// Whether a byte may stand in the part of a variable's name that is a registry's: a capital letter, a
-/// digit or `_`.
+/// Whether a byte is allowed in the registry's part of a variable's name: an upper-case letter, a digit or
+/// `_`.
 fn is_name_byte(byte: u8) -> bool
     ensures { result ≡ is_name_byte byte }
 {
     (b'A' <= byte && byte <= b'Z') || (b'0' <= byte && byte <= b'9') || byte == b'_'
 }
 
-/// What stands between `CARGO_REGISTRIES_` and `_INDEX`, where a name has more than these 23 bytes.
+/// The part of a variable's name between `CARGO_REGISTRIES_` and `_INDEX`, which have 23 bytes together.
 fn registry_part(name: &[u8]) -> &[u8]
     requires { 23 < length name.now }
     ensures { result.now ≡ registry_part name.now }
@@ -23,7 +23,7 @@ fn registry_part(name: &[u8]) -> &[u8]
     &name[17..name.len() - 6]
 }
 
-/// Whether a part of a variable's name can be that of a registry: capital letters, digits and `_`.
+/// Whether a part of a variable's name can name a registry: upper-case letters, digits and `_`.
 fn is_name(part: &[u8]) -> bool
     ensures { result ≡ is_name part.now }
 {
@@ -37,21 +37,21 @@ fn is_between(name: &[u8]) -> bool
     name.starts_with(b"CARGO_REGISTRIES_") && name.ends_with(b"_INDEX")
 }
 
-/// Whether a variable of this name has the address of a registry's index.
+/// Whether a variable of this name sets a registry's index.
 fn is_index_variable(name: &[u8]) -> bool
     ensures { result ≡ is_index_variable name.now }
 {
     23 < name.len() && is_between(name) && is_name(registry_part(name))
 }
 
-/// A byte of a registry's name as a key of a configuration has it: in small letters.
+/// Maps a byte of a variable's name to that of a key: in lower case.
 fn key_byte(byte: u8) -> u8
     ensures { result ≡ key_byte byte }
 {
     byte.to_ascii_lowercase()
 }
 
-/// The name of a registry as a key of a configuration.
+/// The key of a registry, from its part of a variable's name.
 fn registry_key(alloc: Global, part: &[u8]) -> Result<Vec<u8>, AllocError>
     ensures { IfOk result (λ v. v.items ≡ registry_key part.now) }
 {
@@ -62,14 +62,14 @@ fn registry_key(alloc: Global, part: &[u8]) -> Result<Vec<u8>, AllocError>
     Ok(key)
 }
 
-/// A byte of a key, `-` for `_`.
+/// Returns `-` for `_`, and any other byte unchanged.
 fn dashed_byte(byte: u8) -> u8
     ensures { result ≡ dashed_byte byte }
 {
     if byte == b'_' { b'-' } else { byte }
 }
 
-/// A key with `-` for each `_`.
+/// Replaces each `_` of a key by `-`.
 fn dashed(alloc: Global, key: &[u8]) -> Result<Vec<u8>, AllocError>
     ensures { IfOk result (λ v. v.items ≡ dashed key.now) }
 {
@@ -80,7 +80,7 @@ fn dashed(alloc: Global, key: &[u8]) -> Result<Vec<u8>, AllocError>
     Ok(dashed)
 }
 
-/// Adds the line that gives a registry its index.
+/// Appends the line that sets the index of a registry.
 #[tactic(auto, unfolding(crate::specs::Variables::registry_line))]
 fn push_registry(text: &mut Vec<u8>, key: &[u8], index: &[u8]) -> Result<(), AllocError>
     ensures { OnOk result (text.new.items ≡ text.old.items ++ registry_line key.now index.now) }
@@ -92,15 +92,15 @@ fn push_registry(text: &mut Vec<u8>, key: &[u8], index: &[u8]) -> Result<(), All
     Ok(())
 }
 
-/// Whether `_` stands in a key.
+/// Whether a key contains `_`.
 fn has_underscore(key: &[u8]) -> bool
     ensures { result ≡ list_any (λ b. b == 95) key.now }
 {
     key.iter().any(|b| *b == b'_')
 }
 
-/// Adds the lines that give a registry its index: one for its key, and where `_` stands in that, one for
-/// the key with `-` in place of it.
+/// Appends the lines that set the index of a registry: one for its key and, where the key contains `_`,
+/// another for the key with `-` instead.
 #[tactic(auto, unfolding(crate::specs::Variables::registry_lines))]
 fn push_both(alloc: Global, text: &mut Vec<u8>, key: &[u8], index: &[u8]) -> Result<(), AllocError>
     ensures { OnOk result (text.new.items ≡ text.old.items ++ registry_lines key.now index.now) }
@@ -113,7 +113,7 @@ fn push_both(alloc: Global, text: &mut Vec<u8>, key: &[u8], index: &[u8]) -> Res
     Ok(())
 }
 
-/// Adds the lines of a variable.
+/// Appends the lines for a variable: none, unless it sets a registry's index.
 #[tactic(auto, unfolding(crate::specs::Variables::variable_lines))]
 fn push_variable(
     alloc: Global,
@@ -130,11 +130,12 @@ fn push_variable(
     push_both(alloc, text, &key, value)
 }
 
-/// The lines of a configuration file for the registries that variables of the environment define.
+/// The lines of a configuration file for the registries that environment variables define (Cargo reference,
+/// "Environment Variables").
 ///
-/// A variable `CARGO_REGISTRIES_NAME_INDEX`, where NAME is of capital letters, digits and `_`, gives the
-/// index of the registry `name`; where `_` stands in NAME, also that of the registry with `-` for each `_`,
-/// since cargo writes both so. Other variables give no line. A value may be any text.
+/// A variable `CARGO_REGISTRIES_NAME_INDEX`, where NAME consists of upper-case letters, digits and `_`, sets
+/// the index of the registry `name`; where NAME contains `_`, also that of the registry with `-` for each
+/// `_`, since cargo maps both names to this variable. Other variables are ignored. A value may be any text.
 pub fn variables_text(alloc: Global, variables: &[(String, String)]) -> Result<Vec<u8>, AllocError>
     ensures { IfOk result (λ v. v.items ≡ flat_map variable_lines (map variable_texts variables.now)) }
 {
@@ -145,7 +146,7 @@ pub fn variables_text(alloc: Global, variables: &[(String, String)]) -> Result<V
     Ok(text)
 }
 
-/// The line of a configuration file for what cargo has built in: the address of the default registry's index.
+/// The line of a configuration file for cargo's built-in default: the URL of the default registry's index.
 pub fn default_registry_text(alloc: Global) -> Result<Vec<u8>, AllocError>
     ensures { IfOk result (λ v. v.items ≡ default_registry_text) }
 {

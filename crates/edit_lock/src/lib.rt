@@ -1,4 +1,4 @@
-//! Which calls of `cargo update` are right against a `Cargo.lock`.
+//! Adapts calls of `cargo update` to a `Cargo.lock` that has changed since they were planned.
 #![tactic(auto)]
 
 mod calls_file;

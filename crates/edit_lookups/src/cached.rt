@@ -1,4 +1,4 @@
-//! Where entries stand in the cache.
+//! The paths of index entries in the cache.
 ghost use Rattle.std.specs.Prelude.{◌≡◌, IfOk, string_bytes};
 ghost use Rattle.edit_sources.specs.Folders.{registry_folder};
 ghost use Rattle.edit_lookups.specs.Cached.{cached_path, validator_path};
@@ -11,7 +11,7 @@ use edit_sources::index_dir::folder::ESCAPED;
 use percent_encoding::utf8_percent_encode;
 use std::alloc::{AllocError, Global};
 
-/// The folder of a registry: its address, each `%` as `%25` and each `/` as `%2F`.
+/// The name of a registry's folder: its address, with `%25` for each `%` and `%2F` for each `/`.
 pub fn registry_folder(alloc: Global, address: &str) -> Result<String, AllocError>
     ensures { IfOk result (λ s. string_bytes s ≡ registry_folder address.now) }
 {
@@ -20,7 +20,7 @@ pub fn registry_folder(alloc: Global, address: &str) -> Result<String, AllocErro
     Ok(folder)
 }
 
-/// The folder of a registry in the cache: that of its address without userinfo.
+/// The name of a registry's folder in the cache: that of its address without userinfo.
 fn cached_folder(alloc: Global, address: &str) -> Result<String, AllocError>
     ensures { IfOk result (λ s. string_bytes s ≡ registry_folder (shown_address address.now)) }
 {
@@ -28,7 +28,7 @@ fn cached_folder(alloc: Global, address: &str) -> Result<String, AllocError>
     registry_folder(alloc, shown.as_str())
 }
 
-/// The file of an entry in the cache.
+/// The path of an index entry in the cache.
 pub fn cached_path(alloc: Global, cache: &str, lookup: &Lookup) -> Result<String, AllocError>
     ensures { IfOk result (λ s. string_bytes s ≡ cached_path cache.now (lookup_text lookup.now)) }
 {
@@ -37,7 +37,7 @@ pub fn cached_path(alloc: Global, cache: &str, lookup: &Lookup) -> Result<String
     format!(in alloc; "{cache}/{folder}/{path}")
 }
 
-/// The file of the validator of an entry, beside the entry's file.
+/// The path of the validator of a cached entry, beside the entry.
 pub fn validator_path(alloc: Global, entry: &str) -> Result<String, AllocError>
     ensures { IfOk result (λ s. string_bytes s ≡ validator_path entry.now) }
 {

@@ -1,11 +1,11 @@
-//! Texts without control characters, for messages.
+//! Escapes control characters for messages.
 ghost use Rattle.std.specs.Prelude.{◌≡◌, ◌++◌, OnOk, string_bytes};
 ghost use Rattle.edit_lookups.specs.Escaped.{escaped, escaped_char};
 
 use std::alloc::AllocError;
 use std::fmt::Write;
 
-/// Adds a character, or its number where it is a control character: `\u{1b}`.
+/// Appends a character; a control character as its code point in hex digits: `\u{1b}`.
 fn push_char(to: &mut String, c: char) -> Result<(), AllocError>
     ensures { OnOk result (string_bytes to.new ≡ string_bytes to.old ++ escaped_char c) }
 {
@@ -16,7 +16,7 @@ fn push_char(to: &mut String, c: char) -> Result<(), AllocError>
     to.push(c)
 }
 
-/// Adds a text, each control character as its number: `\u{1b}`.
+/// Appends a text, each control character as its code point in hex digits: `\u{1b}`.
 pub fn push_escaped(to: &mut String, text: &str) -> Result<(), AllocError>
     ensures { OnOk result (string_bytes to.new ≡ string_bytes to.old ++ escaped text.now) }
 {

@@ -1,5 +1,5 @@
-//! The index entries that an upgrade looks up: their lines, their files in the cache, the validators beside
-//! those files, and how messages show them.
+//! The index entries that an upgrade looks up: as lines of a file, their paths in the cache, the validators
+//! beside them, and their addresses in messages.
 #![tactic(auto)]
 
 pub mod cached;

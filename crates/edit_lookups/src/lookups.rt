@@ -1,4 +1,4 @@
-//! Lookups as lines.
+//! Lookups as lines of a file.
 ghost use Rattle.std.specs.Prelude.{◌≡◌, List, false, true, IfOk, MatchOption, map};
 ghost use Rattle.edit_lookups.specs.Lookups.{HasNo, IsLookup, LookupText, SaysLookups, lookup_line, lookup_text};
 
@@ -13,7 +13,7 @@ pub struct Lookup<'a> {
     pub path: &'a str,
 }
 
-/// Whether a text has a tab.
+/// Whether a text contains a tab.
 fn has_tab(text: &str) -> bool
     ensures free { result ≡ false → HasNo 9 text.now }
     ensures found { result ≡ true → HasNo 9 text.now → ⊥ }
@@ -21,7 +21,7 @@ fn has_tab(text: &str) -> bool
     text.as_bytes().iter().any(|b| *b == b'\t')
 }
 
-/// The lookup of a line, without its line end; none where the line is not three texts parted by tabs.
+/// Parses a line without its line end; `None` where it is not three fields separated by tabs.
 fn read_line<'a>(line: &'a str) -> Option<Lookup<'a>>
     requires { HasNo 10 line.now }
     ensures { MatchOption result ((l : LookupText) → IsLookup l → line.now ≡ lookup_line l → ⊥)
@@ -43,7 +43,8 @@ fn read_line<'a>(line: &'a str) -> Option<Lookup<'a>>
     })
 }
 
-/// The lookups of a text, in order; none where a line is not three texts parted by tabs with a line end.
+/// Parses a text of lookups, in order; `None` where a line is not three fields separated by tabs with a line
+/// end.
 pub fn read_lookups<'a>(alloc: Global, text: &'a str) -> Result<Option<Vec<Lookup<'a>>>, AllocError>
     ensures { IfOk result (λ o. MatchOption o ((ls : List LookupText) → SaysLookups text.now ls → ⊥)
         (λ v. SaysLookups text.now (map lookup_text v.items))) }

@@ -4,15 +4,15 @@ ghost use Rattle.edit_lookups.specs.Shown.{ends_authority, shown_address, userin
 
 use std::alloc::{AllocError, Global};
 
-/// Whether a byte ends the part of an address that names the host: `/`, `?` or `#`.
+/// Whether a byte ends the authority of a URL: `/`, `?` or `#`.
 fn ends_authority(b: u8) -> bool
     ensures { result ≡ ends_authority b }
 {
     b == b'/' || b == b'?' || b == b'#'
 }
 
-/// How many bytes come up to the last `@` before the first `/`, `?` or `#`, with that `@`; 0 where there is
-/// none.
+/// The length of the userinfo at the start of a text, with its `@`: up to the last `@` before the first `/`,
+/// `?` or `#`; 0 where there is none.
 fn userinfo_len(text: &[u8]) -> usize
     ensures len { result ≡ userinfo_len text.now }
     ensures within { result ≤ length text.now }
@@ -30,7 +30,7 @@ fn userinfo_len(text: &[u8]) -> usize
     len
 }
 
-/// What stands behind the userinfo at the front of a text.
+/// The text after the userinfo at its start.
 fn without_userinfo(text: &str) -> &str
     ensures { result.now ≡ drop (userinfo_len text.now) text.now }
 {
@@ -38,17 +38,17 @@ fn without_userinfo(text: &str) -> &str
     &text[len..]
 }
 
-/// A scheme, `//` and what follows them.
+/// Joins a scheme, `//` and a text.
 fn with_scheme(alloc: Global, scheme: &str, rest: &str) -> Result<String, AllocError>
     ensures { IfOk result (λ s. string_bytes s ≡ scheme.now ++ codes "//" ++ rest.now) }
 {
     format!(in alloc; "{scheme}//{rest}")
 }
 
-/// An address without userinfo, for messages and for the names of folders.
+/// Removes the userinfo from an address, for messages and for the names of folders.
 ///
-/// The userinfo is what stands between `//` and the last `@` before the next `/`, `?` or `#`. It is taken out
-/// with that `@`. The `//` are the first two slashes of the address, where they stand together.
+/// The userinfo is the text between `//` and the last `@` before the next `/`, `?` or `#`. It is removed
+/// with that `@`. The `//` has to begin at the first slash of the address.
 pub fn shown_address(alloc: Global, address: &str) -> Result<String, AllocError>
     ensures { IfOk result (λ s. string_bytes s ≡ shown_address address.now) }
 {

@@ -1,4 +1,4 @@
-//! Validators: the ETag of an answer, with the SHA-256 of the body that came with it.
+//! Validators of cached entries: the ETag of a response, with the SHA-256 of its body.
 ghost use Rattle.std.specs.Prelude.{◌≡◌, ◌∷◌, ◌++◌, ℕ, List, [], Option, Some, false, true, IfOk, IfSome, IsSomeAnd, MatchOption, length, string_bytes};
 ghost use Rattle.hex.specs.Hex.{encode_lower};
 ghost use Rattle.sha2.specs.Sha256.{sha256};
@@ -17,7 +17,7 @@ fn sum_of(alloc: Global, body: &[u8]) -> Result<String, AllocError>
     encode(alloc, Sha256::digest(body))
 }
 
-/// The validator of a body: the SHA-256 in hex digits, a space, the ETag and a line end.
+/// The validator of a body: its SHA-256 in hex digits, a space, the ETag and a line end.
 pub fn validator_line(alloc: Global, body: &[u8], etag: &str) -> Result<Vec<u8>, AllocError>
     ensures { IfOk result (λ v. v.items ≡ validator_line body.now etag.now) }
 {
@@ -29,7 +29,7 @@ pub fn validator_line(alloc: Global, body: &[u8], etag: &str) -> Result<Vec<u8>,
     Ok(line)
 }
 
-/// Whether a line end stands in a text.
+/// Whether a text contains a line feed.
 fn has_line_end(text: &[u8]) -> bool
     ensures free { result ≡ false → HasNo 10 text.now }
     ensures found { result ≡ true → HasNo 10 text.now → ⊥ }
@@ -37,7 +37,7 @@ fn has_line_end(text: &[u8]) -> bool
     text.iter().any(|b| *b == b'\n')
 }
 
-/// The text between the first 65 bytes of a line, those of the sum and the space, and its line end.
+/// The text of a validator between its first 65 bytes, the checksum and the space, and its line end.
 fn etag_in(line: &[u8]) -> Option<&str>
     ensures valid { IfSome result (λ e. IsEtag e.now) }
     ensures found { (sum etag : List ℕ) → length sum ≡ 64 → IsEtag etag
@@ -56,7 +56,7 @@ fn etag_in(line: &[u8]) -> Option<&str>
     }
 }
 
-/// The ETag of a validator, where the validator belongs to the body: its sum is the SHA-256 of the body.
+/// The ETag of a validator, if the validator belongs to the body: its checksum is the SHA-256 of the body.
 pub fn usable_etag<'a>(
     alloc: Global,
     body: &[u8],

@@ -1,4 +1,4 @@
-//! The tables that dependencies stand in.
+//! The dependency tables of a manifest.
 ghost use Rattle.std.specs.Prelude.{◌≡◌, None, Some, IfErr, IfOk};
 ghost use Rattle.edit_base.specs.Errors.{IsMemory};
 ghost use Rattle.edit_manifest.specs.Kinds.{kind_name, is_kind};
@@ -8,7 +8,7 @@ ghost use Rattle.edit_manifest.specs.declared.dep_table.DepKind.TheVariants.{Nor
 use edit_base::errors::CargoResult;
 use std::alloc::Global;
 
-/// A kind of dependencies.
+/// A kind of dependency.
 #[derive(Clone, Copy, Debug, PartialEq, Eq, PartialOrd, Ord, Hash)]
 pub enum DepKind {
     Normal,
@@ -19,29 +19,29 @@ pub enum DepKind {
 /// The name of the table of normal dependencies.
 pub(crate) const NORMAL: &str = "dependencies";
 
-/// The name of the table of dependencies for development.
+/// The name of the table of development dependencies.
 const DEVELOPMENT: &str = "dev-dependencies";
 
-/// The name of the table of dependencies of build scripts.
+/// The name of the table of build dependencies.
 const BUILD: &str = "build-dependencies";
 
-/// Whether a name is that of the table of a kind.
+/// Whether a name is that of a dependency table.
 pub(crate) fn is_kind(name: &str) -> bool
     ensures { result ≡ is_kind name.now }
 {
     name == NORMAL || name == DEVELOPMENT || name == BUILD
 }
 
-/// A table of dependencies: of a kind, and perhaps for one target alone.
+/// A dependency table: its kind, and its target if it has one.
 #[derive(Debug, PartialEq, Eq, Drop)]
 pub struct DepTable {
     pub kind: DepKind,
-    /// The platform, where the table is for one alone.
+    /// The target, if the table is specific to one.
     pub target: Option<String>,
 }
 
 impl DepTable {
-    /// The table of normal dependencies, for every target.
+    /// Returns the table of normal dependencies, for every target.
     pub fn new() -> DepTable
         ensures { result ≡ record { kind = Normal; target = None } }
     {
@@ -51,14 +51,14 @@ impl DepTable {
         }
     }
 
-    /// The table of another kind.
+    /// Returns the table with its kind replaced.
     pub fn set_kind(self, kind: DepKind) -> DepTable
         ensures { result ≡ record self { kind = kind } }
     {
         DepTable { kind, ..self }
     }
 
-    /// The table for one target alone.
+    /// Returns the table with its target set.
     pub fn set_target(self, alloc: Global, target: &str) -> CargoResult<DepTable>
         ensures ok { IfOk result (λ t. table_view t ≡ (self.kind, Some target.now)) }
         ensures refused { IfErr result IsMemory }
@@ -81,7 +81,7 @@ impl DepTable {
         }
     }
 
-    /// The same table on memory of its own.
+    /// Returns a deep copy of the table.
     pub fn try_clone(&self, _alloc: Global) -> CargoResult<DepTable>
         ensures same { IfOk result (λ t. table_view t ≡ table_view self.now) }
         ensures refused { IfErr result IsMemory }

@@ -1,4 +1,4 @@
-//! The entries of a manifest's dependency tables, and what each says.
+//! The entries of a manifest's dependency tables, each read as a `Dependency`.
 
 mod found;
 mod places;

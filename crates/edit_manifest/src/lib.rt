@@ -1,4 +1,4 @@
-//! Manifests: their dependency tables and versions, and where they stand.
+//! Manifests: how they are found and read, their dependency tables, and their versions.
 #![tactic(auto)]
 
 pub mod dep_table;

@@ -14,14 +14,14 @@ use edit_store::Store;
 use std::alloc::Global;
 use std::ops::{Deref, DerefMut};
 
-/// A manifest that stands in a file.
+/// A manifest with the path of its file.
 #[derive(Debug, Drop)]
 pub struct LocalManifest {
     pub path: String,
     pub manifest: Manifest,
 }
 
-/// The refusal of a path that is not absolute.
+/// Returns `Error::NotAbsolute` for a path.
 fn not_absolute(alloc: Global, path: &str) -> Error
     ensures { IsMemory result ⊎ NamesPath path.now result }
 {
@@ -31,7 +31,7 @@ fn not_absolute(alloc: Global, path: &str) -> Error
     }
 }
 
-/// Reads the manifest that stands at a path.
+/// Reads the manifest at a path.
 fn load<S: Store>(alloc: Global, store: &mut S, path: String) -> CargoResult<LocalManifest>
     ensures store { OnlyReads (S.view store.old) (S.view store.new) }
     ensures path { IfOk result (λ m. m.path ≡ path) }
@@ -41,7 +41,7 @@ fn load<S: Store>(alloc: Global, store: &mut S, path: String) -> CargoResult<Loc
         IsFault call.Read (S.view store.old).faults (S.view store.new).faults e
         ⊎ ((S.view store.old).tells ≡ true
         → IsUnread ((S.view store.old).file_at (string_bytes path)) e)) }
-    // over any store
+    // for any store
     ensures only { IfErr result (λ e. IsFault call.Read (S.view store.old).faults (S.view store.new).faults e
         ⊎ IsReadError e) }
 {
@@ -56,7 +56,7 @@ fn load<S: Store>(alloc: Global, store: &mut S, path: String) -> CargoResult<Loc
 }
 
 impl LocalManifest {
-    /// Finds a manifest, as `find`, and reads it, as `try_new`.
+    /// Finds a manifest as the function `find` does, and reads it as `try_new` does.
     pub fn find<S: Store>(
         alloc: Global,
         store: &mut S,
@@ -69,7 +69,7 @@ impl LocalManifest {
             (option_map (λ s. s.now) specified.entry) (string_bytes m.path) m.manifest.document.bytes) }
         ensures refused { IfErr result (IsUnfoundOrUnread (S.view store.old) (S.view store.new)
             current.now (option_map (λ s. s.now) specified.entry)) }
-        // over any store
+        // for any store
         ensures only { IfErr result (λ e.
             IsFault call.Kind (S.view store.old).faults (S.view store.new).faults e
             ⊎ (IsFault call.Read (S.view store.old).faults (S.view store.new).faults e
@@ -79,9 +79,9 @@ impl LocalManifest {
         load(alloc, store, path)
     }
 
-    /// Reads the manifest at an absolute path. `NotAbsolute` where the path is not absolute, `Device` where
-    /// the device fails, `NoManifest` where no file stands there, and `NotUtf8` and `NotToml` where its bytes
-    /// are not UTF-8 or no TOML document.
+    /// Reads the manifest at an absolute path. `Error::NotAbsolute` where the path is not absolute,
+    /// `Error::Device` where the device fails, `Error::NoManifest` where no file exists at the path, and
+    /// `Error::NotUtf8` or `Error::NotToml` where its bytes are not UTF-8 or not TOML.
     pub fn try_new<S: Store>(alloc: Global, store: &mut S, path: &str) -> CargoResult<LocalManifest>
         ensures store { OnlyReads (S.view store.old) (S.view store.new) }
         ensures path { IfOk result (λ m. string_bytes m.path ≡ path.now) }
@@ -89,7 +89,7 @@ impl LocalManifest {
         ensures read { IfOk result (λ m. (S.view store.old).tells ≡ true
             → (S.view store.old).file_at path.now ≡ Some m.manifest.document.bytes) }
         ensures refused { IfErr result (IsUnloaded (S.view store.old) (S.view store.new) path.now) }
-        // over any store
+        // for any store
         ensures only { IfErr result (λ e.
             IsFault call.Read (S.view store.old).faults (S.view store.new).faults e
             ⊎ (((is_absolute path.now ≡ false) × NamesPath path.now e) ⊎ IsReadError e)) }
@@ -101,7 +101,7 @@ impl LocalManifest {
         load(alloc, store, path)
     }
 
-    /// Writes the manifest to its file; refused with 3 where the device fails.
+    /// Writes the manifest to its file; `Error::Device` where the device fails.
     pub fn write<S: Store>(&self, alloc: Global, store: &mut S) -> CargoResult<()>
         ensures tells { (S.view store.new).tells ≡ (S.view store.old).tells }
         ensures written { OnOk result ((S.view store.old).tells ≡ true

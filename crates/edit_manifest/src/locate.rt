@@ -1,4 +1,4 @@
-//! Where a manifest stands.
+//! Finds manifests.
 ghost use Rattle.std.specs.Prelude.{◌≡◌, ◌⊎◌, true, IfErr, IfOk, MatchBool, MatchOption, option_map, string_bytes};
 ghost use Rattle.edit_base.specs.Errors.{IsMemory};
 ghost use Rattle.edit_base.specs.declared.errors.DeviceCall.TheVariants as call;
@@ -11,7 +11,7 @@ use edit_base::{CargoResult, Error};
 use edit_store::{Kind, Store};
 use std::alloc::Global;
 
-/// Whether a file or a folder stands at a path.
+/// Whether a file or a folder exists at a path.
 fn is_there<S: Store>(alloc: Global, store: &mut S, path: &str) -> CargoResult<bool>
     ensures store { OnlyReads (S.view store.old) (S.view store.new) }
     ensures there { IfOk result (λ b. (S.view store.old).tells ≡ true
@@ -28,7 +28,7 @@ fn is_there<S: Store>(alloc: Global, store: &mut S, path: &str) -> CargoResult<b
     }
 }
 
-/// The manifest in a folder, none where none stands there.
+/// The path of the manifest in a folder, if it exists.
 fn manifest_at<S: Store>(alloc: Global, store: &mut S, dir: &str) -> CargoResult<Option<String>>
     ensures store { OnlyReads (S.view store.old) (S.view store.new) }
     ensures found { IfOk result (λ o. (S.view store.old).tells ≡ true
@@ -46,7 +46,7 @@ fn manifest_at<S: Store>(alloc: Global, store: &mut S, dir: &str) -> CargoResult
     }
 }
 
-/// The refusal where no folder from this one upwards has a manifest.
+/// Returns `Error::ManifestNotFound` for the folder where a search started.
 fn not_found(alloc: Global, start: &str) -> Error
     ensures { IsMemory result ⊎ NamesFolder start.now result }
 {
@@ -56,7 +56,7 @@ fn not_found(alloc: Global, start: &str) -> Error
     }
 }
 
-/// The first `Cargo.toml` from a folder upwards.
+/// The path of the first `Cargo.toml` from a folder upwards.
 fn search<S: Store>(alloc: Global, store: &mut S, start: &str) -> CargoResult<String>
     ensures store { OnlyReads (S.view store.old) (S.view store.new) }
     ensures found { IfOk result (λ p. (S.view store.old).tells ≡ true
@@ -64,7 +64,7 @@ fn search<S: Store>(alloc: Global, store: &mut S, start: &str) -> CargoResult<St
     ensures refused { IfErr result (λ e.
         IsFault call.Kind (S.view store.old).faults (S.view store.new).faults e
         ⊎ ((S.view store.old).tells ≡ true → IsNotFound (S.view store.old).file_at start.now e)) }
-    // over any store
+    // for any store
     ensures only { IfErr result (λ e. IsFault call.Kind (S.view store.old).faults (S.view store.new).faults e
         ⊎ NamesFolder start.now e) }
 {
@@ -81,7 +81,7 @@ fn search<S: Store>(alloc: Global, store: &mut S, start: &str) -> CargoResult<St
     }
 }
 
-/// The file at a path, or the manifest of the folder at it.
+/// The path itself if it is a file; if it is a folder, the first `Cargo.toml` from there upwards.
 fn find_at<S: Store>(alloc: Global, store: &mut S, path: String) -> CargoResult<String>
     ensures store { OnlyReads (S.view store.old) (S.view store.new) }
     ensures found { IfOk result (λ p. (S.view store.old).tells ≡ true
@@ -90,7 +90,7 @@ fn find_at<S: Store>(alloc: Global, store: &mut S, path: String) -> CargoResult<
         IsFault call.Kind (S.view store.old).faults (S.view store.new).faults e
         ⊎ ((S.view store.old).tells ≡ true
         → IsUnfound (S.view store.old).file_at (string_bytes path) e)) }
-    // over any store
+    // for any store
     ensures only { IfErr result (λ e. IsFault call.Kind (S.view store.old).faults (S.view store.new).faults e
         ⊎ ((e ≡ NoPath) ⊎ NamesFolder (string_bytes path) e)) }
 {
@@ -102,9 +102,10 @@ fn find_at<S: Store>(alloc: Global, store: &mut S, path: String) -> CargoResult<
     }
 }
 
-/// The path of a manifest: the file that is specified, or the nearest `Cargo.toml` from the folder that is
-/// specified upwards; where none is, from the current folder upwards. A relative path starts in the current
-/// folder. `NoPath` where nothing stands at the path, `ManifestNotFound` where no folder has a `Cargo.toml`.
+/// Finds a manifest: the specified file, or the nearest `Cargo.toml` from the specified folder upwards;
+/// without `specified`, from the current folder upwards. A relative path is joined to the current folder.
+/// `Error::NoPath` where nothing exists at the path, and `Error::ManifestNotFound` where no folder has a
+/// `Cargo.toml`.
 pub fn find<S: Store>(
     alloc: Global,
     store: &mut S,
@@ -119,7 +120,7 @@ pub fn find<S: Store>(
         IsFault call.Kind (S.view store.old).faults (S.view store.new).faults e
         ⊎ ((S.view store.old).tells ≡ true → HasNoManifest (S.view store.old).file_at current.now e
         (option_map (λ s. s.now) specified.entry))) }
-    // over any store
+    // for any store
     ensures only { IfErr result (λ e. IsFault call.Kind (S.view store.old).faults (S.view store.new).faults e
         ⊎ NamesStart current.now (option_map (λ s. s.now) specified.entry) e) }
 {

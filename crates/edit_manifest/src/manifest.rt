@@ -1,4 +1,4 @@
-//! A manifest as a document.
+//! A manifest as a TOML document.
 ghost use Rattle.edit_document.specs.Forms.{IfDocument};
 ghost use Rattle.std.specs.Prelude.{◌≡◌, Some, IfErr, IfOk, IsUtf8, MatchResult, OnOk, length};
 ghost use Rattle.edit_base.specs.Errors.{IsMemory};
@@ -13,14 +13,14 @@ use edit_document::Document;
 use std::alloc::Global;
 use std::fmt;
 
-/// A manifest.
+/// A manifest as a TOML document.
 #[derive(Drop)]
 pub struct Manifest {
     pub document: Document,
 }
 
 impl Manifest {
-    /// Reads a text. What is no TOML document is refused, with a byte near which it goes wrong.
+    /// Parses a text. `Error::NotToml`, with a byte offset near the error, where it is not TOML.
     pub fn read(alloc: Global, text: &str) -> CargoResult<Manifest>
         ensures bytes { IfOk result (λ m. m.document.bytes ≡ text.now) }
         ensures found { IfOk result
@@ -33,8 +33,8 @@ impl Manifest {
         Ok(Manifest { document })
     }
 
-    /// Reads the bytes of a file. They are refused with 2 where they are not UTF-8, and else with 1 where
-    /// they are no TOML document.
+    /// Parses the bytes of a file. `Error::NotUtf8` where they are not UTF-8, else `Error::NotToml` where
+    /// they are not TOML.
     pub fn read_bytes(alloc: Global, bytes: &[u8]) -> CargoResult<Manifest>
         ensures bytes { IfOk result (λ m. m.document.bytes ≡ bytes.now) }
         ensures utf8 { OnOk result (IsUtf8 bytes.now) }
@@ -48,7 +48,7 @@ impl Manifest {
         Manifest::read(alloc, text)
     }
 
-    /// A manifest of the same text, which shows the same.
+    /// Returns a deep copy of the manifest.
     pub fn try_clone(&self, alloc: Global) -> CargoResult<Manifest>
         ensures same { IfOk result (λ m. m ≡ self.now) }
         ensures refused { IfErr result IsMemory }

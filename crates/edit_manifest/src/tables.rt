@@ -1,4 +1,4 @@
-//! The dependency tables of a manifest, found in a walk down its tree.
+//! Finds the dependency tables of a manifest.
 ghost use Rattle.std.specs.Prelude.{◌≡◌, ◌++◌, IfErr, IfOk, OnOk, map, option_map};
 ghost use Rattle.edit_base.specs.Errors.{IsMemory};
 ghost use Rattle.edit_base.specs.Paths.{texts};
@@ -14,7 +14,7 @@ use edit_base::errors::CargoResult;
 use edit_document::{Document, Place};
 use std::alloc::{AllocError, Global};
 
-/// The place of these names, where a table or an inline table stands there.
+/// The place that these keys lead to, if it is a table or an inline table.
 fn table_at(alloc: Global, document: &Document, names: &[&str]) -> Result<Option<Place>, AllocError>
     ensures ok { IfOk result (λ o. option_map (λ p. place_seen p.items) o
         ≡ table_at (tree_of document.now) (texts names.now)) }
@@ -29,7 +29,7 @@ fn table_at(alloc: Global, document: &Document, names: &[&str]) -> Result<Option
     Ok(None)
 }
 
-/// Adds the place of these names, where a table or an inline table stands there.
+/// Appends the place that these keys lead to, if it is a table or an inline table.
 fn push_table(
     alloc: Global,
     document: &Document,
@@ -49,7 +49,7 @@ fn push_table(
     }
 }
 
-/// Adds the tables of a target, in the order of its members.
+/// Appends the dependency tables of a target, in the order of its keys.
 fn push_target(
     alloc: Global,
     document: &Document,
@@ -71,7 +71,7 @@ fn push_target(
     Ok(())
 }
 
-/// Adds the tables of all targets, target by target.
+/// Appends the dependency tables of all targets, target by target.
 fn push_targets(
     alloc: Global,
     document: &Document,
@@ -90,7 +90,7 @@ fn push_targets(
     Ok(())
 }
 
-/// Adds the table of the dependencies that the members of a workspace share.
+/// Appends `workspace.dependencies`, if it is a table or an inline table.
 fn push_shared(
     alloc: Global,
     document: &Document,
@@ -103,7 +103,7 @@ fn push_shared(
     push_table(alloc, document, &names, tables)
 }
 
-/// Adds the dependency tables that a member of the root is or has.
+/// Appends the dependency tables at or below a key of the root.
 fn push_under(
     alloc: Global,
     document: &Document,
@@ -125,9 +125,8 @@ fn push_under(
     Ok(())
 }
 
-/// The places of the dependency tables of a document, in the order of a walk down its tree, member by member:
-/// at the root those of the three kinds, `workspace.dependencies`, and those of the three kinds of each
-/// target.
+/// The places of the dependency tables of a document, in the order of its keys from the root down: the
+/// tables of the three kinds, `workspace.dependencies`, and the tables of the three kinds of each target.
 pub fn dependency_tables(alloc: Global, document: &Document) -> CargoResult<Vec<Place>>
     ensures ok { IfOk result (λ ps. places_seen ps.items ≡ dependency_tables (tree_of document.now)) }
     ensures refused { IfErr result IsMemory }
@@ -145,7 +144,7 @@ pub fn dependency_tables(alloc: Global, document: &Document) -> CargoResult<Vec<
 impl Manifest {
     ghost use Rattle.edit_manifest.specs.Tables.{shared};
 
-    /// The places of the dependency tables, in the order of a walk down the manifest, member by member.
+    /// The places of the dependency tables, in the order of the manifest's keys from the root down.
     pub fn get_dependency_tables_mut(&self, alloc: Global) -> CargoResult<Vec<Place>>
         ensures ok { IfOk result
             (λ ps. places_seen ps.items ≡ dependency_tables (tree_of self.now.document)) }
@@ -154,7 +153,7 @@ impl Manifest {
         dependency_tables(alloc, &self.document)
     }
 
-    /// The place of `workspace.dependencies`, where a table or an inline table stands there.
+    /// The place of `workspace.dependencies`, if it is a table or an inline table.
     pub fn get_workspace_dependency_table_mut(&self, alloc: Global) -> CargoResult<Option<Place>>
         ensures ok { IfOk result (λ o. option_map (λ p. place_seen p.items) o
             ≡ table_at (tree_of self.now.document) shared) }

@@ -1,4 +1,4 @@
-//! The versions of a package, of a workspace and of an entry.
+//! Reads and writes the versions of packages, workspaces and dependencies.
 ghost use Rattle.std.specs.Prelude.{◌≡◌, ◌⊎◌, Err, Ok, IfErr, IfOk, OnOk, option_map};
 ghost use Rattle.edit_base.specs.Errors.{IsMemory};
 ghost use Rattle.edit_base.specs.Paths.{texts};
@@ -17,7 +17,7 @@ use edit_version::read_version;
 use semver::Version;
 use std::alloc::Global;
 
-/// Writes a version in the place of the value at the place of these names.
+/// Replaces the value at these keys by a version; `Error::NoVersionPlace` where they lead to no value.
 fn set_version_at(
     alloc: Global,
     document: &mut Document,
@@ -38,14 +38,14 @@ fn set_version_at(
 }
 
 impl Manifest {
-    /// Whether the package takes its version from the workspace: `package.version.workspace` is true.
+    /// Whether the package inherits its version from the workspace: `package.version.workspace` is true.
     pub fn version_is_inherited(&self) -> bool
         ensures { result ≡ is_inherited (tree_of self.now.document) }
     {
         truth_at(&self.document, "package", "version", "workspace").unwrap_or(false)
     }
 
-    /// The version at `workspace.package.version`, where a string stands there that is a version.
+    /// The version at `workspace.package.version`, if that is a string with a valid version.
     pub fn get_workspace_version(&self, alloc: Global) -> CargoResult<Option<Version>>
         ensures ok { IfOk result (λ o. option_map parts_of o
             ≡ workspace_version (tree_of self.now.document)) }
@@ -57,8 +57,8 @@ impl Manifest {
         }
     }
 
-    /// Writes a version in the place of the value at `package.version`, and nothing else. Where no value is
-    /// written there it is refused with 13.
+    /// Replaces the value of `package.version`, and nothing else. `Error::NoVersionPlace` where it is no
+    /// value.
     pub fn set_package_version(&mut self, alloc: Global, version: &Version) -> CargoResult<()>
         ensures set { OnOk result (SetsVersion package_version (version_text version.now)
             self.old.document self.new.document) }
@@ -68,7 +68,8 @@ impl Manifest {
         set_version_at(alloc, &mut self.document, &["package", "version"], version)
     }
 
-    /// The same at `workspace.package.version`.
+    /// Replaces the value of `workspace.package.version`, and nothing else. `Error::NoVersionPlace` where it
+    /// is no value.
     pub fn set_workspace_version(&mut self, alloc: Global, version: &Version) -> CargoResult<()>
         ensures set { OnOk result (SetsVersion shared_version (version_text version.now)
             self.old.document self.new.document) }
@@ -80,9 +81,9 @@ impl Manifest {
     }
 }
 
-/// The requirement of an entry: the string that it is, or the string at its member `version`. It is refused
-/// where a table has no such member (10), where that is no string (11), and where the entry is neither a
-/// string nor a table (12).
+/// The version requirement of an entry: the entry itself if it is a string, else the string of its key
+/// `version`. `Error::MissingVersion` where a table has no such key, `Error::VersionNotString` where that
+/// holds no string, and `Error::InvalidDependency` where the entry is neither a string nor a table.
 pub fn get_dep_version<'a>(item: Item<'a>) -> CargoResult<&'a str>
     ensures ok { IfOk result
         (λ s. dep_version (tree_of (document_of item.entry)) (item_place item.entry) ≡ Ok s.now) }
@@ -105,7 +106,7 @@ pub fn get_dep_version<'a>(item: Item<'a>) -> CargoResult<&'a str>
     }
 }
 
-/// Where the version of the entry at a place stands.
+/// The place of the version requirement of an entry.
 fn version_place(alloc: Global, document: &Document, place: &[Step]) -> CargoResult<Place>
     ensures ok { IfOk result (λ p. version_place (tree_of document.now) (place_seen place.now)
         ≡ Ok (place_seen p.items)) }
@@ -127,9 +128,9 @@ fn version_place(alloc: Global, document: &Document, place: &[Step]) -> CargoRes
     member_place(alloc, place, "version")
 }
 
-/// Writes another requirement in the place of that of the entry at a place, and nothing else: then
-/// `get_dep_version` answers it. It is refused where the entry has no member `version` (10), where it is
-/// neither a string nor a table (12), and where its `version` is no value (13).
+/// Replaces the version requirement of an entry, and nothing else: `get_dep_version` then returns it.
+/// `Error::MissingVersion` where the entry has no key `version`, `Error::InvalidDependency` where it is
+/// neither a string nor a table, and `Error::NoVersionPlace` where its `version` is not written as a value.
 pub fn set_dep_version(
     alloc: Global,
     document: &mut Document,

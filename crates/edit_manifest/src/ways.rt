@@ -1,4 +1,4 @@
-//! Places of members, one below the other.
+//! Places below the root of a document, by keys.
 ghost use Rattle.std.specs.Prelude.{◌≡◌, [], ◌∷◌, IfOk, option_and_then, option_map};
 ghost use Rattle.edit_base.specs.Paths.{texts};
 ghost use Rattle.edit_tree.specs.Assertions.{Place as PlaceSeen, at, key};
@@ -10,7 +10,7 @@ ghost use Rattle.edit_manifest.specs.Tables.{keyed};
 use edit_document::{Document, Item, Place, Step};
 use std::alloc::{AllocError, Global};
 
-/// The place of the members of these names, one below the other, from the root.
+/// The place that these keys lead to from the root.
 pub fn place_of(alloc: Global, names: &[&str]) -> Result<Place, AllocError>
     ensures ok { IfOk result (λ p. place_seen p.items ≡ keyed (texts names.now)) }
 {
@@ -22,7 +22,7 @@ pub fn place_of(alloc: Global, names: &[&str]) -> Result<Place, AllocError>
     Ok(place)
 }
 
-/// The member of an item, where there is one. It takes no memory.
+/// The value of a key in an item, if there is one. It allocates no memory.
 pub fn item_below<'a>(
     document: &'a Document,
     item: Option<Item<'a>>,
@@ -38,7 +38,7 @@ pub fn item_below<'a>(
     }
 }
 
-/// What stands at the place of three names. It takes no memory.
+/// The item that three keys lead to, if there is one. It allocates no memory.
 fn item_at<'a>(document: &'a Document, first: &str, second: &str, third: &str) -> Option<Item<'a>>
     ensures { Finds document.now (keyed (first.now ∷ second.now ∷ third.now ∷ [])) result }
 {
@@ -48,7 +48,7 @@ fn item_at<'a>(document: &'a Document, first: &str, second: &str, third: &str) -
     item_below(document, table, third)
 }
 
-/// The boolean at the place of three names.
+/// The boolean that three keys lead to, if there is one.
 pub(crate) fn truth_at(document: &Document, first: &str, second: &str, third: &str) -> Option<bool>
     ensures { result ≡ option_and_then truth_in
         (tree_of document.now (keyed (first.now ∷ second.now ∷ third.now ∷ []))) }
@@ -57,7 +57,7 @@ pub(crate) fn truth_at(document: &Document, first: &str, second: &str, third: &s
     item.as_bool()
 }
 
-/// The string at the place of three names.
+/// The string that three keys lead to, if there is one.
 pub(crate) fn string_at<'a>(
     document: &'a Document,
     first: &str,

@@ -1,4 +1,4 @@
-//! The fields of a package, on memory of their own.
+//! Reads the members of a package in the output of `cargo metadata`.
 ghost use Rattle.std.specs.Prelude.{◌≡◌, None, Some, true, IfErr, IfOk, MatchResult, option_map, string_bytes};
 ghost use Rattle.edit_base.specs.Errors.{IsMemory};
 ghost use Rattle.edit_metadata.specs.Metadata.{is_absolute, maybe_text_at, rust_version_said, text_at, version_said};
@@ -14,7 +14,7 @@ use semver::Version;
 use serde_json::Value;
 use std::alloc::Global;
 
-/// The text of a member.
+/// The string of a member; `Error::Metadata` where it holds no string.
 pub(crate) fn text(alloc: Global, value: &Value, name: &str) -> CargoResult<String>
     ensures { MatchResult result (λ s. text_at name.now (view value.now) ≡ Some (string_bytes s))
         (IsUnsaid (λ t. text_at name.now (view value.now) ≡ Some t)) }
@@ -25,7 +25,7 @@ pub(crate) fn text(alloc: Global, value: &Value, name: &str) -> CargoResult<Stri
     }
 }
 
-/// The text of a member that is an absolute path.
+/// The string of a member, which has to be an absolute path; otherwise `Error::Metadata`.
 pub(crate) fn path(alloc: Global, value: &Value, name: &str) -> CargoResult<String>
     ensures { MatchResult result (λ s. (text_at name.now (view value.now) ≡ Some (string_bytes s))
         × (is_absolute (string_bytes s) ≡ true))
@@ -38,7 +38,7 @@ pub(crate) fn path(alloc: Global, value: &Value, name: &str) -> CargoResult<Stri
     Ok(path)
 }
 
-/// The text of a member that may be left out or null.
+/// The string of a member that may be absent or null; `Error::Metadata` where it holds anything else.
 pub(crate) fn maybe_text(alloc: Global, value: &Value, name: &str) -> CargoResult<Option<String>>
     ensures { MatchResult result
         (λ s. maybe_text_at name.now (view value.now) ≡ Some (option_map string_bytes s))
@@ -51,7 +51,7 @@ pub(crate) fn maybe_text(alloc: Global, value: &Value, name: &str) -> CargoResul
     }
 }
 
-/// The version of a package.
+/// The version of a package; `Error::Metadata` where it is no version.
 pub(crate) fn version(alloc: Global, value: &Value) -> CargoResult<Version>
     ensures { MatchResult result (λ v. version_said (view value.now) ≡ Some (parts_of v))
         (IsUnsaid (λ v. version_said (view value.now) ≡ Some v)) }
@@ -65,7 +65,8 @@ pub(crate) fn version(alloc: Global, value: &Value) -> CargoResult<Version>
     }
 }
 
-/// The Rust version of a package.
+/// The Rust version of a package: none where it is absent, null or invalid; `Error::Metadata` where it holds
+/// no string.
 pub(crate) fn rust_version(alloc: Global, value: &Value) -> CargoResult<Option<RustVersion>>
     ensures { MatchResult result
         (λ v. rust_version_said (view value.now) ≡ Some (option_map numbers_of v))

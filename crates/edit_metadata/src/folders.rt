@@ -1,4 +1,4 @@
-//! The folders that manifests stand in.
+//! The folders of the manifests of a workspace.
 ghost use Rattle.std.specs.Prelude.{◌≢◌, ◌⊎◌, AllPairs, IfErr, IfOk, MatchOption, OnOk, map, string_bytes};
 ghost use Rattle.std.specs.List.{AllZip};
 ghost use Rattle.edit_base.specs.Errors.{IsMemory};
@@ -11,7 +11,7 @@ use edit_base::{CargoResult, Error};
 use std::alloc::{AllocError, Global};
 use std::collections::BTreeSet;
 
-/// The folder of a manifest, whose path is made normal first.
+/// The folder of a manifest, whose path is normalised first.
 fn manifest_folder(alloc: Global, path: &str) -> CargoResult<String>
     ensures ok { IfOk result (λ s. IsManifestFolder path.now (string_bytes s)) }
     ensures refused { IfErr result IsMemory }
@@ -37,7 +37,7 @@ fn member_folders(alloc: Global, packages: &[Package]) -> CargoResult<Vec<String
     Ok(folders)
 }
 
-/// The first text that one before it equals.
+/// The first text that equals an earlier one.
 fn first_twice<'a>(alloc: Global, texts: &'a [String]) -> Result<Option<&'a str>, AllocError>
     ensures { IfOk result (λ o. MatchOption o (AllPairs (λ a b. a ≢ b) (map string_bytes texts.entry.now))
         (λ t. IsTwice (map string_bytes texts.entry.now) t.now)) }
@@ -53,7 +53,7 @@ fn first_twice<'a>(alloc: Global, texts: &'a [String]) -> Result<Option<&'a str>
     Ok(None)
 }
 
-/// The refusal of two members that share a folder.
+/// Returns `Error::FolderTwice` for the folder that two members share.
 fn shared(alloc: Global, folder: &str) -> Error
     ensures { IsMemory result ⊎ NamesFolder folder.now result }
 {
@@ -63,7 +63,7 @@ fn shared(alloc: Global, folder: &str) -> Error
     }
 }
 
-/// Refuses members whose manifests stand in one folder.
+/// Returns `Error::FolderTwice` where the manifests of two members are in one folder.
 pub(crate) fn check_folders(alloc: Global, packages: &[Package]) -> CargoResult<()>
     ensures own { OnOk result (HaveOwnFolders (member_paths (packages_said packages.now))) }
     ensures refused { IfErr result (λ e. IsMemory e

@@ -1,4 +1,4 @@
-//! A workspace made of the texts that were read of its metadata.
+//! Builds a workspace from the output of `cargo metadata` that was read token by token.
 ghost use Rattle.std.specs.Prelude.{◌≡◌, ℕ, List, map, option_and_then, option_map, string_bytes, IfErr, IfOk, IfSome};
 ghost use Rattle.std.specs.List.{AllZip};
 ghost use Rattle.edit_base.specs.Errors.{IsMemory};
@@ -30,7 +30,7 @@ fn id_set<'a>(alloc: Global, ids: &[&'a str]) -> Result<BTreeSet<&'a str>, Alloc
     Ok(set)
 }
 
-/// A copy of a text that need not be there.
+/// Returns an owned copy of a string, if there is one.
 fn copy_text(alloc: Global, text: Option<&str>) -> Result<Option<String>, AllocError>
     ensures { IfOk result (λ t. option_map string_bytes t ≡ option_map (λ s. s.now) text.entry) }
 {
@@ -40,7 +40,7 @@ fn copy_text(alloc: Global, text: Option<&str>) -> Result<Option<String>, AllocE
     }
 }
 
-/// The Rust version that a text names; none where there is no text, and where it names none.
+/// Parses a Rust version; `None` where there is no text, and where it is no Rust version.
 fn rust_version_of(alloc: Global, text: Option<&str>) -> CargoResult<Option<RustVersion>>
     ensures ok { IfOk result (λ v. option_map numbers_of v
         ≡ option_and_then rust_of (option_map (λ s. s.now) text.entry)) }
@@ -52,7 +52,7 @@ fn rust_version_of(alloc: Global, text: Option<&str>) -> CargoResult<Option<Rust
     }
 }
 
-/// The package of these texts; none where one is missing or is not what it should be.
+/// Builds a package; `None` where a member is missing or invalid.
 fn package_of(
     alloc: Global,
     ids: &BTreeSet<&str>,
@@ -92,7 +92,7 @@ fn package_of(
     }))
 }
 
-/// The packages of these texts, in order; none where one of them says none.
+/// Builds the packages, in order; `None` where one of them is invalid.
 fn packages_of(
     alloc: Global,
     ids: &BTreeSet<&str>,
@@ -112,7 +112,7 @@ fn packages_of(
     Ok(Some(packages))
 }
 
-/// The workspace of these texts; none where one is missing or is not what it should be.
+/// Builds the workspace; `None` where a member is missing or invalid.
 fn workspace_of(alloc: Global, texts: &WorkspaceTexts<'_>) -> CargoResult<Option<Workspace>>
     ensures ok { IfOk result (λ o. IfSome o (λ w. (d : Data) → ShowsWorkspace d texts.now
         → SaysWorkspace d (workspace_said w))) }
@@ -140,8 +140,8 @@ fn workspace_of(alloc: Global, texts: &WorkspaceTexts<'_>) -> CargoResult<Option
     }))
 }
 
-/// The workspace of metadata that are read without a tree; none where the reader that makes one has to
-/// decide.
+/// Parses the output of `cargo metadata` without building a tree; `None` where it has to be parsed by way of
+/// a tree.
 pub(crate) fn read_without_tree(alloc: Global, json: &[u8]) -> CargoResult<Option<Workspace>>
     ensures ok { IfOk result (λ o. IfSome o (λ w. AreMetadata json.now (workspace_said w))) }
     ensures refused { IfErr result IsMemory }

@@ -2,12 +2,12 @@
 
 use edit_version::RustVersion;
 
-/// A manifest to plan for.
+/// A manifest to plan for, with its name, its bytes and the Rust version to choose versions for.
 #[derive(Debug, Drop)]
 pub struct Input {
-    /// What reports call the manifest.
+    /// The name of the manifest in reports.
     pub name: String,
-    /// An absolute path in normal form.
+    /// The absolute path, normalised.
     pub path: String,
     pub bytes: Vec<u8>,
     pub rust_version: Option<RustVersion>,

@@ -1,4 +1,4 @@
-//! The manifests of a workspace, read to be planned for.
+//! Reads the manifests of a workspace for the plans.
 ghost use Rattle.std.specs.Prelude.{◌≡◌, ◌↔◌, ◌⊎◌, ◌∷◌, [], true, None, Some, codes, All, Contains, IfErr, IfOk, IsTrue, map, option_map, string_bytes};
 ghost use Rattle.std.specs.List.{AllZip};
 ghost use Rattle.edit_base.specs.Errors.{IsMemory};
@@ -19,7 +19,7 @@ use edit_store::Store;
 use edit_version::RustVersion;
 use std::alloc::Global;
 
-/// The lesser of two Rust versions; where one is none, the other.
+/// The smaller of two Rust versions; if one is absent, the other.
 fn lesser(a: Option<RustVersion>, b: Option<RustVersion>) -> Option<RustVersion>
     ensures { option_map numbers_of result ≡ lesser (option_map numbers_of a) (option_map numbers_of b) }
 {
@@ -30,7 +30,7 @@ fn lesser(a: Option<RustVersion>, b: Option<RustVersion>) -> Option<RustVersion>
     }
 }
 
-/// The least Rust version of the members.
+/// The smallest Rust version of the members.
 fn least_rust_version(packages: &[Package]) -> Option<RustVersion>
     ensures { option_map numbers_of result
         ≡ least (map (λ p. p.rust_version) (members (packages_said packages.now))) }
@@ -44,7 +44,7 @@ fn least_rust_version(packages: &[Package]) -> Option<RustVersion>
     found
 }
 
-/// The Rust version to plan for.
+/// The Rust version to plan for: the given one, else none with `ignore`, else the package's own.
 fn rust_version_for(
     given: Option<RustVersion>,
     ignore: bool,
@@ -61,7 +61,7 @@ fn rust_version_for(
     }
 }
 
-/// The bytes of a manifest.
+/// Reads the bytes of a manifest; `Error::NoManifest` where no file exists at the path.
 fn read_manifest<S: Store>(alloc: Global, store: &mut S, path: &str) -> CargoResult<Vec<u8>>
     ensures reads { OnlyReads (S.view store.old) (S.view store.new) }
     ensures bytes { IfOk result (λ v. (S.view store.old).tells ≡ true
@@ -77,7 +77,7 @@ fn read_manifest<S: Store>(alloc: Global, store: &mut S, path: &str) -> CargoRes
     }
 }
 
-/// The input that a member's manifest is.
+/// Reads the manifest of a member.
 fn member_input<S: Store>(
     alloc: Global,
     store: &mut S,
@@ -105,7 +105,7 @@ fn member_input<S: Store>(
     })
 }
 
-/// The inputs that the members' manifests are, in order.
+/// Reads the manifests of the members, in order.
 fn member_inputs<S: Store>(
     alloc: Global,
     store: &mut S,
@@ -132,7 +132,7 @@ fn member_inputs<S: Store>(
     Ok(inputs)
 }
 
-/// Whether one of the inputs has this path.
+/// Whether one of the manifests has this path.
 fn has_path(inputs: &[Input], path: &str) -> bool
     ensures { IsTrue result ↔ Contains (input_paths inputs.now) path.now }
 {
@@ -144,7 +144,7 @@ fn has_path(inputs: &[Input], path: &str) -> bool
     false
 }
 
-/// The path of the root's manifest.
+/// The normalised path of the manifest in the root of the workspace.
 fn root_path(alloc: Global, workspace: &Workspace) -> CargoResult<String>
     ensures path { IfOk result (λ s. IsNormalOf (root_manifest (workspace_said workspace.now)).path
         (string_bytes s)) }
@@ -154,7 +154,7 @@ fn root_path(alloc: Global, workspace: &Workspace) -> CargoResult<String>
     normal(alloc, path.as_str())
 }
 
-/// The input that the root's manifest is, by its path.
+/// Reads the manifest of a virtual workspace.
 fn root_input<S: Store>(
     alloc: Global,
     store: &mut S,
@@ -181,12 +181,12 @@ fn root_input<S: Store>(
     })
 }
 
-/// The manifests that plans over a workspace are made for, read from a store.
+/// Reads the manifests of a workspace to plan for.
 ///
-/// Paths are made normal. Members stand in their order; where none of them has the path of the root's
-/// `Cargo.toml`, that one stands before them and is called `virtual workspace`. The Rust version of each is
-/// the given one; none where they are to be ignored (`ignore`); else the member's own, and of the root the
-/// least of the members'. Refused with 3 where the device fails, and with 5 where no file stands at a path.
+/// Paths are normalised. The members are in their order; if none of them is the `Cargo.toml` of the root,
+/// that comes before them, with the name `virtual workspace`. The Rust version of each is `rust_version`;
+/// else none with `ignore`; else the member's own, and for the root the smallest of the members'.
+/// `Error::Device` where the device fails, and `Error::NoManifest` where no file exists at a path.
 pub fn workspace_inputs<S: Store>(
     alloc: Global,
     store: &mut S,

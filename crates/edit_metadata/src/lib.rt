@@ -1,4 +1,4 @@
-//! Workspaces: what their metadata say, and the manifests that plans are made for.
+//! Workspaces: the output of `cargo metadata`, and the manifests to plan for.
 #![tactic(auto)]
 
 mod fields;

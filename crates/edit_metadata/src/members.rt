@@ -1,11 +1,11 @@
-//! What the members of JSON objects say.
+//! Reads the members of JSON objects.
 ghost use Rattle.std.specs.Prelude.{◌≡◌, map, option_map};
 ghost use Rattle.edit_metadata.specs.Metadata.{is_absolute, maybe_text_at, text_at, values_at};
 ghost use Rattle.serde_json.specs.View.{view};
 
 use serde_json::Value;
 
-/// The text of a member, where a text stands there.
+/// The string of a member; `None` where it is absent or holds no string.
 pub(crate) fn text_at<'a>(value: &'a Value, name: &str) -> Option<&'a str>
     ensures { option_map (λ s. s.now) result ≡ text_at name.now (view value.now) }
 {
@@ -15,7 +15,7 @@ pub(crate) fn text_at<'a>(value: &'a Value, name: &str) -> Option<&'a str>
     }
 }
 
-/// The text of a member that may be left out or null; none where something else stands there.
+/// The string of a member that may be absent or null; `None` where it holds anything else.
 pub(crate) fn maybe_text_at<'a>(value: &'a Value, name: &str) -> Option<Option<&'a str>>
     ensures { option_map (λ r. option_map (λ s. s.now) r) result
         ≡ maybe_text_at name.now (view value.now) }
@@ -27,7 +27,7 @@ pub(crate) fn maybe_text_at<'a>(value: &'a Value, name: &str) -> Option<Option<&
     }
 }
 
-/// The values of a member, where an array stands there.
+/// The elements of a member; `None` where it is absent or holds no array.
 pub(crate) fn values_at<'a>(value: &'a Value, name: &str) -> Option<&'a [Value]>
     ensures { option_map (λ v. map view v.now) result ≡ values_at name.now (view value.now) }
 {

@@ -1,4 +1,4 @@
-//! The texts of packages in the output of `cargo metadata`, read token by token.
+//! Reads the packages in the output of `cargo metadata`, token by token.
 ghost use Rattle.std.specs.Prelude.{◌<◌, List, length, map, IfOk, IfSome};
 ghost use Rattle.std.specs.List.{AllZip};
 ghost use Rattle.edit_json.specs.Reads.{ReadsValue};
@@ -10,20 +10,20 @@ use edit_json::{read_optional_text, read_text, skip_value};
 use json::{Reader, Token};
 use std::alloc::{AllocError, Global};
 
-/// The members of a package that a `Package` is made of. Of a key that stands twice the last value counts.
+/// The members of a package that a `Package` is built from. Of a repeated key the last value counts.
 #[derive(Clone, Copy, Drop)]
 pub(crate) struct PackageTexts<'a> {
     pub(crate) name: Option<&'a str>,
     pub(crate) id: Option<&'a str>,
     pub(crate) manifest_path: Option<&'a str>,
     pub(crate) version: Option<&'a str>,
-    /// Absent or null: none.
+    /// `None` where it is absent or null.
     pub(crate) source: Option<&'a str>,
-    /// Absent or null: none.
+    /// `None` where it is absent or null.
     pub(crate) rust_version: Option<&'a str>,
 }
 
-/// Reads the value of a package's key into the field that it is for, or skips it.
+/// Reads the value of a package's key into its field, or skips it.
 fn read_member<'a>(
     reader: &mut Reader<'a>,
     key: &str,
@@ -61,7 +61,7 @@ fn read_member<'a>(
     Some(texts)
 }
 
-/// Reads a package.
+/// Reads a package; `None` where it has to be parsed by way of a tree.
 fn read_package<'a>(reader: &mut Reader<'a>) -> Option<PackageTexts<'a>>
     ensures shorter { IfSome result (λ _. length reader.new < length reader.old) }
     ensures value { IfSome result
@@ -84,7 +84,7 @@ fn read_package<'a>(reader: &mut Reader<'a>) -> Option<PackageTexts<'a>>
     Some(texts)
 }
 
-/// Reads an array of packages.
+/// Reads an array of packages; `None` where it has to be parsed by way of a tree.
 pub(crate) fn read_packages<'a>(
     alloc: Global,
     reader: &mut Reader<'a>,
@@ -106,7 +106,7 @@ pub(crate) fn read_packages<'a>(
     Ok(Some(packages))
 }
 
-/// Reads an array of strings.
+/// Reads an array of strings; `None` where it has to be parsed by way of a tree.
 pub(crate) fn read_texts<'a>(
     alloc: Global,
     reader: &mut Reader<'a>,

@@ -1,4 +1,4 @@
-//! The packages that metadata tell of, and the ids of members.
+//! Reads the packages and the members' ids of the output of `cargo metadata` from a tree.
 ghost use Rattle.std.specs.Prelude.{◌≡◌, ℕ, List, MatchResult, map};
 ghost use Rattle.std.specs.List.{AllZip};
 ghost use Rattle.edit_metadata.specs.Metadata.{IsText, SaysPackage, is_listed};
@@ -13,7 +13,7 @@ use serde_json::Value;
 use std::alloc::Global;
 use std::collections::BTreeSet;
 
-/// The set of these ids.
+/// The set of these ids; `Error::Metadata` where one is no string.
 pub(crate) fn read_ids<'a>(alloc: Global, values: &'a [Value]) -> CargoResult<BTreeSet<&'a str>>
     ensures { MatchResult result (λ s. (ids : List (List ℕ)) × AllZip IsText (map view values.now) ids
         × ((id : List ℕ) → holds s id ≡ is_listed ids id))
@@ -29,7 +29,7 @@ pub(crate) fn read_ids<'a>(alloc: Global, values: &'a [Value]) -> CargoResult<BT
     Ok(ids)
 }
 
-/// The package that an object says.
+/// Reads a package from a JSON object; `Error::Metadata` where it is malformed.
 fn read_package(alloc: Global, ids: &BTreeSet<&str>, value: &Value) -> CargoResult<Package>
     ensures { MatchResult result (λ p. SaysPackage (holds ids.now) (view value.now) (package_said p))
         (IsUnsaid (SaysPackage (holds ids.now) (view value.now))) }
@@ -52,7 +52,7 @@ fn read_package(alloc: Global, ids: &BTreeSet<&str>, value: &Value) -> CargoResu
     })
 }
 
-/// The packages that these objects say, in order.
+/// Reads packages from JSON objects, in order; `Error::Metadata` where one is malformed.
 pub(crate) fn read_packages(
     alloc: Global,
     ids: &BTreeSet<&str>,

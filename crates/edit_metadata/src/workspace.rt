@@ -1,4 +1,4 @@
-//! What the metadata of a workspace say.
+//! Parses the output of `cargo metadata`.
 ghost use Rattle.std.specs.Prelude.{◌≡◌, ◌⊎◌, None, Some, All, IfErr, IfOk, MatchResult, find};
 ghost use Rattle.edit_base.specs.Errors.{IsMemory};
 ghost use Rattle.edit_base.specs.declared.errors.Error.TheVariants.{Metadata, VirtualManifest};
@@ -20,31 +20,31 @@ use semver::Version;
 use serde_json::Value;
 use std::alloc::Global;
 
-/// A package that a workspace knows.
+/// A package in the output of `cargo metadata`.
 #[derive(Debug, Drop)]
 pub struct Package {
     pub name: String,
-    /// What metadata name the package by.
+    /// The package id.
     pub id: String,
-    /// An absolute path.
+    /// The absolute path of the manifest.
     pub manifest_path: String,
     pub version: Version,
-    /// Where the package comes from; none for one that stands on the machine.
+    /// The source of the package; `None` for a package on this machine.
     pub source: Option<String>,
     pub rust_version: Option<RustVersion>,
     /// Whether the package is a member of the workspace.
     pub member: bool,
 }
 
-/// A workspace: its folder, and its packages in the order of the metadata.
+/// A workspace: its root, and its packages in the order of `cargo metadata`.
 #[derive(Debug, Drop)]
 pub struct Workspace {
-    /// An absolute path.
+    /// The absolute path of the root.
     pub root: String,
     pub packages: Vec<Package>,
 }
 
-/// The workspace that a JSON value says.
+/// Builds the workspace from a JSON value; `Error::Metadata` where it is malformed.
 fn said_by(alloc: Global, value: &Value) -> CargoResult<Workspace>
     ensures { MatchResult result (λ w. SaysWorkspace (view value.now) (workspace_said w))
         (IsUnsaid (SaysWorkspace (view value.now))) }
@@ -61,7 +61,7 @@ fn said_by(alloc: Global, value: &Value) -> CargoResult<Workspace>
     Ok(Workspace { root, packages })
 }
 
-/// The workspace that JSON says, by a tree of its values.
+/// Parses the output of `cargo metadata` by way of a tree.
 fn read_by_tree(alloc: Global, json: &[u8]) -> CargoResult<Workspace>
     ensures said { IfOk result (λ w. AreMetadata json.now (workspace_said w)) }
     ensures refused { IfErr result (λ e. IsMemory e ⊎ ((e ≡ Metadata) × SayNothing json.now)) }
@@ -73,7 +73,7 @@ fn read_by_tree(alloc: Global, json: &[u8]) -> CargoResult<Workspace>
     }
 }
 
-/// The workspace that JSON says: read token by token, and by a tree where that does not tell.
+/// Parses the output of `cargo metadata`: token by token, or else by way of a tree.
 fn read_json(alloc: Global, json: &[u8]) -> CargoResult<Workspace>
     ensures said { IfOk result (λ w. AreMetadata json.now (workspace_said w)) }
     ensures refused { IfErr result (λ e. IsMemory e ⊎ ((e ≡ Metadata) × SayNothing json.now)) }
@@ -86,13 +86,13 @@ fn read_json(alloc: Global, json: &[u8]) -> CargoResult<Workspace>
 }
 
 impl Workspace {
-    /// Reads the JSON that `cargo metadata` prints.
+    /// Parses the output of `cargo metadata`.
     ///
     /// It is an object with an absolute `workspace_root`, the ids `workspace_members`, and `packages`, each
-    /// with `name`, `id`, an absolute `manifest_path` and a `version` that is one; its `source` and
-    /// `rust_version` may be left out or null, and a `rust_version` that names none counts as left out.
-    /// What stands there besides is not looked at. Refused with 36 where it is something else, and with 37
-    /// where two members have their manifests in one folder.
+    /// with `name`, `id`, an absolute `manifest_path` and a valid `version`; `source` and `rust_version` may
+    /// be absent or null, and an invalid `rust_version` counts as absent. Other members are ignored.
+    /// `Error::Metadata` where the output has another form, and `Error::FolderTwice` where the manifests of
+    /// two members are in one folder.
     pub fn read(alloc: Global, json: &[u8]) -> CargoResult<Workspace>
         ensures workspace { IfOk result (λ w. AreMetadata json.now (workspace_said w)) }
         ensures folders { IfOk result (λ w. HasOwnFolders (workspace_said w)) }
@@ -105,14 +105,14 @@ impl Workspace {
     }
 }
 
-/// Whether a package is a member of this name.
+/// Whether a package is a member of the workspace with this name.
 fn is_member_named(found: &Package, name: &str) -> bool
     ensures { result ≡ is_member_named name.now found.now }
 {
     found.member && found.name.as_str() == name
 }
 
-/// The first member of a name; refused with 38 where no member has it.
+/// Returns the first member with this name; `Error::VirtualManifest` where no member has it.
 pub fn manifest_from_pkgid<'a>(workspace: &'a Workspace, name: &str) -> CargoResult<&'a Package>
     ensures found { IfOk result (λ p. find (is_member_named name.now) workspace.now.packages.items
         ≡ Some p.now) }

@@ -1,7 +1,7 @@
-//! The output of `cargo metadata`, read token by token, without making a tree of its members.
+//! Parses the output of `cargo metadata` token by token, without building a tree of its members.
 //!
-//! What this reader does not take is left to the reader that makes a tree, which alone decides whether the
-//! metadata are malformed.
+//! Output that this reader does not accept is parsed again by way of a tree; only that decides whether the
+//! output is malformed.
 ghost use Rattle.std.specs.Prelude.{◌≡◌, ◌<◌, Some, length, IfOk, IfSome};
 ghost use Rattle.edit_json.specs.Reads.{ReadsMembers, ReadsValue};
 ghost use Rattle.edit_metadata.specs.Texts.{ShowsWorkspace};
@@ -13,16 +13,16 @@ use edit_json::{read_text, skip_value};
 use json::{Reader, Scratch, Token};
 use std::alloc::{AllocError, Global};
 
-/// The members of the metadata that a `Workspace` is made of; none for one that has not been read.
+/// The members of the output that a `Workspace` is built from; `None` for one that has not been read.
 #[derive(Drop)]
 pub(crate) struct WorkspaceTexts<'a> {
     pub(crate) root: Option<&'a str>,
-    /// The ids of the members.
+    /// The ids of the workspace's members.
     pub(crate) ids: Option<Vec<&'a str>>,
     pub(crate) packages: Option<Vec<PackageTexts<'a>>>,
 }
 
-/// Reads the value of a key into the field that it is for, or skips it.
+/// Reads the value of a key into its field, or skips it.
 fn read_member<'a>(
     alloc: Global,
     reader: &mut Reader<'a>,
@@ -67,7 +67,7 @@ fn read_member<'a>(
     }
 }
 
-/// Reads the members of the metadata behind their opening brace, and the closing one.
+/// Reads the members of the output after its opening brace, up to and including the closing one.
 fn read_members<'a>(
     alloc: Global,
     reader: &mut Reader<'a>,
@@ -92,7 +92,7 @@ fn read_members<'a>(
     }
 }
 
-/// The texts of the metadata.
+/// Parses the output of `cargo metadata`; `None` where it has to be parsed by way of a tree.
 pub(crate) fn read_metadata<'a>(
     alloc: Global,
     text: &'a str,

@@ -1,4 +1,4 @@
-//! What an entry of a dependency table says.
+//! An entry of a dependency table as a record (Cargo reference, "Specifying Dependencies").
 ghost use Rattle.std.specs.Prelude.{◌≡◌, ◌++◌, [], None, Some, IfOk, IfErr, option_copied, option_map, string_bytes, unwrap_or};
 ghost use Rattle.edit_base.specs.Errors.{IsMemory};
 ghost use Rattle.edit_record.specs.EntryRecords.{key_of};
@@ -23,7 +23,7 @@ use std::alloc::Global;
 use std::collections::BTreeMap;
 pub use write::path_field;
 
-/// What an entry of a dependency table says.
+/// An entry of a dependency table (Cargo reference, "Specifying Dependencies").
 #[derive(Debug, PartialEq, Eq, PartialOrd, Ord, Hash, Drop)]
 pub struct Dependency {
     /// The crate's name.
@@ -33,16 +33,16 @@ pub struct Dependency {
     pub default_features: Option<bool>,
     pub inherited_features: Option<Vec<String>>,
     pub source: Option<Source>,
-    /// The registry's name, where the entry has one.
+    /// The name of the registry, if the entry has one.
     pub registry: Option<String>,
-    /// The entry's key, where that is not the crate's name.
+    /// The key of the entry, if it differs from the crate's name.
     pub rename: Option<String>,
-    /// The features that the crate has, each with what it turns on.
+    /// The features that the crate defines, each with the features that it enables.
     pub available_features: BTreeMap<String, Vec<String>>,
 }
 
 impl Dependency {
-    /// A dependency of this name, with nothing else known.
+    /// Returns a dependency with this name and nothing else set.
     pub fn new(alloc: Global, name: &str) -> CargoResult<Dependency>
         ensures ok { IfOk result (λ d. IsBare name.now d × (d.source ≡ None)) }
         ensures refused { IfErr result IsMemory }
@@ -60,7 +60,7 @@ impl Dependency {
         })
     }
 
-    /// The dependency with another source.
+    /// Returns the dependency with its source replaced.
     pub fn set_source(self, source: Source) -> Dependency
         ensures { result ≡ record self { source = Some source } }
     {
@@ -70,7 +70,7 @@ impl Dependency {
         }
     }
 
-    /// The dependency with other features that its crate has.
+    /// Returns the dependency with the features that its crate defines replaced.
     pub fn set_available_features(self, features: BTreeMap<String, Vec<String>>) -> Dependency
         ensures { result ≡ record self { available_features = features } }
     {
@@ -80,7 +80,7 @@ impl Dependency {
         }
     }
 
-    /// The dependency, optional or not.
+    /// Returns the dependency with `optional` set.
     pub fn set_optional(self, optional: bool) -> Dependency
         ensures { result ≡ record self { optional = Some optional } }
     {
@@ -90,7 +90,7 @@ impl Dependency {
         }
     }
 
-    /// The dependency with other features.
+    /// Returns the dependency with its features replaced.
     pub fn set_features(self, features: Vec<String>) -> Dependency
         ensures { result ≡ record self { features = Some features } }
     {
@@ -98,7 +98,7 @@ impl Dependency {
         Dependency { features, ..self }
     }
 
-    /// The dependency with these features behind its own.
+    /// Returns the dependency with these features appended to its own.
     pub fn extend_features(self, _alloc: Global, features: Vec<String>) -> CargoResult<Dependency>
         ensures ok { IfOk result (λ d. record_view d ≡ record (record_view self) {
           features = Some (unwrap_or (record_view self).features [] ++ texts_view features);
@@ -113,7 +113,7 @@ impl Dependency {
         })
     }
 
-    /// The dependency with its crate's default features, or without them.
+    /// Returns the dependency with `default_features` set.
     pub fn set_default_features(self, default_features: bool) -> Dependency
         ensures { result ≡ record self { default_features = Some default_features } }
     {
@@ -123,7 +123,7 @@ impl Dependency {
         }
     }
 
-    /// The dependency with other features that it takes over from the workspace's entry.
+    /// Returns the dependency with the features that it inherits from the workspace's entry replaced.
     pub fn set_inherited_features(self, features: Vec<String>) -> Dependency
         ensures { result ≡ record self { inherited_features = Some features } }
     {
@@ -133,7 +133,7 @@ impl Dependency {
         }
     }
 
-    /// The dependency under another key.
+    /// Returns the dependency with its key set.
     pub fn set_rename(self, alloc: Global, rename: &str) -> CargoResult<Dependency>
         ensures ok { IfOk result (λ d. record_view d
             ≡ record (record_view self) { rename = Some rename.now }) }
@@ -147,7 +147,7 @@ impl Dependency {
         })
     }
 
-    /// The dependency from another registry.
+    /// Returns the dependency with its registry set.
     pub fn set_registry(self, alloc: Global, registry: &str) -> CargoResult<Dependency>
         ensures ok { IfOk result (λ d. record_view d
             ≡ record (record_view self) { registry = Some registry.now }) }
@@ -161,7 +161,7 @@ impl Dependency {
         })
     }
 
-    /// A copy of the dependency, on memory of its own.
+    /// Returns a deep copy of the dependency.
     pub fn try_clone(&self, alloc: Global) -> CargoResult<Dependency>
         ensures ok { IfOk result (λ d. record_view d ≡ record_view self.now) }
         ensures kept { IfOk result (λ d. available_view d ≡ available_view self.now) }
@@ -186,14 +186,14 @@ impl Dependency {
         })
     }
 
-    /// Where the dependency comes from.
+    /// The source of the dependency.
     pub fn source(&self) -> Option<&Source>
         ensures { option_copied result ≡ self.now.source }
     {
         self.source.as_ref()
     }
 
-    /// The source's version text, none for a workspace source.
+    /// The version requirement of the source; `None` for a workspace source.
     pub fn version(&self) -> Option<&str>
         ensures { option_map (λ s. s.now) result ≡ version_of self.now }
     {
@@ -203,35 +203,35 @@ impl Dependency {
         }
     }
 
-    /// The registry's name, where the entry has one.
+    /// The name of the registry, if the entry has one.
     pub fn registry(&self) -> Option<&str>
         ensures { option_map (λ s. s.now) result ≡ option_map string_bytes self.now.registry }
     {
         self.registry.as_ref().map(|text| text.as_str())
     }
 
-    /// The entry's key, where that is not the crate's name.
+    /// The key of the entry, if it differs from the crate's name.
     pub fn rename(&self) -> Option<&str>
         ensures { option_map (λ s. s.now) result ≡ option_map string_bytes self.now.rename }
     {
         self.rename.as_ref().map(|text| text.as_str())
     }
 
-    /// Whether the crate's default features are wanted, where the entry says so.
+    /// Whether the crate's default features are enabled; `None` where the entry does not set it.
     pub fn default_features(&self) -> Option<bool>
         ensures { result ≡ self.now.default_features }
     {
         self.default_features
     }
 
-    /// Whether the dependency is optional, where the entry says so.
+    /// Whether the dependency is optional; `None` where the entry does not set it.
     pub fn optional(&self) -> Option<bool>
         ensures { result ≡ self.now.optional }
     {
         self.optional
     }
 
-    /// The key of the dependency's entry: its other name, else the crate's.
+    /// The key of the entry: `rename`, or else the crate's name.
     pub fn toml_key(&self) -> &str
         ensures { result.now ≡ key_of (record_view self.now) }
     {

@@ -1,4 +1,4 @@
-//! The choice of a version among the entries of an index.
+//! Chooses a version among the versions of an index.
 ghost use Rattle.std.specs.Prelude.{ℕ, List, None, Some, Ok, IfOk, IfErr, IsTrue, map, string_bytes};
 ghost use Rattle.edit_base.specs.Errors.{IsMemory};
 ghost use Rattle.edit_version.specs.Admissible.{entry_order, is_kept};
@@ -20,7 +20,7 @@ use edit_version::rust_version::RustVersion;
 use semver::VersionReq;
 use std::alloc::Global;
 
-/// The dependency on the version of an entry of an index.
+/// Returns a dependency on a version of an index.
 pub fn dependency_on(alloc: Global, told: &IndexVersion) -> CargoResult<Dependency>
     ensures ok { IfOk result
         (IsRegistryDependency (string_bytes told.now.name) (string_bytes told.now.version)) }
@@ -31,7 +31,8 @@ pub fn dependency_on(alloc: Global, told: &IndexVersion) -> CargoResult<Dependen
     Ok(dependency.set_source(Source::Registry(source)))
 }
 
-/// The greatest of the entries that are admissible and wanted, as a dependency.
+/// Returns the greatest version that may be chosen and that matches `req`, as a dependency; `None` where
+/// there is none. Without `req`, pre-releases match only if they are allowed.
 fn find_version(
     alloc: Global,
     versions: &[IndexVersion],
@@ -50,8 +51,8 @@ fn find_version(
     }
 }
 
-/// The greatest version that may be chosen, of those without a pre-release or, where they are allowed, of
-/// all; the last of equal ones; none where there is none.
+/// Returns the greatest version that may be chosen, the last of equal ones; `None` where there is none.
+/// Pre-releases are included only with `allow_prerelease`.
 pub fn find_latest_version(
     alloc: Global,
     versions: &[IndexVersion],
@@ -60,8 +61,8 @@ pub fn find_latest_version(
 ) -> CargoResult<Option<Dependency>>
     ensures ok { IfOk result (IsFound (numbers_in rust_version) (is_allowed allow_prerelease)
         (map entry_of versions.now)) }
-    // where a requirement has a greatest version, this one is not less, if pre-releases are allowed where
-    // the requirement has a `-`
+    // the result is at least the greatest version that any requirement admits, provided that pre-releases
+    // are allowed where the requirement has a `-`
     ensures at_least { IfOk result (λ o. (req : List ℕ) → (IsTrue (holds_dash req) → IsTrue allow_prerelease)
         → (e : IndexEntry)
         → IsGreatestKept (is_kept (numbers_in rust_version) (is_admitted req)) entry_order
@@ -73,8 +74,8 @@ pub fn find_latest_version(
     find_version(alloc, versions, allow_prerelease, None, rust_version)
 }
 
-/// The greatest version that may be chosen and that a requirement admits, the last of equal ones; none
-/// where there is none.
+/// Returns the greatest version that may be chosen and that the requirement admits, the last of equal ones;
+/// `None` where there is none.
 pub fn find_compatible_version(
     alloc: Global,
     versions: &[IndexVersion],

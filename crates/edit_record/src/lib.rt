@@ -1,4 +1,4 @@
-//! Records of a manifest's entries, and the choice of a version among the entries of an index.
+//! The entries of dependency tables as records, and the choice of a version among the versions of an index.
 #![tactic(auto)]
 
 pub mod dependency;

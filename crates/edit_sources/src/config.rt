@@ -1,4 +1,4 @@
-//! What configuration files say of registries and sources.
+//! Reads the registries and sources of cargo's configuration files (Cargo reference, "Configuration").
 ghost use Rattle.std.specs.Prelude.{◌≡◌, ◌⊎◌, IfOk, IfErr, IfSome, map, option_map, string_bytes};
 ghost use Rattle.edit_base.specs.Errors.{IsMemory};
 ghost use Rattle.toml.specs.Data.{get_member};
@@ -18,34 +18,34 @@ mod files;
 
 pub use cache::{ConfigCache, read_configs};
 
-/// What a configuration file of cargo says of registries and sources.
+/// The registries and sources of a configuration file of cargo (Cargo reference, "Configuration").
 #[derive(Debug, Drop)]
 pub struct Config {
     /// The path of the file.
     pub path: String,
-    /// Each key of `registries` with its `index`.
+    /// The keys of the table `registries`, each with its `index`.
     pub registries: Vec<(String, Option<String>)>,
-    /// Each key of `source`.
+    /// The keys of the table `source`.
     pub sources: Vec<(String, ConfigSource)>,
 }
 
-/// What a configuration file says of a source.
+/// An entry of the table `source` of a configuration file.
 #[derive(Debug, Drop)]
 pub struct ConfigSource {
-    /// `registry`, the address of a registry.
+    /// `registry`: the URL of a registry.
     pub registry: Option<String>,
-    /// `replace-with`, the key of the source that replaces this one.
+    /// `replace-with`: the key of the source that replaces this one.
     pub replace_with: Option<String>,
 }
 
-/// The value at a key of a table.
+/// Returns the value of a key in a table.
 fn value_at<'a>(table: &'a Table, key: &str) -> Option<&'a Value>
     ensures { option_map (λ v. view v.now) result ≡ get_member key.now (table_view table.now) }
 {
     table.get(key)
 }
 
-/// The text at a key, `Some(None)` where the key is absent and `None` where it holds no text.
+/// Returns the string of a key: `Some(None)` where the key is absent, and `None` where it holds no string.
 fn text_at<'a>(table: &'a Table, key: &str) -> Option<Option<&'a str>>
     ensures { option_map (option_map (λ t. t.now)) result ≡ said.text_at key.now (table_view table.now) }
 {
@@ -56,7 +56,7 @@ fn text_at<'a>(table: &'a Table, key: &str) -> Option<Option<&'a str>>
     Some(Some(text))
 }
 
-/// The index that a table below `registries` names.
+/// The `index` of an entry of `registries`; `None` where the entry is malformed.
 fn index_of<'a>(value: &'a Value) -> Option<Option<&'a str>>
     ensures { option_map (option_map (λ t. t.now)) result ≡ said.index_of (view value.now) }
 {
@@ -64,7 +64,7 @@ fn index_of<'a>(value: &'a Value) -> Option<Option<&'a str>>
     text_at(table, "index")
 }
 
-/// The source that a table below `source` describes.
+/// The source of an entry of `source`; `None` where the entry is malformed.
 fn source_of(alloc: Global, value: &Value) -> Result<Option<ConfigSource>, AllocError>
     ensures { IfOk result (λ found. option_map source_view found ≡ said.source_of (view value.now)) }
 {
@@ -83,7 +83,7 @@ fn source_of(alloc: Global, value: &Value) -> Result<Option<ConfigSource>, Alloc
     }))
 }
 
-/// The keys below `registries`, each with its index; `None` where one of them is misshapen.
+/// The entries of `registries`, each key with its index; `None` where one of them is malformed.
 fn registry_entries(
     alloc: Global,
     table: &Table,
@@ -102,7 +102,7 @@ fn registry_entries(
     Ok(Some(registries))
 }
 
-/// The keys below `source`, each with its source; `None` where one of them is misshapen.
+/// The entries of `source`, each key with its source; `None` where one of them is malformed.
 fn source_entries(
     alloc: Global,
     table: &Table,
@@ -120,7 +120,7 @@ fn source_entries(
     Ok(Some(sources))
 }
 
-/// The refusal of a file.
+/// Returns `Error::Config` for a configuration file.
 fn unreadable(alloc: Global, path: &str) -> Error
     ensures { IsMemory result ⊎ IsConfigRefusal path.now result }
 {
@@ -130,7 +130,7 @@ fn unreadable(alloc: Global, path: &str) -> Error
     }
 }
 
-/// The keys of `registries`; `None` where it is no table of tables with texts.
+/// The entries of `registries`, none where it is absent; `None` where it is malformed.
 fn registries_in(
     alloc: Global,
     table: &Table,
@@ -147,7 +147,7 @@ fn registries_in(
     }
 }
 
-/// The keys of `source`; `None` where it is no table of tables with texts.
+/// The entries of `source`, none where it is absent; `None` where it is malformed.
 fn sources_in(
     alloc: Global,
     table: &Table,
@@ -164,7 +164,7 @@ fn sources_in(
     }
 }
 
-/// What a document says; `None` where it is misshapen.
+/// The configuration of a document; `None` where `registries` or `source` is malformed.
 fn configuration_in(alloc: Global, path: &str, table: &Table) -> Result<Option<Config>, AllocError>
     ensures named { IfOk result (λ found. IfSome found (λ c. string_bytes c.path ≡ path.now)) }
     ensures said { IfOk result (λ found. option_map configuration found
@@ -185,15 +185,15 @@ fn configuration_in(alloc: Global, path: &str, table: &Table) -> Result<Option<C
 }
 
 impl Config {
-    /// Reads a configuration file; `path` is where it stands. The keys are in the order of their bytes.
+    /// Parses a configuration file; `path` is its path. The keys are in the order of their bytes.
     ///
-    /// `registries` and `source` are absent or tables of tables, and `index`, `registry` and
-    /// `replace-with` in these absent or texts; all else is ignored. `Config` where that is not so,
-    /// where the bytes are not UTF-8 and where `toml` refuses the text.
+    /// `registries` and `source` are absent or tables of tables; `index`, `registry` and `replace-with` in
+    /// these are absent or strings; everything else is ignored. `Error::Config` where one has another type,
+    /// the bytes are not UTF-8, or the text is not TOML.
     pub fn read(alloc: Global, path: &str, bytes: &[u8]) -> CargoResult<Config>
         ensures named { IfOk result (λ c. string_bytes c.path ≡ path.now) }
         ensures said { IfOk result (λ c. Says bytes.now (configuration c)) }
-        // and nothing else; no file says something and nothing
+        // the bytes have no other configuration, and never both a configuration and none
         ensures only { IfOk result (λ c. (other : Configuration) → Says bytes.now other
             → other ≡ configuration c) }
         ensures something { IfOk result (λ c. SaysNothing bytes.now → ⊥) }

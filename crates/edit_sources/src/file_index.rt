@@ -1,4 +1,4 @@
-//! An index of one file, read once.
+//! An index in a single file, which is read once.
 ghost use Rattle.std.specs.Prelude.{◌≡◌, ℕ, List, false, IfOk, IfErr, slice_get, string_bytes};
 ghost use Rattle.std.specs.Option.{option_map_or};
 ghost use Rattle.std.specs.Str.{bytes_eq};
@@ -15,15 +15,14 @@ use std::collections::BTreeMap;
 use std::mem;
 use url::Url;
 
-/// An index of one file, read once. It answers every address alike.
+/// An index in a single file, which is read once. The address of a lookup is ignored.
 #[derive(Debug, Drop)]
 pub struct FileIndex {
     groups: BTreeMap<String, Vec<IndexVersion>>,
 }
 
 impl FileIndex {
-    /// Reads the lines: refused with 30 and the number of the first line that is not one of an
-    /// index.
+    /// Parses the lines of an index; `Error::IndexLine` with the number of the first malformed line.
     pub fn read(alloc: Global, bytes: &[u8]) -> CargoResult<FileIndex>
         ensures entries { IfOk result (λ i. HoldsLines i bytes.now) }
         ensures refused { IfErr result (RefusesLines (lines_of bytes.now)) }
@@ -35,7 +34,7 @@ impl FileIndex {
     }
 }
 
-/// The entries by name, those of one name in their order.
+/// Groups entries by name; those of one name stay in their order.
 fn grouped(
     alloc: Global,
     entries: Vec<IndexVersion>,
@@ -56,7 +55,7 @@ fn grouped(
     Ok(groups)
 }
 
-/// Whether an entry has the name of the first entry of a run.
+/// Whether an entry has the same name as the first entry of a run.
 fn continues(run: &[IndexVersion], entry: &IndexVersion) -> bool
     ensures { result ≡ option_map_or
         (λ e. bytes_eq (string_bytes e.name) (string_bytes entry.now.name))
@@ -69,7 +68,7 @@ fn continues(run: &[IndexVersion], entry: &IndexVersion) -> bool
     }
 }
 
-/// Adds a run, which is of entries of one name, to the group of the name.
+/// Appends a run, whose entries all have one name, to the group of that name.
 fn add_run(
     groups: &mut BTreeMap<String, Vec<IndexVersion>>,
     run: Vec<IndexVersion>,

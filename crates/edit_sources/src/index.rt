@@ -1,4 +1,4 @@
-//! What an index answers.
+//! The trait of an index, and the entries that it returns.
 ghost use Rattle.std.specs.Prelude.{◌≡◌, Ok, IfOk, IfErr, map};
 ghost use Rattle.edit_base.specs.Errors.{IsMemory};
 ghost use Rattle.edit_version.specs.IndexEntry.{entry_of};
@@ -9,14 +9,14 @@ use edit_version::fetch::IndexVersion;
 use std::alloc::Global;
 use url::Url;
 
-/// What an index answers for a name: an entry for each version, in the order of the index.
+/// The versions of a crate in an index, in the order of the index.
 #[derive(Debug, PartialEq, Eq, Drop)]
 pub struct IndexKrate {
     pub versions: Vec<IndexVersion>,
 }
 
 impl IndexKrate {
-    /// The same answer on memory of its own.
+    /// Returns a deep copy of the entries.
     pub fn try_clone(&self, alloc: Global) -> CargoResult<IndexKrate>
         ensures ok { IfOk result (λ k. entries_of k ≡ entries_of self.now) }
         ensures refused { IfErr result IsMemory }
@@ -27,7 +27,7 @@ impl IndexKrate {
     }
 }
 
-/// The same entries on memory of their own.
+/// Returns deep copies of the entries.
 pub(crate) fn copied(alloc: Global, entries: &[IndexVersion]) -> CargoResult<Vec<IndexVersion>>
     ensures ok { IfOk result (λ v. map entry_of v.items ≡ map entry_of entries.now) }
     ensures refused { IfErr result IsMemory }
@@ -39,22 +39,22 @@ pub(crate) fn copied(alloc: Global, entries: &[IndexVersion]) -> CargoResult<Vec
     Ok(all)
 }
 
-/// Where entries are looked up.
+/// An index in which crates are looked up.
 pub trait Index {
-    /// What a lookup of a name at an address may give (entries, none, or an error with what it names), and
-    /// how often the device below has failed.
+    /// The model of an index: the possible results of a lookup of a name at an address (entries, none, or an
+    /// error with its arguments), and how often the device below it has failed.
     ghost view: { Self → IndexView };
 
-    /// The entries of a name; none where the index has no such name.
+    /// Looks up a crate; `None` where the index has no crate of that name.
     ///
-    /// `Scheme`, `IndexPath`, `BadCrateName` and `IndexLine` come from the address, the name and what stands
-    /// in the index; `Device` where the device below fails.
+    /// `Error::Scheme`, `Error::IndexPath`, `Error::BadCrateName` and `Error::IndexLine` depend on the
+    /// address, the name and the contents of the index; `Error::Device` where the device below it fails.
     fn look(&mut self, alloc: Global, registry: &Url, name: &str) -> CargoResult<Option<IndexKrate>>
         ensures same { SameOutcomes (view self.old).gives (view self.new).gives }
         ensures given { IfOk result (λ k. (view self.old).gives registry.now name.now (Ok (answer_of k))) }
         ensures cause { HasLookCause (view self.old) (view self.new) registry.now name.now result };
 
-    /// How often the device below has failed.
+    /// How often the device below the index has failed.
     fn faults(&self) -> u64
         ensures { result ≡ (view self.now).faults };
 }

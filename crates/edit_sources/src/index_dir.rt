@@ -1,4 +1,4 @@
-//! An index in a folder that has one folder for each registry.
+//! An index in a folder with a subfolder for each registry.
 
 pub mod dir_index;
 mod entry_path;

@@ -1,4 +1,4 @@
-//! The lines of an index file.
+//! Parses the lines of an index file.
 ghost use Rattle.std.specs.Prelude.{◌≡◌, ◌==◌, ◌+◌, Ok, Err, IfOk, IfErr, IfSome, map, MatchResult, length, string_bytes, option_map, option_and_then, ◌≤◌, ◌∷◌};
 ghost use Rattle.edit_base.specs.declared.errors.Error.TheVariants.{IndexLine};
 ghost use Rattle.edit_base.specs.Errors.{IsMemory};
@@ -15,7 +15,7 @@ use memchr::memchr;
 use serde_json::Value;
 use std::alloc::{AllocError, Global};
 
-/// Whether a line has nothing but spaces, tabs and carriage returns.
+/// Whether a line consists of nothing but spaces, tabs and carriage returns.
 fn blank(line: &[u8]) -> bool
     ensures { result ≡ is_blank line.now }
 {
@@ -23,7 +23,7 @@ fn blank(line: &[u8]) -> bool
         .all(|b| *b == b' ' || *b == b'\t' || *b == b'\r')
 }
 
-/// The text that a value says.
+/// The string of a JSON value, if it is one.
 fn text<'a>(value: Option<&'a Value>) -> Option<&'a str>
     ensures { option_map (λ s. s.now) result ≡ option_and_then as_str (shown value.entry) }
 {
@@ -33,7 +33,7 @@ fn text<'a>(value: Option<&'a Value>) -> Option<&'a str>
     }
 }
 
-/// Whether a version is yanked; none where the value says neither.
+/// Whether a version is yanked: false where the key is absent; `None` where it holds no boolean.
 fn yanked(value: Option<&Value>) -> Option<bool>
     ensures { result ≡ yanked_of (shown value.entry) }
 {
@@ -44,7 +44,7 @@ fn yanked(value: Option<&Value>) -> Option<bool>
     }
 }
 
-/// The Rust version that a version asks for; none where the value is no text.
+/// The `rust_version` of a version: none where the key is absent or null; `None` where it holds no string.
 fn rust_version<'a>(value: Option<&'a Value>) -> Option<Option<&'a str>>
     ensures { option_map (λ r. option_map (λ s. s.now) r) result ≡ rust_version_of (shown value.entry) }
 {
@@ -55,7 +55,7 @@ fn rust_version<'a>(value: Option<&'a Value>) -> Option<Option<&'a str>>
     }
 }
 
-/// A text that need not be there, on memory of its own.
+/// Returns an owned copy of a string, if there is one.
 pub(crate) fn copied(alloc: Global, text: Option<&str>) -> Result<Option<String>, AllocError>
     ensures { IfOk result (λ t. option_map string_bytes t ≡ option_map (λ s. s.now) text.entry) }
 {
@@ -65,7 +65,7 @@ pub(crate) fn copied(alloc: Global, text: Option<&str>) -> Result<Option<String>
     }
 }
 
-/// The entry of a line that is read without a tree; none where that reader does not take the line.
+/// Parses a line without building a tree; `None` where the token reader does not accept the line.
 fn entry_from_tokens(
     alloc: Global,
     bytes: &[u8],
@@ -94,7 +94,7 @@ fn entry_from_tokens(
     }))
 }
 
-/// The entry that a line says.
+/// Parses a line: by the token reader, or else by way of a tree.
 fn read_line(
     alloc: Global,
     bytes: &[u8],
@@ -110,7 +110,7 @@ fn read_line(
     }
 }
 
-/// The entry of a line of which a tree is made.
+/// Parses a line by way of a tree; `Error::IndexLine` where it is malformed.
 fn entry_from_tree(alloc: Global, bytes: &[u8], line: usize) -> CargoResult<IndexVersion>
     ensures { MatchResult result (λ v. IsIndexLine bytes.now (entry_of v)) (RefusesLine bytes.now line) }
 {
@@ -139,7 +139,7 @@ fn entry_from_tree(alloc: Global, bytes: &[u8], line: usize) -> CargoResult<Inde
     })
 }
 
-/// The offset of the first line feed of a text. One at its beginning, as a blank line has, needs no search.
+/// The offset of the first line feed in a text. An empty line is checked first, since it needs no search.
 fn line_end(text: &[u8]) -> Option<usize>
     ensures { IsFirstByte (is_byte 10) text.now result }
 {
@@ -149,7 +149,7 @@ fn line_end(text: &[u8]) -> Option<usize>
     memchr(b'\n', text)
 }
 
-/// The first line of a text, and what comes behind its line feed, where it has one.
+/// Splits a text at its first line feed; the second part is `None` where there is no line feed.
 fn split_line(text: &[u8]) -> (&[u8], Option<&[u8]>)
     ensures lines { lines_of text.now ≡ result.0.now ∷ lines_left result.1 }
     ensures shorter { length_left result.1 ≤ length text.now }
@@ -160,10 +160,10 @@ fn split_line(text: &[u8]) -> (&[u8], Option<&[u8]>)
     }
 }
 
-/// The entries of an index file, one for each line that is not blank, in order.
+/// Parses an index file: one entry per line that is not blank, in order (Cargo reference, "Registry Index").
 ///
-/// A line is a JSON object with texts `name` and `vers`, `yanked` absent or a boolean, and
-/// `rust_version` absent, null or text; refused with 30 and the number of the first other line.
+/// A line is a JSON object with the strings `name` and `vers`, `yanked` absent or a boolean, and
+/// `rust_version` absent, null or a string. `Error::IndexLine` with the number of the first malformed line.
 pub fn read_lines(alloc: Global, bytes: &[u8]) -> CargoResult<Vec<IndexVersion>>
     ensures entries { IfOk result (λ v. LinesSay (lines_of bytes.now) (map entry_of v.items)) }
     ensures refused { IfErr result (RefusesLines (lines_of bytes.now)) }

@@ -1,4 +1,4 @@
-//! Where the file of a name stands in an index.
+//! The path of a crate's file in an index.
 ghost use Rattle.std.specs.Prelude.{◌≡◌, [], ◌∷◌, ◌++◌, ◌-◌, ◌==◌, ◌<◌, ◌⊎◌, true, false, All, IfOk, IfErr, OnOk, MatchOption, string_bytes};
 ghost use Rattle.std.specs.List.{list_any};
 ghost use Rattle.percent_encoding.specs.Percent.{percent_decode};
@@ -15,7 +15,8 @@ use std::alloc::{AllocError, Global};
 use std::str;
 use url::Url;
 
-/// The path of the file of a name: `Scheme`, else `IndexPath`, else `BadCrateName` where it has none.
+/// The path of a crate's file in the index at a `file` URL. `Error::Scheme` for another scheme, else
+/// `Error::IndexPath` where the URL names no folder, else `Error::BadCrateName`.
 pub(crate) fn index_path(alloc: Global, registry: &Url, name: &str) -> CargoResult<String>
     ensures ok { IfOk result (λ p. IsIndexPath registry.now name.now (string_bytes p)) }
     ensures refused { IfErr result (λ e. IsMemory e ⊎ (IsLookRefusal (number_of e)
@@ -39,7 +40,7 @@ pub(crate) fn index_path(alloc: Global, registry: &Url, name: &str) -> CargoResu
     Ok(path_below(alloc, folder, name)?)
 }
 
-/// The folder that an address names.
+/// The folder that a `file` URL names; `None` where it names none.
 fn folder_of(alloc: Global, registry: &Url) -> Result<Option<String>, AllocError>
     ensures { IfOk result (λ o. MatchOption o (HasNoFolder registry.now)
         (λ f. IsFolderOf registry.now (string_bytes f))) }
@@ -50,7 +51,7 @@ fn folder_of(alloc: Global, registry: &Url) -> Result<Option<String>, AllocError
     decoded(alloc, registry.path())
 }
 
-/// A path with each escape read, where that is a folder's text.
+/// Percent-decodes the path of a URL; `None` where the result is not UTF-8 or contains U+0000.
 fn decoded(alloc: Global, path: &str) -> Result<Option<String>, AllocError>
     ensures { IfOk result (λ o. MatchOption o (IsFolderText (percent_decode path.now) → ⊥)
         (λ f. IsFolderText (string_bytes f) × (string_bytes f ≡ percent_decode path.now))) }
@@ -66,14 +67,14 @@ fn decoded(alloc: Global, path: &str) -> Result<Option<String>, AllocError>
     }
 }
 
-/// Whether U+0000 stands in a text.
+/// Whether a text contains U+0000.
 fn has_nul(bytes: &[u8]) -> bool
     ensures { result ≡ list_any (λ b. b == 0) bytes.now }
 {
     bytes.iter().any(|b| *b == 0)
 }
 
-/// The path of the file of a name below a folder.
+/// The path of a crate's file below the folder of an index.
 fn path_below(alloc: Global, folder: String, name: &str) -> Result<String, AllocError>
     requires { is_crate_name name.now ≡ true }
     ensures { IfOk result (λ p. string_bytes p ≡ below (string_bytes folder) (layout name.now)) }
@@ -88,7 +89,7 @@ fn path_below(alloc: Global, folder: String, name: &str) -> Result<String, Alloc
     Ok(path)
 }
 
-/// Whether a text ends with `/`.
+/// Whether a path ends with `/`.
 fn ends_with_slash(folder: &[u8]) -> bool
     ensures { result ≡ ends_with_slash folder.now }
 {

@@ -1,4 +1,4 @@
-//! The indexes, those that stand on files among them, and the registries that configurations name.
+//! Registry indexes, in files and in general, and the registries of configuration files.
 #![tactic(auto)]
 
 pub mod config;

@@ -1,7 +1,7 @@
-//! Reads an index line token by token, without making a tree of its members.
+//! Parses an index line token by token, without building a tree of its members.
 //!
-//! A line that this reader does not take is left to the reader that makes a tree, which alone decides whether
-//! a line is malformed.
+//! A line that this reader does not accept is parsed again by way of a tree; only that decides whether the
+//! line is malformed.
 ghost use Rattle.std.specs.Prelude.{◌≡◌, ◌<◌, length, IfSome, Some};
 ghost use Rattle.edit_json.specs.Reads.{ReadsMembers, ReadsValue};
 ghost use Rattle.edit_sources.specs.LineFields.{Shows};
@@ -11,7 +11,7 @@ ghost use Rattle.serde_json.specs.Read.{read};
 use edit_json::{read_bool, read_optional_text, read_text, skip_value};
 use json::{Reader, Scratch, Token};
 
-/// The members of an index line that an entry is made of. Of a key that stands twice the last value counts.
+/// The members of an index line that an entry is made of. Of a repeated key the last value counts.
 #[derive(Clone, Copy, Drop)]
 pub(crate) struct Fields<'a> {
     pub(crate) name: Option<&'a str>,
@@ -20,7 +20,7 @@ pub(crate) struct Fields<'a> {
     pub(crate) rust_version: Option<&'a str>,
 }
 
-/// Reads the value of a key into the field that it is for, or skips it.
+/// Reads the value of a key into its field, or skips it.
 fn read_member<'a>(reader: &mut Reader<'a>, key: &str, fields: Fields<'a>) -> Option<Fields<'a>>
     ensures shorter { IfSome result (λ _. length reader.new < length reader.old) }
     ensures value { IfSome result (λ f. (d : Data)
@@ -59,7 +59,7 @@ fn read_member<'a>(reader: &mut Reader<'a>, key: &str, fields: Fields<'a>) -> Op
     Some(fields)
 }
 
-/// Reads the members of a line behind its opening brace, and the closing one.
+/// Reads the members of a line after its opening brace, up to and including the closing one.
 fn read_members<'a>(reader: &mut Reader<'a>) -> Option<Fields<'a>>
     ensures value { IfSome result (λ f. (ms : Members) × ReadsMembers 126 reader.old ms reader.new × Shows f ms) }
 {
@@ -75,7 +75,7 @@ fn read_members<'a>(reader: &mut Reader<'a>) -> Option<Fields<'a>>
     Some(fields)
 }
 
-/// The fields of a line; none where the other reader has to decide.
+/// Parses a line; `None` where it has to be parsed by way of a tree.
 pub(crate) fn read_fields<'a>(text: &'a str, scratch: &'a mut Scratch) -> Option<Fields<'a>>
     ensures value { IfSome result (λ f. (ms : Members)
         × (read text.now ≡ Some (object ms)) × Shows f ms) }

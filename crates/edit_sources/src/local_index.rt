@@ -1,4 +1,4 @@
-//! An index in files, one for each name.
+//! An index of one file per crate.
 ghost use Rattle.std.specs.Prelude.{◌≡◌, Ok, IfOk};
 ghost use Rattle.edit_store.specs.Store.{OnlyReads};
 ghost use Rattle.edit_sources.specs.Index.{HasLookCause, SameOutcomes, answer_of};
@@ -12,15 +12,15 @@ use edit_store::store::Store;
 use std::alloc::Global;
 use url::Url;
 
-/// An index in files, one for each name, at addresses of the scheme `file` (Cargo reference,
-/// "Registries", index files).
+/// An index of one file per crate, at URLs of the scheme `file` (Cargo reference, "Registries", index
+/// files).
 #[derive(Debug, Drop)]
 pub struct LocalIndex<S> {
     store: S,
 }
 
 impl<S: Store> LocalIndex<S> {
-    /// An index in the files of a store.
+    /// Returns an index in the files of a store.
     pub fn new(store: S) -> LocalIndex<S>
         ensures { store_of result ≡ store }
     {

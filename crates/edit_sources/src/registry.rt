@@ -1,4 +1,4 @@
-//! The address of a registry.
+//! Resolves the URL of a registry.
 ghost use Rattle.std.specs.Prelude.{◌≡◌, ◌⊎◌, true, IfOk, IfErr};
 ghost use Rattle.edit_base.specs.Errors.{IsMemory};
 ghost use Rattle.edit_sources.specs.ConfigurationFiles.{HasFailed, ConfigsFail, ConfiguredUrl, HasNoConfiguredUrl};
@@ -18,17 +18,17 @@ mod definitions;
 pub use chain::CRATES_IO_INDEX;
 pub use definitions::Definitions;
 
-/// The address of a registry: none, or the default registry's address, begins at the key `crates-io`, and
-/// another at its own key; each `replace-with` names the next key, and the last source has the address.
+/// Resolves the URL of a registry. None, or the default registry's URL, starts at the key `crates-io`; any
+/// other at its own key. Each `replace-with` leads to the next key, and the last source has the URL.
 ///
-/// `configs` are in the order of their precedence, the first one first. `RegistryNotFound` where no
-/// file defines the key at which the registry begins, `SourceNotFound` where a `replace-with` names
-/// a key that no file defines or that was used, `MissingRegistry` where the last source has no
-/// address, and `InvalidUrl` where `url` refuses it. What memory allows is `Memory`, an address of
-/// 4 GB included. For more registries than one `Definitions` reads the configurations once.
+/// `configs` are in order of precedence, the first one first. `Error::RegistryNotFound` where no file
+/// defines the first key, `Error::SourceNotFound` where a `replace-with` leads to a key that no file defines
+/// or that was used before, `Error::MissingRegistry` where the last source has no URL, `Error::InvalidUrl`
+/// where `url` cannot parse it, and `Error::Memory` also for a URL of 4 GB or more. For several registries,
+/// `Definitions` reads the configurations only once.
 pub fn resolve(alloc: Global, configs: &[Config], registry: Option<&str>) -> CargoResult<Url>
     ensures address { IfOk result (λ url. HasAddress configs.now (given registry.entry) url) }
-    // and no other URL is
+    // the registry has no other URL
     ensures only { IfOk result (λ url. (other : Parts)
         → HasAddress configs.now (given registry.entry) other → other ≡ url) }
     ensures refused { IfErr result (λ e. IsMemory e ⊎ HasNoUrl configs.now (given registry.entry) e) }
@@ -37,8 +37,7 @@ pub fn resolve(alloc: Global, configs: &[Config], registry: Option<&str>) -> Car
     definitions.resolve(alloc, registry)
 }
 
-/// The address of a registry under the configurations of a manifest, as `read_configs` reads them
-/// and `resolve` follows them.
+/// Resolves the URL of a registry with the configurations of a manifest: `read_configs`, then `resolve`.
 pub fn registry_url<S: Store>(
     alloc: Global,
     store: &mut S,

@@ -1,4 +1,4 @@
-//! Files in memory, one call of which fails.
+//! A store in memory in which one call fails, for tests.
 ghost use Rattle.std.specs.Prelude.{◌≡◌, ◌↔◌, Some, true, IsTrue, IfOk, IfErr, OnErr, OnOk, option_map};
 ghost use Rattle.edit_store.specs.Store.{HasCause, IsWrittenAtMostOnce, IsWrittenOnce, SameFiles, SameBut, StandsAt, raised};
 ghost use Rattle.edit_store.specs.Memory.{files_in, writes_in};
@@ -9,9 +9,10 @@ use crate::store::{Kind, Store};
 use edit_base::errors::{CargoResult, DeviceCall, Error};
 use std::alloc::Global;
 
-/// A store in memory whose call number `at`, from 0 over `kind`, `read` and `write`, fails once.
+/// A store in memory in which one call fails: call number `at`, counted from 0 over `kind`, `read` and
+/// `write`.
 ///
-/// A `write` that fails leaves the first `cut` bytes of the text in its file.
+/// The `write` that fails leaves the first `cut` bytes of the text in its file.
 #[derive(Debug, Drop)]
 pub struct FaultStore {
     pub inner: MemoryStore,
@@ -21,7 +22,7 @@ pub struct FaultStore {
 }
 
 impl FaultStore {
-    /// A store over `inner` that has failed in no call.
+    /// Returns a store over `inner` that has not failed yet.
     pub fn new(inner: MemoryStore, at: u64, cut: usize) -> FaultStore
         ensures inner { result.inner ≡ inner }
         ensures turn { calls_left result ≡ Some at }
@@ -36,7 +37,7 @@ impl FaultStore {
         }
     }
 
-    /// Counts a call, and tells whether it is the one that fails.
+    /// Counts a call down; returns whether it is the one that fails.
     fn is_due(&mut self) -> bool
         ensures due { IsTrue result ↔ (self.old.left ≡ Some 0) }
         ensures turn { self.new ≡ record self.old { left = one_less self.old.left } }
@@ -54,7 +55,7 @@ impl FaultStore {
         }
     }
 
-    /// The fault of a call.
+    /// Counts a fault and returns the error of the call that failed.
     fn fault(&mut self, call: DeviceCall) -> Error
         ensures error { result ≡ Error.Device call }
         ensures raised { raised self.old.failed self.new.failed }

@@ -1,22 +1,22 @@
-//! Why a call for a file of the machine failed.
+//! Why a call on a file of the machine failed.
 use std::alloc::{AllocError, AllocFailed, Global};
 use std::io;
 use std::io::ErrorKind;
 
-/// Why a call for a file failed.
+/// Why a call on a file failed.
 #[derive(Debug, Drop)]
 pub(crate) enum Reason {
-    /// The error of the machine.
+    /// An error of the system.
     Machine(io::Error),
-    /// What this store found wrong.
+    /// An error that this store detected itself, as a message.
     Found(String),
 }
 
-/// What a step of a call answers.
+/// The result of a step of a call.
 pub(crate) type Answer<T> = Result<T, Reason>;
 
 impl Reason {
-    /// Whether memory ran out.
+    /// Whether the reason is lack of memory.
     pub(crate) fn is_memory(&self) -> bool {
         match self {
             Reason::Machine(error) => error.kind() == ErrorKind::OutOfMemory,
@@ -24,7 +24,7 @@ impl Reason {
         }
     }
 
-    /// The reason in words; none where memory is short.
+    /// The message of the reason; `None` where memory runs out.
     pub(crate) fn text(&self, alloc: Global) -> Option<String> {
         match self {
             Reason::Machine(error) => format!(in alloc; "{error}").ok(),
@@ -51,7 +51,7 @@ impl<T: Drop> From<AllocFailed<T>> for Reason {
     }
 }
 
-/// What this store found wrong.
+/// Returns the reason for an error that this store detected itself.
 pub(crate) fn found(alloc: Global, text: &str) -> Reason {
     match String::from_str(alloc, text) {
         Ok(text) => Reason::Found(text),

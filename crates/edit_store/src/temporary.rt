@@ -1,4 +1,4 @@
-//! New files of a run beside a manifest, under names that no other program has.
+//! Temporary files beside a manifest, under names that no other program uses.
 use crate::reason::{Answer, Reason};
 use edit_base::paths::folder;
 use std::alloc::Global;
@@ -7,21 +7,21 @@ use std::io::ErrorKind;
 use std::os::unix::fs::{MetadataExt, OpenOptionsExt};
 use std::{fs, io};
 
-/// A new file of this run, whose name has the number of the run's process and the file's own number.
+/// A temporary file of this run. Its name contains the process number and the inode.
 #[derive(Debug, Drop)]
 pub(crate) struct Temporary {
     pub(crate) path: String,
     device: u64,
     inode: u64,
-    /// The file itself, open until what was written to it is flushed to the disk.
+    /// The open file, until its bytes are flushed to the disk.
     open: Option<File>,
 }
 
-/// Makes an empty file in a folder, with this mode and this end of its name; none where none may be made
-/// there.
+/// Creates an empty temporary file in a folder, with this mode and this suffix; `None` where no file may be
+/// created there.
 ///
-/// No link is followed, and nothing that stands there is touched. The file gets its name once its number is
-/// known.
+/// No link is followed, and no existing file is touched. The file is renamed to its final name once its
+/// inode is known.
 pub(crate) fn make_temporary<R: Files<File = File>>(
     rt: &R,
     alloc: Global,
@@ -47,7 +47,7 @@ pub(crate) fn make_temporary<R: Files<File = File>>(
     Err(Reason::from(io::Error::from(ErrorKind::AlreadyExists)))
 }
 
-/// Whether the machine says that no file may be made in a folder.
+/// Whether an error of the system means that no file may be created in a folder.
 fn is_forbidden(kind: ErrorKind) -> bool {
     matches!(
         kind,
@@ -55,7 +55,7 @@ fn is_forbidden(kind: ErrorKind) -> bool {
     )
 }
 
-/// A new file under the name with its own number. It is removed where that fails.
+/// Renames a temporary file to the name with its inode; removes the file where that fails.
 fn named<R: Files<File = File>>(
     rt: &R,
     alloc: Global,
@@ -73,7 +73,7 @@ fn named<R: Files<File = File>>(
     }
 }
 
-/// Gives a new file the name with its own number.
+/// Renames a temporary file to the name with its inode.
 fn rename_by_number<R: Files<File = File>>(
     rt: &R,
     alloc: Global,
@@ -96,17 +96,17 @@ fn rename_by_number<R: Files<File = File>>(
 }
 
 impl Temporary {
-    /// Holds the file, to be flushed later.
+    /// Stores the open file, to be flushed later.
     pub(crate) fn hold(&mut self, file: File) {
         self.open = Some(file);
     }
 
-    /// Whether it is still to be flushed.
+    /// Whether the file has still to be flushed.
     pub(crate) fn is_open(&self) -> bool {
         self.open.is_some()
     }
 
-    /// Flushes it to the disk and closes it, where that is still to be done.
+    /// Flushes the file to the disk and closes it, if that has still to be done.
     pub(crate) fn flush(&mut self) -> io::Result<()> {
         match self.open.take() {
             Some(file) => file.sync_all(),
@@ -114,7 +114,7 @@ impl Temporary {
         }
     }
 
-    /// Whether its name still leads to it.
+    /// Whether its path still leads to this file, by device and inode.
     pub(crate) fn stands<R: Files<File = File>>(&self, rt: &R) -> bool {
         match fs::symlink_metadata(rt, self.path.as_str()) {
             Ok(there) => there.dev() == self.device && there.ino() == self.inode,
@@ -122,7 +122,7 @@ impl Temporary {
         }
     }
 
-    /// Removes it.
+    /// Removes the file, if its path still leads to it.
     pub(crate) fn remove<R: Files<File = File>>(&self, rt: &R) {
         if self.stands(rt) {
             let _ = fs::remove_file(rt, self.path.as_str());
@@ -130,15 +130,15 @@ impl Temporary {
     }
 }
 
-/// What the name of a temporary file says.
+/// The numbers in the name of a temporary file.
 #[derive(Clone, Copy, Debug)]
 struct Name {
     process: u32,
-    /// The file's own number; none where it was not yet known.
+    /// The inode; `None` in the first name, which the file has before its inode is known.
     inode: Option<u64>,
 }
 
-/// What the name of a temporary file says; none of another name.
+/// Parses the name of a temporary file; `None` for any other name.
 fn read_name(name: &str) -> Option<Name> {
     let rest = name.strip_prefix(".cargo-edit.")?;
     if let Some(numbers) = rest.strip_suffix(".new") {
@@ -155,7 +155,7 @@ fn read_name(name: &str) -> Option<Name> {
     })
 }
 
-/// Removes the temporary files in a folder whose runs were killed.
+/// Removes the temporary files in a folder that killed runs have left.
 pub(crate) fn remove_leavings<R: Files<File = File> + Alloc<A = Global> + Clone + Drop>(
     rt: &R,
     alloc: Global,
@@ -172,7 +172,7 @@ pub(crate) fn remove_leavings<R: Files<File = File> + Alloc<A = Global> + Clone 
     }
 }
 
-/// Removes what a folder holds under a name, where it is a temporary file whose run was killed.
+/// Removes an entry of a folder if it is a temporary file of a killed run.
 fn remove_left<R: Files<File = File> + Alloc<A = Global>>(
     rt: &R,
     alloc: Global,
@@ -187,8 +187,8 @@ fn remove_left<R: Files<File = File> + Alloc<A = Global>>(
     }
 }
 
-/// Whether a file under the name of a temporary one is one: a regular file with the number in its name, or an
-/// empty one where the name has none.
+/// Whether an entry with the name of a temporary file is one: a regular file with one link and the inode in
+/// its name, or an empty one where its name has no inode.
 fn is_own<R: Files<File = File>>(entry: &DirEntry<R>, name: Name) -> bool {
     match entry.metadata() {
         Ok(metadata) if !metadata.is_file() || metadata.nlink() != 1 => false,
@@ -200,7 +200,7 @@ fn is_own<R: Files<File = File>>(entry: &DirEntry<R>, name: Name) -> bool {
     }
 }
 
-/// Whether a process of this program, but for the own one, runs under a number.
+/// Whether another process with this number runs this program.
 fn is_running<R: Files<File = File> + Alloc<A = Global>>(
     rt: &R,
     alloc: Global,

@@ -1,4 +1,4 @@
-//! What a store of the machine's files has read, made ready and written in a run.
+//! The state of a run over the files of the machine: what it has read, staged and written.
 use crate::commit::commit;
 use crate::reading::Fingerprint;
 use crate::reason::{Answer, Reason, found};
@@ -11,33 +11,34 @@ use std::env::Env;
 use std::fs::{File, Files, TryLockError};
 use std::io::Eprint;
 
-/// How many new files wait open to be flushed together at most: each takes one of the process's open files.
+/// The greatest number of temporary files that are open at once, waiting for a flush: each takes a file
+/// descriptor.
 const OPEN: usize = 400;
 
-/// What a store of the machine's files has read, made ready and written in a run.
+/// The state of a run over the files of the machine: what it has read, staged and written.
 #[derive(Debug, Drop)]
 pub(crate) struct Work {
-    /// The number of the run's process, for the names of new files.
+    /// The number of the process, for the names of temporary files.
     process: u32,
-    /// The text of each file as it was read first, or was written since.
+    /// The fingerprint of each file when it was first read, or when it was last written since, by path.
     texts: BTreeMap<String, Fingerprint>,
-    /// The writes that are ready, by their paths.
+    /// The staged writes, by path.
     staged: BTreeMap<String, Staged>,
-    /// How many of them are still to be flushed to the disk.
+    /// The number of staged writes that have still to be flushed to the disk.
     open: usize,
-    /// How many of them were compared with what was read.
+    /// The number of staged writes that were compared with what was read.
     verified: usize,
-    /// The path that is staged for each file, by the file's device and number.
+    /// The path that is staged for each file, by the file's device and inode.
     paths: BTreeMap<(u64, u64), String>,
-    /// The files that were replaced since the last flush, and their folders.
+    /// The files that were replaced since the last flush of their folders, and those folders.
     watched: Vec<Watched>,
     folders: Vec<String>,
-    /// Locked folders, which stay so while they are open.
+    /// The locked folders: each stays locked while its file is open.
     locked: Vec<File>,
 }
 
 impl Work {
-    /// Nothing yet.
+    /// Returns the state at the beginning of a run.
     pub(crate) fn new(alloc: Global, process: u32) -> Work {
         Work {
             process,
@@ -52,12 +53,12 @@ impl Work {
         }
     }
 
-    /// The number of the run's process.
+    /// The number of the process.
     pub(crate) fn process(&self) -> u32 {
         self.process
     }
 
-    /// Remembers the text of a file as it is read first.
+    /// Stores the fingerprint of a file when it is first read.
     pub(crate) fn remember(
         &mut self,
         alloc: Global,
@@ -72,7 +73,7 @@ impl Work {
         Ok(())
     }
 
-    /// Makes a write ready. Two paths of one file are an error.
+    /// Stages a write. Two paths of one file are an error.
     pub(crate) fn stage<R: Files<File = File> + Alloc<A = Global> + Env>(
         &mut self,
         rt: &R,
@@ -109,7 +110,7 @@ impl Work {
         }
     }
 
-    /// A write made ready. It is flushed at once where many others wait for that.
+    /// Stages a write without recording it. It is flushed at once where `OPEN` others wait for a flush.
     fn prepare_write<R: Files<File = File> + Alloc<A = Global> + Env>(
         &self,
         rt: &R,
@@ -127,8 +128,8 @@ impl Work {
         Ok(staged)
     }
 
-    /// Notes the path of a write that is ready, and answers a copy of it; an error where another path of the
-    /// same file is staged.
+    /// Records the path of a staged write and returns a copy of it; an error where another path of that file
+    /// is staged.
     fn put(&mut self, alloc: Global, path: &str, staged: &Staged) -> Answer<String> {
         if let Some(identity) = staged.identity
             && matches!(staged.way, Way::Rename(_) | Way::InPlace(_))
@@ -144,7 +145,7 @@ impl Work {
         Ok(String::from_str(alloc, path)?)
     }
 
-    /// Removes the files that were made for a write, where it is ready.
+    /// Discards the write that is staged for a path, if there is one, and removes its temporary file.
     fn give_up<R: Files<File = File>>(&mut self, rt: &R, path: &str) {
         if let Some(staged) = self.staged.remove(path) {
             if staged.verified {
@@ -157,7 +158,7 @@ impl Work {
         }
     }
 
-    /// Flushes what is staged for a path to the disk. After an error it is staged no more.
+    /// Flushes the write that is staged for a path to the disk. After an error it is no longer staged.
     pub(crate) fn flush<R: Files<File = File>>(&mut self, rt: &R, path: &str) -> Answer<()> {
         let Some(staged) = self.staged.get_mut(path) else {
             return Ok(());
@@ -176,7 +177,7 @@ impl Work {
         }
     }
 
-    /// Compares a file that is staged with what was read of it.
+    /// Compares a file for which a write is staged with what was read of it.
     pub(crate) fn verify<R: Files<File = File>>(
         &mut self,
         rt: &R,
@@ -205,8 +206,8 @@ impl Work {
         Ok(())
     }
 
-    /// Writes a file. Behind the last write that is compared the folders are flushed to the disk, and the
-    /// files that were replaced are looked at again.
+    /// Writes a file. After the last verified write the folders are flushed to the disk, and the replaced
+    /// files are checked for changes by other programs.
     pub(crate) fn write<R: Files<File = File> + Alloc<A = Global> + Env>(
         &mut self,
         rt: &R,
@@ -232,7 +233,7 @@ impl Work {
         Ok(())
     }
 
-    /// Notes a write that was made.
+    /// Records a write that was carried out.
     fn note(&mut self, alloc: Global, staged: &Staged) -> Answer<()> {
         let path = String::from_str(alloc, staged.path.as_str())?;
         self.texts.insert(path, staged.text)?;
@@ -243,8 +244,8 @@ impl Work {
         Ok(())
     }
 
-    /// Flushes the folders of the files that were replaced, and looks at those files again. A folder that
-    /// cannot be flushed is passed over: each file is whole, the old one or the new one.
+    /// Flushes the folders of the replaced files, and checks those files for changes by other programs. A
+    /// folder that cannot be flushed is skipped: each file in it is whole, the old one or the new one.
     fn settle<R: Files<File = File> + Alloc<A = Global> + Env>(
         &mut self,
         rt: &R,
@@ -261,7 +262,7 @@ impl Work {
         done
     }
 
-    /// Gives up the writes that are ready and not made.
+    /// Discards the staged writes that were not carried out.
     pub(crate) fn unstage<R: Files<File = File> + Alloc<A = Global> + Env>(
         &mut self,
         rt: &R,
@@ -277,8 +278,8 @@ impl Work {
         let _ = self.settle(rt, alloc);
     }
 
-    /// Locks a folder until the end of the run. Where another run has locked it, this is told, and waited
-    /// for.
+    /// Locks a folder until the end of the run. Where another run has locked it, a message is printed, and
+    /// the call waits.
     pub(crate) fn lock<R: Files<File = File> + Eprint>(
         &mut self,
         rt: &R,

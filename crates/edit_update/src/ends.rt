@@ -1,4 +1,4 @@
-//! How the members of an entry end that is to say what a record says.
+//! The final value of each key after an entry is updated from a `Dependency`.
 ghost use Rattle.std.specs.Prelude.{◌≡◌, ◌++◌, ◌∷◌, [], List, ℕ, None, Some, IfErr, IfOk, OnOk, codes, if◌then◌else◌, map, option_copied, option_map, string_bytes, unwrap_or};
 ghost use Rattle.edit_base.specs.Errors.{IsMemory};
 ghost use Rattle.edit_base.specs.Paths.{texts};
@@ -19,14 +19,14 @@ use edit_record::{Dependency, GitSource, PathSource, Source};
 use std::alloc::{AllocError, Global};
 use std::collections::BTreeSet;
 
-/// A member of an entry and how it ends: with a value, or not there.
+/// A key of an entry with its final value; `None` where the key is removed.
 #[derive(Drop)]
 pub(crate) struct End {
     pub(crate) name: &'static str,
     pub(crate) value: Option<NewValue>,
 }
 
-/// Appends a member and how it ends.
+/// Appends a key with its final value.
 fn push_end(
     ends: &mut Vec<End>,
     name: &'static str,
@@ -39,7 +39,7 @@ fn push_end(
     Ok(())
 }
 
-/// Appends a member that ends with a text, where there is one.
+/// Appends a key with a string as its final value; without one, the key is removed.
 fn push_text(
     ends: &mut Vec<End>,
     name: &'static str,
@@ -54,7 +54,7 @@ fn push_text(
     }
 }
 
-/// Appends a member that ends as true or false, where that is said.
+/// Appends a key with a boolean as its final value; without one, the key is removed.
 fn push_truth(
     ends: &mut Vec<End>,
     name: &'static str,
@@ -69,7 +69,7 @@ fn push_truth(
     }
 }
 
-/// Appends members that go.
+/// Appends keys that are removed.
 fn push_gone(ends: &mut Vec<End>, names: &[&'static str]) -> Result<(), AllocError>
     ensures { OnOk result (ends_seen ends.new.items
         ≡ ends_seen ends.old.items ++ map (λ n. (n, None)) (texts names.now)) }
@@ -80,7 +80,7 @@ fn push_gone(ends: &mut Vec<End>, names: &[&'static str]) -> Result<(), AllocErr
     Ok(())
 }
 
-/// Appends the members of a folder, as seen from the root.
+/// Appends the keys of a path source, with its path relative to `root`.
 fn push_path(alloc: Global, root: &str, ends: &mut Vec<End>, source: &PathSource) -> CargoResult<()>
     ensures ok { OnOk result (ends_seen ends.new.items
         ≡ ends_seen ends.old.items ++ own_ends root.now (path_view source.now)) }
@@ -92,7 +92,7 @@ fn push_path(alloc: Global, root: &str, ends: &mut Vec<End>, source: &PathSource
     Ok(())
 }
 
-/// Appends the members of a repository.
+/// Appends the keys of a Git source.
 fn push_repository(ends: &mut Vec<End>, source: &GitSource) -> Result<(), AllocError>
     ensures { OnOk result (ends_seen ends.new.items
         ≡ ends_seen ends.old.items ++ own_ends [] (from_git (repository_view source.now))) }
@@ -104,7 +104,7 @@ fn push_repository(ends: &mut Vec<End>, source: &GitSource) -> Result<(), AllocE
     push_text(ends, "version", source.version.as_ref())
 }
 
-/// Appends the members that name a source.
+/// Appends the keys of a source.
 fn push_own(alloc: Global, root: &str, ends: &mut Vec<End>, source: &Source) -> CargoResult<()>
     ensures ok { OnOk result (ends_seen ends.new.items
         ≡ ends_seen ends.old.items ++ own_ends root.now (source_view source.now)) }
@@ -119,7 +119,7 @@ fn push_own(alloc: Global, root: &str, ends: &mut Vec<End>, source: &Source) -> 
     Ok(())
 }
 
-/// Appends the members that name other sources; they go.
+/// Appends the keys of other kinds of sources, which are removed.
 fn push_other(ends: &mut Vec<End>, source: &Source) -> Result<(), AllocError>
     ensures { (root : List ℕ) → OnOk result (ends_seen ends.new.items
         ≡ ends_seen ends.old.items ++ other_ends (own_ends root (source_view source.now))) }
@@ -138,7 +138,7 @@ fn push_other(ends: &mut Vec<End>, source: &Source) -> Result<(), AllocError>
     }
 }
 
-/// The texts of a member `features`, none where it is not there or no array of strings.
+/// The strings of the key `features`; `None` where it is absent or no array of strings.
 fn old_features(alloc: Global, entry: Item<'_>) -> CargoResult<Option<Vec<String>>>
     ensures ok { IfOk result (λ o. unwrap_or (option_map texts_view o) []
         ≡ texts_or_none (features_at (shown_at entry.entry) [])) }
@@ -155,7 +155,7 @@ fn old_features(alloc: Global, entry: Item<'_>) -> CargoResult<Option<Vec<String
     }
 }
 
-/// Each text once, at its first place.
+/// Removes duplicates; the first of equal texts stays.
 fn each_once(alloc: Global, texts: &[String]) -> Result<Vec<String>, AllocError>
     ensures { IfOk result (λ v. texts_view v ≡ each_once (map string_bytes texts.now)) }
 {
@@ -170,7 +170,7 @@ fn each_once(alloc: Global, texts: &[String]) -> Result<Vec<String>, AllocError>
     Ok(once)
 }
 
-/// The features of an entry and then others, each once.
+/// The features of an entry followed by new ones, without duplicates.
 fn joined_features(alloc: Global, entry: Item<'_>, new: &Vec<String>) -> CargoResult<NewValue>
     ensures ok { IfOk result (λ v. value_seen v
         ≡ joined_features (shown_at entry.entry) (texts_view new.now)) }
@@ -181,7 +181,7 @@ fn joined_features(alloc: Global, entry: Item<'_>, new: &Vec<String>) -> CargoRe
     Ok(NewValue::Strings(each_once(alloc, &all)?))
 }
 
-/// Appends the members of the source and of other sources.
+/// Appends the keys of the source and of other kinds of sources, if the dependency has a source.
 fn push_sources(
     dependency: &Dependency,
     alloc: Global,
@@ -199,7 +199,7 @@ fn push_sources(
     Ok(())
 }
 
-/// Appends a member that goes with a source of the workspace.
+/// Appends a key that is removed if the source is the workspace.
 fn push_with_workspace(
     dependency: &Dependency,
     ends: &mut Vec<End>,
@@ -214,7 +214,7 @@ fn push_with_workspace(
     }
 }
 
-/// Whether an entry ends with a member `version`.
+/// Whether the entry finally has a key `version`.
 fn ends_with_version(dependency: &Dependency, entry: Item<'_>) -> bool
     ensures { result ≡ ends_with_version (shown_at entry.entry) (record_view dependency.now).origin }
 {
@@ -224,7 +224,7 @@ fn ends_with_version(dependency: &Dependency, entry: Item<'_>) -> bool
     }
 }
 
-/// Appends how `registry` ends: it stays beside a version alone.
+/// Appends the key `registry`, which stays only with a version.
 fn push_registry(
     dependency: &Dependency,
     ends: &mut Vec<End>,
@@ -243,7 +243,7 @@ fn push_registry(
     push_end(ends, "registry", None)
 }
 
-/// Appends how `package` ends.
+/// Appends the key `package`.
 fn push_package(dependency: &Dependency, ends: &mut Vec<End>) -> Result<(), AllocError>
     ensures { OnOk result (ends_seen ends.new.items ≡ ends_seen ends.old.items
         ++ package_ends (written_name (record_view dependency.now)) (record_view dependency.now).origin) }
@@ -254,7 +254,7 @@ fn push_package(dependency: &Dependency, ends: &mut Vec<End>) -> Result<(), Allo
     }
 }
 
-/// Appends how `features` ends.
+/// Appends the key `features`.
 fn push_features(
     dependency: &Dependency,
     alloc: Global,
@@ -277,7 +277,7 @@ fn push_features(
     Ok(())
 }
 
-/// How the members of an entry end that is to say what the record says, in their order.
+/// The final value of each key after an entry is updated from a `Dependency`, in the order of the updates.
 pub(crate) fn ends(
     dependency: &Dependency,
     alloc: Global,

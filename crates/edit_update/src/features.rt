@@ -1,4 +1,4 @@
-//! Strings of features that name a dependency which is gone.
+//! Removes features that refer to a removed dependency.
 ghost use Rattle.std.specs.Prelude.{◌≡◌, ◌⊎◌, ◌++◌, IfErr, IfOk, OnOk, codes};
 ghost use Rattle.edit_base.specs.Errors.{IsMemory};
 ghost use Rattle.edit_base.specs.declared.errors.Error.TheVariants.{EditRefused};
@@ -18,7 +18,7 @@ use edit_manifest::dependency_tables;
 use edit_manifest::ways::{item_below, place_of};
 use std::alloc::Global;
 
-/// Whether this is a table that is not written inline.
+/// Whether an item is a table that is not an inline table.
 fn is_plain(item: Option<Item>) -> bool
     ensures { (d : Shown) → (place : PlaceSeen) → Finds d place item.entry
         → result ≡ is_plain (tree_of d place) }
@@ -29,7 +29,7 @@ fn is_plain(item: Option<Item>) -> bool
     }
 }
 
-/// Whether a place is that of the workspace or lies below it.
+/// Whether a place is `workspace` or below it.
 fn is_in_workspace(place: &[Step]) -> bool
     ensures { result ≡ is_in_workspace (place_seen place.now) }
 {
@@ -39,21 +39,23 @@ fn is_in_workspace(place: &[Step]) -> bool
     }
 }
 
-/// Whether the dependency table at a place is a section of the package's own.
+/// Whether a place is a dependency table of the package itself: not below `workspace`, and not an inline
+/// table.
 fn is_section(document: &Document, place: &[Step]) -> bool
     ensures { result ≡ is_section (tree_of document.now) (place_seen place.now) }
 {
     !is_in_workspace(place) && is_plain(document.item(place))
 }
 
-/// Whether such a section stands there and has an entry of this key.
+/// Whether the dependency table at a place belongs to the package itself and has this key.
 fn holds(document: &Document, place: &[Step], name: &str) -> bool
     ensures { result ≡ holds (tree_of document.now) name.now (place_seen place.now) }
 {
     is_section(document, place) && item_below(document, document.item(place), name).is_some()
 }
 
-/// Whether such a section stands there and has an optional entry of this key.
+/// Whether the dependency table at a place belongs to the package itself and has an optional entry of this
+/// key.
 fn offers(document: &Document, place: &[Step], name: &str) -> bool
     ensures { result ≡ offers (tree_of document.now) name.now (place_seen place.now) }
 {
@@ -67,7 +69,7 @@ fn offers(document: &Document, place: &[Step], name: &str) -> bool
     }
 }
 
-/// Whether some section has an entry of this key.
+/// Whether some dependency table of the package has this key.
 fn is_held(document: &Document, tables: &[Place], name: &str) -> bool
     requires tables { places_seen tables.now ≡ dependency_tables (tree_of document.now) }
     ensures { result ≡ is_held (tree_of document.now) name.now }
@@ -80,7 +82,7 @@ fn is_held(document: &Document, tables: &[Place], name: &str) -> bool
     false
 }
 
-/// Whether some section has an optional entry of this key.
+/// Whether some dependency table of the package has an optional entry of this key.
 fn is_offered(document: &Document, tables: &[Place], name: &str) -> bool
     requires tables { places_seen tables.now ≡ dependency_tables (tree_of document.now) }
     ensures { result ≡ is_offered (tree_of document.now) name.now }
@@ -93,7 +95,8 @@ fn is_offered(document: &Document, tables: &[Place], name: &str) -> bool
     false
 }
 
-/// A dependency that is gone: its key, the key with a slash, and whether some section holds the key.
+/// A removed dependency: its key, the key followed by a slash, and whether another table of the package
+/// still has the key.
 #[derive(Clone, Copy)]
 struct Gone<'a> {
     name: &'a str,
@@ -102,7 +105,7 @@ struct Gone<'a> {
     ghost fronted: { front.now ≡ name.now ++ codes "/" },
 }
 
-/// Whether a string that names the dependency stands there.
+/// Whether an element of a feature refers to the removed dependency.
 fn goes(item: Option<Item>, gone: Gone) -> bool
     ensures { (d : Shown) → (place : PlaceSeen) → Finds d place item.entry
         → result ≡ goes gone.entry.is_held gone.entry.name.now (tree_of d place) }
@@ -116,7 +119,7 @@ fn goes(item: Option<Item>, gone: Gone) -> bool
     }
 }
 
-/// The place of an element of the array at a place.
+/// The place of an element of an array.
 fn element_place(alloc: Global, array: &[Step], index: usize) -> CargoResult<Place>
     ensures ok { IfOk result (λ p. place_seen p.items ≡ at (place_seen array.now) (index_step index)) }
     ensures refused { IfErr result IsMemory }
@@ -126,7 +129,7 @@ fn element_place(alloc: Global, array: &[Step], index: usize) -> CargoResult<Pla
     Ok(place)
 }
 
-/// Adds the places of the strings of an array that go, the last first.
+/// Appends the places of the elements of an array that refer to the removed dependency, the last one first.
 fn push_stale(
     alloc: Global,
     document: &Document,
@@ -155,7 +158,7 @@ fn push_stale(
     Ok(())
 }
 
-/// The places of the strings of all features that go, feature by feature.
+/// The places of the elements of all features that refer to the removed dependency, feature by feature.
 fn stale_in_features(alloc: Global, document: &Document, gone: Gone) -> CargoResult<Vec<Place>>
     ensures ok { IfOk result (λ ps. places_seen ps.items
         ≡ stale_in_features (tree_of document.now) gone.entry.is_held gone.entry.name.now) }
@@ -176,7 +179,7 @@ fn stale_in_features(alloc: Global, document: &Document, gone: Gone) -> CargoRes
     Ok(places)
 }
 
-/// The places of the strings that go, in the order in which they do.
+/// The places of the elements to remove, in the order of removal.
 fn stale_strings(alloc: Global, document: &Document, name: &str) -> CargoResult<Vec<Place>>
     ensures ok { IfOk result (λ ps. places_seen ps.items
         ≡ stale_strings (tree_of document.now) name.now) }
@@ -195,7 +198,7 @@ fn stale_strings(alloc: Global, document: &Document, name: &str) -> CargoResult<
     stale_in_features(alloc, document, gone)
 }
 
-/// The document without the strings at these places, removed one after the other.
+/// Removes the strings at these places from a copy of the document, one after the other.
 fn without(alloc: Global, document: &Document, places: &[Place]) -> CargoResult<Document>
     requires strings { AreStrings (tree_of document.now) (places_seen places.now) }
     requires apart { AreInTurn (places_seen places.now) }
@@ -212,7 +215,7 @@ fn without(alloc: Global, document: &Document, places: &[Place]) -> CargoResult<
     Ok(left)
 }
 
-/// The document without the strings that go.
+/// Removes the elements of features that refer to a removed dependency from a copy of the document.
 pub(crate) fn cleared(alloc: Global, document: &Document, name: &str) -> CargoResult<Document>
     ensures text { IfOk result (λ d. Without (stale_strings (tree_of document.now) name.now)
         document.now.bytes d.bytes) }

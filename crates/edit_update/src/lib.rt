@@ -1,4 +1,4 @@
-//! Entries written by their records, and entries and features removed from a manifest.
+//! Updates entries from dependencies, and removes entries and features from a manifest.
 #![tactic(auto)]
 
 mod ends;

@@ -1,4 +1,4 @@
-//! Entries and features removed from a manifest.
+//! Removes entries and features from a manifest.
 ghost use Rattle.std.specs.Prelude.{◌≡◌, None, IfErr, OnOk, map, string_bytes};
 ghost use Rattle.edit_tree.specs.Shown.{tree_of};
 ghost use Rattle.edit_update.specs.Features.{IsNotCleared, stale_strings};
@@ -13,9 +13,9 @@ use std::alloc::Global;
 
 /// Removals from a manifest.
 pub trait ManifestExt {
-    /// Removes the entry of a name from the table at a path of names, and the table too where it has no
-    /// member left, but not the root. It is refused where one of the names leads to no table (8), where the
-    /// table has no such entry (9), and where the document refuses a removal (49).
+    /// Removes an entry from the table at a path of keys, and the table too if that leaves it empty, except
+    /// the root. `Error::NoTable` where one of the keys leads to no table, `Error::NoDependency` where the
+    /// table has no such entry, and `Error::EditRefused` where the document cannot be edited that way.
     fn remove_from_table(
         &mut self,
         alloc: Global,
@@ -23,10 +23,10 @@ pub trait ManifestExt {
         name: &str,
     ) -> CargoResult<()>;
 
-    /// Removes the strings of the features that name a dependency which is gone. Where a section of the
-    /// package's own has an optional entry of this key, there are none. Else they are the strings equal to
-    /// the key, and where no section has an entry of it, those that begin with it and a slash; `dep:` and
-    /// the key stays. It is refused where the document refuses a removal (49).
+    /// Removes the elements of features that refer to a removed dependency. If a dependency table of the
+    /// package has an optional entry of this key, nothing is removed. Otherwise the elements equal to the
+    /// key are removed and, if no table has an entry of this key, those that begin with the key and a slash;
+    /// `dep:KEY` stays. `Error::EditRefused` where the document cannot be edited that way.
     fn gc_dep(&mut self, alloc: Global, dep_key: &str) -> CargoResult<()>;
 }
 
@@ -39,7 +39,7 @@ impl ManifestExt for Manifest {
     ) -> CargoResult<()>
         ensures text { OnOk result (TakesOut (map string_bytes table_path.now) name.now
             self.old.document self.new.document) }
-        // Then nothing stands at the entry's place.
+        // the place of the entry is empty then
         ensures gone { OnOk result
             (tree_of self.new.document (entry_of (map string_bytes table_path.now) name.now) ≡ None) }
         ensures err { IfErr result (λ _. self.new ≡ self.old) }

@@ -1,4 +1,4 @@
-//! Entries removed from their tables.
+//! Removes entries from their tables.
 ghost use Rattle.std.specs.Prelude.{◌≡◌, ◌⊎◌, ℕ, List, None, IfErr, IfOk, OnOk, map, option_map, string_bytes};
 ghost use Rattle.edit_base.specs.Errors.{IsMemory};
 ghost use Rattle.edit_base.specs.declared.errors.Error.TheVariants.{EditRefused};
@@ -16,7 +16,7 @@ use edit_document::{Document, Item, Place, Step, member_place};
 use edit_manifest::ways::item_below;
 use std::alloc::{AllocError, Global};
 
-/// Whether this is a table or an inline table.
+/// Whether an item is a table or an inline table.
 fn is_table(item: Option<Item>) -> bool
     ensures { (d : Shown) → (place : PlaceSeen) → Finds d place item.entry
         → result ≡ is_table_like (tree_of d place) }
@@ -27,7 +27,7 @@ fn is_table(item: Option<Item>) -> bool
     }
 }
 
-/// The first of these names, one below the other, at which no table stands. It takes no memory.
+/// The first of these keys that does not lead to a table. It allocates no memory.
 fn missing_table<'p>(document: &Document, table_path: &'p [String]) -> Option<&'p str>
     ensures { option_map (λ s. s.now) result
         ≡ missing_table (tree_of document.now) (map string_bytes table_path.now) }
@@ -42,7 +42,7 @@ fn missing_table<'p>(document: &Document, table_path: &'p [String]) -> Option<&'
     None
 }
 
-/// The place of the members of these names, one below the other, from the root.
+/// The place that these keys lead to from the root.
 fn path_place(alloc: Global, table_path: &[String]) -> Result<Place, AllocError>
     ensures ok { IfOk result (λ p. place_seen p.items ≡ keyed (map string_bytes table_path.now)) }
 {
@@ -54,7 +54,7 @@ fn path_place(alloc: Global, table_path: &[String]) -> Result<Place, AllocError>
     Ok(place)
 }
 
-/// The refusal for want of a table.
+/// Returns `Error::NoTable` for a key.
 fn no_table(alloc: Global, step: &str) -> Error
     ensures { IsMemory result ⊎ NamesStep step.now result }
 {
@@ -64,7 +64,7 @@ fn no_table(alloc: Global, step: &str) -> Error
     }
 }
 
-/// The refusal for want of an entry, with the path of its table.
+/// Returns `Error::NoDependency` for an entry and the path of its table.
 fn no_entry(alloc: Global, table_path: &[String], name: &str) -> Error
     ensures { IsMemory result ⊎ NamesEntry (map string_bytes table_path.now) name.now result }
 {
@@ -77,7 +77,7 @@ fn no_entry(alloc: Global, table_path: &[String], name: &str) -> Error
     }
 }
 
-/// Removes a table that has no members any more; the root stays.
+/// Removes a table if it is empty; the root stays.
 fn remove_bare(alloc: Global, document: &mut Document, table: &[Step]) -> CargoResult<()>
     ensures without { OnOk result (Without (bare_table (tree_of document.old) (place_seen table.now))
         document.old.bytes document.new.bytes) }
@@ -100,7 +100,7 @@ fn remove_bare(alloc: Global, document: &mut Document, table: &[Step]) -> CargoR
     Ok(())
 }
 
-/// Whether this is a table or an inline table without members.
+/// Whether an item is an empty table or inline table.
 fn is_bare(item: Option<Item>) -> bool
     ensures { (d : Shown) → (place : PlaceSeen) → Finds d place item.entry
         → result ≡ is_bare (tree_of d place) }
@@ -111,8 +111,7 @@ fn is_bare(item: Option<Item>) -> bool
     }
 }
 
-/// The document without the entry of a name in the table at a path, and without the table where it has no
-/// member left.
+/// Removes an entry from a table in a copy of the document, and the table too if that leaves it empty.
 pub(crate) fn taken_out(
     alloc: Global,
     document: &Document,

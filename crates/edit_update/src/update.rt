@@ -1,4 +1,4 @@
-//! An entry comes to say what a record says.
+//! Updates an entry from a `Dependency`.
 ghost use Rattle.std.specs.Prelude.{◌≡◌, ◌⊎◌, ◌≤◌, ◌&&◌, length, None, Some, IfOk, IfErr};
 ghost use Rattle.std.specs.List.{filter_map};
 ghost use Rattle.edit_base.specs.Errors.{IsMemory};
@@ -21,7 +21,7 @@ use edit_document::{Document, Item, NewValue, Step, member_place};
 use edit_record::Dependency;
 use std::alloc::Global;
 
-/// Writes a member of an entry: the literal of a value is replaced, and what is not there is inserted.
+/// Writes a key of an entry: an existing value is replaced, and a missing key is inserted.
 fn write_member(
     alloc: Global,
     document: &mut Document,
@@ -48,7 +48,7 @@ fn write_member(
     document.insert(alloc, entry, name, value)
 }
 
-/// Removes a member of an entry, where it is there.
+/// Removes a key of an entry, if it is there.
 fn remove_member(
     alloc: Global,
     document: &mut Document,
@@ -70,7 +70,7 @@ fn remove_member(
     document.remove(alloc, &place)
 }
 
-/// Writes each member that ends with a value.
+/// Writes each key that has a final value.
 fn write_members(
     alloc: Global,
     document: &mut Document,
@@ -93,7 +93,7 @@ fn write_members(
     Ok(())
 }
 
-/// Removes each member that ends without a value.
+/// Removes each key that has no final value.
 fn remove_members(
     alloc: Global,
     document: &mut Document,
@@ -115,15 +115,15 @@ fn remove_members(
     Ok(())
 }
 
-/// Whether an entry is a string, or a table of one member.
+/// Whether an entry is a string, or a table with a single key.
 fn is_slight(entry: Item<'_>) -> bool
     ensures { result ≡ is_slight (Some (view_of entry.entry)) }
 {
     entry.is_str() || (entry.is_table_like() && entry.len() == 1)
 }
 
-/// Whether a new entry replaces the one at a place: it is a string or a table of one member, and one pair
-/// of a key and a value alone names it.
+/// Whether the entry at a place is replaced as a whole: it is a string or a table with a single key, and is
+/// defined by a single key/value pair.
 fn is_replaced(document: &Document, place: &[Step], entry: Item<'_>) -> bool
     ensures { IfDocument document.now.bytes (λ form. result ≡ (is_one_statement form
         (place_seen place.now) && is_slight (Some (view_of entry.entry)))) }
@@ -131,7 +131,7 @@ fn is_replaced(document: &Document, place: &[Step], entry: Item<'_>) -> bool
     document.one_statement(place) && is_slight(entry)
 }
 
-/// Makes an entry say what the record says, in a document that an error may leave half done.
+/// Updates an entry in a document that may be left incomplete after an error.
 fn update_copy(
     dependency: &Dependency,
     alloc: Global,
@@ -161,19 +161,20 @@ fn update_copy(
     remove_members(alloc, document, entry, ends.as_slice())
 }
 
-/// Changes of an entry by its record.
+/// Updates of an entry from a dependency.
 pub trait DependencyExt {
-    /// The entry at a place comes to say what the record says, in a manifest of this folder. The folder and a
-    /// source's path are meant to be absolute, the folder without a part `..`; the entry is meant to be a
-    /// string or a table, a member of its table.
+    /// Updates the entry at a place from this dependency, in a manifest of the folder `crate_root`. That
+    /// folder and the path of a source have to be absolute, the folder without a segment `..`; the entry has
+    /// to be a string or a table, and a member of its table.
     ///
-    /// A string, or a table of one member that no header names, gives way to the new entry of `to_toml`. In
-    /// any other table members are written and then removed, and all else stays: the source's own members and
-    /// those of other sources, `registry` beside a version, `package` under another key, `default-features`,
-    /// `features` (those that the entry has, and then the record's, each once) and `optional`. A member that
-    /// was written as a value gets another literal. Without a source in the record those of the entry stay.
+    /// A string, or a table with a single key that no header defines, is replaced by the result of
+    /// `to_toml`. In any other table, keys are written and then removed, and everything else is unchanged:
+    /// the keys of the source and of other kinds of sources, `registry` with a version, `package` under
+    /// another key, `default-features`, `features` (those of the entry, then those of the dependency,
+    /// without duplicates) and `optional`. An existing value gets a new literal. Without a source, the keys
+    /// of sources are unchanged.
     ///
-    /// After an error the document is as it was.
+    /// After an error the document is unchanged.
     fn update_toml(
         &self,
         alloc: Global,

@@ -12,10 +12,10 @@ const OPTIONS: StoreOptions<'static> = StoreOptions {
     excluded: &[],
 };
 
-/// Where the entry of `serde` stands in the cache.
+/// The path of the cached entry of `serde`.
 const SERDE: &str = "/c/sparse+https:%2F%2Fh.example%2F/se/rd/serde";
 
-/// Where an upgrade reads it.
+/// The path at which the upgrade reads the entry.
 const INDEXED: &str = "/c/.run.1/index/sparse+https:%2F%2Fu:p@h.example%2F/se/rd/serde";
 
 const OLD: &[u8] = b"{\"name\":\"serde\",\"vers\":\"1.0.0\"}\n";
@@ -28,7 +28,7 @@ fn put(alloc: Global, store: &mut MemoryStore, path: &str, bytes: &[u8]) -> Resu
     Ok(())
 }
 
-/// A run of one lookup with this answer and body, over a cache with an old entry.
+/// Runs one lookup with this outcome and body, over a cache with an old entry.
 fn run_with(alloc: Global, answer: &[u8], body: &[u8]) -> Result<(MemoryStore, Report), Fail> {
     let mut store = MemoryStore::new(alloc);
     put(
@@ -60,7 +60,7 @@ fn a_new_body(rt: HostRuntime) -> Result<(), Fail> {
     Ok(())
 }
 
-/// Whether a run with this answer and body leaves the old entry, which serves with a warning.
+/// Whether a run with this outcome and body uses the old entry unchanged, with a warning.
 fn is_left(alloc: Global, answer: &[u8], body: &[u8]) -> Result<bool, Fail> {
     let (mut store, report) = run_with(alloc, answer, body)?;
     let kept = entry(alloc, &mut store)?.as_slice() == OLD;
@@ -104,13 +104,13 @@ fn answers_without_an_entry(rt: HostRuntime) -> Result<(), Fail> {
     Ok(())
 }
 
-/// What is said of a run without an answer whose cached entry is this.
+/// Runs one lookup without an outcome, over a cache with this entry.
 fn said_of(alloc: Global, cached: &[u8], options: &StoreOptions<'_>) -> Result<Report, Fail> {
     let (mut store, _report) = run_with(alloc, b"1\t403\t0\t0\t\n", b"")?;
     put(alloc, &mut store, SERDE, cached)?;
     put(alloc, &mut store, INDEXED, b"")?;
     let report = store_answers(alloc, &mut store, &PLACES, options)?;
-    // (a damaged entry is not put where an upgrade reads it, and stays)
+    // (a damaged entry stays in the cache and is not linked to where the upgrade reads it)
     let indexed = store.read(alloc, INDEXED)?.ok_or("not indexed")?;
     if !indexed.is_empty() || entry(alloc, &mut store)?.as_slice() != cached {
         return Err(Fail::from("the entry is used"));
@@ -145,7 +145,7 @@ warning: no index entries of sparse+https://h.example/ are cached for serde (not
     Ok(())
 }
 
-/// Where the validator of that entry stands.
+/// The path of the validator of that entry.
 const VALIDATOR: &str = "/c/sparse+https:%2F%2Fh.example%2F/se/rd/serde.etag";
 
 #[test]
@@ -160,7 +160,7 @@ fn a_redirected_body(rt: HostRuntime) -> Result<(), Fail> {
     Ok(())
 }
 
-/// Whether a run that has neither an answer nor a cached entry ends with an error.
+/// Whether a run with neither an outcome nor a cached entry ends with an error.
 fn is_error(alloc: Global, excluded: &[&str]) -> Result<bool, Fail> {
     let mut store = MemoryStore::new(alloc);
     put(
@@ -205,7 +205,7 @@ fn a_failed_write(rt: HostRuntime) -> Result<(), Fail> {
         b"1\t200\t0\t0\t\n",
     )?;
     put(rt.alloc(), &mut store, "/c/other", OLD)?;
-    // the calls before are those that read the lookups, the answers and the body
+    // the earlier calls read the lookups, the outcomes and the body
     let mut store = FaultStore::new(store, 3, 5);
     let result = store_answers(rt.alloc(), &mut store, &PLACES, &OPTIONS);
     assert!(rt; result.is_err());

@@ -1,4 +1,4 @@
-//! What requirements lead to, remembered beside the answers in the cache.
+//! Choices for requirements, cached beside the results of lookups.
 ghost use Rattle.std.specs.Prelude.{◌≡◌, IfErr, OnOk};
 ghost use Rattle.url.specs.Parts.{serialize};
 ghost use Rattle.edit_base.specs.Errors.{IsMemory};
@@ -13,9 +13,8 @@ use std::alloc::Global;
 use url::Url;
 
 impl<I: Index> IndexCache<I> {
-    /// Ranks the answer in the cache for a name, once, as `rank_kept` does, and remembers what a requirement
-    /// leads to for a Rust version: `Ranked::version_pair` then finds it by the requirement's text, however
-    /// many entries have that text.
+    /// Ranks the cached result for a crate, once, as `rank_kept` does, and caches the choice for a
+    /// requirement and a Rust version: `Ranked::version_pair` then finds it by the text of the requirement.
     pub fn rank_for(
         &mut self,
         alloc: Global,
@@ -33,7 +32,7 @@ impl<I: Index> IndexCache<I> {
         self.rank_for_at(alloc, registry.as_str(), name, old, rust_version)
     }
 
-    /// `rank_for` by the text of an address.
+    /// `rank_for`, with the address as text.
     fn rank_for_at(
         &mut self,
         alloc: Global,

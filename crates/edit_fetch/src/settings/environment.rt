@@ -5,7 +5,7 @@ ghost use Rattle.edit_fetch.specs.Settings.{ReadsCount, flag_of};
 use super::NetValues;
 use std::alloc::{AllocError, Global};
 
-/// The texts of the variables that give network settings, where they are there.
+/// The values of the environment variables for network settings, as far as they are set.
 #[derive(Clone, Copy, Debug)]
 pub struct Environment<'a> {
     /// `CARGO_NET_OFFLINE`, `true` or `false`.
@@ -20,7 +20,7 @@ pub struct Environment<'a> {
     pub cainfo: Option<&'a str>,
 }
 
-/// What a text says of a flag: nothing where it is neither `true` nor `false`.
+/// Parses a boolean; `None` where the text is neither `true` nor `false`.
 fn flag_of(text: &str) -> Option<bool>
     ensures { result ≡ flag_of text.now }
 {
@@ -33,7 +33,7 @@ fn flag_of(text: &str) -> Option<bool>
     }
 }
 
-/// The number that a text gives, nothing where it gives none.
+/// Parses a number; `None` where the text is no number of 32 bits.
 fn count_of(text: Option<&str>) -> Option<u32>
     ensures { ReadsCount (option_map (λ t. t.now) text.entry) result }
 {
@@ -43,7 +43,7 @@ fn count_of(text: Option<&str>) -> Option<u32>
     }
 }
 
-/// A text on memory of its own, where there is one.
+/// Returns an owned copy of a string, if there is one.
 fn copied(alloc: Global, text: Option<&str>) -> Result<Option<String>, AllocError>
     ensures { IfOk result (λ t. option_map string_bytes t ≡ option_map (λ s. s.now) text.entry) }
 {
@@ -56,7 +56,7 @@ fn copied(alloc: Global, text: Option<&str>) -> Result<Option<String>, AllocErro
 impl Environment<'_> {
     ghost use Rattle.edit_fetch.specs.Settings.{IsEnvironment, values_of};
 
-    /// The network settings that these texts give. A text that is no flag or no number counts as absent.
+    /// The network settings of the environment. A text that cannot be parsed is ignored.
     pub(super) fn values(&self, alloc: Global) -> Result<NetValues, AllocError>
         ensures { IfOk result (λ v. IsEnvironment self.now (values_of v)) }
     {

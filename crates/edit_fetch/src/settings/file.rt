@@ -15,14 +15,14 @@ use edit_store::Store;
 use std::alloc::{AllocError, Global};
 use toml::{Table, Value};
 
-/// The value at a key of a table.
+/// Returns the value of a key in a table.
 fn value_at<'a>(table: &'a Table, key: &str) -> Option<&'a Value>
     ensures { option_map (λ v. view v.now) result ≡ get_member key.now (table_view table.now) }
 {
     table.get(key)
 }
 
-/// The value at a key of a table in a document.
+/// Returns the value of a key in a table of a document.
 fn value_in<'a>(document: &'a Table, table: &str, key: &str) -> Option<&'a Value>
     ensures { option_map (λ v. view v.now) result ≡ value_in table.now key.now (table_view document.now) }
 {
@@ -30,21 +30,21 @@ fn value_in<'a>(document: &'a Table, table: &str, key: &str) -> Option<&'a Value
     value_at(table, key)
 }
 
-/// A flag of a document.
+/// The boolean of a key in a table of a document.
 fn flag_in(document: &Table, table: &str, key: &str) -> Option<bool>
     ensures { result ≡ option_and_then as_bool (value_in table.now key.now (table_view document.now)) }
 {
     value_in(document, table, key)?.as_bool()
 }
 
-/// An integer, where it is from 0 to 4294967295.
+/// Converts an integer to `u32`, if it is in range.
 fn count_of(integer: i64) -> Option<u32>
     ensures { result ≡ count_of integer }
 {
     u32::try_from(integer).ok()
 }
 
-/// A number of a document.
+/// The number of a key in a table of a document.
 fn count_in(document: &Table, table: &str, key: &str) -> Option<u32>
     ensures { result ≡ option_and_then count_of
         (option_and_then as_integer (value_in table.now key.now (table_view document.now))) }
@@ -52,7 +52,7 @@ fn count_in(document: &Table, table: &str, key: &str) -> Option<u32>
     count_of(value_in(document, table, key)?.as_integer()?)
 }
 
-/// A text of a document.
+/// The string of a key in a table of a document.
 fn text_in<'a>(document: &'a Table, table: &str, key: &str) -> Option<&'a str>
     ensures { option_map (λ t. t.now) result
         ≡ option_and_then as_str (value_in table.now key.now (table_view document.now)) }
@@ -60,7 +60,7 @@ fn text_in<'a>(document: &'a Table, table: &str, key: &str) -> Option<&'a str>
     value_in(document, table, key)?.as_str()
 }
 
-/// A text on memory of its own, where there is one.
+/// Returns an owned copy of a string, if there is one.
 fn copied(alloc: Global, text: Option<&str>) -> Result<Option<String>, AllocError>
     ensures { IfOk result (λ t. option_map string_bytes t ≡ option_map (λ s. s.now) text.entry) }
 {
@@ -70,7 +70,7 @@ fn copied(alloc: Global, text: Option<&str>) -> Result<Option<String>, AllocErro
     }
 }
 
-/// A path below a folder, where there is one.
+/// Joins a folder and a path, if there is one.
 fn path_below(alloc: Global, base: &str, path: Option<&str>) -> CargoResult<Option<String>>
     ensures path { IfOk result (λ t. option_map string_bytes t
         ≡ option_map (λ p. joined base.now p.now) path.entry) }
@@ -82,7 +82,7 @@ fn path_below(alloc: Global, base: &str, path: Option<&str>) -> CargoResult<Opti
     }
 }
 
-/// The network settings of a document, where relative paths start in `base`.
+/// The network settings of a document; relative paths are joined to `base`.
 fn values_in(alloc: Global, base: &str, document: &Table) -> CargoResult<NetValues>
     ensures values { IfOk result (λ v. values_of v ≡ values_in base.now (table_view document.now)) }
     ensures refused { IfErr result IsMemory }
@@ -96,7 +96,7 @@ fn values_in(alloc: Global, base: &str, document: &Table) -> CargoResult<NetValu
     })
 }
 
-/// The network settings that the bytes of a file give: none where they are no TOML document.
+/// The network settings of the bytes of a file; none where they are not TOML.
 fn values_of_bytes(alloc: Global, base: &str, bytes: &[u8]) -> CargoResult<NetValues>
     ensures says { IfOk result (λ v. SaysValues base.now bytes.now (values_of v)) }
     ensures refused { IfErr result IsMemory }
@@ -114,7 +114,8 @@ fn values_of_bytes(alloc: Global, base: &str, bytes: &[u8]) -> CargoResult<NetVa
     }
 }
 
-/// The network settings of the file at a path. Relative paths in it start in the folder above the file's.
+/// The network settings of the file at a path. Relative paths in it are joined to the parent of the file's
+/// folder.
 pub(super) fn values_at<S: Store>(
     alloc: Global,
     store: &mut S,

@@ -1,4 +1,4 @@
-//! The entries of a document, found in a walk down its dependency tables.
+//! Finds and reads the entries of the dependency tables of a document.
 ghost use Rattle.std.specs.Prelude.{◌≡◌, ◌++◌, All, Err, IfErr, IfOk, OnOk, map};
 ghost use Rattle.std.specs.Result.{result_ok};
 ghost use Rattle.edit_base.specs.Errors.{IsMemory};
@@ -16,11 +16,11 @@ use edit_document::{Document, Item, Place, Step, member_place};
 use edit_record::Dependency;
 use std::alloc::{AllocError, Global};
 
-/// What an entry says.
+/// An entry of a dependency table, read if it is supported.
 #[derive(Debug, Drop)]
 pub enum Said {
     Read(Dependency),
-    /// Why it has no record.
+    /// The error of an entry that is not supported.
     Unsupported(Error),
 }
 
@@ -29,12 +29,13 @@ pub enum Said {
 pub struct Entry {
     pub key: String,
     pub place: Place,
-    /// Whether it is a string, which then is its version literal; else that is its member `version`.
+    /// Whether the entry is a string, so that it is its own version literal; otherwise that is at its key
+    /// `version`.
     pub bare: bool,
     pub said: Said,
 }
 
-/// What an item says under a key.
+/// Reads an item under its key. Lack of memory is an error; any other error makes the entry unsupported.
 fn said_of(alloc: Global, root: &str, key: &str, item: Item<'_>) -> CargoResult<Said>
     ensures ok { IfOk result (λ s. said_view s ≡ result_ok (record_of (tree_of (document_of item.entry))
         (place_of item.entry) root.now key.now)) }
@@ -53,7 +54,7 @@ fn said_of(alloc: Global, root: &str, key: &str, item: Item<'_>) -> CargoResult<
     }
 }
 
-/// What is said where nothing stands.
+/// Returns the unsupported entry for a key without an item.
 fn nothing_said(alloc: Global, key: &str) -> Result<Said, AllocError>
     ensures ok { IfOk result (λ s. said_view s ≡ None) }
     ensures reason { IfOk result (IsReason (Err (unknown_entry key.now))) }
@@ -63,7 +64,7 @@ fn nothing_said(alloc: Global, key: &str) -> Result<Said, AllocError>
     }))
 }
 
-/// The entry of this name of the table at a place.
+/// Reads the entry of a key in a table, given the place of the table.
 fn entry_of(
     alloc: Global,
     root: &str,
@@ -95,7 +96,7 @@ fn entry_of(
     }
 }
 
-/// Adds the entries of the table at a place.
+/// Appends the entries of the table at a place.
 fn push_entries(
     alloc: Global,
     root: &str,
@@ -119,8 +120,8 @@ fn push_entries(
     Ok(())
 }
 
-/// The entries of a document, table by table in the order of a walk down it, each with what it says where
-/// its paths are meant from a root on, or with why it says nothing that is supported.
+/// Reads the entries of all dependency tables of a document, table by table and in order. Relative paths in
+/// them are joined to `root`; an entry that is not supported has its error instead.
 pub fn entries(alloc: Global, root: &str, document: &Document) -> CargoResult<Vec<Entry>>
     ensures ok { IfOk result (λ es. map entry_view es.items ≡ entries (tree_of document.now) root.now) }
     ensures reasons { IfOk result (λ es. All (HasReason (tree_of document.now) root.now) es.items) }

@@ -1,4 +1,4 @@
-//! Places of entries and of their version literals.
+//! The places of entries and of their version literals.
 ghost use Rattle.std.specs.Prelude.{◌≡◌, IfErr, IfOk};
 ghost use Rattle.edit_base.specs.Errors.{IsMemory};
 ghost use Rattle.edit_document.specs.Items.{place_seen};
@@ -8,8 +8,8 @@ use edit_base::CargoResult;
 use edit_document::{Place, Step, copied_place, member_place};
 use std::alloc::Global;
 
-/// The place of the version literal of the entry at a place, which is a string or not: the entry itself, or
-/// its member `version`.
+/// The place of the version literal of an entry: with `bare`, where the entry is a string, the entry itself,
+/// else its key `version`.
 pub fn literal_place(alloc: Global, steps: &[Step], bare: bool) -> CargoResult<Place>
     ensures ok { IfOk result (λ p. place_seen p.items ≡ literal_by bare (place_seen steps.now)) }
     ensures refused { IfErr result IsMemory }

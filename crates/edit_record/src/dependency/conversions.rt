@@ -1,4 +1,4 @@
-//! Each of the four sources is a source.
+//! Converts each of the four sources into a `Source`.
 ghost use Rattle.std.specs.Prelude.{◌≡◌};
 ghost use Rattle.edit_record.specs.declared.dependency.sources.Source.TheVariants.{Registry, Path, Git, Workspace};
 

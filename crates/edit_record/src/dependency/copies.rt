@@ -1,10 +1,10 @@
-//! Copies of texts and of lists of texts.
+//! Deep copies of strings and of lists of strings.
 ghost use Rattle.std.specs.Prelude.{◌≡◌, ◌++◌, [], None, Some, IfOk, option_copied, option_map, string_bytes, unwrap_or};
 ghost use Rattle.edit_record.specs.RecordViews.{texts_view};
 
 use std::alloc::{AllocError, Global};
 
-/// A text on memory of its own, where there is one.
+/// Returns a copy of a string, if there is one.
 pub(crate) fn copied(text: Option<&String>) -> Result<Option<String>, AllocError>
     ensures { IfOk result (λ o. option_map string_bytes o
         ≡ option_map string_bytes (option_copied text.entry)) }
@@ -15,7 +15,7 @@ pub(crate) fn copied(text: Option<&String>) -> Result<Option<String>, AllocError
     }
 }
 
-/// A text that is lent, on memory of its own, where there is one.
+/// Returns an owned copy of a borrowed string, if there is one.
 pub(crate) fn owned(alloc: Global, text: Option<&str>) -> Result<Option<String>, AllocError>
     ensures { IfOk result (λ o. option_map string_bytes o ≡ option_map (λ s. s.now) text.entry) }
 {
@@ -25,7 +25,7 @@ pub(crate) fn owned(alloc: Global, text: Option<&str>) -> Result<Option<String>,
     }
 }
 
-/// A list of texts on memory of its own, where there is one.
+/// Returns a deep copy of a list of strings, if there is one.
 fn copied_list(texts: Option<&Vec<String>>) -> Result<Option<Vec<String>>, AllocError>
     ensures { IfOk result (λ o. option_map texts_view o
         ≡ option_map texts_view (option_copied texts.entry)) }
@@ -36,7 +36,7 @@ fn copied_list(texts: Option<&Vec<String>>) -> Result<Option<Vec<String>>, Alloc
     }
 }
 
-/// Two texts on memory of their own, where they are there.
+/// Returns copies of two strings, of each if it is there.
 pub(crate) fn copied_pair(
     one: Option<&String>,
     other: Option<&String>,
@@ -49,7 +49,7 @@ pub(crate) fn copied_pair(
     Ok((copied(one)?, copied(other)?))
 }
 
-/// Two lists of texts on memory of their own, where they are there.
+/// Returns deep copies of two lists of strings, of each if it is there.
 pub(crate) fn copied_lists(
     one: Option<&Vec<String>>,
     other: Option<&Vec<String>>,
@@ -62,7 +62,7 @@ pub(crate) fn copied_lists(
     Ok((copied_list(one)?, copied_list(other)?))
 }
 
-/// The first list, where there is one, and then the second.
+/// Appends `new` to `old`, if there is one.
 pub fn joined(old: Option<Vec<String>>, mut new: Vec<String>) -> Result<Vec<String>, AllocError>
     ensures { IfOk result (λ v. texts_view v
         ≡ unwrap_or (option_map texts_view old) [] ++ texts_view new) }

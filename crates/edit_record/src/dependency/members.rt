@@ -1,4 +1,4 @@
-//! The members of an entry, and the error of one that may not stand there.
+//! Reads the keys of an entry of a dependency table, and builds the errors for values of a wrong type.
 ghost use Rattle.std.specs.Prelude.{◌≡◌, IfOk, IfErr, codes, false, option_map, string_bytes};
 ghost use Rattle.edit_base.specs.Errors.{IsMemory};
 ghost use Rattle.edit_document.specs.ItemViews.{view_of};
@@ -13,7 +13,7 @@ use edit_document::Item;
 use edit_version::requirement::before_plus;
 use std::alloc::{AllocError, Global};
 
-/// The error for a member of a wrong type.
+/// Returns `Error::InvalidType` for the value of the key `name`, which is not of the expected type.
 pub(crate) fn wrong_type(
     alloc: Global,
     dep: &str,
@@ -32,7 +32,7 @@ pub(crate) fn wrong_type(
     })
 }
 
-/// The text of a member, which must be a string.
+/// The string of a value; `Error::InvalidType` where it is no string.
 pub(crate) fn text_of<'a>(
     alloc: Global,
     dep: &str,
@@ -48,7 +48,7 @@ pub(crate) fn text_of<'a>(
     }
 }
 
-/// The text of the member of a name, where it is there.
+/// The string of a key, if the key is there; `Error::InvalidType` where it holds no string.
 pub(crate) fn text_at<'a>(
     alloc: Global,
     dep: &str,
@@ -65,7 +65,7 @@ pub(crate) fn text_at<'a>(
     }
 }
 
-/// A requirement before its first `+`, on memory of its own, where there is one.
+/// Returns an owned copy of a requirement up to its first `+`, if there is one.
 fn owned_version(alloc: Global, text: Option<&str>) -> Result<Option<String>, AllocError>
     ensures { IfOk result (λ o. option_map string_bytes o
         ≡ option_map cut (option_map (λ s. s.now) text.entry)) }
@@ -76,7 +76,7 @@ fn owned_version(alloc: Global, text: Option<&str>) -> Result<Option<String>, Al
     }
 }
 
-/// The requirement of an entry before its first `+`, where it is there.
+/// The requirement of the key `version` up to its first `+`, if the key is there.
 pub(crate) fn version_at(alloc: Global, dep: &str, table: Item<'_>) -> CargoResult<Option<String>>
     ensures ok { IfOk result (λ o. version_at (shown_at table.entry) dep.now
         ≡ Ok (option_map string_bytes o)) }
@@ -86,7 +86,7 @@ pub(crate) fn version_at(alloc: Global, dep: &str, table: Item<'_>) -> CargoResu
     Ok(owned_version(alloc, text)?)
 }
 
-/// The boolean of the member of a name; nothing of any other type counts.
+/// The boolean of a key; `None` where the key is absent or holds no boolean.
 pub(crate) fn truth_at(table: Item<'_>, name: &str) -> Option<bool>
     ensures { result ≡ truth_at (shown_at table.entry) name.now }
 {
@@ -96,7 +96,8 @@ pub(crate) fn truth_at(table: Item<'_>, name: &str) -> Option<bool>
     }
 }
 
-/// The error for a member `default_features`, an old spelling of `default-features`.
+/// Returns `Error::OldDefaultFeatures` where the entry has the key `default_features`, an old spelling of
+/// `default-features`.
 pub(crate) fn check_spelling(alloc: Global, dep: &str, table: Item<'_>) -> CargoResult<()>
     ensures ok { IfOk result (λ _.
         old_spelling dep.now (member_in (shown_at table.entry) (codes "default_features")) ≡ Ok false) }
@@ -111,7 +112,7 @@ pub(crate) fn check_spelling(alloc: Global, dep: &str, table: Item<'_>) -> Cargo
     }
 }
 
-/// The texts of an array's elements, each of which must be a string.
+/// The strings of an array's elements; `Error::InvalidType` where one is no string.
 fn element_texts(alloc: Global, dep: &str, array: Item<'_>) -> CargoResult<Vec<String>>
     ensures ok { IfOk result (λ v. first_texts (shown_at array.entry) dep.now
         (count_in (view_of array.entry)) ≡ Ok (texts_view v)) }
@@ -128,7 +129,7 @@ fn element_texts(alloc: Global, dep: &str, array: Item<'_>) -> CargoResult<Vec<S
     Ok(texts)
 }
 
-/// The texts of `features`, which must be an array of strings.
+/// The strings of the value of `features`; `Error::InvalidType` where it is no array of strings.
 fn feature_texts(alloc: Global, dep: &str, item: Item<'_>) -> CargoResult<Vec<String>>
     ensures ok { IfOk result (λ v. feature_texts (shown_at item.entry) dep.now (view_of item.entry)
         ≡ Ok (texts_view v)) }
@@ -141,7 +142,8 @@ fn feature_texts(alloc: Global, dep: &str, item: Item<'_>) -> CargoResult<Vec<St
     }
 }
 
-/// The texts of `features`, where it is there: it must be an array of strings.
+/// The strings of the key `features`, if the key is there; `Error::InvalidType` where it holds no array of
+/// strings.
 pub fn features_at(alloc: Global, dep: &str, table: Item<'_>) -> CargoResult<Option<Vec<String>>>
     ensures ok { IfOk result (λ o. features_at (shown_at table.entry) dep.now
         ≡ Ok (option_map texts_view o)) }

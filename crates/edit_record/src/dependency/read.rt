@@ -1,4 +1,4 @@
-//! The record of an entry (Cargo reference, "Specifying Dependencies").
+//! Reads an entry of a dependency table (Cargo reference, "Specifying Dependencies").
 ghost use Rattle.std.specs.Prelude.{◌≡◌, None, Some, IfOk, IfErr, codes, option_map, string_bytes};
 ghost use Rattle.std.specs.BTreeMap.{btree_map_len};
 ghost use Rattle.edit_base.specs.Errors.{IsMemory};
@@ -20,7 +20,7 @@ use edit_document::Item;
 use std::alloc::{AllocError, Global};
 use std::collections::BTreeMap;
 
-/// A repository at the last that is there of a branch, a tag and a revision.
+/// Builds a Git source. Of `rev`, `tag` and `branch` the first that is there counts.
 fn repository(
     alloc: Global,
     git: &str,
@@ -46,7 +46,7 @@ fn repository(
     })
 }
 
-/// The source of an entry with a member `git`.
+/// The source of an entry with the key `git`.
 fn git_source(alloc: Global, dep: &str, table: Item<'_>, git: Item<'_>) -> CargoResult<GitSource>
     ensures ok { IfOk result (λ s. git_origin (shown_at table.entry) dep.now (view_of git.entry)
         ≡ Ok (from_git (repository_view s))) }
@@ -64,7 +64,7 @@ fn git_source(alloc: Global, dep: &str, table: Item<'_>, git: Item<'_>) -> Cargo
     })
 }
 
-/// The source of an entry with a member `path` and without `git`.
+/// The source of an entry with the key `path` and without `git`.
 fn path_source(
     alloc: Global,
     root: &str,
@@ -85,7 +85,7 @@ fn path_source(
     })
 }
 
-/// The source of an entry with a member `workspace`, which must be true.
+/// The source of an entry with the key `workspace`; `Error::WorkspaceFalse` where it is false.
 fn true_workspace(alloc: Global, dep: &str, item: Item<'_>) -> CargoResult<WorkspaceSource>
     ensures ok { IfOk result (λ _. true_workspace dep.now (view_of item.entry) ≡ Ok from_workspace) }
     ensures refused { IfErr result (IsRefused (true_workspace dep.now (view_of item.entry))) }
@@ -103,7 +103,8 @@ fn true_workspace(alloc: Global, dep: &str, item: Item<'_>) -> CargoResult<Works
     }
 }
 
-/// The source of an entry with none of the members `git`, `path` and `version`.
+/// The source of an entry without the keys `git`, `path` and `version`; `Error::UnknownSource` where it has
+/// no `workspace` either.
 fn workspace_source(alloc: Global, dep: &str, table: Item<'_>) -> CargoResult<WorkspaceSource>
     ensures ok { IfOk result (λ _. workspace_origin dep.now
         (member_in (shown_at table.entry) (codes "workspace")) ≡ Ok from_workspace) }
@@ -118,7 +119,7 @@ fn workspace_source(alloc: Global, dep: &str, table: Item<'_>) -> CargoResult<Wo
     }
 }
 
-/// The source of an entry that is a table.
+/// The source of an entry that is a table or an inline table.
 fn source_of(alloc: Global, root: &str, dep: &str, table: Item<'_>) -> CargoResult<Source>
     ensures ok { IfOk result (λ s. origin_at (shown_at table.entry) root.now dep.now ≡ Ok (source_view s)) }
     ensures refused { IfErr result (IsRefused (origin_at (shown_at table.entry) root.now dep.now)) }
@@ -136,7 +137,7 @@ fn source_of(alloc: Global, root: &str, dep: &str, table: Item<'_>) -> CargoResu
     Ok(Source::Workspace(workspace_source(alloc, dep, table)?))
 }
 
-/// The crate's name and the entry's other name.
+/// The crate's name and the key if it differs: `package` and `dep`, or `dep` alone.
 fn names(
     alloc: Global,
     dep: &str,
@@ -152,7 +153,8 @@ fn names(
     }
 }
 
-/// What an entry says behind its source: its registry and its features.
+/// The keys `registry` and `features` of an entry; `Error::OldDefaultFeatures` where it has
+/// `default_features`.
 fn options_at(
     alloc: Global,
     dep: &str,
@@ -168,7 +170,7 @@ fn options_at(
     Ok((owned(alloc, registry)?, features))
 }
 
-/// The record of an entry that is a table.
+/// Reads an entry that is a table or an inline table.
 fn table_record(alloc: Global, root: &str, dep: &str, table: Item<'_>) -> CargoResult<Dependency>
     ensures ok { IfOk result (λ d. table_record (shown_at table.entry) root.now dep.now
         ≡ Ok (record_view d)) }
@@ -193,13 +195,14 @@ fn table_record(alloc: Global, root: &str, dep: &str, table: Item<'_>) -> CargoR
 }
 
 impl Dependency {
-    /// The record of an entry of a dependency table under its key, with its path meant from this folder on.
+    /// Reads the entry of a dependency table under `key`; a relative `path` is joined to `crate_root`.
     ///
-    /// A string is the version in a registry. Else it is a table or an inline table (25 UnknownEntry).
-    /// `package` gives the name, and the key is then the other name. The first of `git`, `path`, `version`
-    /// and `workspace` gives the source (22 WorkspaceFalse, 23 UnknownSource). Then come `registry`,
-    /// `default_features` (24 OldDefaultFeatures) and `features`. A member of a wrong type is an error
-    /// (21 InvalidType), but for `default-features` and `optional`, which count only as booleans.
+    /// A string is the version in a registry. Anything else has to be a table or an inline table
+    /// (`Error::UnknownEntry`). `package` gives the crate's name, and `key` is then the rename. The first of
+    /// `git`, `path`, `version` and `workspace` gives the source (`Error::WorkspaceFalse`,
+    /// `Error::UnknownSource`). Then come `registry`, `default_features` (`Error::OldDefaultFeatures`) and
+    /// `features`. A value of a wrong type is `Error::InvalidType`, except that `default-features` and
+    /// `optional` are ignored where they are not booleans.
     pub fn from_toml(
         alloc: Global,
         crate_root: &str,

@@ -1,4 +1,4 @@
-//! Where a dependency comes from.
+//! The sources of dependencies.
 ghost use Rattle.std.specs.Prelude.{◌≡◌, None, Some, IfOk, IfErr, option_copied, option_map, string_bytes};
 ghost use Rattle.edit_base.specs.Errors.{IsMemory};
 ghost use Rattle.edit_record.specs.EntryRecords.{from_path, from_registry};
@@ -19,7 +19,7 @@ pub struct RegistrySource {
 }
 
 impl RegistrySource {
-    /// A requirement, cut before its first `+`.
+    /// Returns the source with this requirement, up to its first `+`.
     pub fn new(alloc: Global, version: &str) -> CargoResult<RegistrySource>
         ensures ok { IfOk result (λ s. string_bytes s.version ≡ cut version.now) }
         ensures refused { IfErr result IsMemory }
@@ -29,7 +29,7 @@ impl RegistrySource {
         })
     }
 
-    /// A copy of the source, on memory of its own.
+    /// Returns a deep copy of the source.
     pub fn try_clone(&self, _alloc: Global) -> CargoResult<RegistrySource>
         ensures ok { IfOk result (λ s. string_bytes s.version ≡ string_bytes self.now.version) }
         ensures refused { IfErr result IsMemory }
@@ -40,16 +40,16 @@ impl RegistrySource {
     }
 }
 
-/// A folder, and perhaps a version.
+/// A folder, with an optional version requirement.
 #[derive(Debug, PartialEq, Eq, PartialOrd, Ord, Hash, Drop)]
 pub struct PathSource {
-    /// An absolute path.
+    /// The absolute path of the folder.
     pub path: String,
     pub version: Option<String>,
 }
 
 impl PathSource {
-    /// A folder without a version.
+    /// Returns the source with this folder, without a version.
     pub fn new(alloc: Global, path: &str) -> CargoResult<PathSource>
         ensures ok { IfOk result (λ s. path_view s ≡ from_path path.now None) }
         ensures refused { IfErr result IsMemory }
@@ -60,7 +60,7 @@ impl PathSource {
         })
     }
 
-    /// The folder with another requirement, cut before its first `+`.
+    /// Returns the source with this requirement, up to its first `+`.
     pub fn set_version(self, alloc: Global, version: &str) -> CargoResult<PathSource>
         ensures ok { IfOk result (λ s. path_view s
             ≡ from_path (string_bytes self.path) (Some (cut version.now))) }
@@ -73,7 +73,7 @@ impl PathSource {
         })
     }
 
-    /// A copy of the source, on memory of its own.
+    /// Returns a deep copy of the source.
     pub fn try_clone(&self, _alloc: Global) -> CargoResult<PathSource>
         ensures ok { IfOk result (λ s. path_view s ≡ path_view self.now) }
         ensures refused { IfErr result IsMemory }
@@ -85,10 +85,10 @@ impl PathSource {
     }
 }
 
-/// A repository, perhaps at a branch, a tag or a revision, and perhaps a version.
+/// A Git repository, with an optional branch, tag or revision and an optional version requirement.
 #[derive(Debug, PartialEq, Eq, PartialOrd, Ord, Hash, Drop)]
 pub struct GitSource {
-    /// The repository's address.
+    /// The repository's URL.
     pub git: String,
     pub branch: Option<String>,
     pub tag: Option<String>,
@@ -97,7 +97,7 @@ pub struct GitSource {
 }
 
 impl GitSource {
-    /// A repository at its default branch, without a version.
+    /// Returns the source with this repository, at its default branch and without a version.
     pub fn new(alloc: Global, git: &str) -> CargoResult<GitSource>
         ensures ok { IfOk result (λ s. repository_view s ≡ repository git.now None None None None) }
         ensures refused { IfErr result IsMemory }
@@ -111,7 +111,7 @@ impl GitSource {
         })
     }
 
-    /// The repository at a branch; a tag and a revision are cleared.
+    /// Returns the source with this branch; its tag and its revision are cleared.
     pub fn set_branch(self, alloc: Global, branch: &str) -> CargoResult<GitSource>
         ensures ok { IfOk result (λ s. repository_view s
             ≡ record (repository_view self) { branch = Some branch.now; tag = None; rev = None }) }
@@ -126,7 +126,7 @@ impl GitSource {
         })
     }
 
-    /// The repository at a tag; a branch and a revision are cleared.
+    /// Returns the source with this tag; its branch and its revision are cleared.
     pub fn set_tag(self, alloc: Global, tag: &str) -> CargoResult<GitSource>
         ensures ok { IfOk result (λ s. repository_view s
             ≡ record (repository_view self) { branch = None; tag = Some tag.now; rev = None }) }
@@ -141,7 +141,7 @@ impl GitSource {
         })
     }
 
-    /// The repository at a revision; a branch and a tag are cleared.
+    /// Returns the source with this revision; its branch and its tag are cleared.
     pub fn set_rev(self, alloc: Global, rev: &str) -> CargoResult<GitSource>
         ensures ok { IfOk result (λ s. repository_view s
             ≡ record (repository_view self) { branch = None; tag = None; rev = Some rev.now }) }
@@ -156,7 +156,7 @@ impl GitSource {
         })
     }
 
-    /// The repository with another requirement, cut before its first `+`.
+    /// Returns the source with this requirement, up to its first `+`.
     pub fn set_version(self, alloc: Global, version: &str) -> CargoResult<GitSource>
         ensures ok { IfOk result (λ s. repository_view s
             ≡ record (repository_view self) { version = Some (cut version.now) }) }
@@ -169,7 +169,7 @@ impl GitSource {
         })
     }
 
-    /// A copy of the source, on memory of its own.
+    /// Returns a deep copy of the source.
     pub fn try_clone(&self, _alloc: Global) -> CargoResult<GitSource>
         ensures ok { IfOk result (λ s. repository_view s ≡ repository_view self.now) }
         ensures refused { IfErr result IsMemory }
@@ -184,19 +184,19 @@ impl GitSource {
     }
 }
 
-/// The entry of that name in the workspace's table.
+/// The entry of that name in `workspace.dependencies`.
 #[derive(Clone, Copy, Debug, Default, PartialEq, Eq, PartialOrd, Ord, Hash)]
 pub struct WorkspaceSource;
 
 impl WorkspaceSource {
-    /// The workspace's entry.
+    /// Returns the workspace source.
     pub fn new() -> WorkspaceSource
         ensures only { (other : WorkspaceSource) → result ≡ other }
     {
         WorkspaceSource
     }
 
-    /// A copy of the source.
+    /// Returns a copy of the source.
     pub fn try_clone(&self, _alloc: Global) -> CargoResult<WorkspaceSource>
         ensures refused { IfErr result IsMemory }
     {
@@ -204,7 +204,7 @@ impl WorkspaceSource {
     }
 }
 
-/// Where a dependency comes from.
+/// The source of a dependency.
 #[derive(Debug, PartialEq, Eq, PartialOrd, Ord, Hash, Drop)]
 pub enum Source {
     Registry(RegistrySource),
@@ -214,7 +214,7 @@ pub enum Source {
 }
 
 impl Source {
-    /// The version in a registry, where the source is one.
+    /// The registry source, if this is one.
     pub fn as_registry(&self) -> Option<&RegistrySource>
         ensures { option_copied result ≡ registry_in self.now }
     {
@@ -224,7 +224,7 @@ impl Source {
         }
     }
 
-    /// The folder, where the source is one.
+    /// The path source, if this is one.
     pub fn as_path(&self) -> Option<&PathSource>
         ensures { option_copied result ≡ path_in self.now }
     {
@@ -234,7 +234,7 @@ impl Source {
         }
     }
 
-    /// The repository, where the source is one.
+    /// The Git source, if this is one.
     pub fn as_git(&self) -> Option<&GitSource>
         ensures { option_copied result ≡ git_in self.now }
     {
@@ -244,7 +244,7 @@ impl Source {
         }
     }
 
-    /// The workspace's entry, where the source is one.
+    /// The workspace source, if this is one.
     pub fn as_workspace(&self) -> Option<&WorkspaceSource>
         ensures { option_copied result ≡ workspace_in self.now }
     {
@@ -254,7 +254,7 @@ impl Source {
         }
     }
 
-    /// A copy of the source, on memory of its own.
+    /// Returns a deep copy of the source.
     pub fn try_clone(&self, alloc: Global) -> CargoResult<Source>
         ensures ok { IfOk result (λ s. source_view s ≡ source_view self.now) }
         ensures refused { IfErr result IsMemory }
@@ -267,7 +267,7 @@ impl Source {
         })
     }
 
-    /// The version text, none for the workspace's entry.
+    /// The version requirement; `None` for a workspace source.
     pub fn version(&self) -> Option<&str>
         ensures { option_map (λ s. s.now) result ≡ source_version self.now }
     {
@@ -280,7 +280,7 @@ impl Source {
     }
 }
 
-/// A source on memory of its own, where there is one.
+/// Returns a deep copy of a source, if there is one.
 pub(crate) fn copied_source(alloc: Global, source: Option<&Source>) -> CargoResult<Option<Source>>
     ensures ok { IfOk result (λ o. option_map source_view o
         ≡ option_map source_view (option_copied source.entry)) }

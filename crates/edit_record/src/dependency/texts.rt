@@ -1,4 +1,4 @@
-//! What dependencies and their sources are called, as texts.
+//! Displays dependencies and their sources.
 ghost use Rattle.std.specs.Prelude.{Some, codes, string_bytes};
 ghost use Rattle.edit_record.specs.EntryTexts.{origin_text, record_text, repository_text};
 ghost use Rattle.edit_record.specs.RecordViews.{record_view, repository_view, source_view};

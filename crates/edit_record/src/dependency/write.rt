@@ -1,4 +1,4 @@
-//! The new entry of a record (Cargo reference, "Specifying Dependencies").
+//! Writes a dependency as a new entry (Cargo reference, "Specifying Dependencies").
 ghost use Rattle.std.specs.Prelude.{◌≡◌, ◌++◌, ◌∷◌, [], true, IfOk, IfErr, OnOk, codes, option_copied, option_map, string_bytes};
 ghost use Rattle.edit_base.specs.Errors.{IsMemory};
 ghost use Rattle.edit_tree.specs.NewItems.{a_string, a_truth};
@@ -16,14 +16,14 @@ use edit_base::paths::relative;
 use edit_document::{NewItem, NewValue};
 use std::alloc::{AllocError, Global};
 
-/// A text with a slash in the place of each backslash.
+/// Replaces each backslash with a slash.
 fn slashed(alloc: Global, text: &str) -> Result<String, AllocError>
     ensures { IfOk result (λ s. string_bytes s ≡ slashed text.now) }
 {
     text.replace(alloc, '\\', "/")
 }
 
-/// A path as it is written: as seen from the root, with slashes alone.
+/// The value of `path`: the path relative to `root`, with slashes only.
 pub fn path_field(alloc: Global, root: &str, path: &str) -> CargoResult<String>
     ensures text { IfOk result (λ s. string_bytes s ≡ path_field root.now path.now) }
     ensures refused { IfErr result IsMemory }
@@ -32,7 +32,7 @@ pub fn path_field(alloc: Global, root: &str, path: &str) -> CargoResult<String>
     Ok(slashed(alloc, way.as_str())?)
 }
 
-/// Appends a member.
+/// Appends a key with a value.
 fn push_value(
     alloc: Global,
     members: &mut Vec<(String, NewValue)>,
@@ -47,7 +47,7 @@ fn push_value(
     Ok(())
 }
 
-/// Appends a member with a text, where there is one.
+/// Appends a key with a string, if there is one.
 fn push_text(
     alloc: Global,
     members: &mut Vec<(String, NewValue)>,
@@ -63,7 +63,7 @@ fn push_text(
     }
 }
 
-/// Appends a member that is true or false, where that is said.
+/// Appends a key with a boolean, if there is one.
 fn push_truth(
     alloc: Global,
     members: &mut Vec<(String, NewValue)>,
@@ -79,7 +79,7 @@ fn push_truth(
     }
 }
 
-/// Appends a member with a list of texts, where there is one.
+/// Appends a key with an array of strings, if there is one.
 fn push_list(
     alloc: Global,
     members: &mut Vec<(String, NewValue)>,
@@ -95,7 +95,7 @@ fn push_list(
     }
 }
 
-/// Appends the members of a repository.
+/// Appends the keys of a Git source.
 fn push_repository(
     alloc: Global,
     members: &mut Vec<(String, NewValue)>,
@@ -111,7 +111,7 @@ fn push_repository(
     push_text(alloc, members, "version", source.version.as_ref())
 }
 
-/// Appends the members of a folder.
+/// Appends the keys of a path source.
 fn push_path(
     alloc: Global,
     root: &str,
@@ -129,7 +129,7 @@ fn push_path(
     Ok(())
 }
 
-/// Appends the members that name a source.
+/// Appends the keys of a source.
 fn push_source(
     alloc: Global,
     root: &str,
@@ -149,7 +149,7 @@ fn push_source(
     Ok(())
 }
 
-/// The one member of the entry that takes all from the workspace.
+/// The one key of an entry that inherits everything from the workspace: `workspace = true`.
 fn workspace_members(alloc: Global) -> Result<Vec<(String, NewValue)>, AllocError>
     ensures { IfOk result (λ v. pairs_seen v.items ≡ (codes "workspace", a_truth true) ∷ []) }
 {
@@ -159,7 +159,7 @@ fn workspace_members(alloc: Global) -> Result<Vec<(String, NewValue)>, AllocErro
 }
 
 impl Dependency {
-    /// Whether no more than the source needs to be written.
+    /// Whether nothing but the source has to be written.
     fn is_short(&self) -> bool
         ensures { result ≡ is_short (record_view self.now) }
     {
@@ -170,7 +170,7 @@ impl Dependency {
             && self.default_features.unwrap_or(true)
     }
 
-    /// The registry that is written: only beside a version.
+    /// The registry to be written: only with a version.
     fn written_registry(&self) -> Option<&String>
         ensures { option_map string_bytes (option_copied result) ≡ written_registry (record_view self.now) }
     {
@@ -180,7 +180,7 @@ impl Dependency {
         }
     }
 
-    /// The crate's name, where the entry has another.
+    /// The crate's name, if the key differs from it.
     fn written_name(&self) -> Option<&String>
         ensures { option_map string_bytes (option_copied result) ≡ written_name (record_view self.now) }
     {
@@ -190,7 +190,7 @@ impl Dependency {
         }
     }
 
-    /// Appends the members behind the source.
+    /// Appends the keys that follow the source.
     fn push_options(
         &self,
         alloc: Global,
@@ -206,7 +206,7 @@ impl Dependency {
         push_truth(alloc, members, "optional", self.optional)
     }
 
-    /// The members of an inline table that says all.
+    /// The keys of an inline table with everything that is set.
     fn members(&self, alloc: Global, root: &str) -> CargoResult<Vec<(String, NewValue)>>
         ensures ok { IfOk result (λ v. pairs_seen v.items
             ≡ origin_members root.now (record_view self.now).origin
@@ -221,7 +221,7 @@ impl Dependency {
         Ok(members)
     }
 
-    /// The record as a new entry, its path as seen from the root.
+    /// Converts the dependency into a new entry, with its path relative to `root`.
     fn new_item(&self, alloc: Global, root: &str) -> CargoResult<NewItem>
         ensures item { IfOk result (λ i. item_seen i ≡ item_of root.now (record_view self.now)) }
         ensures refused { IfErr result IsMemory }
@@ -241,13 +241,13 @@ impl Dependency {
         }
     }
 
-    /// The record as a new entry of a manifest in this folder. The folder and a source's path are meant to
-    /// be absolute, the folder without a part `..`.
+    /// Converts the dependency into a new entry of a manifest in the folder `crate_root`. That folder and
+    /// the path of a source have to be absolute, the folder without a segment `..`.
     ///
-    /// A version in a registry alone is its string, and the workspace's entry alone the dotted
-    /// `workspace = true`. All else is an inline table: the source, its path as seen from the folder, and
-    /// then `registry` beside a version, `package` under another key, `default-features`, `features` and
-    /// `optional`, each where the record has it.
+    /// A registry source alone becomes its version string, and a workspace source alone the dotted key
+    /// `workspace = true`. Anything else becomes an inline table: the source, with its path relative to the
+    /// folder, and then `registry` with a version, `package` under another key, `default-features`,
+    /// `features` and `optional`, each if it is set.
     pub fn to_toml(&self, alloc: Global, crate_root: &str) -> CargoResult<NewItem>
         ensures item { IfOk result (λ i. item_seen i ≡ item_of crate_root.now (record_view self.now)) }
         ensures round_trip { IfOk result (λ i. IsPlain (record_view self.now)

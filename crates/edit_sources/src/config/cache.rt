@@ -1,4 +1,4 @@
-//! The configurations of manifests, each file read once for all of them.
+//! The configurations of manifests; each file is read once for all of them.
 ghost use Rattle.std.specs.Prelude.{◌≡◌, ◌⊎◌, true, IfOk, IfErr, map, string_bytes};
 ghost use Rattle.std.specs.List.{AllZip};
 ghost use Rattle.edit_base.specs.Errors.{IsMemory};
@@ -15,14 +15,14 @@ use edit_store::store::Store;
 use std::alloc::{AllocError, Global};
 use std::collections::BTreeMap;
 
-/// What was found in each place where configuration files were looked for. A refusal is not kept.
+/// The configuration that was found in each folder that was searched. Errors are not cached.
 #[derive(Debug, Drop)]
 pub struct ConfigCache {
     found: BTreeMap<String, Option<Config>>,
 }
 
 impl ConfigCache {
-    /// A cache that keeps nothing yet.
+    /// Returns an empty cache.
     pub fn new(alloc: Global) -> ConfigCache
         ensures { (seen : StoreView) → AreKept seen result }
     {
@@ -31,7 +31,7 @@ impl ConfigCache {
         }
     }
 
-    /// Keeps what was found in a place.
+    /// Stores the configuration that was found in a folder.
     fn keep(&mut self, alloc: Global, place: &str, found: Option<Config>) -> Result<(), AllocError>
         ensures { (seen : StoreView) → AreKept seen self.old
             → (seen.tells ≡ true → IsReadOf (file_in seen.file_at place.now) found)
@@ -42,7 +42,7 @@ impl ConfigCache {
         Ok(())
     }
 
-    /// The configuration that counts in a place, looked for where nothing is kept of it.
+    /// The configuration in a folder: from the cache, or else from the store.
     fn config_in<S: Store>(
         &mut self,
         alloc: Global,
@@ -72,7 +72,7 @@ impl ConfigCache {
         Ok(copy)
     }
 
-    /// The configurations that count in these places, in their order.
+    /// The configurations in these folders, in their order.
     fn configs_in<S: Store>(
         &mut self,
         alloc: Global,
@@ -99,8 +99,8 @@ impl ConfigCache {
         Ok(configs)
     }
 
-    /// The configurations of a manifest, as `read_configs` gives them. A place that an earlier call
-    /// looked into is not looked into again, so the files are to stay as they are.
+    /// Returns the configurations of a manifest, as the function `read_configs` does. A folder is searched
+    /// only once, so its files must not change between calls.
     pub fn read_configs<S: Store>(
         &mut self,
         alloc: Global,
@@ -113,7 +113,7 @@ impl ConfigCache {
         ensures read { IfOk result (λ v. AreKept (S.view store.old) self.old
             → (S.view store.old).tells ≡ true
             → AreConfigs (S.view store.old).file_at manifest_path.now (given cargo_home.entry) v.items) }
-        // a refusal is never for what is kept
+        // an error never concerns a folder that is cached
         ensures refused { IfErr result (λ e. IsMemory e
             ⊎ (HasFailed (S.view store.old).faults (S.view store.new).faults e
             ⊎ ConfigsFail (S.view store.old).tells (S.view store.old).file_at manifest_path.now
@@ -130,11 +130,11 @@ impl ConfigCache {
     }
 }
 
-/// The configurations of a manifest, the first one first: in each folder from the manifest's
-/// upwards `.cargo/config`, else `.cargo/config.toml`, and then `config`, else `config.toml` of
-/// the home of cargo, where one is given. Only files count.
+/// Returns the configurations of a manifest, the first one first: in each folder from the manifest's upwards
+/// `.cargo/config`, else `.cargo/config.toml`, and then `config`, else `config.toml` of `cargo_home`, if it
+/// is given. Only files count (Cargo reference, "Hierarchical structure").
 ///
-/// `Config` where such a file is no configuration, and `Device` where the store fails.
+/// `Error::Config` where such a file is malformed, and `Error::Device` where the store fails.
 pub fn read_configs<S: Store>(
     alloc: Global,
     store: &mut S,

@@ -1,4 +1,4 @@
-//! Copies of configurations.
+//! Deep copies of configurations.
 ghost use Rattle.std.specs.Prelude.{◌≡◌, ℕ, List, IfOk, Option, map, option_copied, option_map, string_bytes};
 ghost use Rattle.edit_sources.specs.Configured.{configuration, registry_entry, source_entry, source_view};
 ghost use Rattle.edit_sources.specs.ConfigurationFiles.{IsReadOf};
@@ -6,7 +6,7 @@ ghost use Rattle.edit_sources.specs.ConfigurationFiles.{IsReadOf};
 use super::{Config, ConfigSource};
 use std::alloc::{AllocError, Global};
 
-/// The same text on memory of its own, where there is one.
+/// Returns a copy of a string, if there is one.
 fn copied_text(text: Option<&String>) -> Result<Option<String>, AllocError>
     ensures { IfOk result (λ t. option_map string_bytes t
         ≡ option_map string_bytes (option_copied text.entry)) }
@@ -17,7 +17,7 @@ fn copied_text(text: Option<&String>) -> Result<Option<String>, AllocError>
     }
 }
 
-/// The same keys of `registries`.
+/// Returns a deep copy of the entries of `registries`.
 fn copied_registries(
     alloc: Global,
     registries: &[(String, Option<String>)],
@@ -31,7 +31,7 @@ fn copied_registries(
     Ok(all)
 }
 
-/// The same source.
+/// Returns a deep copy of a source.
 fn copied_source(source: &ConfigSource) -> Result<ConfigSource, AllocError>
     ensures { IfOk result (λ s. source_view s ≡ source_view source.now) }
 {
@@ -41,7 +41,7 @@ fn copied_source(source: &ConfigSource) -> Result<ConfigSource, AllocError>
     })
 }
 
-/// The same keys of `source`.
+/// Returns a deep copy of the entries of `source`.
 fn copied_sources(
     alloc: Global,
     sources: &[(String, ConfigSource)],
@@ -56,7 +56,7 @@ fn copied_sources(
 }
 
 impl Config {
-    /// The same configuration on memory of its own.
+    /// Returns a deep copy of the configuration.
     pub(crate) fn try_clone(&self, alloc: Global) -> Result<Config, AllocError>
         ensures path { IfOk result (λ c. string_bytes c.path ≡ string_bytes self.now.path) }
         ensures said { IfOk result (λ c. configuration c ≡ configuration self.now) }
@@ -69,7 +69,7 @@ impl Config {
     }
 }
 
-/// The same configuration, where there is one: what is read of a file is read of it as well.
+/// Returns a deep copy of a configuration, if there is one; it is what the same file holds.
 pub(super) fn copied(alloc: Global, found: Option<&Config>) -> Result<Option<Config>, AllocError>
     ensures { IfOk result (λ copy. (file : Option (List ℕ × List ℕ))
         → IsReadOf file (option_copied found.entry) → IsReadOf file copy) }

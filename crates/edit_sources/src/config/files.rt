@@ -1,4 +1,4 @@
-//! Where configuration files stand.
+//! Finds and reads configuration files.
 ghost use Rattle.std.specs.Prelude.{◌≡◌, ◌⊎◌, ◌++◌, true, IfOk, IfErr, OnOk, map, string_bytes};
 ghost use Rattle.std.specs.Option.{option_to_list};
 ghost use Rattle.edit_base.specs.Errors.{IsMemory};
@@ -13,7 +13,7 @@ use edit_base::paths::{folder, join};
 use edit_store::store::Store;
 use std::alloc::{AllocError, Global};
 
-/// The folders of a file, from its own upwards to the root.
+/// The folders above a file, from its own up to the root.
 fn folders_upwards<'a>(alloc: Global, path: &'a str) -> Result<Vec<&'a str>, AllocError>
     ensures { IfOk result (λ v. IsUpwards path.entry.now (texts v.items)) }
 {
@@ -27,7 +27,8 @@ fn folders_upwards<'a>(alloc: Global, path: &'a str) -> Result<Vec<&'a str>, All
     Ok(folders)
 }
 
-/// The folders where configuration files may stand.
+/// The folders that may hold configuration files: `.cargo` in each folder above the manifest, then
+/// `cargo_home`.
 pub(super) fn places(
     alloc: Global,
     manifest_path: &str,
@@ -48,7 +49,7 @@ pub(super) fn places(
     Ok(places)
 }
 
-/// The configuration in a file, none where no file stands.
+/// Reads a configuration file; `None` where no file exists at the path.
 fn read_file<S: Store>(alloc: Global, store: &mut S, path: &str) -> CargoResult<Option<Config>>
     ensures store { OnlyReads (S.view store.old) (S.view store.new) }
     ensures read { IfOk result (λ found. (S.view store.old).tells ≡ true
@@ -69,7 +70,7 @@ fn read_file<S: Store>(alloc: Global, store: &mut S, path: &str) -> CargoResult<
     }
 }
 
-/// The configuration that counts in a place, none where no file stands there.
+/// Reads the configuration in a folder: `config`, or else `config.toml`; `None` where neither exists.
 pub(super) fn config_in<S: Store>(
     alloc: Global,
     store: &mut S,
@@ -102,7 +103,7 @@ pub(super) fn config_in<S: Store>(
     }
 }
 
-/// Adds what was found.
+/// Appends a configuration, if there is one.
 pub(super) fn add(configs: &mut Vec<Config>, found: Option<Config>) -> Result<(), AllocError>
     ensures { OnOk result (configs.new.items ≡ configs.old.items ++ option_to_list found) }
 {

@@ -1,4 +1,4 @@
-//! An index in a folder that has one folder for each registry.
+//! An index in a folder with a subfolder for each registry.
 ghost use Rattle.std.specs.Prelude.{◌≡◌, Ok, IfOk, string_bytes};
 ghost use Rattle.edit_sources.specs.DirIndex.{DirGives, dir_view, folder_of, store_of};
 ghost use Rattle.edit_sources.specs.Index.{HasLookCause, SameOutcomes, answer_of};
@@ -12,8 +12,8 @@ use edit_store::store::Store;
 use std::alloc::Global;
 use url::Url;
 
-/// An index in a folder: below it a folder for each registry, and below that a file for each name (Cargo
-/// reference, "Registries", index files).
+/// An index in a folder with a subfolder for each registry, which holds one file per crate (Cargo reference,
+/// "Registries", index files).
 #[derive(Debug, Drop)]
 pub struct DirIndex<S> {
     store: S,
@@ -21,7 +21,7 @@ pub struct DirIndex<S> {
 }
 
 impl<S: Store> DirIndex<S> {
-    /// An index in a folder of a store, which an absolute path names.
+    /// Returns an index in a folder of a store; `folder` is an absolute path.
     pub fn new(store: S, folder: String) -> DirIndex<S>
         ensures store { store_of result ≡ store }
         ensures folder { folder_of result ≡ string_bytes folder }

@@ -1,4 +1,4 @@
-//! Where the file of a name stands below a folder of registries.
+//! The path of a crate's file below a folder of registries.
 ghost use Rattle.std.specs.Prelude.{◌≡◌, ◌∷◌, ◌++◌, ◌⊎◌, true, IfErr, IfOk, OnOk, string_bytes};
 ghost use Rattle.edit_base.specs.Errors.{IsMemory, number_of};
 ghost use Rattle.edit_sources.specs.Folders.{HasBadName, entry_path};
@@ -12,7 +12,7 @@ use edit_base::errors::CargoResult;
 use std::alloc::{AllocError, Global};
 use url::Url;
 
-/// The path of the file of a name in the folder of a registry, below a folder.
+/// The path of a crate's file: in the subfolder of its registry, below `folder`.
 pub(crate) fn entry_path(
     alloc: Global,
     folder: &str,
@@ -29,7 +29,7 @@ pub(crate) fn entry_path(
     Ok(joined(alloc, folder, registry.as_str(), layout.as_str())?)
 }
 
-/// A folder, one below it, and what stands below that.
+/// Joins a folder, a subfolder of it, and a path below that.
 fn joined(alloc: Global, folder: &str, inner: &str, rest: &str) -> Result<String, AllocError>
     ensures { IfOk result (λ p. string_bytes p ≡ below folder.now (inner.now ++ 47 ∷ rest.now)) }
 {
@@ -43,7 +43,7 @@ fn joined(alloc: Global, folder: &str, inner: &str, rest: &str) -> Result<String
     Ok(path)
 }
 
-/// Whether a text ends with `/`. As in `edit_sources`, which has it for itself alone.
+/// Whether a path ends with `/`.
 fn ends_with_slash(folder: &[u8]) -> bool
     ensures { result ≡ ends_with_slash folder.now }
 {

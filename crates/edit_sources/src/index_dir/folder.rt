@@ -8,10 +8,10 @@ use percent_encoding::{AsciiSet, ascii_set, utf8_percent_encode};
 use std::alloc::{AllocError, Global};
 use url::Url;
 
-/// The bytes that the name of a folder escapes: the one that parts folders, and the sign of an escape.
+/// The bytes that are escaped in the name of a folder: the path separator, and the escape character.
 pub const ESCAPED: AsciiSet = ascii_set!(AsciiSet::EMPTY.add(b'%').add(b'/'));
 
-/// An address with each `%` and `/` escaped.
+/// Escapes each `%` and `/` of an address.
 fn escaped(alloc: Global, address: &str) -> Result<String, AllocError>
     ensures folder { IfOk result (λ f. string_bytes f ≡ registry_folder address.now) }
     ensures back { IfOk result (λ f. percent_decode (string_bytes f) ≡ address.now) }
@@ -21,10 +21,10 @@ fn escaped(alloc: Global, address: &str) -> Result<String, AllocError>
     Ok(folder)
 }
 
-/// The name of a registry's folder: its address with each `%` as `%25` and each `/` as `%2F`.
+/// The name of a registry's folder: its address, with `%25` for each `%` and `%2F` for each `/`.
 pub fn registry_folder(alloc: Global, registry: &Url) -> Result<String, AllocError>
     ensures folder { IfOk result (λ f. string_bytes f ≡ registry_folder (serialize registry.now)) }
-    // the address can be read back, so that no two addresses have one folder
+    // the address can be decoded again, so no two addresses share a folder
     ensures back { IfOk result (λ f. percent_decode (string_bytes f) ≡ serialize registry.now) }
 {
     escaped(alloc, registry.as_str())

@@ -1,4 +1,4 @@
-//! Where the file of a name stands in an index's layout.
+//! The path of a crate's file in the layout of an index (Cargo reference, "Index files").
 ghost use Rattle.std.specs.Prelude.{◌≡◌, [], ◌∷◌, ◌++◌, ◌<◌, ◌⊎◌, true, All, IfErr, IfOk, OnOk, string_bytes};
 ghost use Rattle.edit_base.specs.Errors.{IsMemory, number_of};
 ghost use Rattle.edit_sources.specs.Folders.{HasBadName};
@@ -9,8 +9,8 @@ use crate::crate_name::is_crate_name;
 use edit_base::errors::{CargoResult, Error};
 use std::alloc::{AllocError, Global};
 
-/// The path of the file of a name below the folder of its index; `BadCrateName` for a name that no index may
-/// have.
+/// The path of a crate's file below the folder of its index; `Error::BadCrateName` for a name that no index
+/// may contain.
 pub fn layout_path(alloc: Global, name: &str) -> CargoResult<String>
     ensures path { IfOk result (λ p. string_bytes p ≡ layout name.now) }
     ensures named { OnOk result (is_crate_name name.now ≡ true) }
@@ -25,7 +25,7 @@ pub fn layout_path(alloc: Global, name: &str) -> CargoResult<String>
     Ok(laid_out(alloc, name)?)
 }
 
-/// The folders of a name and the name, by small letters.
+/// The folders of a crate's file and its name, in lower case.
 fn laid_out(alloc: Global, name: &str) -> Result<String, AllocError>
     requires { is_crate_name name.now ≡ true }
     ensures { IfOk result (λ p. string_bytes p ≡ layout name.now) }
@@ -37,7 +37,7 @@ fn laid_out(alloc: Global, name: &str) -> Result<String, AllocError>
     Ok(path)
 }
 
-/// Adds the folders of a small name.
+/// Appends the folders of a crate's file, each with a `/`, for a name in lower case.
 pub(crate) fn push_folders(path: &mut String, name: &[u8]) -> Result<(), AllocError>
     requires { All (λ b. b < 128) name.now }
     ensures { OnOk result (string_bytes path.new ≡ string_bytes path.old ++ folders name.now) }
@@ -58,7 +58,7 @@ pub(crate) fn push_folders(path: &mut String, name: &[u8]) -> Result<(), AllocEr
     }
 }
 
-/// Adds a folder of two letters.
+/// Appends a folder of two letters and a `/`.
 fn push_pair(path: &mut String, a: u8, b: u8) -> Result<(), AllocError>
     requires first { a < 128 }
     requires second { b < 128 }

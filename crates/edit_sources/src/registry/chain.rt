@@ -1,4 +1,4 @@
-//! The sources that configurations define, and the one at which a registry begins.
+//! The sources that configurations define, and the one that a registry starts at.
 ghost use Rattle.std.specs.Prelude.{◌≡◌, ◌⊎◌, ℕ, List, [], ◌∷◌, IfOk, OnOk, map, option_map, String, string_bytes};
 ghost use Rattle.std.specs.declared.alloc.Global.{Global};
 ghost use Rattle.edit_base.specs.Errors.{IsMemory};
@@ -13,20 +13,20 @@ use edit_base::Error;
 use std::alloc::{AllocError, Global};
 use std::collections::BTreeMap;
 
-/// The address of the default registry's index, where no configuration gives another.
+/// The URL of the default registry's index, unless a configuration sets another.
 pub const CRATES_IO_INDEX: &str = "sparse+https://index.crates.io/";
 
-/// The key of the default registry in configurations.
+/// The key of the default registry in configuration files.
 const CRATES_IO_REGISTRY: &str = "crates-io";
 
-/// What the first definition of a key says.
+/// The first definition of a key.
 #[derive(Clone, Copy)]
 pub(crate) struct Source<'a> {
     pub(crate) registry: Option<&'a str>,
     pub(crate) replace_with: Option<&'a str>,
 }
 
-/// Adds a definition, unless the key has one.
+/// Adds the definition of a key, unless the key has one already.
 fn define<'a>(
     sources: &mut BTreeMap<&'a str, Source<'a>>,
     key: &'a str,
@@ -41,7 +41,7 @@ fn define<'a>(
     Ok(())
 }
 
-/// Adds the keys of `registries`.
+/// Adds the entries of `registries`.
 fn add_registries<'a>(
     sources: &mut BTreeMap<&'a str, Source<'a>>,
     registries: &'a [(String, Option<String>)],
@@ -59,7 +59,7 @@ fn add_registries<'a>(
     Ok(())
 }
 
-/// Adds the keys of `source`.
+/// Adds the entries of `source`.
 fn add_sources<'a>(
     sources: &mut BTreeMap<&'a str, Source<'a>>,
     defined: &'a [(String, ConfigSource)],
@@ -77,7 +77,7 @@ fn add_sources<'a>(
     Ok(())
 }
 
-/// A text that need not be there.
+/// Borrows a string, if there is one.
 fn text_of(text: &Option<String>) -> Option<&str>
     ensures { option_map (λ t. t.now) result ≡ option_map string_bytes text.now }
 {
@@ -87,7 +87,7 @@ fn text_of(text: &Option<String>) -> Option<&str>
     }
 }
 
-/// The first definition of each key of these files.
+/// The first definition of each key in these configurations.
 pub(crate) fn first_definitions<'a>(
     alloc: Global,
     configs: &'a [Config],
@@ -103,7 +103,7 @@ pub(crate) fn first_definitions<'a>(
     Ok(sources)
 }
 
-/// The source with the default registry's address where it has none.
+/// Returns the source; where it has no URL, with that of the default registry.
 fn with_default(source: Source<'_>) -> Source<'_>
     ensures { source_texts result ≡ spec.with_default (source_texts source.entry) }
 {
@@ -113,7 +113,8 @@ fn with_default(source: Source<'_>) -> Source<'_>
     }
 }
 
-/// The source that was found at a key, with an address where the key is that of the default registry.
+/// Returns the source that was found at a key; where it has no URL and the key is the default registry's
+/// URL, with that URL.
 pub(crate) fn addressed<'a>(key: &str, source: Source<'a>) -> Source<'a>
     ensures { Some (source_texts result) ≡ spec.addressed key.now (Some (source_texts source.entry)) }
 {
@@ -133,7 +134,7 @@ fn is_default(registry: Option<&str>) -> bool
     }
 }
 
-/// The key at which a registry begins.
+/// The key that a registry starts at.
 pub(crate) fn head_key<'a>(registry: Option<&'a str>) -> &'a str
     ensures { result.now ≡ spec.head_key (given registry.entry) }
 {
@@ -148,7 +149,7 @@ pub(crate) fn head_key<'a>(registry: Option<&'a str>) -> &'a str
     }
 }
 
-/// The source at which a registry begins, of what its key defines.
+/// The source that a registry starts at, given the definition of its key.
 pub(crate) fn head<'a>(found: Option<Source<'a>>, registry: Option<&str>) -> Option<Source<'a>>
     ensures { option_map source_texts result
         ≡ spec.head_source_of (given registry.entry) (option_map source_texts found.entry) }
@@ -163,7 +164,7 @@ pub(crate) fn head<'a>(found: Option<Source<'a>>, registry: Option<&str>) -> Opt
     Some(with_default(source))
 }
 
-/// The refusal of a registry that no file defines.
+/// Returns `Error::RegistryNotFound` for a key that no file defines.
 pub(crate) fn registry_not_found(alloc: Global, key: &str) -> Error
     ensures { IsMemory result
         ⊎ ((name : String Global) × (result ≡ RegistryNotFound name) × (string_bytes name ≡ key.now)) }
@@ -174,7 +175,7 @@ pub(crate) fn registry_not_found(alloc: Global, key: &str) -> Error
     }
 }
 
-/// The refusal of a source that no file defines or that was used.
+/// Returns `Error::SourceNotFound` for a key that no file defines or that was used before.
 pub(crate) fn source_not_found(alloc: Global, key: &str) -> Error
     ensures { IsMemory result
         ⊎ ((name : String Global) × (result ≡ SourceNotFound name) × (string_bytes name ≡ key.now)) }

@@ -1,4 +1,4 @@
-//! What configurations define, for any number of registries.
+//! Resolves any number of registries with the same configurations.
 ghost use Rattle.std.specs.Prelude.{◌≡◌, ◌<◌, ◌⊎◌, ℕ, List, None, Some, Ok, cond, IfOk, IfErr, OnOk, OnErr, option_map, String, string_bytes};
 ghost use Rattle.std.specs.BTreeMap.{btree_map_len};
 ghost use Rattle.std.specs.declared.alloc.Global.{Global};
@@ -22,16 +22,17 @@ use std::alloc::{AllocError, Global};
 use std::collections::BTreeMap;
 use url::{ParseError, Url};
 
-/// What configurations define, for any number of registries: each source is followed once.
+/// The definitions of configurations, to resolve any number of registries: each source is followed only
+/// once.
 #[derive(Drop)]
 pub struct Definitions<'a> {
-    /// The first definition of each key, but of those that a chain has passed.
+    /// The first definition of each key, without those that a chain has passed.
     left: BTreeMap<&'a str, Source<'a>>,
-    /// The address at the end of the chain from a key that a chain has passed.
+    /// The URL at the end of the chain, for each key that a chain has passed.
     ends: BTreeMap<&'a str, &'a str>,
 }
 
-/// The URL of an address.
+/// Parses a URL; `Error::InvalidUrl` where that fails.
 fn url_of(alloc: Global, address: &str) -> CargoResult<Url>
     ensures reads { IfOk result (λ url. parse_url None address.now ≡ Ok url) }
     ensures refused { IfErr result (λ e. IsMemory e ⊎ IsNoUrl address.now e) }
@@ -44,7 +45,7 @@ fn url_of(alloc: Global, address: &str) -> CargoResult<Url>
 }
 
 impl<'a> Definitions<'a> {
-    /// Reads what configurations define. They are in the order of their precedence, the first one first.
+    /// Reads the definitions of configurations, which are in order of precedence, the first one first.
     pub fn read(alloc: Global, configs: &'a [Config]) -> CargoResult<Definitions<'a>>
         ensures defines { IfOk result (Defines configs.entry.now) }
         ensures refused { IfErr result IsMemory }
@@ -56,15 +57,15 @@ impl<'a> Definitions<'a> {
         })
     }
 
-    /// The address at the end of the chain from a key, where that was followed.
+    /// The URL at the end of the chain from a key, if the chain was followed before.
     fn end_of(&self, key: &str) -> Option<&'a str>
         ensures { option_map (λ a. a.now) result ≡ end_at self.now key.now }
     {
         self.ends.get(key).copied()
     }
 
-    /// Takes out the source at a key, so that no key is used twice. The first key of the chain stays, and is
-    /// used.
+    /// Removes and returns the source of a key, so that no key is used twice. The first key of the chain
+    /// counts as used, and its source stays.
     fn take_out(&mut self, alloc: Global, beginning: &str, key: &'a str) -> CargoResult<Source<'a>>
         ensures takes { IfOk result
             (λ s. Takes beginning.now key.entry.now self.old self.new (source_texts s)) }
@@ -82,7 +83,7 @@ impl<'a> Definitions<'a> {
         }
     }
 
-    /// Keeps the address to which these keys lead.
+    /// Stores the URL that these keys lead to.
     fn keep(&mut self, keys: &[&'a str], address: &'a str) -> Result<(), AllocError>
         ensures left { self.new.left ≡ self.old.left }
         ensures ends { OnOk result ((q : List ℕ) → end_at self.new q
@@ -94,8 +95,8 @@ impl<'a> Definitions<'a> {
         Ok(())
     }
 
-    /// Follows the chain of a registry to the address at its end. Each definition that is passed is taken
-    /// out, so that the walk ends and no key is used twice.
+    /// Follows the chain of a registry to the URL at its end. Each definition on the way is removed, so that
+    /// the chain ends and no key is used twice.
     fn follow(&mut self, alloc: Global, registry: Option<&str>) -> CargoResult<&'a str>
         requires { end_at self.old (spec.head_key (given registry)) ≡ None }
         ensures address { IfOk result (λ a. (configs : List Config) → Defines configs self.old
@@ -125,7 +126,7 @@ impl<'a> Definitions<'a> {
         Ok(address)
     }
 
-    /// The address at the end of the chain of a registry.
+    /// The URL at the end of the chain of a registry: as it is stored, or else by following the chain.
     fn address_of(&mut self, alloc: Global, registry: Option<&str>) -> CargoResult<&'a str>
         ensures address { IfOk result (λ a. (configs : List Config) → Defines configs self.old
             → spec.Address (all_definitions configs) (given registry.entry) a.now) }
@@ -140,7 +141,8 @@ impl<'a> Definitions<'a> {
         }
     }
 
-    /// The address of a registry, as `resolve` has it. After a refusal nothing is said of the definitions.
+    /// Resolves the URL of a registry, as the function `resolve` does. After an error the definitions may be
+    /// incomplete.
     pub fn resolve(&mut self, alloc: Global, registry: Option<&str>) -> CargoResult<Url>
         ensures address { IfOk result (λ url. (configs : List Config) → Defines configs self.old
             → HasAddress configs (given registry.entry) url) }
