@@ -1,4 +1,4 @@
-//! What holds of each plan.
+//! Theorems about every plan of new versions.
 ghost use Rattle.edit_set_version.specs.Admitted.{DependentsAdmit};
 
 /// After a plan that nothing refuses, each text requirement of a path dependency on a bumped crate admits

@@ -140,11 +140,12 @@ fn calls_for(
     Ok(calls)
 }
 
-/// The calls of `cargo update` that follow an upgrade, each as the list of its words, in the order in which
-/// they are to be made.
+/// The `cargo update` calls that follow an upgrade, each as the list of its arguments, in the order in
+/// which they are to be run.
 ///
-/// None where nothing is modified, at a dry run, and where the lock file may not change. Then no word is
-/// read either; else it is refused as `CrateSpec::resolve` refuses it, with 20 or 14.
+/// Empty where nothing was modified, for a dry run, and where the lock file must not change; `--package`
+/// arguments are not parsed then. Else an argument that `CrateSpec::resolve` rejects fails with
+/// `Error::InvalidName` or `Error::InvalidRequirement`.
 pub fn update_calls(
     alloc: Global,
     plan: &UpgradePlan,
