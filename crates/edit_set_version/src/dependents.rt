@@ -80,7 +80,8 @@ fn push_dependent<'a>(
     }
 }
 
-/// The entries of the manifest at an absolute path that depend on bumped crates, in document order.
+/// The entries of the manifest at an absolute path that depend on bumped crates, in the order of a walk
+/// down its tree.
 pub(crate) fn dependents_of<'a>(
     alloc: Global,
     numbers: &Numbers<'a>,

@@ -1,4 +1,4 @@
-//! The path dependencies of a manifest, in document order.
+//! The path dependencies of a manifest, in the order of a walk down its tree.
 ghost use Rattle.std.specs.Prelude.{◌≡◌, ◌++◌, ℕ, List, IfErr, IfOk, OnOk, option_map, option_to_list};
 ghost use Rattle.std.specs.List.{filter_map};
 ghost use Rattle.edit_base.specs.Errors.{IsMemory};
@@ -143,8 +143,8 @@ fn entries_of(alloc: Global, document: &Document) -> CargoResult<Vec<PathEntry>>
     Ok(entries)
 }
 
-/// The entries of a manifest that have both a requirement and a path, table by table in document order:
-/// those that are tables with a string `version` and a string `path`.
+/// The entries of a manifest that have both a requirement and a path, table by table in the order of a walk
+/// down its tree: those that are tables with a string `version` and a string `path`.
 pub fn path_entries(alloc: Global, document: &Document) -> CargoResult<Vec<PathEntry>>
     ensures entries { IfOk result (λ es. pointed_views es.items ≡ pointed (tree_of document.now)) }
     // whatever is bumped and wherever the manifest is, only these entries depend on a bumped crate

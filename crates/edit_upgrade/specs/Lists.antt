@@ -1,4 +1,4 @@
--- What a plan tells besides its rows.
+-- The parts of a plan beside its rows: warnings, and lists of names.
 use Rattle.std.specs.Prelude.{◌≡◌, map, ℕ, List, ◌++◌, codes, Bool, true, false, Option, Some, None, String, is_some, option_and_then, option_map, string_bytes, string_cmp}
 use Rattle.std.specs.List.{AllZip, filter_map, list_any}
 use Rattle.std.specs.List.Sorted.{IsStrictlySortedBy}
@@ -17,12 +17,12 @@ use Rattle.edit_upgrade.specs.declared.decision.options.Options.{Options}
 use Rattle.edit_upgrade.specs.declared.upgrade.Warning.{Warning}
 use Rattle.edit_upgrade.specs.declared.upgrade.UpgradePlan.{UpgradePlan}
 
--- the row's entry was not raised because it is pinned
+-- the row was left unchanged because its entry is pinned
 abbrev pub is_held_pinned : Option Reason → Bool
 is_held_pinned (Some reason.Pinned) = true
 is_held_pinned other = false
 
--- the row's entry was not raised because it does not admit the version
+-- the row was left unchanged because its requirement does not admit the latest version
 abbrev pub is_held_incompatible : Option Reason → Bool
 is_held_incompatible (Some reason.Incompatible) = true
 is_held_incompatible other = false
@@ -35,13 +35,13 @@ changed_name line = option_map (λ kind. line.name) line.change
 abbrev pub changed_names : List Line → List (List ℕ)
 changed_names lines = filter_map changed_name lines
 
--- what a warning tells
+-- a warning: the index of its input, whether only `--verbose` shows it, and its text
 pub record Told : Type 0 where
   pub input : ℕ
   pub verbose : Bool
   pub text : List ℕ
 
--- what a warning tells, by its text
+-- a warning of the program, by its text
 abbrev pub warning_view : Warning → Told
 warning_view w = record { input = w.input; verbose = w.verbose; text = string_bytes w.text }
 
@@ -49,15 +49,15 @@ warning_view w = record { input = w.input; verbose = w.verbose; text = string_by
 abbrev pub warned : ℕ → Bool → List ℕ → Told
 warned i verbose text = record { input = i; verbose = verbose; text = text }
 
--- what is told of an entry of this key that has no record, with the refusal's text
+-- the warning about an entry that is ignored, with the message of its error
 abbrev pub ignored_text : List ℕ → List ℕ → List ℕ
 ignored_text name text = codes "ignoring " ++ (name ++ (codes ", unsupported entry: " ++ text))
 
--- what is told of an entry of this key that takes all from its workspace
+-- the warning about an entry that inherits all its keys from its workspace
 abbrev pub workspace_text : List ℕ → List ℕ
 workspace_text name = codes "ignoring " ++ (name ++ codes ", source is workspace")
 
--- what is told of an entry of this key that keeps its requirement because that is not read
+-- the warning about an entry whose requirement cannot be parsed and is left unchanged
 abbrev pub unreadable_text : List ℕ → List ℕ → List ℕ
 unreadable_text name old =
     codes "keeping " ++ (name ++ (codes ", unreadable requirement `" ++ (old ++ codes "`")))
