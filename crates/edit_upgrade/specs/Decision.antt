@@ -168,13 +168,14 @@ row_reason o c (to_latest text) = None
 row_reason o c (to_compatible text) = held_back o c
 row_reason o c kept = or_else (held_back o c) (when (is_some (compatible_text c)) (Some reason.Compatible))
 
--- what is decided: the requirement that stands then, the kind of change, and why there is no newer one (own)
+-- the decision: the new requirement, the kind of change, and why the requirement was not raised further
+-- (own)
 pub record Choice : Type 0 where
   pub new : List ℕ
   pub change : Option Change
   pub reason : Option Reason
 
--- the first reason that there is; the last one is that the text stays
+-- the first reason that applies; the last one is that the text is unchanged
 abbrev pub first_reason : Outcome → Bool → Option Reason → Bool → Option Reason
 first_reason left_out aside why same = why
 first_reason row true why same = Some reason.Pinned
