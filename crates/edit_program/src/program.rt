@@ -113,11 +113,12 @@ fn answer_given<S: Store, T: Store + Drop, O: io::Write, E: io::Write>(
 /// - 1: an error, printed on `err` after `Error: `, with its place on the next line where it is known; or,
 ///   with `--check`, something would change. `add` and `rm` are errors, since cargo provides them itself.
 /// - 2: a wrong command line, such as an empty path.
-/// An option that may occur without a value then has its default, which allows. `current` is the absolute
-/// folder that relative paths start from. Manifests, configurations, metadata, the index file and the lock
-/// file are read through `files`, and manifests and the file of update calls are written through it.
-/// `cargo_home` is the folder whose configuration has the lowest precedence. `index_files` has the index to
-/// query where no index file is given, and is consumed.
+///
+/// An option that may be given without a value then has its default, which allows. `current` is the
+/// absolute folder that relative paths start from. Manifests, configurations, metadata, the index file and
+/// the lock file are read through `files`, and manifests and the file of update calls are written through
+/// it. `cargo_home` is the folder whose configuration has the lowest precedence. `index_files` has the
+/// index to query where no index file is given, and is consumed.
 pub fn run<S: Store, T: Store + Drop, O: io::Write, E: io::Write>(
     alloc: Global,
     words: &[&str],
