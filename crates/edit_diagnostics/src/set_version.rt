@@ -75,9 +75,9 @@ fn explained(
     }
 }
 
-/// An error of a plan of new versions for a workspace, with where it arose and what can be done about it:
-/// the manifest that is no TOML, the package whose version is missing or cannot be raised, the requirement
-/// that cannot be raised, or the member's name that is nearest to one that no member has.
+/// Explains an error of a plan of new versions for a workspace, with place and help: the manifest that is
+/// no TOML, the package whose version is missing or cannot be raised, the requirement that cannot be
+/// raised, or the member with the name nearest to one that no member has.
 pub fn explain_set_version(
     alloc: Global,
     error: Error,

@@ -63,9 +63,9 @@ fn folder_named(alloc: Global, asked: &Asked<'_>, current: &str) -> Option<Strin
     absolute(alloc, current, asked.index_dir?).ok()
 }
 
-/// An error of the plan of an upgrade over these manifests, with where it arose and what can be done about
-/// it: the manifest that is no TOML, the entry whose registry or name is invalid, or the file of the index.
-/// Files are read again for it, and none changes.
+/// Explains an error of the plan of an upgrade over these manifests, with place and help: the manifest that
+/// is no TOML, the entry whose registry or name is invalid, or the index file. Reads files again for it; no
+/// file changes.
 pub fn explain_upgrade<S: Store>(
     alloc: Global,
     error: Error,

@@ -91,7 +91,7 @@ pub fn warning_message<'a>(
     message(alloc, &members)
 }
 
-/// The message of a manifest that changes; `written` is false with a dry run.
+/// The message of a manifest that changes; `written` is false where the run writes no file.
 pub fn file_message(alloc: Global, manifest: &str, written: bool) -> CargoResult<String>
     ensures text { IfOk result (λ s. string_bytes s ≡ message_text (file_members manifest.now written)) }
     ensures refused { IfErr result IsMemory }
