@@ -1,4 +1,4 @@
-//! An entry of a dependency table as a record, and where its crate comes from.
+//! An entry of a dependency table as a `Dependency`, and the source of its crate.
 
 pub use edit_record::{
     Dependency, GitSource, PathSource, RegistrySource, Source, WorkspaceSource, dependency_on,

@@ -1,4 +1,4 @@
-//! A TOML document that keeps its bytes, and its edits.
+//! A TOML document that preserves its bytes, and its edits.
 
 pub use edit_changes::DocumentExt;
 pub use edit_document::{

@@ -1,4 +1,4 @@
-//! Index entries of crates: where they are read, and a cache of them.
+//! Index entries of crates: the indexes that they are read from, and a cache of them.
 
 pub use edit_cache::{IndexCache, Ranked};
 pub use edit_sources::index_dir::DirIndex;

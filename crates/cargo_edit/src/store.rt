@@ -1,3 +1,3 @@
-//! Files: those of the machine, those in memory, and those whose calls can fail at will.
+//! File systems: that of the machine, one in memory, and one whose calls fail on request.
 
 pub use edit_store::{FaultStore, HostStore, Kind, MemoryStore, Store};

@@ -1,4 +1,4 @@
-//! Errors of a plan that is made and not carried out.
+//! Explains errors of a plan that is made but not carried out.
 ghost use Rattle.std.specs.Prelude.{◌≡◌};
 
 use crate::suggestions::suggestions;
@@ -7,7 +7,7 @@ use edit_steps::Refusal;
 use edit_upgrade::UpgradePlan;
 use std::alloc::{AllocError, Global};
 
-/// The names of a plan's entries that are near missing ones.
+/// Suggestions for missing names, from the names of a plan's entries.
 fn names_near(
     alloc: Global,
     missing: &MissingNames,
@@ -20,7 +20,7 @@ fn names_near(
     suggestions(alloc, missing, &names)
 }
 
-/// An error of a plan that `--locked` holds back, with the first manifest that would change.
+/// Adds to `Error::Locked` the first manifest that would change.
 fn held_back(alloc: Global, refusal: Refusal, plan: &UpgradePlan) -> Refusal
     ensures { result.error ≡ refusal.error }
 {
@@ -39,8 +39,8 @@ fn held_back(alloc: Global, refusal: Refusal, plan: &UpgradePlan) -> Refusal
     }
 }
 
-/// An error of a plan that is not carried out, with what can be done about it: the manifest that `--locked`
-/// keeps as it is, and the nearest name of an entry for one that is missing.
+/// Explains an error of a plan that is not carried out: adds the manifest that `--locked` forbids to
+/// change, or the nearest name of an entry for a missing one.
 pub fn explain_delivery(alloc: Global, refusal: Refusal, plan: &UpgradePlan) -> Refusal
     ensures { result.error ≡ refusal.error }
 {

@@ -1,16 +1,16 @@
-//! Where an entry stands in the text of its manifest.
+//! The position of an entry in the text of its manifest.
 
 use edit_document::{Document, Place, Step, member_place};
 use edit_metadata::Input;
 use edit_steps::position;
 use std::alloc::Global;
 
-/// The offset of the value that is written at a place; none where none is, or memory runs out.
+/// The offset of the value at a place; `None` where there is none, or memory runs out.
 fn value_offset(alloc: Global, document: &Document, place: &[Step]) -> Option<usize> {
     if !document.is_value(place) {
         return None;
     }
-    // (what stands before a value that was just written is the text's first piece)
+    // (the text before a value that was just replaced is the first piece of the text)
     let mut copy = document.try_clone(alloc).ok()?;
     if !copy.is_value(place) {
         return None;
@@ -20,7 +20,7 @@ fn value_offset(alloc: Global, document: &Document, place: &[Step]) -> Option<us
     Some(before.len())
 }
 
-/// The offset of the first value that is written at a place or at a member of it.
+/// The offset of the first value at a place, or at a key below it.
 fn entry_offset(alloc: Global, document: &Document, place: &[Step]) -> Option<usize> {
     if let Some(at) = value_offset(alloc, document, place) {
         return Some(at);
@@ -35,8 +35,8 @@ fn entry_offset(alloc: Global, document: &Document, place: &[Step]) -> Option<us
     None
 }
 
-/// Where the entry at a place of a manifest is written: `PATH:LINE:COLUMN` of its value, or the path alone
-/// where no value is found.
+/// The position of an entry in its manifest: `PATH:LINE:COLUMN` of its value, or the path alone where no
+/// value is found.
 pub(crate) fn entry_position(
     alloc: Global,
     input: &Input,
@@ -50,7 +50,7 @@ pub(crate) fn entry_position(
     }
 }
 
-/// The place of these names.
+/// The place of these keys.
 pub(crate) fn place_of(alloc: Global, names: &[&str]) -> Option<Place> {
     let mut place = Vec::new(alloc);
     for name in names {

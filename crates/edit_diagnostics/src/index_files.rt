@@ -1,4 +1,4 @@
-//! The files of an index that an upgrade looks in.
+//! The files of an index that an upgrade reads.
 
 use crate::registries::{Lookup, lookup_of};
 use edit_base::CargoResult;
@@ -16,7 +16,7 @@ use std::collections::BTreeSet;
 use std::str;
 use url::Url;
 
-/// The folder that an address of the scheme `file` names; none where it names none.
+/// The folder of a `file` URL; `None` for other URLs.
 fn local_folder(alloc: Global, registry: &Url) -> Result<Option<String>, AllocError> {
     if registry.scheme() != "file" || registry.has_host() {
         return Ok(None);
@@ -29,7 +29,7 @@ fn local_folder(alloc: Global, registry: &Url) -> Result<Option<String>, AllocEr
     }
 }
 
-/// The folder of a registry's entries: below the folder that is named, else the one that its address names.
+/// The folder of a registry's index files: in the given folder, else the folder of its `file` URL.
 fn registry_at(alloc: Global, dir: Option<&str>, registry: &Url) -> CargoResult<Option<String>> {
     match dir {
         Some(dir) => {
@@ -40,7 +40,7 @@ fn registry_at(alloc: Global, dir: Option<&str>, registry: &Url) -> CargoResult<
     }
 }
 
-/// The file that a crate is looked up in; none where there is none.
+/// The index file of a crate; `None` where there is none.
 fn file_of(
     alloc: Global,
     dir: Option<&str>,
@@ -55,7 +55,7 @@ fn file_of(
     }
 }
 
-/// Adds a path, unless it was seen before.
+/// Appends a path, unless it is in the set of those seen.
 fn push_new(
     alloc: Global,
     path: String,
@@ -68,7 +68,7 @@ fn push_new(
     Ok(())
 }
 
-/// Adds the files that the entries of a manifest are looked up in.
+/// Appends the index files that the lookups of a manifest's entries read.
 fn push_files(
     alloc: Global,
     dir: Option<&str>,
@@ -90,9 +90,8 @@ fn push_files(
     Ok(())
 }
 
-/// The files of an index that the entries of these manifests are looked up in, each once, in order, up to
-/// the first entry that has none: below the folder that is named, else where the registries' addresses name
-/// folders.
+/// The index files that the lookups of these manifests' entries read, without duplicates, in order, up to
+/// the first entry without one: in the given folder, else in the folders of the registries' URLs.
 pub(crate) fn index_files(
     alloc: Global,
     dir: Option<&str>,

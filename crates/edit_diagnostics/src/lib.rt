@@ -1,5 +1,5 @@
-//! Where an error of a plan arose, and what can be done about it: found by reading the same inputs again,
-//! after the plan was refused.
+//! Explains errors of a plan, with their place and with help, by reading the same inputs again after the
+//! plan has failed.
 #![tactic(auto)]
 
 mod delivery;

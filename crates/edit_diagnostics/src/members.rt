@@ -1,4 +1,4 @@
-//! The members that get a new version, and those whose version gives an error.
+//! The members that get a new version, and those whose version causes an error.
 
 use crate::entries::{entry_position, place_of};
 use crate::same::is_same;
@@ -10,7 +10,7 @@ use edit_metadata::{Input, Package, Workspace};
 use edit_set_version::{Selection, TargetVersion};
 use std::alloc::Global;
 
-/// What is known of an error besides its text.
+/// What is known about an error beside its message.
 #[derive(Drop)]
 pub(crate) struct Explanation {
     pub(crate) place: Option<String>,
@@ -23,7 +23,7 @@ fn is_among(texts: &[String], text: &str) -> bool {
     texts.iter().any(|other| other.as_str() == text)
 }
 
-/// Whether a selection has a package.
+/// Whether a selection contains a package.
 pub(crate) fn is_asked(selection: &Selection, package: &Package) -> bool {
     let name = package.name.as_str();
     if selection.workspace || selection.packages.is_empty() {
@@ -32,7 +32,7 @@ pub(crate) fn is_asked(selection: &Selection, package: &Package) -> bool {
     package.member && is_among(&selection.packages, name)
 }
 
-/// The input that a package's manifest is.
+/// The input of a package's manifest.
 fn input_of<'a>(alloc: Global, package: &Package, inputs: &'a [Input]) -> Option<&'a Input> {
     let path = normal(alloc, package.manifest_path.as_str()).ok()?;
     for input in inputs {
@@ -43,7 +43,7 @@ fn input_of<'a>(alloc: Global, package: &Package, inputs: &'a [Input]) -> Option
     None
 }
 
-/// Whether a manifest has no version to set: it inherits none, and no value is written at `package.version`.
+/// Whether a manifest has no version to set: it inherits none, and has no value at `package.version`.
 fn lacks_version(alloc: Global, manifest: &Manifest) -> bool {
     if manifest.version_is_inherited() {
         return false;
@@ -54,7 +54,7 @@ fn lacks_version(alloc: Global, manifest: &Manifest) -> bool {
     }
 }
 
-/// How a member is left out.
+/// The help that names a member to exclude.
 fn help_for(alloc: Global, package: &Package) -> Option<String> {
     let name = package.name.as_str();
     format!(in alloc; "leave this package out by `--exclude {name}`").ok()
@@ -85,13 +85,13 @@ pub(crate) fn without_version(
     None
 }
 
-/// Where the version of a package is written, or its manifest's path where it has no version there.
+/// The position of the version of a package, or its manifest's path where it has no version.
 fn version_position(alloc: Global, input: &Input, document: &Document) -> Option<String> {
     let place = place_of(alloc, &["package", "version"])?;
     entry_position(alloc, input, document, &place)
 }
 
-/// What is known of an error of a package's version; none where the package takes it from the workspace.
+/// Explains an error of a package's version; `None` where the package inherits it from the workspace.
 fn version_fault(alloc: Global, package: &Package, inputs: &[Input]) -> Option<Explanation> {
     let input = input_of(alloc, package, inputs)?;
     let manifest = Manifest::read_bytes(alloc, &input.bytes).ok()?;
@@ -106,7 +106,7 @@ fn version_fault(alloc: Global, package: &Package, inputs: &[Input]) -> Option<E
     })
 }
 
-/// The first selected package whose version the target refuses with this error.
+/// The first selected package for whose version the target fails with this error.
 pub(crate) fn refused_version(
     alloc: Global,
     error: &Error,
@@ -129,7 +129,7 @@ pub(crate) fn refused_version(
     None
 }
 
-/// The root's own version, where the target refuses it with this error.
+/// The root's version, where the target fails with this error for it.
 pub(crate) fn refused_root(
     alloc: Global,
     error: &Error,

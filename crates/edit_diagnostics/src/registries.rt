@@ -1,4 +1,4 @@
-//! The entry whose registry or whose crate's name is refused.
+//! The entry whose registry or crate name causes an error.
 
 use crate::entries::entry_position;
 use crate::same::is_same;
@@ -14,7 +14,7 @@ use edit_sources::registry::Definitions;
 use edit_steps::upgrade_read::SharedConfigs;
 use std::alloc::Global;
 
-/// What an entry of a registry is looked up by.
+/// The registry and the crate name that an entry is looked up by.
 #[derive(Clone, Copy)]
 pub(crate) struct Lookup<'a> {
     pub(crate) name: &'a str,
@@ -22,14 +22,14 @@ pub(crate) struct Lookup<'a> {
     pub(crate) registry: Option<&'a str>,
 }
 
-/// An entry that gives an error.
+/// An entry that causes an error.
 #[derive(Drop)]
 pub(crate) struct Fault {
     pub(crate) place: Option<String>,
     pub(crate) cause: Option<String>,
 }
 
-/// What an entry is looked up by; none where it is not one of a registry.
+/// The lookup of an entry; `None` where it is no entry of a registry.
 pub(crate) fn lookup_of(entry: &Entry) -> Option<Lookup<'_>> {
     let Said::Read(dependency) = &entry.said else {
         return None;
@@ -43,7 +43,7 @@ pub(crate) fn lookup_of(entry: &Entry) -> Option<Lookup<'_>> {
     }
 }
 
-/// Whether looking an entry up gives this error before a file of an index is read.
+/// Whether the lookup of an entry fails with this error before an index file is read.
 fn gives(
     alloc: Global,
     error: &Error,
@@ -61,7 +61,7 @@ fn gives(
     }
 }
 
-/// The cause of an error about an entry that is looked up.
+/// The cause of an error of an entry's lookup.
 fn cause_of(
     alloc: Global,
     error: &Error,
@@ -78,7 +78,7 @@ fn cause_of(
     }
 }
 
-/// The first entry of a manifest that gives this error.
+/// The first entry of a manifest that causes this error.
 fn fault_in(alloc: Global, error: &Error, input: &Input, configs: &[Config]) -> Option<Fault> {
     let manifest = Manifest::read_bytes(alloc, &input.bytes).ok()?;
     let document = &manifest.document;
@@ -98,7 +98,7 @@ fn fault_in(alloc: Global, error: &Error, input: &Input, configs: &[Config]) -> 
     None
 }
 
-/// The first entry of these manifests that gives this error, each manifest under its configurations.
+/// The first entry of these manifests that causes this error, each manifest with its configurations.
 pub(crate) fn first_fault(
     alloc: Global,
     error: &Error,

@@ -13,7 +13,7 @@ use edit_version::upgrade_requirement;
 use semver::Version;
 use std::alloc::Global;
 
-/// What a user can do where a requirement cannot be raised.
+/// The help for a requirement that cannot be raised.
 const HELP: &str = "write a requirement that can follow, such as \"1.2.3\"";
 
 /// Whether the path of an entry, from the folder of its manifest, is that of a package.
@@ -25,7 +25,7 @@ fn points_to(alloc: Global, input: &Input, entry: &PathEntry, package: &Package)
     Some(target.as_str() == folder(manifest.as_str()))
 }
 
-/// The package that an entry points to, of those that get a new version.
+/// The package that an entry's path names, among those that get a new version.
 fn pointed<'a>(
     alloc: Global,
     input: &Input,
@@ -41,7 +41,7 @@ fn pointed<'a>(
     None
 }
 
-/// What is known of an error of an entry's requirement.
+/// Explains an error of an entry's requirement.
 fn explained(
     alloc: Global,
     input: &Input,
@@ -60,7 +60,7 @@ fn explained(
     })
 }
 
-/// Whether raising the requirement of an entry gives this error, to whichever version.
+/// Whether raising the requirement of an entry fails with this error, whatever the version.
 fn is_refused(alloc: Global, error: &Error, entry: &PathEntry) -> bool {
     match upgrade_requirement(alloc, entry.text.as_str(), &Version::new(0, 0, 0)) {
         Ok(_) => false,
@@ -68,7 +68,7 @@ fn is_refused(alloc: Global, error: &Error, entry: &PathEntry) -> bool {
     }
 }
 
-/// The first requirement of a manifest that gives this error.
+/// The first requirement of a manifest that causes this error.
 fn refused_in(
     alloc: Global,
     error: &Error,

@@ -1,9 +1,9 @@
-//! Errors that say the same.
+//! Compares errors.
 
 use edit_base::Error;
 use std::alloc::Global;
 
-/// Whether two errors are of one kind and have one text; never where memory runs out.
+/// Whether two errors have the same variant and the same message; false where memory runs out.
 pub(crate) fn is_same(alloc: Global, one: &Error, other: &Error) -> bool {
     if one.number() != other.number() {
         return false;

@@ -1,4 +1,4 @@
-//! Errors of a plan of new versions.
+//! Explains errors of a plan of new versions.
 ghost use Rattle.std.specs.Prelude.{◌≡◌};
 
 use crate::members::{Explanation, refused_root, refused_version, without_version};
@@ -11,10 +11,10 @@ use edit_set_version::{Selection, TargetVersion};
 use edit_steps::{Refusal, at_input};
 use std::alloc::{AllocError, Global};
 
-/// What a user can do where an excluded member shares the version of the workspace.
+/// The help for an excluded member that inherits the version of the workspace.
 const SHARED: &str = "leave out `--exclude` for them: they take their version from the workspace";
 
-/// The members' names that are near missing ones.
+/// Suggestions for missing names, from the names of the members.
 fn names_near(
     alloc: Global,
     missing: &MissingNames,
@@ -29,7 +29,7 @@ fn names_near(
     suggestions(alloc, missing, &names)
 }
 
-/// What is known where a name is of no member.
+/// Explains a name that no member has.
 fn missing_member(
     alloc: Global,
     missing: &MissingNames,
@@ -42,7 +42,7 @@ fn missing_member(
     })
 }
 
-/// What is known where an excluded member shares the version of the workspace.
+/// Explains the error of an excluded member that inherits the version of the workspace.
 fn shared_version(alloc: Global, workspace: &Workspace) -> Option<Explanation> {
     Some(Explanation {
         place: join(alloc, workspace.root.as_str(), "Cargo.toml").ok(),
@@ -51,7 +51,7 @@ fn shared_version(alloc: Global, workspace: &Workspace) -> Option<Explanation> {
     })
 }
 
-/// What is known of an error of a plan of new versions, besides its text.
+/// Explains an error of a plan of new versions.
 fn explained(
     alloc: Global,
     error: &Error,
@@ -75,9 +75,9 @@ fn explained(
     }
 }
 
-/// An error of a plan of new versions for a workspace, with where it arose and what can be done about it:
-/// the manifest that is no TOML, the package whose version is missing or cannot be raised, the requirement
-/// that cannot be raised, or the member's name that is nearest to one that no member has.
+/// Explains an error of a plan of new versions for a workspace, with place and help: the manifest that is
+/// no TOML, the package whose version is missing or cannot be raised, the requirement that cannot be
+/// raised, or the member with the name nearest to one that no member has.
 pub fn explain_set_version(
     alloc: Global,
     error: Error,

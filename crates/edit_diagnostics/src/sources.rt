@@ -1,13 +1,13 @@
-//! The configuration file that decides over a registry.
+//! The configuration file that defines a registry.
 
 use edit_base::Error;
 use edit_sources::{Config, ConfigSource};
 use std::alloc::Global;
 
-/// How many sources of a chain are followed.
+/// The greatest number of `replace-with` steps that are followed.
 const LONGEST_CHAIN: usize = 100;
 
-/// What configurations define last on the way from a registry: its key, and the file that defines it.
+/// The last definition on the chain of sources from a registry: its key, and the file that defines it.
 #[derive(Clone, Copy)]
 struct Definition<'a> {
     key: &'a str,
@@ -15,7 +15,7 @@ struct Definition<'a> {
     next: Option<&'a str>,
 }
 
-/// The source of a key in a configuration.
+/// The source that a configuration defines for a key.
 fn source_in<'a>(config: &'a Config, key: &str) -> Option<&'a ConfigSource> {
     for (name, source) in &config.sources {
         if name.as_str() == key {
@@ -25,7 +25,7 @@ fn source_in<'a>(config: &'a Config, key: &str) -> Option<&'a ConfigSource> {
     None
 }
 
-/// Whether a configuration has a registry of this name.
+/// Whether a configuration defines a registry of this name.
 fn has_registry(config: &Config, key: &str) -> bool {
     config
         .registries
@@ -33,7 +33,7 @@ fn has_registry(config: &Config, key: &str) -> bool {
         .any(|entry| entry.0.as_str() == key)
 }
 
-/// The first definition of a key.
+/// The first definition of a key, in order of precedence.
 fn find_definition<'a>(configs: &'a [Config], key: &'a str) -> Option<Definition<'a>> {
     for config in configs {
         let path = config.path.as_str();
@@ -49,7 +49,7 @@ fn find_definition<'a>(configs: &'a [Config], key: &'a str) -> Option<Definition
     None
 }
 
-/// The last definition on the way from a registry along `replace-with`; none where the registry has none.
+/// The last definition on the `replace-with` chain from a registry; `None` where the registry has none.
 fn last_definition<'a>(configs: &'a [Config], registry: Option<&'a str>) -> Option<Definition<'a>> {
     let mut last = find_definition(configs, registry.unwrap_or("crates-io"))?;
     for _i in 0..LONGEST_CHAIN {
@@ -64,8 +64,7 @@ fn last_definition<'a>(configs: &'a [Config], registry: Option<&'a str>) -> Opti
     Some(last)
 }
 
-/// What an error about a registry leaves open: which dependency names it, and which configuration file
-/// decides.
+/// The cause of an error of a registry: which dependency uses it, and which configuration file defines it.
 pub(crate) fn registry_cause(
     alloc: Global,
     error: &Error,
@@ -109,7 +108,7 @@ pub(crate) fn registry_cause(
     }
 }
 
-/// What a user can do about an error of a registry.
+/// The help for an error of a registry.
 pub(crate) fn registry_help(alloc: Global, error: &Error) -> Option<String> {
     match error {
         Error::Scheme { .. } => String::from_str(

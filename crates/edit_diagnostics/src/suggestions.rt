@@ -1,21 +1,21 @@
-//! The name that was meant, where one is misspelt.
+//! Suggestions for misspelt names.
 ghost use Rattle.std.specs.Prelude.{◌≡◌, [], Contains, IfSome, IsNone, map};
 
 use edit_base::MissingNames;
 use std::alloc::{AllocError, Global};
 use strsim::levenshtein;
 
-/// The longest name that is compared, in bytes: comparing takes time with the square of it.
+/// The greatest length in bytes of names that are compared: comparing takes quadratic time.
 const LONGEST_NAME: usize = 64;
 
-/// How many missing names get a suggestion.
+/// The greatest number of missing names that get a suggestion.
 const MOST_MISSING: usize = 5;
 
-/// How many names one of them is compared with.
+/// The greatest number of names that a missing one is compared with.
 const MOST_NAMES: usize = 5000;
 
-/// How many edits lead from one name to another; none where that is more than a third of the name's length,
-/// or one of them is too long to be compared.
+/// The edit distance of two names; `None` where it is more than a third of the name's length, or one of
+/// them is too long to be compared.
 fn edits(alloc: Global, name: &str, other: &str) -> Result<Option<usize>, AllocError> {
     if name.len() > LONGEST_NAME || other.len() > LONGEST_NAME {
         return Ok(None);
@@ -32,8 +32,8 @@ fn edits(alloc: Global, name: &str, other: &str) -> Result<Option<usize>, AllocE
     })
 }
 
-/// The first of these names with the fewest edits from a name; none where the name is empty, all are too far
-/// from it, or memory runs out.
+/// The first of these names with the least edit distance from a name; `None` where the name is empty, no
+/// name is near enough, or memory runs out.
 pub fn nearest<'a>(alloc: Global, name: &str, names: &[&'a str]) -> Option<&'a str>
     ensures among { IfSome result (λ s. Contains (map (λ t. t.now) names.now) s.now) }
     ensures empty { name.now ≡ [] → IsNone result }
@@ -54,8 +54,7 @@ pub fn nearest<'a>(alloc: Global, name: &str, names: &[&'a str]) -> Option<&'a s
     names.get(best?).copied()
 }
 
-/// A line of help for missing names: for each the nearest of the names that there are; none where no name
-/// is near.
+/// A line of help for missing names, with the nearest existing name of each; `None` where no name is near.
 pub(crate) fn suggestions(
     alloc: Global,
     missing: &MissingNames,

@@ -1,4 +1,4 @@
-//! Errors of the plan of an upgrade.
+//! Explains errors of the plan of an upgrade.
 ghost use Rattle.std.specs.Prelude.{◌≡◌};
 ghost use Rattle.edit_store.specs.Store.{OnlyReads};
 
@@ -12,10 +12,10 @@ use edit_steps::{Refusal, absolute, at_first, at_input};
 use edit_store::Store;
 use std::alloc::Global;
 
-/// What a line of an index has to be.
+/// The help for an invalid line of an index.
 const INDEX_LINE: &str = "a line of an index is a JSON object with strings `name` and `vers`";
 
-/// An error of reading an index, with the file that it arose in.
+/// Adds to an error of reading an index the file that caused it.
 fn at_index<S: Store>(
     alloc: Global,
     error: Error,
@@ -37,7 +37,7 @@ fn at_index<S: Store>(
     Refusal { cause, ..refusal }
 }
 
-/// An error of an entry that is looked up, with its place.
+/// Adds to an error of an entry's lookup the place of the entry.
 fn at_entry(alloc: Global, error: Error, inputs: &[Input], configs: &SharedConfigs) -> Refusal
     ensures { result.error ≡ error }
 {
@@ -58,14 +58,14 @@ fn at_entry(alloc: Global, error: Error, inputs: &[Input], configs: &SharedConfi
     }
 }
 
-/// The folder of an index that is named, as an absolute path.
+/// The absolute path of the given index folder.
 fn folder_named(alloc: Global, asked: &Asked<'_>, current: &str) -> Option<String> {
     absolute(alloc, current, asked.index_dir?).ok()
 }
 
-/// An error of the plan of an upgrade over these manifests, with where it arose and what can be done about
-/// it: the manifest that is no TOML, the entry whose registry or name is invalid, or the file of the index.
-/// Files are read again for it, and none changes.
+/// Explains an error of the plan of an upgrade over these manifests, with place and help: the manifest that
+/// is no TOML, the entry whose registry or name is invalid, or the index file. Reads files again for it; no
+/// file changes.
 pub fn explain_upgrade<S: Store>(
     alloc: Global,
     error: Error,

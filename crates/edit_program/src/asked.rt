@@ -1,4 +1,4 @@
-//! What matched words of `upgrade` ask for.
+//! The options and paths that parsed arguments of `upgrade` give.
 ghost use Rattle.std.specs.Prelude.{◌≡◌, ◌≢◌, IfErr, IfOk, None, Some, codes, false, map, option_map, string_bytes};
 ghost use Rattle.std.specs.Str.{bytes_eq};
 ghost use Rattle.clap.specs.Words.{first_of, found_of, rows_of};
@@ -17,7 +17,7 @@ use edit_upgrade::Options;
 use edit_version::RustVersion;
 use std::alloc::Global;
 
-/// What a value says of what may be upgraded: that it is allowed or ignored, or nothing.
+/// Whether a value allows or ignores a kind of upgrade; `None` for any other value.
 fn status_of_value(value: &str) -> Option<bool>
     ensures { result ≡ status_of_value value.now }
 {
@@ -28,7 +28,7 @@ fn status_of_value(value: &str) -> Option<bool>
     }
 }
 
-/// What the value of an option says.
+/// Whether the value of an option allows or ignores a kind of upgrade; any other value is an error.
 fn status_of<'a>(matches: &ArgMatches<'a>, option: &'static str) -> Result<bool, WordsError<'a>>
     ensures ok { IfOk result (λ s. status_of option.now (rows_of (found_of matches.now)) ≡ Some s) }
     ensures refused { IfErr result (λ _. status_of option.now (rows_of (found_of matches.now)) ≡ None) }
@@ -40,7 +40,7 @@ fn status_of<'a>(matches: &ArgMatches<'a>, option: &'static str) -> Result<bool,
     }
 }
 
-/// Whether locked dependencies are updated recursively, where that is said.
+/// Whether locked dependencies are updated recursively, where `--recursive` is given.
 fn recursive(matches: &ArgMatches<'_>) -> Option<bool>
     ensures { result ≡ option_map (λ v. bytes_eq v (codes "true"))
         (first_of (codes "recursive") (rows_of (found_of matches.now))) }
@@ -51,7 +51,7 @@ fn recursive(matches: &ArgMatches<'_>) -> Option<bool>
     }
 }
 
-/// How much is reported.
+/// The verbosity, from the numbers of `--verbose` and `--quiet`.
 fn verbosity(more: u8, less: u8) -> i8
     ensures { result ≡ verbosity_of more less }
 {
@@ -62,7 +62,7 @@ fn verbosity(more: u8, less: u8) -> i8
     }
 }
 
-/// The version of Rust that a text names.
+/// Parses a version of Rust.
 fn named_rust<'a>(alloc: Global, text: &'a str) -> Result<RustChoice, WordsError<'a>>
     ensures ok { IfOk result (IsRust (Some text.now) false) }
     ensures refused { IfErr result (λ e. e ≢ words.Memory → HasNoRust (Some text.now) false) }
@@ -74,7 +74,7 @@ fn named_rust<'a>(alloc: Global, text: &'a str) -> Result<RustChoice, WordsError
     }
 }
 
-/// The versions of Rust that count, by the one that is named and by whether they are ignored.
+/// The Rust versions to plan for, from `--rust-version` and `--ignore-rust-version`.
 fn rust_choice<'a>(
     alloc: Global,
     named: Option<&'a str>,
@@ -95,7 +95,7 @@ fn rust_choice<'a>(
     }
 }
 
-/// The options that matched words of `upgrade` ask for.
+/// The options of an upgrade, from parsed arguments of `upgrade`.
 fn options_of<'a>(alloc: Global, matches: &ArgMatches<'a>) -> Result<Options, WordsError<'a>>
     ensures options { IfOk result (AskForOptions (rows_of (found_of matches.now))) }
     ensures refused { IfErr result (λ e. e ≢ words.Memory → HasBadStatus (rows_of (found_of matches.now))) }
@@ -114,7 +114,7 @@ fn options_of<'a>(alloc: Global, matches: &ArgMatches<'a>) -> Result<Options, Wo
     })
 }
 
-/// Whether matched words name an index file, and an index folder too.
+/// Whether both an index file and an index folder are given.
 fn names_two_indexes(matches: &ArgMatches<'_>) -> bool
     ensures { result ≡ name_two_indexes (rows_of (found_of matches.now)) }
 {
@@ -123,7 +123,7 @@ fn names_two_indexes(matches: &ArgMatches<'_>) -> bool
     file && folder
 }
 
-/// What matched words of `upgrade` ask for.
+/// The options and paths that parsed arguments of `upgrade` give.
 pub(crate) fn upgrade_words<'a>(
     alloc: Global,
     matches: &ArgMatches<'a>,

@@ -1,4 +1,4 @@
-//! What each subcommand comes to, by its matches.
+//! Runs each subcommand with its parsed arguments.
 ghost use Rattle.std.specs.Prelude.{◌≡◌, ◌≢◌, ◌⊎◌, ◌≤◌, IfErr, IfOk, OnErr, codes, true};
 ghost use Rattle.std.specs.Io.KnownBytes.{Appends};
 ghost use Rattle.clap.specs.Words.{found_of, rows_of};
@@ -28,7 +28,7 @@ use edit_store::Store;
 use std::alloc::Global;
 use std::io;
 
-/// Upgrades the manifests that matched words name: what the words come to.
+/// Runs `upgrade`, and returns its exit status.
 fn upgrade_asked<S: Store, T: Store + Drop, O: io::Write, E: io::Write>(
     alloc: Global,
     matches: &ArgMatches<'_>,
@@ -71,7 +71,7 @@ fn upgrade_asked<S: Store, T: Store + Drop, O: io::Write, E: io::Write>(
     Ok(status_after(matches, due))
 }
 
-/// Prints the looks that an upgrade by matched words needs: what the words come to.
+/// Runs `looks`, which prints the lookups that an upgrade needs, and returns its exit status.
 fn looks_asked<S: Store, O: io::Write, E: io::Write>(
     alloc: Global,
     matches: &ArgMatches<'_>,
@@ -103,7 +103,7 @@ fn looks_asked<S: Store, O: io::Write, E: io::Write>(
     Ok(0)
 }
 
-/// Sets the versions that matched words ask for: what the words come to.
+/// Runs `set-version`, and returns its exit status.
 fn versions_asked<S: Store, O: io::Write, E: io::Write>(
     alloc: Global,
     matches: &ArgMatches<'_>,
@@ -143,7 +143,7 @@ fn versions_asked<S: Store, O: io::Write, E: io::Write>(
     Ok(status_after(matches, due))
 }
 
-/// What a subcommand and its matches come to.
+/// Runs a subcommand, and returns its exit status.
 pub(crate) fn subcommand_asked<S: Store, T: Store + Drop, O: io::Write, E: io::Write>(
     alloc: Global,
     subcommand: (&str, &ArgMatches<'_>),

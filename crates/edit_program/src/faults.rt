@@ -1,4 +1,4 @@
-//! What is printed in place of what was asked for.
+//! Prints errors and the messages of `clap`.
 ghost use Rattle.std.specs.Prelude.{◌≡◌, ◌⊎◌, IfErr, IfOk, IsErrAnd};
 ghost use Rattle.clap.specs.Words.{kind_of};
 ghost use Rattle.edit_base.specs.Errors.{IsMemory};
@@ -12,8 +12,8 @@ use edit_steps::{Refusal, RunResult, print_error};
 use std::alloc::Global;
 use std::io;
 
-/// An error of a message that was not written, with its stream: standard output, since nobody reads what
-/// standard error does not take. Another error stays as it is.
+/// Adds the place `standard output` to `Error::Output`: an error of standard error cannot be printed
+/// anyway. Other errors are unchanged.
 fn at_stream(alloc: Global, refusal: Refusal) -> Refusal
     ensures { result.error ≡ refusal.error }
 {
@@ -24,8 +24,8 @@ fn at_stream(alloc: Global, refusal: Refusal) -> Refusal
     Refusal { place, ..refusal }
 }
 
-/// Prints an error with what is known of its place, cause and cure, and answers its status, also where the
-/// printing fails.
+/// Prints an error with its place, cause and help, where they are known, and returns the exit status, even
+/// where printing fails.
 pub(crate) fn refuse<E: io::Write>(alloc: Global, refusal: Refusal, err: &mut E) -> u8
     ensures { result ≡ 1 }
 {
@@ -33,8 +33,8 @@ pub(crate) fn refuse<E: io::Write>(alloc: Global, refusal: Refusal, err: &mut E)
     1
 }
 
-/// Prints what `clap` says in place of matches, and answers its status: 0 for help and the version, 2 for a
-/// fault of the command line.
+/// Prints the message of a `clap` error, and returns the exit status: 0 for help and the version, 2 for a
+/// wrong command line.
 pub(crate) fn shown<O: io::Write, E: io::Write>(
     error: &clap::Error,
     out: &mut O,
@@ -59,7 +59,7 @@ pub(crate) fn shown<O: io::Write, E: io::Write>(
     }
 }
 
-/// Prints what is wrong with matched words, and answers the status of a fault.
+/// Prints the error of an argument, and returns the exit status 2.
 pub(crate) fn refuse_words<E: io::Write>(fault: &WordsFault<'_>, err: &mut E) -> u8
     ensures { result ≡ 2 }
 {

@@ -1,4 +1,4 @@
-//! Values of options among matched words.
+//! Values of options in parsed arguments.
 ghost use Rattle.std.specs.Prelude.{◌≡◌, IfOk, map, string_bytes};
 ghost use Rattle.clap.specs.Words.{found_of, rows_of};
 ghost use Rattle.edit_program.specs.Asked.{is_given, values_of};
@@ -13,7 +13,7 @@ pub(crate) fn is_given(matches: &ArgMatches<'_>, id: &str) -> bool
     matches.get_str(id).unwrap_or("") == "true"
 }
 
-/// These texts, on memory of their own.
+/// Copies texts into newly allocated memory.
 fn copied_texts(alloc: Global, texts: &[&str]) -> Result<Vec<String>, AllocError>
     ensures { IfOk result (λ v. map string_bytes v.items ≡ map (λ t. t.now) texts.now) }
 {
@@ -24,7 +24,7 @@ fn copied_texts(alloc: Global, texts: &[&str]) -> Result<Vec<String>, AllocError
     Ok(copies)
 }
 
-/// The values of an option, of all its uses.
+/// The values of all occurrences of an option.
 pub(crate) fn values_of(
     alloc: Global,
     matches: &ArgMatches<'_>,

@@ -1,10 +1,10 @@
-//! Commands that cargo has by itself.
+//! Commands that cargo provides itself.
 ghost use Rattle.std.specs.Prelude.{◌≡◌, map};
 ghost use Rattle.edit_program.specs.Merged.{merged_by, merged_of};
 
 use edit_base::errors::MergedCommand;
 
-/// The command of cargo that a word names.
+/// The command of cargo that an argument names.
 fn merged_by(word: &str) -> Option<MergedCommand>
     ensures { result ≡ merged_by word.now }
 {
@@ -15,8 +15,7 @@ fn merged_by(word: &str) -> Option<MergedCommand>
     }
 }
 
-/// The command of cargo that the first of the words names, whatever follows: one that the command line does
-/// not have, since cargo has it by itself.
+/// `add` or `rm`, if the first argument is one of them: cargo provides these itself.
 pub(crate) fn merged_of(words: &[&str]) -> Option<MergedCommand>
     ensures { result ≡ merged_of (map (λ w. w.now) words.now) }
 {

@@ -1,10 +1,10 @@
-//! Where a run of the program starts.
+//! The folders that a run of the program depends on.
 
-/// Where a run of the program starts.
+/// The folders that a run of the program depends on.
 #[derive(Clone, Copy)]
 pub struct Place<'a> {
     /// The absolute folder that relative paths start from.
     pub current: &'a str,
-    /// The folder whose configuration counts last.
+    /// The home folder of cargo, whose configuration has the lowest precedence.
     pub cargo_home: Option<&'a str>,
 }

@@ -1,4 +1,4 @@
-//! How a plan is printed, and whether it is only checked.
+//! The output format of a plan, and whether the plan is only checked.
 ghost use Rattle.std.specs.Prelude.{◌≡◌, IfErr, IfOk, None, Some};
 ghost use Rattle.clap.specs.Words.{found_of, rows_of};
 ghost use Rattle.edit_program.specs.Asked.{is_dry};
@@ -9,7 +9,7 @@ use crate::words_fault::{WordsError, WordsFault};
 use clap::ArgMatches;
 use edit_shown::{MessageFormat, Presentation};
 
-/// How a plan is printed, by the format that is named and whether diffs are asked for.
+/// The output format of a plan, from the values of `--message-format` and `--diff`.
 fn presented_by<'a>(format: &'a str, diff: bool) -> Result<Presentation, WordsError<'a>>
     ensures ok { IfOk result (λ p. presented_by format.now diff ≡ Some p) }
     ensures refused { IfErr result (λ _. presented_by format.now diff ≡ None) }
@@ -35,7 +35,7 @@ fn presented_by<'a>(format: &'a str, diff: bool) -> Result<Presentation, WordsEr
     }
 }
 
-/// How matched words say that a plan is printed.
+/// The output format of a plan, from parsed arguments.
 pub(crate) fn presentation<'a>(matches: &ArgMatches<'a>) -> Result<Presentation, WordsError<'a>>
     ensures ok { IfOk result (λ p. presentation_of (rows_of (found_of matches.now)) ≡ Some p) }
     ensures refused { IfErr result (λ _. presentation_of (rows_of (found_of matches.now)) ≡ None) }
@@ -44,14 +44,14 @@ pub(crate) fn presentation<'a>(matches: &ArgMatches<'a>) -> Result<Presentation,
     presented_by(format, is_given(matches, "diff"))
 }
 
-/// Whether matched words ask that nothing is written: for a dry run, or only to check.
+/// Whether no file is written, because of `--dry-run` or `--check`.
 pub(crate) fn is_dry(matches: &ArgMatches<'_>) -> bool
     ensures { result ≡ is_dry (rows_of (found_of matches.now)) }
 {
     is_given(matches, "dry-run") || is_given(matches, "check")
 }
 
-/// The status behind a plan, by whether it has an output.
+/// The exit status after a plan: 1 where `--check` is given and a file would change.
 pub(crate) fn status_after(matches: &ArgMatches<'_>, due: bool) -> u8
     ensures { result ≡ status_after (rows_of (found_of matches.now)) due }
 {

@@ -20,7 +20,7 @@ use edit_words::{command, filled_words};
 use std::alloc::Global;
 use std::io;
 
-/// The outcome of arguments with all their values: a status, or an error.
+/// Parses arguments in which all options have values, and runs the subcommand: an exit status, or an error.
 fn answer<S: Store, T: Store + Drop, O: io::Write, E: io::Write>(
     alloc: Global,
     words: &[&str],
@@ -69,7 +69,7 @@ fn answer<S: Store, T: Store + Drop, O: io::Write, E: io::Write>(
     }
 }
 
-/// The outcome of arguments, in which options may lack their values.
+/// Runs arguments in which options may lack their values, for which defaults are inserted.
 fn answer_given<S: Store, T: Store + Drop, O: io::Write, E: io::Write>(
     alloc: Global,
     words: &[&str],
@@ -107,14 +107,18 @@ fn answer_given<S: Store, T: Store + Drop, O: io::Write, E: io::Write>(
     answer(alloc, words.as_slice(), place, files, index_files, out, err)
 }
 
-/// Runs the arguments, which begin with the subcommand, and answers the status: 0 done; 1 an error, whose
-/// text is printed on `err` behind `Error: `, with its place in a second line where it is known (of `add` and
-/// `rm`, whatever follows, that cargo has them by itself), or, with `--check`, that something would change; 2
-/// a fault of the command line, also an empty path. An option that may stand without its value then says yes.
-/// `current` is the absolute folder that relative paths start from. Manifests, configurations, metadata, the
-/// index file and the lock file are read, and manifests and the file of the calls written, through `files`;
-/// `cargo_home` is the folder whose configuration counts last. `index_files` has the index that is looked in
-/// where no index file is named, and is taken over.
+/// Runs the program with these arguments, the first of which is the subcommand, and returns the exit
+/// status:
+/// - 0: done.
+/// - 1: an error, printed on `err` after `Error: `, with its place on the next line where it is known; or,
+///   with `--check`, something would change. `add` and `rm` are errors, since cargo provides them itself.
+/// - 2: a wrong command line, such as an empty path.
+///
+/// An option that may be given without a value then has its default, which allows. `current` is the
+/// absolute folder that relative paths start from. Manifests, configurations, metadata, the index file and
+/// the lock file are read through `files`, and manifests and the file of update calls are written through
+/// it. `cargo_home` is the folder whose configuration has the lowest precedence. `index_files` has the
+/// index to query where no index file is given, and is consumed.
 pub fn run<S: Store, T: Store + Drop, O: io::Write, E: io::Write>(
     alloc: Global,
     words: &[&str],
@@ -136,8 +140,8 @@ pub fn run<S: Store, T: Store + Drop, O: io::Write, E: io::Write>(
         (Appends (E.contents err.old) (E.contents err.new))
         (run_at current.now (given cargo_home.entry)
         (T.view index_files) (S.view files.old) (S.view files.new)) }
-    // a check found what is to be changed, or there is an error, with its cause; over any stores, an error of
-    // a device is counted
+    // a check found a change to make, or there is an error, with its cause; over any stores, a device error
+    // is counted
     ensures failed { result ≡ 1
         → IsChecked (filled (map (λ w. w.now) words.now)) (Appends (O.contents out.old) (O.contents out.new))
         (Appends (E.contents err.old) (E.contents err.new))

@@ -1,4 +1,4 @@
-//! What an upgrade prints and writes once it is planned, over any files and any writers.
+//! What an upgrade prints and writes after it is planned.
 
 mod absent;
 mod calls;

@@ -1,4 +1,4 @@
-//! What matched words of `set-version` ask for.
+//! The arguments that parsed arguments of `set-version` give.
 ghost use Rattle.std.specs.Prelude.{◌≡◌, ◌≢◌, ◌||◌, IfErr, IfOk, Some, None, codes, is_some, map, option_map, string_bytes, true};
 ghost use Rattle.clap.specs.Words.{first_of, found_of, rows_of};
 ghost use Rattle.edit_set_version.specs.Bumps.{target_of};
@@ -16,7 +16,7 @@ use semver::Version;
 use std::alloc::{AllocError, Global};
 use std::str::FromStr;
 
-/// Two of the three ways to name members that are both there.
+/// Two of `--package`, `--all` and `--workspace` that are both given.
 fn twice_named(matches: &ArgMatches<'_>) -> Option<(&'static str, &'static str)>
     ensures { is_some result ≡ names_twice (rows_of (found_of matches.now)) }
 {
@@ -34,7 +34,7 @@ fn twice_named(matches: &ArgMatches<'_>) -> Option<(&'static str, &'static str)>
     }
 }
 
-/// The target that a level names.
+/// The target for a level.
 fn target_by_level<'a>(word: &'a str) -> Result<TargetVersion, WordsError<'a>>
     ensures ok { IfOk result (λ t. IsTarget None (Some word.now) (target_of t)) }
     ensures refused { IfErr result (λ _. HaveNoTarget None (Some word.now)) }
@@ -45,7 +45,7 @@ fn target_by_level<'a>(word: &'a str) -> Result<TargetVersion, WordsError<'a>>
     }
 }
 
-/// The target that a version is.
+/// The target for a version.
 fn target_by_version<'a>(alloc: Global, text: &'a str) -> Result<TargetVersion, WordsError<'a>>
     ensures ok { IfOk result (λ t. IsTarget (Some text.now) None (target_of t)) }
     ensures refused { IfErr result (λ e. e ≢ words.Memory → HaveNoTarget (Some text.now) None) }
@@ -61,7 +61,7 @@ fn target_by_version<'a>(alloc: Global, text: &'a str) -> Result<TargetVersion, 
     }
 }
 
-/// The target that a version and a level name.
+/// The target, from the arguments for a version and a level.
 fn target<'a>(
     alloc: Global,
     version: Option<&'a str>,
@@ -83,7 +83,7 @@ fn target<'a>(
     }
 }
 
-/// The value of an option, on memory of its own.
+/// Copies the value of an option into newly allocated memory.
 fn copied_value(
     alloc: Global,
     matches: &ArgMatches<'_>,
@@ -98,7 +98,7 @@ fn copied_value(
     }
 }
 
-/// The members that matched words of `set-version` ask for, and their build metadata.
+/// The selected members and the build metadata, from parsed arguments of `set-version`.
 fn selection(alloc: Global, matches: &ArgMatches<'_>) -> Result<Selection, AllocError>
     ensures packages { IfOk result (λ s. map string_bytes s.packages.items
         ≡ values_of (codes "package") (rows_of (found_of matches.now))) }
@@ -118,7 +118,7 @@ fn selection(alloc: Global, matches: &ArgMatches<'_>) -> Result<Selection, Alloc
     })
 }
 
-/// What matched words of `set-version` ask for.
+/// The options and paths that parsed arguments of `set-version` give.
 pub(crate) fn version_words<'a>(
     alloc: Global,
     matches: &ArgMatches<'a>,

@@ -1,4 +1,4 @@
-//! What is wrong with matched words.
+//! Errors of parsed arguments.
 ghost use Rattle.std.specs.Prelude.{◌≡◌};
 ghost use Rattle.edit_program.specs.declared.words_fault.WordsError.TheVariants as words;
 
@@ -6,16 +6,16 @@ use edit_base::Error;
 use std::alloc::AllocError;
 use std::fmt;
 
-/// What is wrong with matched words.
+/// An error of parsed arguments.
 #[derive(Drop)]
 pub(crate) enum WordsFault<'a> {
-    /// Two arguments that are not taken together.
+    /// Two arguments that cannot be used together.
     Together(&'static str, &'static str),
-    /// An option, the values that it has, and one that it does not have.
+    /// An option, its valid values, and the invalid one that is given.
     Value(&'static str, &'static str, &'a str),
-    /// A text that names no version of Rust, and why.
+    /// A text that is no version of Rust, and why.
     Rust(&'a str, Error),
-    /// A word that is no level, and what is said of it.
+    /// An argument that is no level, and the error message.
     Level(&'a str, &'static str),
     /// A text that is no version, and why.
     Version(&'a str, semver::Error),
@@ -46,7 +46,7 @@ impl fmt::Display for WordsFault<'_> {
     }
 }
 
-/// Why matched words are not read.
+/// Why parsed arguments cannot be used: an error of the arguments, or out of memory.
 #[derive(Drop)]
 pub(crate) enum WordsError<'a> {
     Memory,

@@ -1,30 +1,30 @@
--- What becomes of files when outputs are written to them.
+-- The files after outputs are written to them.
 use Rattle.std.specs.Prelude.{◌≡◌, ◌≢◌, ℕ, ◌+◌, ◌<◌, ◌≤◌, List, ◌++◌, Some, true, length, map, take, drop, string_bytes}
 use Rattle.std.specs.List.{All, AllPairs}
 use Rattle.edit_report.specs.declared.output.Output.{Output}
 use Rattle.edit_store.specs.Store.{Files, StoreView}
 
--- where an output goes
+-- the path of an output
 abbrev pub path_of : Output → List ℕ
 path_of o = string_bytes o.path
 
--- no two outputs go to one path (own)
+-- no two outputs have the same path (own)
 abbrev pub HaveDistinctPaths : List Output → Type 0
 HaveDistinctPaths outputs = AllPairs (λ a b. path_of a ≢ path_of b) outputs
 
--- the file of an output holds it whole (own)
+-- the file of an output has exactly the output's bytes (own)
 abbrev pub IsWhole : Files → Output → Type 0
 IsWhole files o = files (path_of o) ≡ Some o.bytes.items
 
--- the file of an output is as it was (own)
+-- the file of an output is unchanged (own)
 abbrev pub IsUntouched : Files → Files → Output → Type 0
 IsUntouched old new o = new (path_of o) ≡ old (path_of o)
 
--- each path that no output goes to has what it had (own)
+-- each file that is not the file of an output is unchanged (own)
 abbrev pub KeepsOthers : List Output → Files → Files → Type 0
 KeepsOthers outputs old new = (path : List ℕ) → All (λ o. path ≢ path_of o) outputs → new path ≡ old path
 
--- each of these outputs is written once, in order, and no other file is written (own)
+-- each output is written exactly once, in order, and no other file is written (own)
 abbrev pub AreWrittenOnce : List Output → StoreView → StoreView → Type 0
 AreWrittenOnce outputs old new = new.writes ≡ old.writes ++ map path_of outputs
 

@@ -10,19 +10,19 @@ use Rattle.edit_report.specs.declared.row.Row.{Row}
 use Rattle.edit_version.specs.Admits.{admits}
 use Rattle.edit_version.specs.Requirement.{requirement_read}
 
--- the reason is one that an option lifts: a newer requirement was there (own)
+-- an entry was left unchanged for a reason that an option can lift (own)
 abbrev pub is_held_back : Option Reason → Bool
 is_held_back (Some reason.Compatible) = true
 is_held_back (Some reason.Incompatible) = true
 is_held_back (Some reason.Pinned) = true
 is_held_back _ = false
 
--- what was read as a requirement does not admit what was read as a version (own)
+-- a parsed requirement does not admit a parsed version; false where one of them cannot be parsed (own)
 abbrev pub misses : Option (List Held) → Option Parts → Bool
 misses (Some cs) (Some v) = not (admits cs v)
 misses _ _ = false
 
--- the old requirement is readable and does not match the latest version (own)
+-- the old requirement can be parsed and does not admit the latest version (own)
 abbrev pub is_outgrown : Row → Bool
 is_outgrown r = misses
     (option_and_then (λ old. requirement_read (string_bytes old)) r.old)

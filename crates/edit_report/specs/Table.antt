@@ -17,7 +17,7 @@ pub record Cells : Type 0 where
   pub new : List ℕ
   pub note : List ℕ
 
--- the first line (own)
+-- the line of column titles (own)
 abbrev pub headings : Cells
 headings = record {
   name = codes "name";
@@ -28,7 +28,7 @@ headings = record {
   note = codes "note";
 }
 
--- the line below it (own)
+-- the line that underlines the column titles (own)
 abbrev pub underlines : Cells
 underlines = record {
   name = codes "====";
@@ -39,17 +39,17 @@ underlines = record {
   note = codes "====";
 }
 
--- a dependency's name, behind it the name that its manifest gives it (own)
+-- the name of a crate, and for a renamed dependency `name (rename)` (own)
 abbrev pub name_text : List ℕ → Option (String Global) → List ℕ
 name_text name None = name
 name_text name (Some rename) = name ++ (codes " (" ++ (string_bytes rename ++ codes ")"))
 
--- a text, or a dash for none (own)
+-- a text, or `-` where there is none (own)
 abbrev pub or_dash : Option (String Global) → List ℕ
 or_dash None = codes "-"
 or_dash (Some text) = string_bytes text
 
--- the text of a reason (own)
+-- the text of a reason in the column of notes (own)
 abbrev pub reason_text : Option Reason → List ℕ
 reason_text None = []
 reason_text (Some reason.Latest) = []
@@ -60,7 +60,7 @@ reason_text (Some reason.GitSource) = codes "git"
 reason_text (Some reason.PathSource) = codes "local"
 reason_text (Some reason.Excluded) = codes "excluded"
 
--- the line of a row (own)
+-- the cells of a row (own)
 abbrev pub row_cells : Row → Cells
 row_cells r = record {
   name = name_text (string_bytes r.name) r.rename;
@@ -71,29 +71,29 @@ row_cells r = record {
   note = reason_text r.reason;
 }
 
--- a column: what it takes of each line
+-- a column, as the function that takes its cell out of a line
 abbrev pub Column : Type 0
 Column = Cells → List ℕ
 
--- the note is a column where a line has one (own)
+-- the column of notes, where there is one (own)
 abbrev pub note_column : Bool → List Column
 note_column true = (λ line. line.note) ∷ []
 note_column false = []
 
--- the columns, in their order (own)
+-- the columns, in order (own)
 abbrev pub columns : Bool → List Column
 columns noted = (λ line. line.name) ∷ (λ line. line.old) ∷ (λ line. line.compatible) ∷ (λ line. line.latest)
     ∷ (λ line. line.new) ∷ note_column noted
 
--- the greatest of numbers, 0 where there are none
+-- the greatest of numbers, or 0 for an empty list
 abbrev pub greatest : List ℕ → ℕ
 greatest ns = fold max 0 ns
 
--- how wide a column is: the greatest length of its cells, in bytes (own)
+-- the width of a column: the greatest length of its cells, in bytes (own)
 abbrev pub width : List Cells → Column → ℕ
 width lines column = greatest (map (λ line. length (column line)) lines)
 
--- a cell with spaces up to a width (own)
+-- a cell padded with spaces to a width (own)
 abbrev pub padded : ℕ → List ℕ → List ℕ
 padded n cell = cell ++ replicate (n - length cell) 32
 
@@ -110,7 +110,7 @@ lines_text columns lines = flat_map (line_text lines columns) lines
 abbrev pub is_noted : Row → Bool
 is_noted r = nat_lt 0 (length (reason_text r.reason))
 
--- the table of rows that are shown: nothing where there are none (own)
+-- the table of these rows; empty where there are none (own)
 abbrev pub table_of : List Row → List ℕ
 table_of [] = []
 table_of (r ∷ rs) =

@@ -1,4 +1,4 @@
--- The table of a report, as the program has its lines and columns.
+-- The table of a report over the program's types for lines and columns.
 use Rattle.std.specs.Prelude.{ℕ, List, [], ◌∷◌, ◌++◌, codes, length, map, string_bytes}
 use Rattle.std.specs.List.{join_by}
 use Rattle.edit_report.specs.Table.{Cells, greatest, padded}
@@ -19,7 +19,7 @@ cells_of l = record {
   note = l.note.now;
 }
 
--- what a column takes of a line
+-- the function that takes the cell of a column out of a line
 abbrev pub column_of : Column → Taking
 column_of column.Name = λ line. line.name
 column_of column.Old = λ line. line.old
@@ -28,18 +28,18 @@ column_of column.Latest = λ line. line.latest
 column_of column.New = λ line. line.new
 column_of column.Note = λ line. line.note
 
--- the cells of a line in columns with their widths, joined by a space
+-- the padded cells of a line, joined by a space
 abbrev pub joined_cells : List Wide → Cells → List ℕ
 joined_cells ws line = join_by (λ w. padded w.width (column_of w.column line)) (codes " ") ws
 
--- a line in columns with their widths
+-- a line of padded cells with its line end
 abbrev pub wide_line : List Wide → Cells → List ℕ
 wide_line ws line = joined_cells ws line ++ 10 ∷ []
 
--- how wide a column of these lines is
+-- the width of a column in these lines, in bytes
 abbrev pub line_width : List Line → Column → ℕ
 line_width lines c = greatest (map (λ l. length (column_of c (cells_of l))) lines)
 
--- a column with its width in these lines
+-- a column paired with its width in these lines
 abbrev pub wide : List Line → Column → Wide
 wide lines c = record { column = c; width = line_width lines c }

@@ -1,4 +1,4 @@
-//! The text of a table's lines.
+//! Layout of a table: lines of padded cells.
 ghost use Rattle.std.specs.Prelude.{◌≡◌, ◌++◌, ◌∷◌, ◌-◌, IfErr, IfOk, OnOk, ◌⊎◌, length, map, replicate, string_bytes};
 ghost use Rattle.std.specs.Io.KnownBytes.{Appends};
 ghost use Rattle.std.specs.List.{flat_map};
@@ -13,10 +13,10 @@ use edit_base::CargoResult;
 use std::alloc::{AllocError, Global};
 use std::io;
 
-/// The spaces that are added at once: 64.
+/// A chunk of 64 spaces, to pad with.
 const SPACES: &str = "                                                                ";
 
-/// The columns, with the note or without.
+/// The columns of the table; the notes are one of them where `noted` is set.
 fn columns(noted: bool) -> &'static [Column]
     ensures { map column_of result.now ≡ columns noted }
 {
@@ -50,7 +50,7 @@ fn width(lines: &[Line<'_>], column: Column) -> usize
         .fold(0, |widest, length| widest.max(length))
 }
 
-/// The columns with their widths.
+/// Pairs each column with its width.
 fn measured(alloc: Global, columns: &[Column], lines: &[Line<'_>]) -> Result<Vec<Wide>, AllocError>
     ensures ok { IfOk result (λ v. v.items ≡ map (wide lines.now) columns.now) }
 {
@@ -61,7 +61,7 @@ fn measured(alloc: Global, columns: &[Column], lines: &[Line<'_>]) -> Result<Vec
     Ok(columns.collect(alloc)?)
 }
 
-/// Adds so many spaces.
+/// Appends this number of spaces.
 fn push_spaces(text: &mut String, count: usize) -> Result<(), AllocError>
     ensures ok { OnOk result (string_bytes text.new ≡ string_bytes text.old ++ replicate count 32) }
 {
@@ -74,7 +74,7 @@ fn push_spaces(text: &mut String, count: usize) -> Result<(), AllocError>
     Ok(())
 }
 
-/// Adds a cell, and spaces up to the width.
+/// Appends a cell, padded with spaces to a width in bytes.
 fn push_cell(text: &mut String, cell: &str, width: usize) -> Result<(), AllocError>
     ensures ok { OnOk result (string_bytes text.new ≡ string_bytes text.old ++ padded width cell.now) }
 {
@@ -83,7 +83,7 @@ fn push_cell(text: &mut String, cell: &str, width: usize) -> Result<(), AllocErr
     push_spaces(text, missing)
 }
 
-/// Adds the cells of a line, joined by a space.
+/// Appends the padded cells of a line, joined by a space.
 fn push_cells(text: &mut String, columns: &[Wide], line: &Line<'_>) -> Result<(), AllocError>
     ensures ok { OnOk result (string_bytes text.new
         ≡ string_bytes text.old ++ joined_cells columns.now (cells_of line.now)) }
@@ -99,7 +99,7 @@ fn push_cells(text: &mut String, columns: &[Wide], line: &Line<'_>) -> Result<()
     Ok(())
 }
 
-/// Adds a line: its cells, joined by a space, and a line end.
+/// Appends a line: its padded cells, joined by a space, and a line end.
 fn push_line(text: &mut String, columns: &[Wide], line: &Line<'_>) -> Result<(), AllocError>
     ensures ok { OnOk result (string_bytes text.new
         ≡ string_bytes text.old ++ wide_line columns.now (cells_of line.now)) }
@@ -109,7 +109,7 @@ fn push_line(text: &mut String, columns: &[Wide], line: &Line<'_>) -> Result<(),
     Ok(())
 }
 
-/// The text of lines in columns with their widths.
+/// The text of lines, for columns with these widths.
 fn wide_text(alloc: Global, columns: &[Wide], lines: &[Line<'_>]) -> Result<String, AllocError>
     ensures ok { IfOk result (λ s. string_bytes s
         ≡ flat_map (λ line. wide_line columns.now (cells_of line)) lines.now) }
@@ -133,7 +133,7 @@ pub(crate) fn lines_text(
     wide_text(alloc, columns.as_slice(), lines)
 }
 
-/// Writes lines in columns with their widths, one by one.
+/// Writes lines one by one, for columns with these widths.
 fn write_wide<W: io::Write>(
     alloc: Global,
     columns: &[Wide],

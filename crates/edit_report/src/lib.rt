@@ -1,4 +1,4 @@
-//! What is reported of entries, and the writing of what is planned.
+//! The report of an upgrade, and the writing of planned outputs to their files.
 #![tactic(auto)]
 
 mod layout;

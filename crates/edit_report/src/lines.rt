@@ -1,6 +1,6 @@
-//! Lines of a table, and their text.
+//! Lines of a table, and the cells in their columns.
 
-/// A line of the table.
+/// A line of the table: one cell for each column.
 #[derive(Drop)]
 pub(crate) struct Line<'a> {
     pub(crate) name: String,
@@ -22,7 +22,7 @@ pub(crate) enum Column {
     Note,
 }
 
-/// A column, and how wide it is.
+/// A column and its width in bytes.
 #[derive(Clone, Copy)]
 pub(crate) struct Wide {
     pub(crate) column: Column,
@@ -33,7 +33,7 @@ impl Line<'_> {
     ghost use Rattle.std.specs.Prelude.{◌≡◌};
     ghost use Rattle.edit_report.specs.Widths.{cells_of, column_of};
 
-    /// The cell in a column.
+    /// The cell of the line in a column.
     pub(crate) fn cell(&self, column: Column) -> &str
         ensures { result.now ≡ column_of column (cells_of self.now) }
     {

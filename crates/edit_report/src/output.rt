@@ -1,4 +1,4 @@
-//! Outputs written to their files.
+//! Writes outputs to their files.
 ghost use Rattle.std.specs.Prelude.{◌≡◌, ◌≢◌, ◌<◌, OnErr, OnOk, length, true};
 ghost use Rattle.edit_base.specs.declared.errors.DeviceCall.TheVariants as call;
 ghost use Rattle.edit_report.specs.Applied.{AreWritten, HasStopped, HaveDistinctPaths, IsWhole, path_of};
@@ -8,14 +8,14 @@ use edit_base::CargoResult;
 use edit_store::Store;
 use std::alloc::Global;
 
-/// A manifest's new bytes.
+/// The new bytes of a manifest, and its path.
 #[derive(Debug, Drop)]
 pub struct Output {
     pub path: String,
     pub bytes: Vec<u8>,
 }
 
-/// Makes the write of each output ready, in order. No file changes.
+/// Stages the write of each output, in order. No file changes.
 fn stage_all<S: Store>(alloc: Global, outputs: &[Output], store: &mut S) -> CargoResult<()>
     ensures tells { (S.view store.new).tells ≡ (S.view store.old).tells }
     ensures files { SameFiles (S.view store.old).file_at (S.view store.new).file_at }
@@ -30,7 +30,7 @@ fn stage_all<S: Store>(alloc: Global, outputs: &[Output], store: &mut S) -> Carg
     Ok(())
 }
 
-/// Brings the write of each output that is ready to the disk, in order. No file changes.
+/// Flushes the staged write of each output to the disk, in order. No file changes.
 fn flush_all<S: Store>(alloc: Global, outputs: &[Output], store: &mut S) -> CargoResult<()>
     ensures tells { (S.view store.new).tells ≡ (S.view store.old).tells }
     ensures files { SameFiles (S.view store.old).file_at (S.view store.new).file_at }
@@ -45,7 +45,7 @@ fn flush_all<S: Store>(alloc: Global, outputs: &[Output], store: &mut S) -> Carg
     Ok(())
 }
 
-/// Compares the file of each output with what was read of it, in order. No file changes.
+/// Verifies that the file of each output still has the bytes that were read, in order. No file changes.
 fn verify_all<S: Store>(alloc: Global, outputs: &[Output], store: &mut S) -> CargoResult<()>
     ensures tells { (S.view store.new).tells ≡ (S.view store.old).tells }
     ensures files { SameFiles (S.view store.old).file_at (S.view store.new).file_at }
@@ -90,7 +90,7 @@ fn write_all<S: Store>(alloc: Global, outputs: &[Output], store: &mut S) -> Carg
     Ok(())
 }
 
-/// Makes all outputs ready, and then writes them.
+/// Stages, flushes and verifies all outputs, and then writes them.
 fn stage_and_write<S: Store>(alloc: Global, outputs: &[Output], store: &mut S) -> CargoResult<()>
     requires { HaveDistinctPaths outputs.now }
     ensures tells { (S.view store.new).tells ≡ (S.view store.old).tells }

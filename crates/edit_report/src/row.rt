@@ -1,8 +1,8 @@
-//! What became of an entry.
+//! The row of an entry in the report.
 
 use edit_document::Place;
 
-/// What an entry's new requirement was taken from.
+/// Which version an entry's new requirement was made from.
 #[derive(Debug, Clone, Copy, PartialEq, Eq)]
 pub enum Change {
     Explicit,
@@ -10,7 +10,7 @@ pub enum Change {
     Compatible,
 }
 
-/// Why an entry did not get the newest requirement, or that it has it.
+/// Why the requirement of an entry was not raised further; `Latest` where nothing newer exists.
 #[derive(Debug, Clone, Copy, PartialEq, Eq)]
 pub enum Reason {
     Latest,
@@ -22,7 +22,7 @@ pub enum Reason {
     Excluded,
 }
 
-/// What became of an entry.
+/// The row of an entry: its requirements, its versions, and what was changed or why not.
 #[derive(Debug, Drop)]
 pub struct Row {
     /// The index of the input, from 0.

@@ -7,7 +7,7 @@ ghost use Rattle.edit_report.specs.Messages.{message_text};
 use edit_base::{CargoResult, Error};
 use std::io;
 
-/// Writes a text to a writer.
+/// Writes a text.
 fn write_text<W: io::Write>(out: &mut W, text: &str) -> CargoResult<()>
     ensures bytes { OnOk result (Appends (W.contents out.old) (W.contents out.new) text.now) }
     ensures refused { IfErr result (λ e. e ≡ Output) }
@@ -18,7 +18,7 @@ fn write_text<W: io::Write>(out: &mut W, text: &str) -> CargoResult<()>
     }
 }
 
-/// Writes a message behind its status, which stands right in twelve columns.
+/// Writes a message after its status, which is right-aligned to twelve columns.
 fn print_justified<W: io::Write>(out: &mut W, status: &str, message: &str) -> CargoResult<()>
     ensures bytes { OnOk result (Appends (W.contents out.old) (W.contents out.new)
         (message_text true status.now message.now)) }
@@ -30,7 +30,7 @@ fn print_justified<W: io::Write>(out: &mut W, status: &str, message: &str) -> Ca
     }
 }
 
-/// Writes a message behind its status and a colon.
+/// Writes a message after its status and a colon.
 fn print_plain<W: io::Write>(out: &mut W, status: &str, message: &str) -> CargoResult<()>
     ensures bytes { OnOk result (Appends (W.contents out.old) (W.contents out.new)
         (message_text false status.now message.now)) }
@@ -42,7 +42,7 @@ fn print_plain<W: io::Write>(out: &mut W, status: &str, message: &str) -> CargoR
     }
 }
 
-/// Writes a message behind its status: right in twelve columns, or at the left with a colon.
+/// Writes a message after its status, which is right-aligned to twelve columns, or followed by a colon.
 pub fn shell_print<W: io::Write>(
     out: &mut W,
     status: &str,
@@ -60,7 +60,7 @@ pub fn shell_print<W: io::Write>(
     }
 }
 
-/// Writes what is done, right in twelve columns, and to what.
+/// Writes a status line: an action, right-aligned to twelve columns, and a message.
 pub fn shell_status<W: io::Write>(out: &mut W, action: &str, message: &str) -> CargoResult<()>
     ensures bytes { OnOk result (Appends (W.contents out.old) (W.contents out.new)
         (message_text true action.now message.now)) }
@@ -87,7 +87,7 @@ pub fn shell_note<W: io::Write>(out: &mut W, message: &str) -> CargoResult<()>
     shell_print(out, "note", message, false)
 }
 
-/// Writes a fragment, as it stands, to the standard error that is handed in.
+/// Writes a fragment unchanged to `out`, the standard error of the caller.
 pub fn shell_write_stderr<W: io::Write>(out: &mut W, fragment: &str) -> CargoResult<()>
     ensures bytes { OnOk result (Appends (W.contents out.old) (W.contents out.new) fragment.now) }
     ensures refused { IfErr result (λ e. e ≡ Output) }
@@ -95,7 +95,7 @@ pub fn shell_write_stderr<W: io::Write>(out: &mut W, fragment: &str) -> CargoRes
     write_text(out, fragment)
 }
 
-/// Writes a fragment, as it stands, to the standard output that is handed in.
+/// Writes a fragment unchanged to `out`, the standard output of the caller.
 pub fn shell_write_stdout<W: io::Write>(out: &mut W, fragment: &str) -> CargoResult<()>
     ensures bytes { OnOk result (Appends (W.contents out.old) (W.contents out.new) fragment.now) }
     ensures refused { IfErr result (λ e. e ≡ Output) }

@@ -12,7 +12,7 @@ use edit_version::{admits, read_requirement};
 use semver::Version;
 use std::alloc::{AllocError, Global};
 
-/// Whether the reason is one that an option lifts.
+/// Whether an entry was left unchanged for a reason that an option can lift.
 fn is_held_back(reason: Option<Reason>) -> bool
     ensures { result ≡ is_held_back reason }
 {
@@ -22,7 +22,7 @@ fn is_held_back(reason: Option<Reason>) -> bool
     )
 }
 
-/// Whether a readable requirement does not admit a readable version.
+/// Whether a requirement does not admit a version; false where one of them cannot be parsed.
 fn misses(alloc: Global, req: &str, version: &str) -> CargoResult<bool>
     ensures ok { IfOk result (λ b. b
         ≡ misses (requirement_read req.now) (result_ok (version_parts version.now))) }
@@ -42,7 +42,7 @@ fn misses(alloc: Global, req: &str, version: &str) -> CargoResult<bool>
     }
 }
 
-/// Whether the old requirement is readable and does not match the latest version.
+/// Whether the old requirement can be parsed and does not admit the latest version.
 fn is_outgrown(alloc: Global, row: &Row) -> CargoResult<bool>
     ensures ok { IfOk result (λ b. b ≡ is_outgrown row.now) }
     ensures refused { IfErr result IsMemory }
@@ -53,7 +53,7 @@ fn is_outgrown(alloc: Global, row: &Row) -> CargoResult<bool>
     }
 }
 
-/// Whether a report of this verbosity shows the row.
+/// Whether a report of this verbosity shows a row.
 pub fn shown(alloc: Global, row: &Row, verbosity: i8) -> CargoResult<bool>
     ensures ok { IfOk result (λ b. b ≡ is_shown verbosity row.now) }
     ensures refused { IfErr result IsMemory }

@@ -16,7 +16,7 @@ use edit_base::CargoResult;
 use std::alloc::{AllocError, Global};
 use std::io;
 
-/// A dependency's name, behind it the name that its manifest gives it: `name (rename)`.
+/// The name cell of a row: the crate's name, and for a renamed dependency `name (rename)`.
 pub fn name_text(alloc: Global, row: &Row) -> Result<String, AllocError>
     ensures { IfOk result (λ s. string_bytes s ≡ name_text (string_bytes row.now.name) row.now.rename) }
 {
@@ -30,7 +30,7 @@ pub fn name_text(alloc: Global, row: &Row) -> Result<String, AllocError>
     }
 }
 
-/// A text, or a dash for none.
+/// The text, or `-` where there is none.
 fn or_dash(text: &Option<String>) -> &str
     ensures { result.now ≡ or_dash text.now }
 {
@@ -40,7 +40,7 @@ fn or_dash(text: &Option<String>) -> &str
     }
 }
 
-/// The text of a reason, as the column of notes has it; empty for `Latest` and for none.
+/// The text of a reason in the column of notes; empty for `Latest` and where there is none.
 pub fn reason_text(reason: Option<Reason>) -> &'static str
     ensures { result.now ≡ reason_text reason }
 {
@@ -55,7 +55,7 @@ pub fn reason_text(reason: Option<Reason>) -> &'static str
     }
 }
 
-/// The first line.
+/// The line of column titles.
 fn heading_line(alloc: Global) -> Result<Line<'static>, AllocError>
     ensures ok { IfOk result (λ l. cells_of l ≡ headings) }
 {
@@ -69,7 +69,7 @@ fn heading_line(alloc: Global) -> Result<Line<'static>, AllocError>
     })
 }
 
-/// The line below it.
+/// The line that underlines the column titles.
 fn underline_line(alloc: Global) -> Result<Line<'static>, AllocError>
     ensures ok { IfOk result (λ l. cells_of l ≡ underlines) }
 {
@@ -125,14 +125,14 @@ fn table_lines<'a>(alloc: Global, rows: &[&'a Row]) -> Result<Vec<Line<'a>>, All
     Ok(lines)
 }
 
-/// Whether a row has a text for its reason.
+/// Whether a row has a note, the text of its reason.
 fn are_noted(rows: &[&Row]) -> bool
     ensures { result ≡ list_any (λ r. is_noted r.now) rows.now }
 {
     rows.iter().any(|row| reason_text(row.reason).len() > 0)
 }
 
-/// The table of a report of this verbosity: empty where no row is shown.
+/// The table of a report of this verbosity; empty where no row is shown.
 pub fn table_text(alloc: Global, rows: &[Row], verbosity: i8) -> CargoResult<String>
     ensures text { IfOk result (λ s. string_bytes s ≡ report_text verbosity rows.now) }
     ensures refused { IfErr result IsMemory }

@@ -1,4 +1,4 @@
--- What holds of the requirements on bumped crates, after a plan.
+-- Properties of the requirements on bumped crates after a plan.
 use Rattle.std.specs.Prelude.{◌≡◌, ℕ, List, All}
 use Rattle.edit_tree.specs.Assertions.{Place}
 use Rattle.edit_tree.specs.Replaces.{Edits, emptied, written}
@@ -18,7 +18,7 @@ AdmitsNext f = CanReach f.text f.next → Admits f.text f.next
 abbrev pub AllAdmitNext : List Bump → List ℕ → Tree → Type 0
 AllAdmitNext bs file t = All AdmitsNext (dependents bs file t)
 
--- a requirement that stays or becomes another
+-- the requirement can be raised: it is unchanged or becomes another text
 abbrev pub CanRise : Raised → Type 0
 CanRise Nothing = Unit {0}
 CanRise (Text s) = Unit {0}
@@ -28,16 +28,16 @@ CanRise _ = ⊥
 abbrev pub AllRise : List Bump → List ℕ → Tree → Type 0
 AllRise bs file t = All (λ f. CanRise (raise f.text f.next)) (dependents bs file t)
 
--- the next versions can be read
+-- the next versions are valid
 abbrev pub AreVersions : List Bump → Type 0
 AreVersions bs = All (λ b. IsVersion b.next) bs
 
--- the tree with these strings written, nothing below them, and else as it was
+-- the tree after these strings are written, without what was below them, and else unchanged
 abbrev pub IsLeftBy : Edits → Tree → Tree → Type 0
 IsLeftBy es tree after = (q : Place) → after q ≡ written es (emptied es tree) q
 
--- After a plan that nothing stands against, each requirement of a manifest on a bumped crate admits its next
--- version: one without a pre-release, or where the requirement has comparators, all of three numbers.
+-- After a plan that succeeds, each requirement of a manifest on a bumped crate admits its next version,
+-- where that has no pre-release, or where the requirement has comparators, all of three numbers.
 abbrev pub DependentsAdmit : Type 0
 DependentsAdmit = (t : Target) (a : Asked) (p : Project) (file : List ℕ) (tree after : Tree)
     → AreVersions (bumps t a p)

@@ -1,10 +1,10 @@
--- Bumped crates that stand in folders of their own.
+-- Bumped crates whose folders differ.
 use Rattle.std.specs.Prelude.{◌≡◌, List, [], ◌∷◌, false}
 use Rattle.std.specs.List.{AllByRecursion}
 use Rattle.edit_set_version.specs.Folders.{folder_of, same_folder}
 use Rattle.edit_set_version.specs.SetVersioned.{Bump}
 
--- the crates of bumps stand in folders of their own
+-- no two bumped crates share a folder
 abbrev pub AreApart : List Bump → Type 0
 AreApart [] = Unit {0}
 AreApart (b ∷ bs) =

@@ -1,4 +1,4 @@
--- Why a version is not bumped (own, after cargo-edit).
+-- The errors of a bump (own, after cargo-edit).
 use Rattle.std.specs.Prelude.{◌≡◌, Result, Ok, Err, string_bytes}
 use Rattle.semver.specs.Identifiers.{parts_of, parts_text}
 use Rattle.semver.specs.Parse.{Parts}
@@ -9,21 +9,21 @@ use Rattle.edit_version.specs.Changed.{IsCause}
 use Rattle.edit_version.specs.Increments.{Change, Refused, To}
 use Rattle.edit_set_version.specs.Bumps.{Bumped, becomes, lower, refused}
 
--- what an increment or build metadata made of the current version, or why it was refused
+-- the result of an increment or of setting build metadata on the current version
 abbrev pub change_of : Parts → Bumped → Change
 change_of current (refused r) = Refused r
 change_of current (becomes v) = To v
 change_of current _ = To current
 
--- a lower version is asked for, and the error has both versions; or an increment or build metadata is refused
--- for its cause, or memory ran out
+-- the error of a bump: `Error::Downgrade` with both versions for a lower one; or that of an increment or of
+-- build metadata, or out of memory
 abbrev pub IsUnbumped : Bumped → Parts → Error → Type 0
 IsUnbumped b current (error.Downgrade from to) =
     (asked : Parts) × (b ≡ lower asked)
     × (string_bytes from ≡ parts_text current) × (string_bytes to ≡ parts_text asked)
 IsUnbumped b current e = IsCause (change_of current b) current e
 
--- the version that a change gives, or an error with its cause
+-- the version that a change results in, or an error with its cause
 abbrev pub IsMade : Change → Parts → Result Version Error → Type 0
 IsMade c current (Ok v) = c ≡ To (parts_of v)
 IsMade c current (Err e) = IsCause c current e

@@ -1,4 +1,4 @@
--- The crates of a workspace and their next versions, as the program has them.
+-- The members of a workspace and their next versions, over the program's types.
 use Rattle.std.specs.Prelude.{◌≡◌, List, map, string_bytes}
 use Rattle.semver.specs.Identifiers.{parts_of}
 use Rattle.edit_manifest.specs.declared.manifest.Manifest.{Manifest}
@@ -12,7 +12,7 @@ use Rattle.edit_set_version.specs.declared.crates.Bump.{Bump as Bumping}
 use Rattle.edit_set_version.specs.declared.crates.Crate.{Crate}
 use Rattle.edit_set_version.specs.declared.project.ProjectRead.{ProjectRead}
 
--- a crate, as a member
+-- a crate of the program, as a member
 abbrev pub member_of : Crate → Member
 member_of c = record {
   name = string_bytes c.told.now.name;
@@ -21,19 +21,19 @@ member_of c = record {
   tree = tree_of c.manifest.now.document;
 }
 
--- crates in their order
+-- crates of the program, as members
 abbrev pub members_of : List Crate → List Member
 members_of cs = map member_of cs
 
--- a crate and its next version
+-- a bump of the program
 abbrev pub bump_seen : Bumping → Bump
 bump_seen b = record { member = member_of b.member; next = parts_of b.next }
 
--- the bumps that the program has, in their order
+-- bumps of the program, in order
 abbrev pub bumps_seen : List Bumping → List Bump
 bumps_seen bs = map bump_seen bs
 
--- the root and the members, as a project
+-- a project of the program
 abbrev pub project_seen : ProjectRead → Project
 project_seen p = record {
   path = string_bytes p.root.input.now.path;
@@ -41,7 +41,7 @@ project_seen p = record {
   members = members_of p.members.items;
 }
 
--- the manifest is that of an input: it has its bytes, and shows the tree of their form
+-- the manifest is parsed from an input: it has its bytes and the tree of their text
 pub record IsReadOf (i : Input) (m : Manifest) : Type 0 where
   pub bytes : m.document.bytes ≡ i.bytes.items
   pub form : Text

@@ -1,4 +1,4 @@
--- The requirements of a manifest on bumped crates, each with the number of its bump (own).
+-- The requirements of a manifest on bumped crates, each with the index of its bump (own).
 use Rattle.std.specs.Prelude.{◌≡◌, ℕ, List, Contains, Option, Some, option_map, string_bytes}
 use Rattle.std.specs.List.{filter_map}
 use Rattle.semver.specs.Identifiers.{parts_of}
@@ -15,18 +15,18 @@ use Rattle.edit_set_version.specs.Pointed.{Pointed, led, pointed}
 use Rattle.edit_set_version.specs.SetVersioned.{Bump, Dependent, dependents, risen}
 use Rattle.edit_set_version.specs.declared.dependents.DependentEntry.{DependentEntry}
 
--- the requirement of an entry on a bumped crate, with the bump's number
+-- the requirement of an entry on a bumped crate, with the index of the bump
 abbrev pub numbered : List Bump → List ℕ → Pointed → Option (ℕ × Dependent)
 numbered bs file q =
     option_map (λ n. (n.0, record { place = q.place; text = q.text; next = n.1 }))
     (first_in bs (reached file q.path))
 
--- the requirements of a manifest on bumped crates, each with the number of its bump, in the order of the
+-- the requirements of a manifest on bumped crates, each with the index of its bump, in the order of the
 -- entries
 abbrev pub all_numbered : List Bump → List ℕ → Tree → List (ℕ × Dependent)
 all_numbered bs file t = filter_map (numbered bs file) (pointed t)
 
--- a requirement on a bumped crate, as the program has it
+-- a requirement on a bumped crate, from the program's type
 abbrev pub dependent_of : DependentEntry → Dependent
 dependent_of f = record {
   place = place_seen f.place.items;
@@ -34,22 +34,22 @@ dependent_of f = record {
   next = parts_of f.bump.next.now;
 }
 
--- a requirement on a bumped crate, as the program has it, with the number of its bump
+-- a requirement on a bumped crate with the index of its bump, from the program's type
 abbrev pub dependent_seen : DependentEntry → ℕ × Dependent
 dependent_seen f = (f.bump.number, dependent_of f)
 
--- the requirement can be raised, and the program has its other text, where there is one
+-- the requirement can be raised, and `risen` is its new text, where it changes
 pub record HasRisen (f : DependentEntry) : Type 0 where
   pub can : CanRise (raise (dependent_of f).text (dependent_of f).next)
   pub new : option_map string_bytes f.risen ≡ risen (dependent_of f)
 
--- why the requirements of a manifest are not raised: one of them cannot be, or memory ran out
+-- the error of a manifest: a requirement on a bumped crate cannot be raised, or out of memory
 pub data IsUnraised (bs : List Bump) (file : List ℕ) (t : Tree) (e : Error) : Type 0 where
   memory : IsMemory e → IsUnraised bs file t e
   fixed : (f : Dependent) → Contains (dependents bs file t) f → IsRefusal (raise f.text f.next) f.text e
       → IsUnraised bs file t e
 
--- why the requirement of an entry is not raised: it cannot be, or memory ran out
+-- the error of an entry: its requirement cannot be raised, or out of memory
 pub data IsEntryUnraised (bs : List Bump) (file : List ℕ) (q : Pointed) (e : Error) : Type 0 where
   lacks : IsMemory e → IsEntryUnraised bs file q e
   stays : (f : Dependent) → led bs file q ≡ Some f → IsRefusal (raise f.text f.next) f.text e

@@ -1,4 +1,4 @@
--- The entries of a manifest's dependency tables, and the folders that they point to (Cargo reference,
+-- The entries of a manifest's dependency tables, and the folders that their paths name (Cargo reference,
 -- "Specifying Dependencies", Specifying path dependencies).
 use Rattle.std.specs.Prelude.{ℕ, List, map, Option, None, if◌then◌else◌, codes, option_map, option_and_then}
 use Rattle.std.specs.List.{flat_map}
@@ -16,18 +16,18 @@ entries_in t table = map (λ name. at table (key name)) (member_names (t table))
 abbrev pub entries : Tree → List Place
 entries t = flat_map (entries_in t) (dependency_tables t)
 
--- the string that stands there
+-- the string at a place
 abbrev pub text_at : Tree → Place → Option (List ℕ)
 text_at t place = option_and_then string_in (t place)
 
--- the text requirement of an entry that is a table
+-- the `version` string of an entry that is a table
 abbrev pub requirement : Tree → Place → Option (List ℕ)
 requirement t place = if is_table_like (t place) then text_at t (version_member place) else None
 
--- the member `path` of an entry
+-- the place of the `path` key of an entry
 abbrev pub path_member : Place → Place
 path_member place = at place (key (codes "path"))
 
--- the folder that an entry of the manifest at a path points to
+-- the folder that the path of an entry names, in the manifest at a path
 abbrev pub points_to : List ℕ → Tree → Place → Option Folder
 points_to file t place = option_map (reached file) (text_at t (path_member place))

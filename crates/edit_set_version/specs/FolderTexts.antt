@@ -1,4 +1,4 @@
--- Folders as texts: the absolute path of the names from the root down (own).
+-- Folders as texts: absolute paths (own).
 use Rattle.std.specs.Prelude.{ℕ, List, reverse}
 use Rattle.edit_base.specs.Paths.{absolute}
 use Rattle.edit_set_version.specs.Folders.{Folder}

@@ -1,4 +1,4 @@
--- Folders, as the names from the root down, the last one first (own, after the rules of paths of
+-- Folders, as lists of names from the innermost up to the root (own, after the rules of paths of
 -- cargo-edit).
 use Rattle.std.specs.Prelude.{ℕ, List, [], ◌∷◌, Bool, true, false, ◌||◌, ◌&&◌, codes, nat_eq, if◌then◌else◌}
 use Rattle.std.specs.List.{starts_with}
@@ -9,18 +9,18 @@ use Rattle.edit_base.specs.Paths.{parts_of}
 abbrev pub Folder : Type 0
 Folder = List (List ℕ)
 
--- one up; the root stays
+-- the parent folder; the root is its own parent
 abbrev pub above : Folder → Folder
 above [] = []
 above (name ∷ names) = names
 
--- one part further: empty parts and `.` stay, `..` goes up
+-- the folder after one component of a path: empty components and `.` are skipped, `..` is the parent
 abbrev pub further : Folder → List ℕ → Folder
 further folder part =
     if same_bytes part [] || same_bytes part (codes ".") then folder
     else (if same_bytes part (codes "..") then above folder else part ∷ folder)
 
--- along the parts of a path
+-- the folder after the components of a path
 abbrev pub along : Folder → List (List ℕ) → Folder
 along folder [] = folder
 along folder (part ∷ rest) = along (further folder part) rest
@@ -33,12 +33,12 @@ names_of path = along [] (parts_of path)
 abbrev pub folder_of : List ℕ → Folder
 folder_of path = above (names_of path)
 
--- a path joined to the folder of a file, and made normal
+-- the normalized folder of a path, relative to the folder of a file
 abbrev pub reached : List ℕ → List ℕ → Folder
 reached file path =
     if starts_with nat_eq path (codes "/") then names_of path else along (folder_of file) (parts_of path)
 
--- the two folders are the same
+-- the two folders are equal
 abbrev pub same_folder : Folder → Folder → Bool
 same_folder [] [] = true
 same_folder [] (n ∷ ns) = false

@@ -14,11 +14,11 @@ level_word level.Rc = codes "rc"
 level_word level.Beta = codes "beta"
 level_word level.Alpha = codes "alpha"
 
--- the error text for an argument that is no level; odd: it leaves `release` out
+-- the message for an argument that is no level; as in cargo-edit it leaves out `release`
 abbrev pub valid_levels : List ℕ
 valid_levels = codes "[valid values: major, minor, patch, rc, beta, alpha]"
 
--- the level whose name the text is, or the error text where it is that of none
+-- the level of this name, or the message where no level has it
 abbrev pub IsLevel : List ℕ → Result BumpLevel (Bor (List ℕ)) → Type 0
 IsLevel text (Ok l) = text ≡ level_word l
 IsLevel text (Err e) = (e.now ≡ valid_levels) × ((l : BumpLevel) → text ≢ level_word l)

@@ -1,4 +1,4 @@
--- Names that are asked for, and that no member of a workspace has (own, after cargo-edit).
+-- Selected names that no member of a workspace has (own, after cargo-edit).
 use Rattle.std.specs.Prelude.{◌⊎◌, ℕ, List, map, not}
 use Rattle.std.specs.List.{filter}
 use Rattle.edit_base.specs.Errors.{IsMemory}
@@ -11,10 +11,10 @@ use Rattle.edit_set_version.specs.PlanCauses.{IsMissing}
 abbrev pub names_of : List PackageSaid → List (List ℕ)
 names_of ps = map (λ p. p.name) (members ps)
 
--- the names of a list that are not there, each once
+-- the names of a list that are not among these, without duplicates
 abbrev pub absent : List (List ℕ) → List (List ℕ) → List (List ℕ)
 absent there names = filter (λ name. not (is_among there name)) (each_once names)
 
--- the error names the members that are asked for and not there, or memory ran out
+-- the error has the selected names that no member has, or is out of memory
 abbrev pub AsksForOthers : Asked → WorkspaceSaid → Error → Type 0
 AsksForOthers a w e = IsMemory e ⊎ IsMissing (missing a (names_of w.packages)) e

@@ -1,4 +1,4 @@
--- The first bump of the crate in a folder, and a map that has it (own).
+-- The first bump of the crate in a folder, and the map that finds it (own).
 use Rattle.std.specs.Prelude.{◌≡◌, ℕ, suc, List, [], ◌∷◌, Option, Some, None, String, if◌then◌else◌, option_map}
 use Rattle.std.specs.BTreeMap.{get_by_text}
 use Rattle.std.specs.declared.alloc.Global.{Global}
@@ -10,21 +10,21 @@ use Rattle.edit_set_version.specs.Folders.{Folder, folder_of, names_of, same_fol
 use Rattle.edit_set_version.specs.SetVersioned.{Bump}
 use Rattle.edit_set_version.specs.declared.numbers.Numbered.{Numbered}
 
--- the number of the first bump of the crate in a folder, and its next version
+-- the index of the first bump of the crate in a folder, and its next version
 abbrev pub first_in : List Bump → Folder → Option (ℕ × Parts)
 first_in [] folder = None
 first_in (b ∷ bs) folder =
     if same_folder (folder_of b.member.path) folder then Some (0, b.next)
     else option_map (λ n. (suc n.0, n.1)) (first_in bs folder)
 
--- a number and a next version, as the program has them
+-- an index and a next version, from the program's type
 abbrev pub numbered_seen : Numbered → ℕ × Parts
 numbered_seen n = (n.number, parts_of n.next.now)
 
--- what a map has at the text of a folder
+-- the value of a map at the text of a folder
 abbrev pub told_in : BTreeMap (String Global) Numbered Global → Folder → Option (ℕ × Parts)
 told_in numbers folder = option_map numbered_seen (get_by_text numbers (folder_text folder))
 
--- the map has the first bump of the crate in each folder that a path names
+-- the map finds the first bump of the crate in each folder that a path names
 abbrev pub TellsFirst : List Bump → BTreeMap (String Global) Numbered Global → Type 0
 TellsFirst bs numbers = (path : List ℕ) → told_in numbers (names_of path) ≡ first_in bs (names_of path)

@@ -1,4 +1,4 @@
--- What a plan of new versions is (own, after cargo-edit).
+-- Plans of new versions (own, after cargo-edit).
 use Rattle.std.specs.Prelude.{◌≡◌, List, All}
 use Rattle.edit_metadata.specs.declared.input.Input.{Input}
 use Rattle.edit_version.specs.Laws.{IsReadable}
@@ -10,7 +10,7 @@ use Rattle.edit_set_version.specs.Planned.{HasAdmitted, HasSetOutputs, OutputsIn
 use Rattle.edit_set_version.specs.SetVersioned.{Project}
 use Rattle.edit_set_version.specs.declared.plan.SetVersionPlan.{SetVersionPlan}
 
--- the plan is one for this target and selection, over a project and the inputs with its manifests
+-- the plan is correct for this target and selection, over a project and its inputs
 pub record IsPlan (t : Target) (a : Asked) (inputs : List Input) (plan : SetVersionPlan) (p : Project)
     : Type 0 where
   -- into each input the literals of its bumped versions and of its requirements on bumped crates are written,
@@ -19,9 +19,9 @@ pub record IsPlan (t : Target) (a : Asked) (inputs : List Input) (plan : SetVers
   pub in_order : OutputsInOrder inputs plan.outputs.items
   pub lines : told_lines plan ≡ lines t a p
   pub changed : plan.changed ≡ has_lines plan
-  -- nothing stands against it: no unknown name, excluded member, refused version, missing literal, and no
+  -- nothing is an error: no unknown name, excluded member, rejected version, missing literal, or
   -- requirement that cannot be raised
   pub clear : IsClear t a inputs p
-  -- in what stands after it, each requirement on a bumped crate admits the crate's next version
+  -- after the plan, each requirement on a bumped crate admits the crate's next version
   pub admits : IsReadableTarget t → All (λ m. IsReadable m.version) p.members
       → All (HasAdmitted t a plan.outputs.items p) inputs

@@ -10,11 +10,11 @@ use Rattle.edit_set_version.specs.Bumps.{Target}
 use Rattle.edit_set_version.specs.Chosen.{Asked, Member}
 use Rattle.edit_set_version.specs.SetVersioned.{Bump, Project, bumps, dependents, risen, workspace_current, workspace_next}
 
--- an action and a text
+-- a line: an action and a text
 abbrev pub Told : Type 0
 Told = List ℕ × List ℕ
 
--- a version that becomes another
+-- the `Upgrading` line of a changed version
 abbrev pub upgrading : List ℕ → Parts → Parts → List ℕ → Told
 upgrading name old new note = (
   codes "Upgrading",
@@ -22,23 +22,23 @@ upgrading name old new note = (
       ++ note)))),
 )
 
--- a requirement that becomes another
+-- the `Updating` line of a changed requirement
 abbrev pub updating : List ℕ → List ℕ → List ℕ → Told
 updating name old new =
     (codes "Updating", name ++ (codes "'s dependency from " ++ (old ++ (codes " to " ++ new))))
 
--- the line of the workspace, where its version becomes another
+-- the line of the workspace's version, where it changes
 abbrev pub shared_lines : Option Parts → Option Parts → List Told
 shared_lines (Some old) (Some new) = upgrading (codes "workspace version") old new [] ∷ []
 shared_lines _ _ = []
 
--- a manifest under the name that lines give it
+-- a manifest, and its name in the lines
 pub record Named : Type 0 where
   pub name : List ℕ
   pub path : List ℕ
   pub tree : Tree
 
--- the manifests: the root, named `workspace`, and then those of the other members
+-- the manifests: that of the root, named `workspace`, then those of the other members
 abbrev pub manifests : Project → List Named
 manifests p = record { name = codes "workspace"; path = p.path; tree = p.tree }
     ∷ map (λ m. record { name = m.name; path = m.path; tree = m.tree })
@@ -49,16 +49,16 @@ abbrev pub updates : Bump → Named → List Told
 updates b m =
     filter_map (λ f. option_map (updating m.name f.text) (risen f)) (dependents (b ∷ []) m.path m.tree)
 
--- what a line adds behind the two versions
+-- the note that a line appends to the two versions
 abbrev pub note_of : Member → List ℕ
 note_of m = if is_inherited m.tree then codes " (inherited from workspace)" else []
 
--- the lines of a bump: its own, and then those of the requirements on its crate
+-- the lines of a bump: its own, then those of the requirements on its crate
 abbrev pub lines_of : Project → Bump → List Told
 lines_of p b =
     upgrading b.member.name b.member.version b.next (note_of b.member) ∷ flat_map (updates b) (manifests p)
 
--- the lines: the workspace's, and then those of the bumps
+-- the lines: that of the workspace's version, then those of the bumps
 abbrev pub lines : Target → Asked → Project → List Told
 lines t a p =
     shared_lines (workspace_current a p) (workspace_next t a p) ++ flat_map (lines_of p) (bumps t a p)

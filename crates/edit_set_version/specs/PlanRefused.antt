@@ -1,5 +1,5 @@
--- Why a set-version plan over the inputs of a workspace is refused, and what a plan that is given shows not
--- to stand in them (own, after cargo-edit).
+-- The errors of a set-version plan over the inputs of a workspace, and what a plan that succeeds rules out
+-- (own, after cargo-edit).
 use Rattle.std.specs.Prelude.{◌≡◌, ◌≢◌, ◌⊎◌, ℕ, List, [], true, All, Contains, map}
 use Rattle.std.specs.List.{filter}
 use Rattle.edit_base.specs.Errors.{IsMemory}
@@ -20,44 +20,44 @@ use Rattle.edit_metadata.specs.Inputs.{path_of}
 use Rattle.edit_set_version.specs.Projects.{IsProject}
 use Rattle.edit_set_version.specs.SetVersioned.{Bump, Project, bumps, writes_own}
 
--- the error is of something in an input's manifest that stands against these bumps
+-- the error is caused by an input's manifest, for these bumps
 pub record StandsAgainstInput (bs : List Bump) (input : Input) (e : Error) : Type 0 where
   pub form : Text
   pub manifest : IsDocument input.bytes.items form
   pub against : ManifestStandsAgainst bs (path_of input) form e
 
--- in one of these inputs
+-- the error is caused by one of these inputs, for these bumps
 pub record HasBadInputBy (bs : List Bump) (inputs : List Input) (e : Error) : Type 0 where
   pub input : Input
   pub among : Contains inputs input
   pub stands : StandsAgainstInput bs input e
 
--- something in an input of a project stands against the plan
+-- the error is caused by an input of a project
 abbrev pub HasBadInput : Target → Asked → List Input → Project → Error → Type 0
 HasBadInput t a inputs p e = HasBadInputBy (bumps t a p) inputs e
 
--- a version that stays or becomes another
+-- the version can be bumped: it is unchanged or becomes another
 abbrev pub IsBumpable : Bumped → Type 0
 IsBumpable stays = Unit {0}
 IsBumpable (becomes v) = Unit {0}
 IsBumpable _ = ⊥
 
--- the asked names that no member of a workspace has
+-- the selected names that no member of a workspace has
 abbrev pub unknown : Asked → WorkspaceSaid → List (List ℕ)
 unknown a w = missing a (map (λ p. p.name) (members w.packages))
 
--- no excluded member shares a version that is bumped, and each chosen version stays or becomes another
+-- no excluded member inherits a version that is bumped, and each chosen version can be bumped
 pub record HasVersions (t : Target) (a : Asked) (p : Project) : Type 0 where
   pub excluded : held_back a p.members ≡ []
   pub versions : All (λ v. IsBumpable (bump t a.metadata v)) (currents a p)
 
--- where a bumped version is to be written into an input, a literal stands there
+-- an input has a literal for the bumped version that is to be written into it
 pub record HasLiteral (bs : List Bump) (input : Input) : Type 0 where
   pub form : Text
   pub manifest : IsDocument input.bytes.items form
   pub literal : filter (writes_own (path_of input)) bs ≢ [] → is_value_at form package_version ≡ true
 
--- the error is that a version has no literal, or each input has the literals of its bumped version
+-- the error is `Error::NoVersionPlace`, or each input has literals for its bumped version
 abbrev pub IsBehindLiterals : List Bump → List Input → Error → Type 0
 IsBehindLiterals bs inputs e = (e ≡ NoVersionPlace) ⊎ All (HasLiteral bs) inputs
 
@@ -75,19 +75,19 @@ pub data IsCauseOf
   manifest : unknown a w ≡ [] → (p : Project) → IsProject w inputs p → HasVersions t a p
       → IsBehindLiterals (bumps t a p) inputs e → HasBadInput t a inputs p e → IsCauseOf t a w inputs e
 
--- nothing in an input stands against these bumps: a version that is to be written has a literal, and no
--- requirement that follows is refused
+-- no error in an input for these bumps: a version that is to be written has a literal, and each requirement
+-- on a bumped crate can be raised
 pub record IsInputClearBy (bs : List Bump) (input : Input) : Type 0 where
   pub form : Text
   pub manifest : IsDocument input.bytes.items form
   pub literal : filter (writes_own (path_of input)) bs ≢ [] → is_value_at form package_version ≡ true
   pub requirements : AllRise bs (path_of input) (view_at form)
 
--- nothing in an input stands against the bumps of a project
+-- no error in an input for the bumps of a project
 abbrev pub IsInputClear : Target → Asked → Project → Input → Type 0
 IsInputClear t a p input = IsInputClearBy (bumps t a p) input
 
--- nothing stands against the plan
+-- no error in the plan
 pub record IsClear (t : Target) (a : Asked) (inputs : List Input) (p : Project) : Type 0 where
   pub packages : missing a (map (λ m. m.name) p.members) ≡ []
   pub excluded : held_back a p.members ≡ []

@@ -1,4 +1,4 @@
--- What a set-version plan gives for the inputs of a workspace (own, after cargo-edit).
+-- The result of a set-version plan for the inputs of a workspace (own, after cargo-edit).
 use Rattle.std.specs.Prelude.{◌≡◌, ◌≢◌, ◌==◌, ℕ, List, [], ◌∷◌, Bool, Option, not, length, map, string_bytes}
 use Rattle.std.specs.List.{filter}
 use Rattle.semver.specs.Parse.{Parts}
@@ -22,13 +22,13 @@ use Rattle.edit_set_version.specs.declared.plan.SetVersionPlan.{SetVersionPlan}
 abbrev pub outputs_at : List ℕ → List Output → List Output
 outputs_at path outputs = filter (λ o. same_bytes (string_bytes o.path) path) outputs
 
--- the outputs stand in the order of their inputs, and there is no other
+-- the outputs are in the order of their inputs, and there is no other
 abbrev pub OutputsInOrder : List Input → List Output → Type 0
 OutputsInOrder inputs outputs =
     map (λ o. string_bytes o.path) outputs
     ≡ filter (λ path. not (length (outputs_at path outputs) == 0)) (map path_of inputs)
 
--- where nothing is written there is no output; else one has the path and the text with these literals
+-- no output where there are no edits; else one with the path, and the text after the edits
 pub data AreOutputs (path old : List ℕ) (es : Edits) : List Output → Type 0 where
   unchanged : es ≡ [] → AreOutputs path old es []
   changed : (output : Output) → es ≢ [] → string_bytes output.path ≡ path
@@ -43,12 +43,13 @@ pub record AreOutputsOf (root : List ℕ) (next : Option Parts) (bs : List Bump)
   pub are : AreOutputs (path_of input) input.bytes.items
       (edits_by root next bs (path_of input) (view_at form)) own
 
--- the outputs at the path of an input are those that it is to have, by a root's path, a version and bumps
+-- the outputs at the path of an input are correct for a root's path, a next version of the workspace and
+-- bumps
 abbrev pub HasOutputsBy : List ℕ → Option Parts → List Bump → List Output → Input → Type 0
 HasOutputsBy root next bs outputs input =
     AreOutputsOf root next bs input (outputs_at (path_of input) outputs)
 
--- the outputs at the path of an input are those that it is to have in a project
+-- the outputs at the path of an input are correct for a project
 abbrev pub HasSetOutputs : Target → Asked → List Output → Project → Input → Type 0
 HasSetOutputs t a outputs p input =
     HasOutputsBy p.path (workspace_next t a p) (bumps t a p) outputs input
@@ -59,19 +60,19 @@ HasSetOutputs t a outputs p input =
 abbrev pub told_lines : SetVersionPlan → List Told
 told_lines plan = map (λ l. (string_bytes l.0, string_bytes l.1)) plan.lines.items
 
--- there are lines
+-- the plan has lines
 abbrev pub has_lines : SetVersionPlan → Bool
 has_lines plan = not (length plan.lines.items == 0)
 
--- ---- the law
+-- ---- the theorem
 
--- what stands after a plan: the first output's bytes, or these where there is none
+-- the bytes after a plan: the first output's, or these where there is none
 abbrev pub bytes_after : List ℕ → List Output → List ℕ
 bytes_after old [] = old
 bytes_after old (output ∷ outputs) = output.bytes.items
 
--- what stands for an input after the plan is a manifest, and each of its requirements on a bumped crate admits
--- the crate's next version
+-- the bytes of an input after the plan are a manifest, and each of its requirements on a bumped crate
+-- admits the crate's next version
 pub record HasAdmitted
     (t : Target) (a : Asked) (outputs : List Output) (p : Project) (input : Input) : Type 0 where
   pub form : Text

@@ -1,4 +1,4 @@
--- The path dependencies of a manifest that have a text requirement (Cargo reference, "Specifying
+-- The path dependencies of a manifest that have a `version` string (Cargo reference, "Specifying
 -- Dependencies", Specifying path dependencies).
 use Rattle.std.specs.Prelude.{ℕ, List, Option, Some, None, map, option_map, option_to_list, string_bytes}
 use Rattle.std.specs.List.{flat_map}
@@ -10,39 +10,39 @@ use Rattle.edit_set_version.specs.Folders.{reached}
 use Rattle.edit_set_version.specs.SetVersioned.{Bump, Dependent, next_in}
 use Rattle.edit_set_version.specs.declared.pointed.PathEntry.{PathEntry}
 
--- an entry: where it stands, its text requirement, and its path
+-- an entry: its place, its requirement, and its path
 pub record Pointed : Type 0 where
   pub place : Place
   pub text : List ℕ
   pub path : List ℕ
 
--- an entry with both texts, where both are there
+-- an entry, where both a requirement and a path are given
 abbrev pub pointed_with : Place → Option (List ℕ) → Option (List ℕ) → Option Pointed
 pointed_with place (Some text) (Some path) = Some (record { place = place; text = text; path = path })
 pointed_with place _ _ = None
 
--- the entry at a place, where it has both texts
+-- the entry at a place, where it has both a requirement and a path
 abbrev pub pointed_at : Tree → Place → Option Pointed
 pointed_at t place = pointed_with place (requirement t place) (text_at t (path_member place))
 
--- the entry of this name of a table, as a list
+-- the entry with this key of a table, as a list of at most one
 abbrev pub pointed_named : Tree → Place → List ℕ → List Pointed
 pointed_named t table name = option_to_list (pointed_at t (at table (key name)))
 
--- the entries of a table that have both texts
+-- the entries of a table that have both a requirement and a path
 abbrev pub pointed_in : Tree → Place → List Pointed
 pointed_in t table = flat_map (pointed_named t table) (member_names (t table))
 
--- those of a manifest, table by table
+-- the entries of a manifest that have both, table by table
 abbrev pub pointed : Tree → List Pointed
 pointed t = flat_map (pointed_in t) (dependency_tables t)
 
--- the requirement of such an entry on a bumped crate, where its path leads to one
+-- the requirement of an entry on a bumped crate, where its path is that of one
 abbrev pub led : List Bump → List ℕ → Pointed → Option Dependent
 led bs file q =
     option_map (λ v. record { place = q.place; text = q.text; next = v }) (next_in bs (reached file q.path))
 
--- an entry of the code, by its texts
+-- an entry of the program, by its texts
 abbrev pub pointed_view : PathEntry → Pointed
 pointed_view e = record {
   place = place_seen e.place.items;
@@ -50,6 +50,6 @@ pointed_view e = record {
   path = string_bytes e.path;
 }
 
--- entries of the code, by their texts
+-- entries of the program, by their texts
 abbrev pub pointed_views : List PathEntry → List Pointed
 pointed_views es = map pointed_view es

@@ -12,11 +12,11 @@ use Rattle.edit_metadata.specs.declared.input.Input.{Input}
 use Rattle.edit_set_version.specs.Chosen.{Member}
 use Rattle.edit_set_version.specs.SetVersioned.{Project}
 
--- the inputs are the manifests of the workspace, whatever Rust version they are for
+-- the inputs are the manifests of the workspace, for any Rust version
 abbrev pub AreInputsOf : WorkspaceSaid → List Input → Type 0
 AreInputsOf w inputs = (asked : RustAsked) × AreInputs asked w inputs
 
--- this tree is that of the manifest at a path
+-- the tree is that of the manifest at a path
 pub record IsTreeAt (inputs : List Input) (path : List ℕ) (tree : Tree) : Type 0 where
   pub input : Input
   pub among : Contains inputs input
@@ -25,20 +25,20 @@ pub record IsTreeAt (inputs : List Input) (path : List ℕ) (tree : Tree) : Type
   pub manifest : IsDocument input.bytes.items form
   pub is : (q : Place) → tree q ≡ view_at form q
 
--- a member has the name and the version of this package, and its manifest is that at the package's path
+-- the member has the name and the version of this package, and the manifest at the package's path
 pub record IsMemberOf (inputs : List Input) (p : PackageSaid) (m : Member) : Type 0 where
   pub name : m.name ≡ p.name
   pub version : m.version ≡ p.version
   pub path : IsNormalOf p.manifest_path m.path
   pub tree : IsTreeAt inputs m.path m.tree
 
--- the project of a workspace: the root's manifest, and those of the members in order
+-- the project of a workspace: its root manifest, and those of the members in order
 pub record IsProject (w : WorkspaceSaid) (inputs : List Input) (p : Project) : Type 0 where
   pub path : IsNormalOf (root_manifest w).path p.path
   pub tree : IsTreeAt inputs p.path p.tree
   pub members : AllZip (IsMemberOf inputs) (members w.packages) p.members
 
--- the inputs are manifests, and this holds of their project
+-- the inputs are manifests, and the property holds of their project
 pub record HasProject (w : WorkspaceSaid) (inputs : List Input) (P : Project → Type 0) : Type 0 where
   pub project : Project
   pub is : IsProject w inputs project

@@ -1,9 +1,9 @@
--- What a selection asks for (own).
+-- The selection of members (own).
 use Rattle.std.specs.Prelude.{map, option_map, string_bytes}
 use Rattle.edit_set_version.specs.Chosen.{Asked}
 use Rattle.edit_set_version.specs.declared.plan.Selection.{Selection}
 
--- what a selection asks for, by its texts
+-- the selection of the program, by its texts
 abbrev pub asked_of : Selection → Asked
 asked_of s = record {
   packages = map string_bytes s.packages.items;

@@ -1,4 +1,4 @@
--- What a set-version plan writes (own, after cargo-edit).
+-- The edits of a set-version plan (own, after cargo-edit).
 use Rattle.std.specs.Prelude.{ℕ, List, [], ◌∷◌, ◌++◌, ◌&&◌, Bool, true, false, not, if◌then◌else◌, Option, Some, None, map, option_map, option_and_then, option_to_list}
 use Rattle.std.specs.List.{filter_map}
 use Rattle.semver.specs.Identifiers.{parts_text}
@@ -21,24 +21,24 @@ pub record Project : Type 0 where
 
 -- ---- versions
 
--- a member, and its next version
+-- a bump: a member, and its next version
 pub record Bump : Type 0 where
   pub member : Member
   pub next : Parts
 
--- the member's bump, where its version becomes another
+-- the member's bump, where its version changes
 abbrev pub bump_of : Target → Asked → Member → Option Bump
 bump_of t a m = option_map (λ v. record { member = m; next = v }) (next_of (bump t a.metadata m.version))
 
--- the bumps of the chosen members, in their order
+-- the bumps of the chosen members, in order
 abbrev pub bumps : Target → Asked → Project → List Bump
 bumps t a p = filter_map (bump_of t a) (chosen a p.members)
 
--- the version of the workspace, where it is to be bumped and is one
+-- the version of the workspace, where it is bumped and valid
 abbrev pub workspace_current : Asked → Project → Option Parts
 workspace_current a p = if bumps_workspace a p.members then workspace_version p.tree else None
 
--- the next version of the workspace, where it becomes another
+-- the next version of the workspace, where it changes
 abbrev pub workspace_next : Target → Asked → Project → Option Parts
 workspace_next t a p = option_and_then (λ v. next_of (bump t a.metadata v)) (workspace_current a p)
 
@@ -50,17 +50,17 @@ next_in [] folder = None
 next_in (b ∷ bs) folder =
     if same_folder (folder_of b.member.path) folder then Some b.next else next_in bs folder
 
--- the next version of the crate that an entry points to
+-- the next version of the crate that the path of an entry names
 abbrev pub next_at : List Bump → List ℕ → Tree → Place → Option Parts
 next_at bs file t place = option_and_then (next_in bs) (points_to file t place)
 
--- a requirement on a bumped crate: where its entry stands, its text, and the next version
+-- a requirement on a bumped crate: the place of its entry, its text, and the next version
 pub record Dependent : Type 0 where
   pub place : Place
   pub text : List ℕ
   pub next : Parts
 
--- with both, where both are there
+-- a requirement on a bumped crate, where both its text and the next version are given
 abbrev pub dependent_at : Place → Option (List ℕ) → Option Parts → Option Dependent
 dependent_at place (Some text) (Some v) = Some (record { place = place; text = text; next = v })
 dependent_at place _ _ = None
@@ -73,18 +73,18 @@ dependent bs file t place = dependent_at place (requirement t place) (next_at bs
 abbrev pub dependents : List Bump → List ℕ → Tree → List Dependent
 dependents bs file t = filter_map (dependent bs file t) (entries t)
 
--- the new text, where there is one
+-- the new text, where raising gives one
 abbrev pub text_of : Raised → Option (List ℕ)
 text_of (Text s) = Some s
 text_of _ = None
 
--- what a requirement on a bumped crate becomes, where that is another text
+-- the raised requirement, where it changes
 abbrev pub risen : Dependent → Option (List ℕ)
 risen f = text_of (raise f.text f.next)
 
--- ---- what is written into a manifest
+-- ---- the edits of a manifest
 
--- a requirement's new text
+-- the edit of a requirement
 abbrev pub requirement_edit : Dependent → Option (Place × List ℕ)
 requirement_edit f = option_map (λ s. (version_member f.place, s)) (risen f)
 
@@ -92,22 +92,22 @@ requirement_edit f = option_map (λ s. (version_member f.place, s)) (risen f)
 abbrev pub writes_own : List ℕ → Bump → Bool
 writes_own file b = same_bytes b.member.path file && not (is_inherited b.member.tree)
 
--- that member's version
+-- the edit of that member's version
 abbrev pub own_edit : List ℕ → Bump → Option (Place × List ℕ)
 own_edit file b = if writes_own file b then Some (package_version, parts_text b.next) else None
 
--- the version of the workspace in the root manifest
+-- the edit of the workspace's version in the root manifest
 abbrev pub shared_edits : Bool → Option Parts → Edits
 shared_edits true next = map (λ v. (shared_version, parts_text v)) (option_to_list next)
 shared_edits false next = []
 
--- the literals of versions and of requirements that are written into the manifest at a path: the root's path,
--- the next version of the workspace where it becomes another, the bumps, and the manifest's path and tree
+-- the edits of the manifest at a path: by the root's path, the next version of the workspace where it
+-- changes, the bumps, and the manifest's path and tree
 abbrev pub edits_by : List ℕ → Option Parts → List Bump → List ℕ → Tree → Edits
 edits_by root next bs file tree =
     shared_edits (same_bytes file root) next
     ++ (filter_map (own_edit file) bs ++ filter_map requirement_edit (dependents bs file tree))
 
--- those of a project
+-- the edits of the manifest at a path, in a project
 abbrev pub edits : Target → Asked → Project → List ℕ → Tree → Edits
 edits t a p file tree = edits_by p.path (workspace_next t a p) (bumps t a p) file tree

@@ -1,4 +1,4 @@
--- The lines of a plan, as the program has them.
+-- The lines of a plan, over the program's types.
 use Rattle.std.specs.Prelude.{ℕ, Contains, not, zero, suc, List, [], ◌∷◌, ◌++◌, ◌==◌, Bool, Option, Some, None, String, codes, if◌then◌else◌, map, option_map, string_bytes}
 use Rattle.std.specs.Global.{Vec}
 use Rattle.std.specs.List.{filter, filter_map, flat_map}
@@ -10,35 +10,35 @@ use Rattle.edit_set_version.specs.Dependents.{IsUnraised, all_numbered}
 use Rattle.edit_set_version.specs.PlanLines.{Named, Told, note_of, updating, upgrading}
 use Rattle.edit_set_version.specs.SetVersioned.{Bump, Dependent, risen}
 
--- an action and a text
+-- a line of the program, by its texts
 abbrev pub line_told : String Global × String Global → Told
 line_told l = (string_bytes l.0, string_bytes l.1)
 
--- what the line of an inherited version adds
+-- the note that the line of an inherited version appends
 abbrev pub note_if : Bool → List ℕ
 note_if inherited = if inherited then codes " (inherited from workspace)" else []
 
 -- ---- a list of lines for each bump
 
--- lists of lines
+-- lists of lines, by their texts
 abbrev pub lists_told : List (Vec (String Global × String Global)) → List (List Told)
 lists_told lists = map (λ l. map line_told l.items) lists
 
--- lists with a line more at the end of the one with this number
+-- the lists, with a line appended to the one at this index
 abbrev pub with_line : ℕ → Told → List (List Told) → List (List Told)
 with_line n line [] = []
 with_line zero line (l ∷ ls) = (l ++ line ∷ []) ∷ ls
 with_line (suc n) line (l ∷ ls) = l ∷ with_line n line ls
 
--- the line of a bump
+-- the `Upgrading` line of a bump
 abbrev pub bump_told : Bump → Told
 bump_told b = upgrading b.member.name b.member.version b.next (note_of b.member)
 
--- the requirement, where its bump has this number
+-- the requirement, where its bump has this index
 abbrev pub dependent_number : ℕ → ℕ × Dependent → Option Dependent
 dependent_number n f = if f.0 == n then Some f.1 else None
 
--- the line of a requirement of a manifest, where it becomes another text
+-- the `Updating` line of a requirement of a manifest, where it changes
 abbrev pub update_told : List ℕ → Dependent → Option Told
 update_told name f = option_map (updating name f.text) (risen f)
 

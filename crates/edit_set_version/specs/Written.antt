@@ -1,4 +1,4 @@
--- What a plan's outputs rest on (own).
+-- What the outputs of a plan depend on (own).
 use Rattle.std.specs.Prelude.{◌≡◌, ◌≢◌, ℕ, List, Option, Some, None, option_map}
 use Rattle.std.specs.Borrow.{Bor}
 use Rattle.edit_manifest.specs.Tables.{Tree}
@@ -9,17 +9,17 @@ use Rattle.semver.specs.Parse.{Parts}
 use Rattle.semver.specs.declared.Version.{Version}
 use Rattle.edit_set_version.specs.Projects.{IsTreeAt}
 
--- a version that may be there, by its parts
+-- an optional version, by its parts
 abbrev pub shared_seen : Option (Bor Version) → Option Parts
 shared_seen shared = option_map (λ v. parts_of v.now) shared
 
--- where the workspace gets a next version, the manifest at the root's path has its current version
+-- where the workspace has a next version, the manifest at the root's path has its current version
 abbrev pub TellsShared : List Input → List ℕ → Option Parts → Type 0
 TellsShared inputs root None = Unit {0}
 TellsShared inputs root (Some next) =
     (tree : Tree) × IsTreeAt inputs root tree × (workspace_version tree ≢ None)
 
--- where the workspace gets a next version and a manifest is at the root's path, it has the current version
+-- where the workspace has a next version and the manifest is at the root's path, it has the current version
 abbrev pub CanShare : List ℕ → Option Parts → List ℕ → Tree → Type 0
 CanShare root None path tree = Unit {0}
 CanShare root (Some next) path tree = path ≡ root → workspace_version tree ≢ None

@@ -1,4 +1,4 @@
-//! How a version is raised by a level, and replaced by another.
+//! The next version of a crate: its current one raised by a level, or replaced by a requested one.
 
 ghost use Rattle.std.specs.Prelude.{◌≡◌, IfErr, IfOk, IfSome, OnOk, option_copied};
 ghost use Rattle.std.specs.declared.cmp.Ordering.TheVariants.{Greater};
@@ -19,14 +19,14 @@ use semver::{BuildMetadata, Prerelease, Version};
 use std::alloc::{AllocError, Global};
 use std::cmp::Ordering;
 
-/// Empties the pre-release.
+/// Clears the pre-release.
 fn release(version: &mut Version)
     ensures { parts_of version.new ≡ released (parts_of version.old) }
 {
     version.pre = Prerelease::empty();
 }
 
-/// Raises the patch number, or empties the pre-release where there is one.
+/// Increments the patch number, or clears the pre-release where there is one.
 fn raise_patch(version: &mut Version) -> CargoResult<()>
     ensures changed { IsChanged (raised_by level.Patch (parts_of version.old)) version.old version.new
         result }
@@ -58,7 +58,7 @@ fn raise_by(alloc: Global, version: &mut Version, level: BumpLevel) -> CargoResu
     }
 }
 
-/// Whether two versions have the same numbers and texts.
+/// Whether two versions are equal, build metadata included.
 fn is_same(version: &Version, other: &Version) -> bool
     ensures { result ≡ is_same (parts_of version.now) (parts_of other.now) }
 {
@@ -72,14 +72,14 @@ fn order(version: &Version, other: &Version) -> Ordering
     version.cmp(other)
 }
 
-/// A copy of a version on memory of its own.
+/// Copies a version into newly allocated memory.
 fn copy(version: &Version) -> Result<Version, AllocError>
     ensures { IfOk result (λ v. parts_of v ≡ parts_of version.now) }
 {
     version.clone()
 }
 
-/// Sets the build metadata, where some is given.
+/// Sets the build metadata, where `metadata` is given.
 fn set_build(alloc: Global, version: &mut Version, metadata: Option<&str>) -> CargoResult<()>
     ensures changed { IsChanged (with_given (option_copied metadata.entry) (To (parts_of version.old)))
         version.old version.new result }
@@ -91,7 +91,7 @@ fn set_build(alloc: Global, version: &mut Version, metadata: Option<&str>) -> Ca
     }
 }
 
-/// The current version raised by a level, with the build metadata that is given.
+/// The current version raised by a level, with the given build metadata.
 fn raised_version(
     alloc: Global,
     level: BumpLevel,
@@ -108,7 +108,7 @@ fn raised_version(
     Ok(version)
 }
 
-/// The current version raised by a level, where that is another one.
+/// The current version raised by a level, or `None` where that equals the current one.
 pub(crate) fn raised(
     alloc: Global,
     level: BumpLevel,
@@ -128,7 +128,7 @@ pub(crate) fn raised(
     Ok(Some(version))
 }
 
-/// The error for a lower version.
+/// `Error::Downgrade`, for a requested version that is lower than the current one.
 fn downgrade(alloc: Global, current: &Version, requested: &Version) -> Result<Error, AllocError>
     ensures { IfOk result (λ e. IsUnbumped (lower (parts_of requested.now)) (parts_of current.now) e) }
 {
@@ -138,14 +138,15 @@ fn downgrade(alloc: Global, current: &Version, requested: &Version) -> Result<Er
     })
 }
 
-/// The build metadata of a version, on memory of its own.
+/// Copies the build metadata of a version into newly allocated memory.
 fn copy_build(version: &Version) -> Result<BuildMetadata, AllocError>
     ensures { IfOk result (λ b. build_text b ≡ build_text version.now.build) }
 {
     version.build.clone()
 }
 
-/// Gives a version the build metadata that is given, else that of the current one.
+/// Sets the build metadata of a version to `metadata` where that is given, else to that of the current
+/// version.
 fn fill_build(
     alloc: Global,
     version: &mut Version,
@@ -165,7 +166,7 @@ fn fill_build(
     }
 }
 
-/// The version that is asked for, filled where it has no build metadata.
+/// The requested version; where it has no build metadata, `metadata` or that of the current version is set.
 fn taken(
     alloc: Global,
     requested: &Version,
@@ -183,7 +184,8 @@ fn taken(
     Ok(version)
 }
 
-/// The version that is asked for in the place of the current one.
+/// The requested version in place of the current one, `None` where they are equal. A lower version is an
+/// error.
 pub(crate) fn replaced(
     alloc: Global,
     requested: &Version,

@@ -1,4 +1,4 @@
-//! The next versions of the crates that get one.
+//! The next versions of the crates that are bumped.
 ghost use Rattle.std.specs.Prelude.{◌≡◌, ◌⊎◌, ◌++◌, ◌<◌, ◌^◌, All, Contains, IfErr, IfOk, IfSome, OnOk, option_copied, option_map, option_to_list};
 ghost use Rattle.std.specs.List.{filter_map};
 ghost use Rattle.semver.specs.Identifiers.{parts_of};
@@ -20,7 +20,7 @@ use edit_base::CargoResult;
 use semver::Version;
 use std::alloc::Global;
 
-/// The build metadata that is given.
+/// The `--metadata` of a selection.
 pub(crate) fn metadata_of(selection: &Selection) -> Option<&str>
     ensures { option_copied result ≡ (asked_of selection.now).metadata }
 {
@@ -30,12 +30,12 @@ pub(crate) fn metadata_of(selection: &Selection) -> Option<&str>
     }
 }
 
-/// A number of 64 bits, for proofs over the numbers of a version.
+/// For proofs: a `u64` is less than 2^64.
 fn bounded(number: u64)
     ensures { number < 2 ^ 64 }
 {}
 
-/// For proofs: a version that can be read has numbers of 64 bits.
+/// For proofs: the numbers of a version that can be parsed are less than 2^64.
 fn has_numbers(version: &Version)
     ensures { IsReadable (parts_of version.now) → IsVersion (parts_of version.now) }
 {
@@ -44,7 +44,7 @@ fn has_numbers(version: &Version)
     bounded(version.patch);
 }
 
-/// The bump of a crate, where its version becomes another.
+/// The bump of a crate, `None` where its version does not change.
 fn bump_of<'a>(
     alloc: Global,
     target: &TargetVersion,
@@ -74,7 +74,7 @@ fn bump_of<'a>(
     }
 }
 
-/// Adds the bump of a crate, where its version becomes another.
+/// Adds the bump of a crate, where its version changes.
 fn push_bump<'a>(
     alloc: Global,
     target: &TargetVersion,
@@ -103,7 +103,7 @@ fn push_bump<'a>(
     }
 }
 
-/// The bumps of crates, in their order: of each whose version becomes another.
+/// The bumps of crates, in order, without those whose version does not change.
 pub(crate) fn bumps_of<'a>(
     alloc: Global,
     target: &TargetVersion,

@@ -15,26 +15,26 @@ use crate::plan::Selection;
 use edit_base::{CargoResult, Error};
 use std::alloc::{AllocError, Global};
 
-/// What is asked for.
+/// The members that a selection names: all but `names`, or only `names`.
 #[derive(Drop)]
 pub(crate) struct Wanted {
-    /// Whether all crates are, but those that are named here.
+    /// Whether all members are selected, but for `names`.
     all: bool,
     names: Names,
 }
 
-/// A part of the crates.
+/// A subset of the members.
 #[derive(Clone, Copy)]
 pub(crate) enum Part {
-    /// Those that are asked for.
+    /// The selected members.
     Asked,
-    /// Those of them that inherit their version.
+    /// The selected members that inherit the workspace's version.
     Inheriting,
-    /// The others that do.
+    /// The members that are not selected and inherit the workspace's version.
     Others,
 }
 
-/// What a selection asks for.
+/// The members that a selection names, as a set of names.
 fn wanted_by(alloc: Global, selection: &Selection) -> Result<Wanted, AllocError>
     ensures ok { IfOk result (IsWanted (asked_of selection.now)) }
 {
@@ -48,7 +48,7 @@ fn wanted_by(alloc: Global, selection: &Selection) -> Result<Wanted, AllocError>
     Ok(Wanted { all, names })
 }
 
-/// Whether a crate is asked for.
+/// Whether a member is selected.
 fn wants(wanted: &Wanted, found: Crate<'_>) -> bool
     ensures { result ≡ wants wanted.now (member_of found.entry) }
 {
@@ -56,7 +56,7 @@ fn wants(wanted: &Wanted, found: Crate<'_>) -> bool
     if wanted.all { !named } else { named }
 }
 
-/// Whether a crate is in a part.
+/// Whether a member belongs to a subset.
 fn is_in(part: Part, wanted: &Wanted, found: Crate<'_>) -> bool
     ensures { result ≡ is_in part wanted.now (member_of found.entry) }
 {
@@ -68,7 +68,7 @@ fn is_in(part: Part, wanted: &Wanted, found: Crate<'_>) -> bool
     }
 }
 
-/// Adds a crate, where it is to be added.
+/// Appends a crate, where `keep` is set.
 fn push_where<'a>(keep: bool, found: Crate<'a>, list: &mut Vec<Crate<'a>>) -> Result<(), AllocError>
     ensures ok { OnOk result (members_of list.new.items
         ≡ members_of list.old.items ++ (if keep then member_of found.entry ∷ [] else [])) }
@@ -80,7 +80,7 @@ fn push_where<'a>(keep: bool, found: Crate<'a>, list: &mut Vec<Crate<'a>>) -> Re
     Ok(())
 }
 
-/// The crates of a part.
+/// The members that belong to a subset, in order.
 fn crates_in<'a>(
     alloc: Global,
     part: Part,
@@ -98,7 +98,7 @@ fn crates_in<'a>(
     Ok(list)
 }
 
-/// The names of crates in a row.
+/// The names of crates, as one text for an error message.
 fn listed(alloc: Global, crates: &[Crate<'_>]) -> Result<String, AllocError>
     ensures ok { IfOk result (λ s. string_bytes s ≡ listed (members_of crates.now)) }
 {
@@ -109,7 +109,7 @@ fn listed(alloc: Global, crates: &[Crate<'_>]) -> Result<String, AllocError>
     names.as_slice().join(alloc, ", ")
 }
 
-/// Those of these crates that are excluded.
+/// The crates of this list that `--exclude` names.
 fn held_back<'a>(
     alloc: Global,
     selection: &Selection,
@@ -127,8 +127,8 @@ fn held_back<'a>(
     Ok(list)
 }
 
-/// Refuses excluded crates that the version of the workspace would change, with 40 and their names, beside
-/// those of the inheriting crates that are asked for.
+/// Fails with `Error::CannotExclude` where an excluded crate inherits the workspace's version, which is
+/// bumped for selected crates. The error has the names of both.
 fn check_excluded(
     alloc: Global,
     selection: &Selection,
@@ -153,21 +153,22 @@ fn check_excluded(
     })
 }
 
-/// The crates that get a new version, and whether the version of the workspace gets one.
+/// The crates that are bumped, and whether the version of the workspace is bumped.
 #[derive(Drop)]
 pub(crate) struct Choice<'a> {
     pub(crate) crates: Vec<Crate<'a>>,
     pub(crate) workspace: bool,
 }
 
-/// Whether there is no crate.
+/// Whether the list is empty.
 fn is_none(crates: &[Crate<'_>]) -> bool
     ensures { result ≡ (length crates.now == 0) }
 {
     crates.is_empty()
 }
 
-/// The crates that are added to those that are asked for, since the version of the workspace is theirs.
+/// The crates that are not selected but inherit the workspace's version, where a selected crate inherits it
+/// too.
 fn added<'a>(
     alloc: Global,
     wanted: &Wanted,
@@ -183,7 +184,7 @@ fn added<'a>(
     crates_in(alloc, Part::Others, wanted, crates)
 }
 
-/// Whether all are asked for, and none is excluded.
+/// Whether all members are selected, without any excluded.
 fn asks_whole(selection: &Selection) -> bool
     ensures { result ≡ asks_whole (asked_of selection.now) }
 {
@@ -191,11 +192,11 @@ fn asks_whole(selection: &Selection) -> bool
     all && selection.exclude.is_empty()
 }
 
-/// What a selection chooses among the members of a workspace.
+/// Chooses which members of a workspace are bumped.
 ///
-/// Chosen are the crates that are asked for; and where one of them inherits its version from the workspace,
-/// that version is bumped, and with it the other crates that inherit it. Refused with 40 where one of these
-/// is excluded.
+/// These are the selected members. Where one of them inherits its version from the workspace, that version
+/// is bumped too, and with it all members that inherit it. Fails with `Error::CannotExclude` where one of
+/// these is excluded.
 pub(crate) fn choose<'a>(
     alloc: Global,
     selection: &Selection,

@@ -1,4 +1,4 @@
-//! The crates of a workspace with their manifests, and their next versions.
+//! The members of a workspace with their manifests, and their next versions.
 ghost use Rattle.std.specs.Prelude.{◌≡◌, ◌≤◌, ◌-◌, ◌++◌, ◌∷◌, [], if◌then◌else◌, IfOk, OnOk, drop, length, map};
 ghost use Rattle.std.specs.List.{AllZip};
 ghost use Rattle.edit_metadata.specs.Metadata.{members};
@@ -11,7 +11,7 @@ use edit_metadata::{Input, Package, Workspace};
 use semver::Version;
 use std::alloc::{AllocError, Global};
 
-/// A crate of a workspace: its package in the metadata, its input, and its manifest.
+/// A member of a workspace: its package in the metadata, its input, and its parsed manifest.
 #[derive(Clone, Copy)]
 pub(crate) struct Crate<'a> {
     pub(crate) told: &'a Package,
@@ -26,7 +26,7 @@ pub(crate) struct Bump<'a> {
     pub(crate) next: Version,
 }
 
-/// Adds a package, where it is a member.
+/// Adds a package, where it is a workspace member.
 fn push_member<'a>(found: &'a Package, members: &mut Vec<&'a Package>) -> Result<(), AllocError>
     ensures ok { OnOk result (map (λ p. package_said p.now) members.new.items
         ≡ map (λ p. package_said p.now) members.old.items
@@ -39,7 +39,7 @@ fn push_member<'a>(found: &'a Package, members: &mut Vec<&'a Package>) -> Result
     Ok(())
 }
 
-/// The members among packages, in their order.
+/// The workspace members among packages, in order.
 pub(crate) fn members_in<'a>(
     alloc: Global,
     packages: &'a [Package],
@@ -54,7 +54,7 @@ pub(crate) fn members_in<'a>(
     Ok(list)
 }
 
-/// Packages with their inputs and manifests, each at the same place in its list.
+/// Zips packages with their inputs and manifests, each at the same index in its list.
 pub(crate) fn crates_with<'a>(
     alloc: Global,
     members: &[&'a Package],
@@ -79,7 +79,7 @@ pub(crate) fn crates_with<'a>(
     Ok(crates)
 }
 
-/// Members with their inputs and manifests, which are the last ones of these lists.
+/// Zips members with their inputs and manifests, which are at the end of these lists.
 fn crates_last<'a>(
     alloc: Global,
     members: &[&'a Package],
@@ -98,7 +98,7 @@ fn crates_last<'a>(
     crates_with(alloc, members, &inputs[skip..], &manifests[skip..])
 }
 
-/// The members of a workspace, with their inputs and manifests.
+/// The members of a workspace, each with its input and manifest.
 pub(crate) fn crates_of<'a>(
     alloc: Global,
     workspace: &'a Workspace,

@@ -1,4 +1,4 @@
-//! The requirements of a manifest on bumped crates.
+//! The entries of a manifest that depend on bumped crates.
 ghost use Rattle.std.specs.Prelude.{◌≡◌, ◌++◌, List, All, IfErr, IfOk, OnOk, map, option_to_list, string_bytes};
 ghost use Rattle.semver.specs.Identifiers.{parts_of};
 ghost use Rattle.edit_document.specs.Items.{place_seen};
@@ -17,14 +17,14 @@ use edit_document::{Document, Place};
 use edit_version::upgrade_requirement;
 use std::alloc::Global;
 
-/// An entry that depends on a bumped crate.
+/// An entry with a requirement on a bumped crate.
 #[derive(Drop)]
 pub(crate) struct DependentEntry<'a> {
-    /// Where its entry stands.
+    /// The place of the entry in its manifest.
     pub(crate) place: Place,
     pub(crate) text: String,
     pub(crate) bump: Numbered<'a>,
-    /// What it becomes, where that is another text.
+    /// The raised requirement, `None` where it does not change.
     pub(crate) risen: Option<String>,
 }
 
@@ -54,7 +54,7 @@ fn raised_dependent<'a>(
     })
 }
 
-/// Adds an entry, where it depends on a bumped crate.
+/// Adds an entry, where its path is that of a bumped crate.
 fn push_dependent<'a>(
     alloc: Global,
     numbers: &Numbers<'a>,
@@ -80,8 +80,8 @@ fn push_dependent<'a>(
     }
 }
 
-/// The entries of a manifest at an absolute path that depend on bumped crates, in the order of a walk down
-/// it.
+/// The entries of the manifest at an absolute path that depend on bumped crates, in the order of a walk
+/// down its tree.
 pub(crate) fn dependents_of<'a>(
     alloc: Global,
     numbers: &Numbers<'a>,

@@ -1,4 +1,4 @@
-//! New versions for the crates of a workspace.
+//! Plans new versions for the members of a workspace (`cargo set-version`).
 #![tactic(auto)]
 
 mod bump;

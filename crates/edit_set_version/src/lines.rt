@@ -9,10 +9,10 @@ use crate::crates::Bump;
 use semver::Version;
 use std::alloc::{AllocError, Global};
 
-/// An action and a text.
+/// A line of the report: an action and a text.
 pub(crate) type Line = (String, String);
 
-/// The line of a version that becomes another.
+/// The `Upgrading` line of a changed version.
 fn upgrading(
     alloc: Global,
     name: &str,
@@ -28,7 +28,7 @@ fn upgrading(
     Ok((action, text))
 }
 
-/// The line of a requirement that becomes another.
+/// The `Updating` line of a changed requirement.
 pub(crate) fn updating(alloc: Global, name: &str, old: &str, new: &str) -> Result<Line, AllocError>
     ensures ok { IfOk result (λ l. line_told l ≡ updating name.now old.now new.now) }
 {
@@ -37,7 +37,7 @@ pub(crate) fn updating(alloc: Global, name: &str, old: &str, new: &str) -> Resul
     Ok((action, text))
 }
 
-/// What a line says of a version, beside the old and the new one.
+/// The note that a line appends where the version is inherited from the workspace.
 fn note_of(inherited: bool) -> &'static str
     ensures { result.now ≡ note_if inherited }
 {
@@ -48,7 +48,7 @@ fn note_of(inherited: bool) -> &'static str
     }
 }
 
-/// The line of a bump.
+/// The line of a crate's bump.
 pub(crate) fn bump_line(alloc: Global, bump: &Bump<'_>) -> Result<Line, AllocError>
     ensures ok { IfOk result (λ l. line_told l ≡ upgrading (bump_seen bump.now).member.name
         (bump_seen bump.now).member.version (bump_seen bump.now).next (note_of (bump_seen bump.now).member)) }
@@ -58,7 +58,7 @@ pub(crate) fn bump_line(alloc: Global, bump: &Bump<'_>) -> Result<Line, AllocErr
     upgrading(alloc, name, &bump.member.told.version, &bump.next, note)
 }
 
-/// The line of the version of the workspace.
+/// The line of the workspace's bump.
 pub(crate) fn workspace_line(
     alloc: Global,
     old: &Version,

@@ -1,4 +1,4 @@
-//! Whether the versions that a plan writes have literals in their manifests.
+//! Checks that each bumped version has a literal in its manifest.
 ghost use Rattle.std.specs.Prelude.{◌≡◌, ◌⊎◌, All, IfErr, OnOk};
 ghost use Rattle.std.specs.List.{AllZip};
 ghost use Rattle.edit_base.specs.Errors.{IsMemory};
@@ -14,7 +14,8 @@ use edit_manifest::Manifest;
 use edit_metadata::Input;
 use std::alloc::Global;
 
-/// Refuses an input with 13 where a bumped version is to be written into it and no literal stands there.
+/// Fails with `Error::NoVersionPlace` where a bumped version is to be written into an input whose manifest
+/// has no literal for it.
 fn check_literal(
     alloc: Global,
     writing: &Writing<'_, '_>,
@@ -34,7 +35,8 @@ fn check_literal(
     Ok(())
 }
 
-/// Refuses inputs with 13 where a bumped version is to be written into one and no literal stands there.
+/// Fails with `Error::NoVersionPlace` at the first input whose manifest has no literal for a bumped version
+/// that is to be written into it.
 pub(crate) fn check_literals(
     alloc: Global,
     writing: &Writing<'_, '_>,

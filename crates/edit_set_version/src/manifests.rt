@@ -1,4 +1,4 @@
-//! The manifests that a plan is made over.
+//! The parsed manifests that a plan is made from.
 ghost use Rattle.std.specs.Prelude.{◌⊎◌, Contains, IfErr, IfOk};
 ghost use Rattle.std.specs.List.{AllZip};
 ghost use Rattle.edit_base.specs.Errors.{IsMemory};
@@ -11,7 +11,7 @@ use edit_manifest::Manifest;
 use edit_metadata::Input;
 use std::alloc::Global;
 
-/// The manifests of inputs, in their order.
+/// Parses the manifests of inputs, in order.
 pub(crate) fn manifests_of(alloc: Global, inputs: &[Input]) -> CargoResult<Vec<Manifest>>
     ensures ok { IfOk result (λ ms. AllZip IsReadOf inputs.now ms.items) }
     ensures refused { IfErr result (λ e. IsMemory e

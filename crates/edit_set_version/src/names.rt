@@ -1,4 +1,4 @@
-//! Names that are asked for, and that no member has.
+//! Selected names that no workspace member has.
 ghost use Rattle.std.specs.Prelude.{◌≡◌, ◌++◌, ◌||◌, ℕ, List, [], ◌∷◌, false, true, if◌then◌else◌, IfErr, IfOk, OnOk, map, string_bytes};
 ghost use Rattle.std.specs.BTreeSet.{contains_text};
 ghost use Rattle.std.specs.Str.{bytes_eq};
@@ -14,10 +14,10 @@ use edit_metadata::{Package, Workspace};
 use std::alloc::{AllocError, Global};
 use std::collections::BTreeSet;
 
-/// Names in byte order, each once.
+/// A set of names, sorted by bytes.
 pub(crate) type Names = BTreeSet<String>;
 
-/// Adds a name, and says whether it is new.
+/// Inserts a name, and returns whether it is new.
 fn add_name(alloc: Global, names: &mut Names, name: &str) -> Result<bool, AllocError>
     ensures new { IfOk result (λ b. b ≡ (if contains_text names.old name.now then false else true)) }
     ensures ok { OnOk result ((q : List ℕ) → contains_text names.new q
@@ -28,7 +28,7 @@ fn add_name(alloc: Global, names: &mut Names, name: &str) -> Result<bool, AllocE
     Ok(added)
 }
 
-/// Adds the name of a package, where it is a member.
+/// Inserts the name of a package, where that is a workspace member.
 fn add_member(alloc: Global, names: &mut Names, found: &Package) -> Result<(), AllocError>
     ensures ok { OnOk result ((q : List ℕ) → contains_text names.new q
         ≡ (contains_text names.old q || is_among (names_of (package_said found.now ∷ [])) q)) }
@@ -40,7 +40,7 @@ fn add_member(alloc: Global, names: &mut Names, found: &Package) -> Result<(), A
     Ok(())
 }
 
-/// The names of the members among packages.
+/// The names of the workspace members among packages.
 fn member_names(alloc: Global, packages: &[Package]) -> Result<Names, AllocError>
     ensures ok { IfOk result (λ s. (q : List ℕ)
         → contains_text s q ≡ is_among (names_of (packages_said packages.now)) q) }
@@ -52,7 +52,7 @@ fn member_names(alloc: Global, packages: &[Package]) -> Result<Names, AllocError
     Ok(names)
 }
 
-/// The names of a list, each once.
+/// The set of the names of a list.
 pub(crate) fn name_set(alloc: Global, names: &[String]) -> Result<Names, AllocError>
     ensures ok { IfOk result (λ s. (q : List ℕ)
         → contains_text s q ≡ is_among (map string_bytes names.now) q) }
@@ -64,7 +64,7 @@ pub(crate) fn name_set(alloc: Global, names: &[String]) -> Result<Names, AllocEr
     Ok(set)
 }
 
-/// Adds a name to those that are known, and to those that are missing where it is new.
+/// Adds a name to the missing ones, unless it is known, and marks it as known.
 fn push_missing(
     alloc: Global,
     known: &mut Names,
@@ -85,7 +85,7 @@ fn push_missing(
     Ok(())
 }
 
-/// The names that are asked for and not known, each once.
+/// The selected names that are not known, without duplicates.
 fn missing_names(
     alloc: Global,
     known: &mut Names,
@@ -103,7 +103,8 @@ fn missing_names(
 }
 
 impl Selection {
-    /// Refuses a selection that names what no member is called, with 39 and those names, each once.
+    /// Fails with `Error::PackagesMissing` where a selected name is that of no workspace member. The error
+    /// has those names, without duplicates.
     pub fn check_names(&self, alloc: Global, workspace: &Workspace) -> CargoResult<()>
         ensures found { OnOk result (missing (asked_of self.now)
             (names_of (workspace_said workspace.now).packages) ≡ []) }

@@ -1,4 +1,4 @@
-//! The bumps by the folders of their crates.
+//! An index of bumps by the folder of the crate.
 ghost use Rattle.std.specs.Prelude.{◌≡◌, ℕ, List, Some, None, if◌then◌else◌, IfErr, IfOk, OnOk, option_map};
 ghost use Rattle.std.specs.Option.{option_or};
 ghost use Rattle.edit_base.specs.Errors.{IsMemory};
@@ -13,17 +13,17 @@ use semver::Version;
 use std::alloc::Global;
 use std::collections::BTreeMap;
 
-/// The number of a bump, and its next version.
+/// A bump's index in the list of bumps, and its next version.
 #[derive(Clone, Copy)]
 pub(crate) struct Numbered<'a> {
     pub(crate) number: usize,
     pub(crate) next: &'a Version,
 }
 
-/// Bumps by the folders of their crates, in normal form.
+/// Bumps by the normalized folder of their crate.
 pub(crate) type Numbers<'a> = BTreeMap<String, Numbered<'a>>;
 
-/// Adds the bump of a crate by the path of its manifest, where none has its folder.
+/// Adds the bump of a crate under the folder of its manifest, unless a bump has that folder already.
 fn add_bump<'a>(
     alloc: Global,
     numbers: &mut Numbers<'a>,
@@ -43,7 +43,7 @@ fn add_bump<'a>(
     Ok(())
 }
 
-/// The bumps by the folders of their crates; of several in one folder the first.
+/// Indexes bumps by the folder of their crate. Where several share a folder, the first is taken.
 pub(crate) fn numbers_of<'a>(alloc: Global, bumps: &'a [Bump<'_>]) -> CargoResult<Numbers<'a>>
     ensures ok { IfOk result (TellsFirst (bumps_seen bumps.entry.now)) }
     ensures refused { IfErr result IsMemory }
@@ -57,7 +57,7 @@ pub(crate) fn numbers_of<'a>(alloc: Global, bumps: &'a [Bump<'_>]) -> CargoResul
     Ok(numbers)
 }
 
-/// The bump of the crate that a path leads to which stands in the manifest at an absolute path.
+/// The bump of the crate in the folder that a `path` key names, in the manifest at an absolute path.
 pub(crate) fn bump_at<'a>(
     alloc: Global,
     numbers: &Numbers<'a>,
@@ -72,7 +72,7 @@ pub(crate) fn bump_at<'a>(
     Ok(numbers.get(folder.as_str()).copied())
 }
 
-/// The bump of the crate in the folder of the file at an absolute path.
+/// The bump of the crate whose manifest is in the folder of an absolute path.
 pub(crate) fn bump_beside<'a>(
     alloc: Global,
     numbers: &Numbers<'a>,

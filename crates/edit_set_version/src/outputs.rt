@@ -1,4 +1,4 @@
-//! The outputs of a plan: what it writes into the manifests of its inputs.
+//! The outputs of a plan: the new bytes of the manifests that change.
 ghost use Rattle.std.specs.Prelude.{◌≡◌, ◌≢◌, ◌<◌, ◌⊎◌, ◌++◌, [], List, true, All, IfErr, IfOk, OnOk, get_or, length, option_map, option_to_list};
 ghost use Rattle.std.specs.List.{AllZip, filter, filter_map};
 ghost use Rattle.edit_base.specs.Errors.{IsMemory};
@@ -33,8 +33,8 @@ use edit_report::Output;
 use semver::Version;
 use std::alloc::Global;
 
-/// What a plan writes: the path of the root's manifest, the next version of the workspace where it becomes
-/// another, and the bumps with their numbers.
+/// What a plan writes: the path of the root manifest, the next version of the workspace where it changes,
+/// and the bumps by folder.
 #[derive(Clone, Copy)]
 pub(crate) struct Writing<'a, 'n> {
     pub(crate) root: &'a str,
@@ -43,14 +43,15 @@ pub(crate) struct Writing<'a, 'n> {
     pub(crate) bumps: &'a [Bump<'a>],
 }
 
-/// The crate's own version stands in the manifest at a path: it is this one, and does not inherit it.
+/// Whether the version of a bumped crate is a literal in the manifest at a path: that is the crate's
+/// manifest, and the version is not inherited.
 fn writes_own(bump: &Bump<'_>, path: &str) -> bool
     ensures { result ≡ writes_own path.now (bump_seen bump.now) }
 {
     bump.member.input.path.as_str() == path && !bump.member.manifest.version_is_inherited()
 }
 
-/// The bump of a number.
+/// The bump at an index.
 fn numbered_bump<'a>(bumps: &'a [Bump<'a>], number: usize) -> &'a Bump<'a>
     requires there { number < length bumps.now }
     ensures { result.now ≡ get_or bumps.entry.now number result.now }
@@ -58,7 +59,7 @@ fn numbered_bump<'a>(bumps: &'a [Bump<'a>], number: usize) -> &'a Bump<'a>
     &bumps[number]
 }
 
-/// The one bump whose own version stands in the manifest at a path.
+/// The bump whose version is a literal in the manifest at a path, where there is one.
 fn own_bump<'a>(
     alloc: Global,
     writing: &Writing<'a, '_>,
@@ -80,7 +81,7 @@ fn own_bump<'a>(
     Ok(None)
 }
 
-/// Adds the next version of the workspace, where the root's manifest is at this path.
+/// Adds the edit of the workspace's version, where the root manifest is at this path.
 fn push_shared(
     alloc: Global,
     writing: &Writing<'_, '_>,
@@ -102,7 +103,8 @@ fn push_shared(
     Ok(())
 }
 
-/// Adds the next version of the crate whose own one stands in the manifest at this path.
+/// Adds the edit of the package's version, where a bumped crate has its version literal in the manifest at
+/// this path.
 pub(crate) fn push_own(
     alloc: Global,
     writing: &Writing<'_, '_>,
@@ -131,7 +133,7 @@ pub(crate) fn push_own(
     Ok(())
 }
 
-/// Adds what is written for the requirements on bumped crates of the manifest at this path.
+/// Adds the edits of the requirements on bumped crates in the manifest at this path.
 fn push_dependents(
     alloc: Global,
     writing: &Writing<'_, '_>,
@@ -153,7 +155,7 @@ fn push_dependents(
     Ok(())
 }
 
-/// What is written into an input.
+/// The edits of an input.
 fn edits_of(
     alloc: Global,
     writing: &Writing<'_, '_>,
@@ -179,7 +181,7 @@ fn edits_of(
     Ok(edits)
 }
 
-/// The output of an input, where something is written into it.
+/// The output of an input, `None` where there are no edits.
 fn output_of(
     alloc: Global,
     writing: &Writing<'_, '_>,
@@ -211,7 +213,7 @@ fn output_of(
     }))
 }
 
-/// Adds the output of an input, where something is written into it.
+/// Adds the output of an input, where there are edits.
 fn push_output(
     alloc: Global,
     writing: &Writing<'_, '_>,
@@ -242,8 +244,8 @@ fn push_output(
     }
 }
 
-/// The outputs of a plan, in the order of the inputs: of each input into which something is written, its path
-/// and its new bytes.
+/// The outputs of a plan, in the order of the inputs: the path and the new bytes of each input that has
+/// edits.
 pub(crate) fn outputs_of(
     alloc: Global,
     writing: &Writing<'_, '_>,

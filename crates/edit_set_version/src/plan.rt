@@ -1,27 +1,27 @@
-//! What a plan of new versions is asked for, and what it gives.
+//! The options and the result of a plan of new versions.
 
 use edit_report::Output;
 
-/// Which members get a new version, and with which build metadata.
+/// Which members are bumped, and with which build metadata.
 #[derive(Debug, Drop)]
 pub struct Selection {
-    /// The names of the members; all members where there is none.
+    /// The names of the selected members; all members where it is empty.
     pub packages: Vec<String>,
-    /// The names of the members that get none where all do.
+    /// The names of members that are not bumped where all are selected.
     pub exclude: Vec<String>,
-    /// All members, whatever is named.
+    /// Select all members, whatever `packages` names.
     pub workspace: bool,
     /// The build metadata of the new versions.
     pub metadata: Option<String>,
 }
 
-/// The new versions of members, and the requirements of dependents that are raised to them.
+/// The new versions of members, and the raised requirements of their dependents.
 #[derive(Debug, Drop)]
 pub struct SetVersionPlan {
     /// The new bytes of the manifests that change, in the order of the inputs.
     pub outputs: Vec<Output>,
     /// The lines of the report: an action and a text.
     pub lines: Vec<(String, String)>,
-    /// Whether there are lines.
+    /// Whether `lines` is not empty.
     pub changed: bool,
 }

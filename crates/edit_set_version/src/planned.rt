@@ -1,4 +1,4 @@
-//! The plan of new versions for the crates of a workspace.
+//! The plan of new versions for the members of a workspace.
 ghost use Rattle.std.specs.Prelude.{◌≡◌, ◌⊎◌, ◌++◌, [], All, IfErr, IfOk, OnOk, option_map};
 ghost use Rattle.std.specs.List.{AllZip, flat_map};
 ghost use Rattle.semver.specs.Identifiers.{parts_of};
@@ -40,8 +40,8 @@ use edit_metadata::{Input, Workspace};
 use semver::Version;
 use std::alloc::Global;
 
-/// The versions of a project that change: that of the workspace with its next one, each where it is there,
-/// and the bumps.
+/// The versions that change: the current and the next one of the workspace, each where there is one, and
+/// the bumps of members.
 #[derive(Drop)]
 struct Versions<'a> {
     current: Option<Version>,
@@ -49,7 +49,7 @@ struct Versions<'a> {
     bumps: Vec<Bump<'a>>,
 }
 
-/// The versions of a project that a target changes.
+/// The versions that change for a target and a selection.
 fn versions_of<'a>(
     alloc: Global,
     target: &TargetVersion,
@@ -84,7 +84,7 @@ fn versions_of<'a>(
     })
 }
 
-/// The plan of a project over its inputs and their manifests, where these versions change.
+/// The plan for these changes of versions: outputs and lines.
 fn plan_with(
     alloc: Global,
     project: &ProjectRead<'_>,
@@ -131,14 +131,19 @@ fn plan_with(
     })
 }
 
-/// The new versions of a workspace's members, and the requirements of dependents that are raised to them.
+/// Plans new versions for the members of a workspace, and raises the requirements of their dependents.
 ///
-/// The inputs are those that `workspace_inputs` gives. Who gets a new version is what the selection asks for;
-/// each of them gets the version that the target makes of its own; and in each input a requirement with a
-/// path to one of them is raised to it. Nothing is planned where one of these stands, and the first is the
-/// error: a name that no member has (39), an input that is no manifest (2, 1), an excluded member that shares
-/// the version of the workspace with a chosen one (40), a version that the target refuses (41, 16 to 19), a
-/// version with no place to write it (13), or a requirement that cannot be raised (14, 15).
+/// `inputs` are those that `workspace_inputs` returns. The selection decides which members are bumped; the
+/// target makes the next version of each from its current one; and each requirement on a bumped member with
+/// a `path` to it is raised to that version.
+///
+/// The first of these causes is the error: a selected name that no member has (`Error::PackagesMissing`);
+/// an input that is no manifest (`Error::NotUtf8`, `Error::NotToml`); an excluded member that inherits the
+/// version of the workspace together with a selected one (`Error::CannotExclude`); a version that the
+/// target rejects (`Error::Downgrade`, `Error::ReleaseLevel`, `Error::PrereleaseScheme`,
+/// `Error::NumberAtEnd`, `Error::InvalidMetadata`); a version without a literal to write it to
+/// (`Error::NoVersionPlace`); a requirement that cannot be raised (`Error::InvalidRequirement`,
+/// `Error::Unsupported`).
 pub fn plan_set_version(
     alloc: Global,
     target: &TargetVersion,
@@ -146,13 +151,13 @@ pub fn plan_set_version(
     workspace: &Workspace,
     inputs: &[Input],
 ) -> CargoResult<SetVersionPlan>
-    // as `workspace_inputs` gives them, of a workspace that was read
+    // as `workspace_inputs` returns them, for a workspace that was read
     requires inputs { AreInputsOf (workspace_said workspace.now) inputs.now }
     requires folders { HasOwnFolders (workspace_said workspace.now) }
-    // outputs, lines and all else over one project: that of the workspace and the inputs
+    // the plan is that of the project which the workspace and the inputs make up
     ensures planned { IfOk result (λ plan. HasProject (workspace_said workspace.now) inputs.now
         (IsPlan (target_of target.now) (asked_of selection.now) inputs.now plan)) }
-    // the first cause that stands in the input, or memory ran out
+    // the first cause in the input, or out of memory
     ensures refused { IfErr result (IsCauseOf (target_of target.now) (asked_of selection.now)
         (workspace_said workspace.now) inputs.now) }
 {

@@ -1,4 +1,4 @@
-//! The path dependencies of a manifest, found in a walk down its dependency tables.
+//! The path dependencies of a manifest, in the order of a walk down its tree.
 ghost use Rattle.std.specs.Prelude.{◌≡◌, ◌++◌, ℕ, List, IfErr, IfOk, OnOk, option_map, option_to_list};
 ghost use Rattle.std.specs.List.{filter_map};
 ghost use Rattle.edit_base.specs.Errors.{IsMemory};
@@ -15,7 +15,7 @@ use edit_document::{Document, Item, Place, Step, member_place};
 use edit_manifest::dependency_tables;
 use std::alloc::{AllocError, Global};
 
-/// An entry that has a text requirement and a path.
+/// An entry that has both a requirement and a path.
 #[derive(Drop)]
 pub struct PathEntry {
     pub place: Place,
@@ -24,7 +24,7 @@ pub struct PathEntry {
     pub path: String,
 }
 
-/// The string at a member of an item.
+/// The string value of a key of an item.
 fn text_at<'a>(item: Item<'a>, name: &str) -> Option<&'a str>
     ensures { option_map (λ s. s.now) result
         ≡ text_at (tree_of (document_of item.entry)) (at (place_of item.entry) (key name.now)) }
@@ -35,7 +35,7 @@ fn text_at<'a>(item: Item<'a>, name: &str) -> Option<&'a str>
     }
 }
 
-/// The text requirement of an entry that is a table.
+/// The `version` string of an entry that is a table.
 fn requirement<'a>(item: Item<'a>) -> Option<&'a str>
     ensures { option_map (λ s. s.now) result
         ≡ requirement (tree_of (document_of item.entry)) (place_of item.entry) }
@@ -47,7 +47,7 @@ fn requirement<'a>(item: Item<'a>) -> Option<&'a str>
     text_at(item, "version")
 }
 
-/// The entry at a place with its two texts, where both are there.
+/// The entry at a place, where it has both a requirement and a path.
 fn entry_with(
     alloc: Global,
     place: Place,
@@ -68,7 +68,7 @@ fn entry_with(
     Ok(Some(PathEntry { place, text, path }))
 }
 
-/// The entry of this name of the table at a place, where it has both texts.
+/// The entry with this key in the table at a place, where it has both a requirement and a path.
 fn entry_named(
     alloc: Global,
     place: &[Step],
@@ -87,7 +87,7 @@ fn entry_named(
     Ok(entry_with(alloc, place, requirement(item), text_at(item, "path"))?)
 }
 
-/// Adds the entry of this name of the table at a place, where it has both texts.
+/// Adds the entry with this key in the table at a place, where it has both a requirement and a path.
 fn push_named(
     alloc: Global,
     place: &[Step],
@@ -110,7 +110,7 @@ fn push_named(
     }
 }
 
-/// Adds the entries of the table at a place that have both texts.
+/// Adds the entries of the table at a place that have both a requirement and a path.
 fn push_table(
     alloc: Global,
     document: &Document,
@@ -130,7 +130,7 @@ fn push_table(
     Ok(())
 }
 
-/// The entries of a document that have both texts.
+/// The entries of a document that have both a requirement and a path.
 fn entries_of(alloc: Global, document: &Document) -> CargoResult<Vec<PathEntry>>
     ensures ok { IfOk result (λ es. pointed_views es.items ≡ pointed (tree_of document.now)) }
     ensures refused { IfErr result IsMemory }
@@ -143,12 +143,11 @@ fn entries_of(alloc: Global, document: &Document) -> CargoResult<Vec<PathEntry>>
     Ok(entries)
 }
 
-/// The entries of a manifest that have a text requirement and a path, table by table in the order of a walk
-/// down it. An entry has a text requirement where it is a table with a string `version`, and a path where it
-/// has a string `path`.
+/// The entries of a manifest that have both a requirement and a path, table by table in the order of a walk
+/// down its tree: those that are tables with a string `version` and a string `path`.
 pub fn path_entries(alloc: Global, document: &Document) -> CargoResult<Vec<PathEntry>>
     ensures entries { IfOk result (λ es. pointed_views es.items ≡ pointed (tree_of document.now)) }
-    // whatever is bumped, and wherever the manifest stands, only these depend on a bumped crate
+    // whatever is bumped and wherever the manifest is, only these entries depend on a bumped crate
     ensures dependents { IfOk result (λ es. (bumps : List Bump) (file : List ℕ)
         → dependents bumps file (tree_of document.now)
         ≡ filter_map (led bumps file) (pointed_views es.items)) }

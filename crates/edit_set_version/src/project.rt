@@ -1,4 +1,4 @@
-//! The project of a workspace: its root's manifest, and its members.
+//! The project of a workspace: its root manifest, and its members.
 ghost use Rattle.std.specs.Prelude.{◌≡◌, Contains, IfErr, IfOk, string_bytes};
 ghost use Rattle.std.specs.List.{AllZip};
 ghost use Rattle.edit_base.specs.Errors.{IsMemory};
@@ -16,21 +16,21 @@ use edit_manifest::Manifest;
 use edit_metadata::{Input, Workspace};
 use std::alloc::Global;
 
-/// The root of a workspace: its input and its manifest.
+/// The root of a workspace: its input and its parsed manifest.
 #[derive(Clone, Copy)]
 pub(crate) struct Root<'a> {
     pub(crate) input: &'a Input,
     pub(crate) manifest: &'a Manifest,
 }
 
-/// The root of a workspace, which may be a member's too, and the members.
+/// The root of a workspace and its members; the root manifest may be a member's too.
 #[derive(Drop)]
 pub(crate) struct ProjectRead<'a> {
     pub(crate) root: Root<'a>,
     pub(crate) members: Vec<Crate<'a>>,
 }
 
-/// The path of the root's manifest.
+/// The normalized path of the root manifest.
 fn root_path(alloc: Global, workspace: &Workspace) -> CargoResult<String>
     ensures path { IfOk result (λ s. IsNormalOf (root_manifest (workspace_said workspace.now)).path
         (string_bytes s)) }
@@ -40,7 +40,7 @@ fn root_path(alloc: Global, workspace: &Workspace) -> CargoResult<String>
     normal(alloc, path.as_str())
 }
 
-/// The input at a path, and its manifest.
+/// The root: the input at this path, and its manifest.
 fn root_at<'a>(inputs: &'a [Input], manifests: &'a [Manifest], path: &str) -> Root<'a>
     requires among { Contains (input_paths inputs.now) path.now }
     requires read { AllZip IsReadOf inputs.now manifests.now }
@@ -59,7 +59,7 @@ fn root_at<'a>(inputs: &'a [Input], manifests: &'a [Manifest], path: &str) -> Ro
     unreachable!()
 }
 
-/// The project of a workspace with its inputs and their manifests.
+/// The project of a workspace, from its inputs and their manifests.
 pub(crate) fn project_of<'a>(
     alloc: Global,
     workspace: &'a Workspace,

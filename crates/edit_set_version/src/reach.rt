@@ -1,4 +1,4 @@
-//! The folders that paths lead to, as texts in normal form.
+//! The folders that `path` keys name, normalized.
 ghost use Rattle.std.specs.Prelude.{◌≡◌, IfErr, IfOk, string_bytes};
 ghost use Rattle.edit_base.specs.Errors.{IsMemory};
 ghost use Rattle.edit_set_version.specs.FolderTexts.{folder_text};
@@ -8,7 +8,7 @@ use edit_base::CargoResult;
 use edit_base::paths::normal;
 use std::alloc::Global;
 
-/// The folder of the file at an absolute path, in normal form.
+/// The normalized folder of the file at an absolute path.
 pub(crate) fn folder_of(alloc: Global, file: &str) -> CargoResult<String>
     ensures ok { IfOk result (λ s. string_bytes s ≡ folder_text (folder_of file.now)) }
     ensures refused { IfErr result IsMemory }
@@ -17,8 +17,8 @@ pub(crate) fn folder_of(alloc: Global, file: &str) -> CargoResult<String>
     normal(alloc, way.as_str())
 }
 
-/// The folder that a path leads to which stands in the file at an absolute path, in normal form: the path
-/// itself where it is absolute, else from the file's folder on.
+/// The normalized folder that a `path` key names in the manifest at an absolute path: the path itself where
+/// it is absolute, else relative to the manifest's folder.
 pub(crate) fn reached(alloc: Global, file: &str, path: &str) -> CargoResult<String>
     ensures ok { IfOk result (λ s. string_bytes s ≡ folder_text (reached file.now path.now)) }
     ensures refused { IfErr result IsMemory }

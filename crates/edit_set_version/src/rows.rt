@@ -1,4 +1,4 @@
-//! The lines of a plan, in a row.
+//! The lines of a plan, concatenated.
 ghost use Rattle.std.specs.Prelude.{◌≡◌, ◌⊎◌, ◌++◌, IfErr, IfOk, OnOk, map, option_map, option_to_list};
 ghost use Rattle.std.specs.List.{flat_map};
 ghost use Rattle.edit_base.specs.Errors.{IsMemory};
@@ -18,7 +18,7 @@ use edit_base::CargoResult;
 use semver::Version;
 use std::alloc::{AllocError, Global};
 
-/// Adds lines at the end.
+/// Appends lines.
 fn push_all(list: Vec<Line>, lines: &mut Vec<Line>) -> Result<(), AllocError>
     ensures ok { OnOk result (map line_told lines.new.items
         ≡ map line_told lines.old.items ++ map line_told list.items) }
@@ -29,7 +29,7 @@ fn push_all(list: Vec<Line>, lines: &mut Vec<Line>) -> Result<(), AllocError>
     Ok(())
 }
 
-/// Lines in a row: the one that is given, and then those of the lists.
+/// Concatenates lines: the first one where it is given, then those of the lists.
 fn in_a_row(
     alloc: Global,
     first: Option<Line>,
@@ -48,7 +48,7 @@ fn in_a_row(
     Ok(lines)
 }
 
-/// The line of the version of the workspace, where it becomes another.
+/// The line of the workspace's version, where it changes.
 fn shared_line(
     alloc: Global,
     old: Option<&Version>,
@@ -67,8 +67,7 @@ fn shared_line(
     Ok(Some(line))
 }
 
-/// The lines of a plan: that of the workspace's old and new version, where both are there, and then those of
-/// the bumps.
+/// The lines of a plan: that of the workspace's version where it changes, then those of the bumps.
 pub(crate) fn plan_lines(
     alloc: Global,
     numbers: &Numbers<'_>,

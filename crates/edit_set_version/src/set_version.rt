@@ -1,4 +1,4 @@
-//! The version that is asked for, and what it makes of the current one.
+//! The target of `set-version`, and the next version that it makes of the current one.
 
 ghost use Rattle.std.specs.Prelude.{◌≡◌, IfErr, IfOk, IfSome, option_copied};
 ghost use Rattle.semver.specs.Identifiers.{parts_of};
@@ -16,20 +16,20 @@ use semver::Version;
 use std::alloc::Global;
 use std::str::FromStr;
 
-/// How far a version is raised.
+/// A level to raise a version by.
 #[derive(Clone, Copy, Debug, PartialEq, Eq)]
 pub enum BumpLevel {
     Major,
     Minor,
     Patch,
-    /// To the version without its pre-release.
+    /// The version without its pre-release.
     Release,
     Rc,
     Beta,
     Alpha,
 }
 
-/// The error text for an argument that is no level.
+/// The part of the error message that lists the levels.
 const LEVELS: &str = "[valid values: major, minor, patch, rc, beta, alpha]";
 
 impl FromStr for BumpLevel {
@@ -51,7 +51,7 @@ impl FromStr for BumpLevel {
     }
 }
 
-/// The version that is asked for: so far from the current one, or this one.
+/// The target: a level to raise the current version by, or a version to set.
 #[derive(Debug, Drop)]
 pub enum TargetVersion {
     Relative(BumpLevel),
@@ -59,7 +59,7 @@ pub enum TargetVersion {
 }
 
 impl Default for TargetVersion {
-    /// The current version without its pre-release.
+    /// `Relative(Release)`: the current version without its pre-release.
     fn default() -> TargetVersion
         ensures { result ≡ Relative Release }
     {
@@ -68,7 +68,7 @@ impl Default for TargetVersion {
 }
 
 impl TargetVersion {
-    /// A copy of the target on memory of its own.
+    /// Copies the target into newly allocated memory.
     pub fn try_clone(&self, _alloc: Global) -> CargoResult<TargetVersion>
         ensures same { IfOk result (λ t. target_of t ≡ target_of self.now) }
         ensures refused { IfErr result IsMemory }
@@ -79,15 +79,16 @@ impl TargetVersion {
         }
     }
 
-    /// The next version after the current one, `None` where that is the current one itself.
+    /// The next version after the current one, or `None` where that equals the current one.
     ///
-    /// A level raises the current version, though `Patch` of a pre-release and `Release` only take its
-    /// pre-release away; then the build metadata that is given is set. Refused with 16 to 19 as the
-    /// increments are.
+    /// A level raises the current version; `Patch` of a pre-release and `Release` only clear the
+    /// pre-release. Then `metadata` is set as build metadata, where it is given. Fails with
+    /// `Error::ReleaseLevel`, `Error::PrereleaseScheme`, `Error::NumberAtEnd` or `Error::InvalidMetadata`
+    /// where the increment does.
     ///
-    /// A version is taken where it is greater, build metadata included, and refused with 41 where it is
-    /// lower; where it has no build metadata it gets what is given (19 where that is none), else what the
-    /// current one has.
+    /// An absolute version is taken where it is greater, build metadata included, and fails with
+    /// `Error::Downgrade` where it is lower. Where it has no build metadata, it gets `metadata`
+    /// (`Error::InvalidMetadata` where that is not valid), else the build metadata of the current version.
     pub fn bump(
         &self,
         alloc: Global,
@@ -98,7 +99,7 @@ impl TargetVersion {
             (parts_of current.now) ≡ bumped_to next) }
         ensures refused { IfErr result (λ e. IsUnbumped (bump (target_of self.now)
             (option_copied metadata.entry) (parts_of current.now)) (parts_of current.now) e) }
-        // never to a lower version
+        // an absolute version is never lower than the current one
         ensures greater { IfOk result (λ next. IfSome next (λ v. IsGreaterUnlessRelative
             (target_of self.now) (parts_of v) (parts_of current.now))) }
         ensures readable { IsReadable (parts_of current.now) → IsReadableTarget (target_of self.now)

@@ -1,4 +1,4 @@
-//! The version that members of a workspace share.
+//! The version that members inherit from their workspace.
 ghost use Rattle.std.specs.Prelude.{◌≡◌, Some, None, IfErr, IfOk, IfSome, OnOk, if◌then◌else◌, option_and_then, option_map};
 ghost use Rattle.semver.specs.Identifiers.{parts_of};
 ghost use Rattle.semver.specs.Parse.{Parts};
@@ -18,7 +18,7 @@ use edit_manifest::Manifest;
 use semver::Version;
 use std::alloc::Global;
 
-/// The version of the workspace in its root manifest, where it is to be bumped and is one.
+/// The version of the workspace in its root manifest, where `bumps` is set and there is a valid one.
 pub(crate) fn shared_current(
     alloc: Global,
     bumps: bool,
@@ -34,7 +34,7 @@ pub(crate) fn shared_current(
     root.get_workspace_version(alloc)
 }
 
-/// The next version of the workspace, where its version becomes another.
+/// The next version of the workspace, `None` where it does not change.
 pub(crate) fn shared_next(
     alloc: Global,
     target: &TargetVersion,

@@ -1,4 +1,4 @@
-//! The lines of each bump, filled while the manifests are walked.
+//! The lines of each bump, collected while the manifests are walked.
 ghost use Rattle.std.specs.Prelude.{◌≡◌, ◌∷◌, [], All, IfOk, OnOk, map};
 ghost use Rattle.edit_set_version.specs.Crates.{bumps_seen};
 ghost use Rattle.edit_set_version.specs.Dependents.{HasRisen, dependent_seen};
@@ -9,7 +9,7 @@ use crate::dependents::DependentEntry;
 use crate::lines::{Line, bump_line, updating};
 use std::alloc::{AllocError, Global};
 
-/// A list of lines for each bump, in the order of the bumps: each begins with the line of its bump.
+/// A list of lines for each bump, in the order of the bumps, which holds the bump's own line.
 pub(crate) fn bump_lists(alloc: Global, bumps: &[Bump<'_>]) -> Result<Vec<Vec<Line>>, AllocError>
     ensures ok { IfOk result (λ ls. lists_told ls.items
         ≡ map (λ b. bump_told b ∷ []) (bumps_seen bumps.now)) }
@@ -24,7 +24,7 @@ pub(crate) fn bump_lists(alloc: Global, bumps: &[Bump<'_>]) -> Result<Vec<Vec<Li
     Ok(lists)
 }
 
-/// Adds a line to the list with a number.
+/// Appends a line to the list at an index.
 fn push_line(lists: &mut Vec<Vec<Line>>, number: usize, line: Line) -> Result<(), AllocError>
     ensures ok { OnOk result (lists_told lists.new.items
         ≡ with_line number (line_told line) (lists_told lists.old.items)) }
@@ -36,7 +36,8 @@ fn push_line(lists: &mut Vec<Vec<Line>>, number: usize, line: Line) -> Result<()
     Ok(())
 }
 
-/// Adds the line of a requirement on a bumped crate, where it becomes another text, to the list of its bump.
+/// Appends the line of a requirement on a bumped crate to the list of that bump, where the requirement
+/// changes.
 fn push_update(
     alloc: Global,
     name: &str,
@@ -56,7 +57,7 @@ fn push_update(
     }
 }
 
-/// Adds the lines of the requirements of a manifest on bumped crates, each to the list of its bump.
+/// Appends the lines of a manifest's requirements on bumped crates, each to the list of its bump.
 pub(crate) fn push_updates(
     alloc: Global,
     name: &str,

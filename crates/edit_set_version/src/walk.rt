@@ -1,4 +1,4 @@
-//! The manifests of a project, walked for the lines of their requirements on bumped crates.
+//! A walk over the manifests of a project that collects the lines of raised requirements.
 ghost use Rattle.std.specs.Prelude.{◌≡◌, ◌⊎◌, ◌∷◌, [], List, IfErr, IfOk, OnOk, map};
 ghost use Rattle.edit_base.specs.Errors.{IsMemory};
 ghost use Rattle.edit_set_version.specs.Crates.{bumps_seen, member_of, members_of, project_seen};
@@ -20,7 +20,7 @@ use edit_manifest::Manifest;
 use edit_metadata::Input;
 use std::alloc::Global;
 
-/// Adds the lines of a manifest, under a name.
+/// Appends the lines of a manifest, under the name of its package.
 fn push_manifest(
     alloc: Global,
     numbers: &Numbers<'_>,
@@ -47,7 +47,7 @@ fn push_manifest(
     Ok(())
 }
 
-/// Adds the lines of a member's manifest, where it is not the one at a path.
+/// Appends the lines of a member's manifest, unless it is the root manifest, at path `root`.
 fn push_member(
     alloc: Global,
     numbers: &Numbers<'_>,
@@ -75,7 +75,7 @@ fn push_member(
     Ok(())
 }
 
-/// Adds the lines of the members' manifests, but for the one at a path.
+/// Appends the lines of the members' manifests, but for the root manifest, at path `root`.
 fn push_members(
     alloc: Global,
     numbers: &Numbers<'_>,
@@ -95,8 +95,7 @@ fn push_members(
     Ok(())
 }
 
-/// Adds the lines of the manifests of a project: the root's, and then those of the other members in their
-/// order.
+/// Appends the lines of the manifests of a project: the root's, then those of the other members in order.
 fn push_project(
     alloc: Global,
     numbers: &Numbers<'_>,
@@ -128,8 +127,8 @@ fn push_project(
     Ok(())
 }
 
-/// A list of lines for each bump, in the order of the bumps: its own line, and then those of the requirements
-/// that follow it.
+/// A list of lines for each bump, in the order of the bumps: its own line, then those of the requirements
+/// raised to its version.
 pub(crate) fn lists_of(
     alloc: Global,
     numbers: &Numbers<'_>,

@@ -1,4 +1,4 @@
-//! What a plan writes into a manifest.
+//! The edits of a manifest.
 ghost use Rattle.std.specs.Prelude.{◌≡◌, ◌++◌, ◌∷◌, [], All, IfErr, IfOk, OnOk, codes, map, option_to_list};
 ghost use Rattle.std.specs.List.{filter_map};
 ghost use Rattle.semver.specs.Identifiers.{parts_of, parts_text};
@@ -16,10 +16,10 @@ use edit_document::{Place, Step, member_place};
 use semver::Version;
 use std::alloc::{AllocError, Global};
 
-/// A place, and the text that is written there.
+/// An edit: a place, and the string to write there.
 pub(crate) type Edit = (Place, String);
 
-/// What is written for a requirement on a bumped crate, where it becomes another text.
+/// The edit of a requirement on a bumped crate, `None` where it does not change.
 fn requirement_edit(alloc: Global, dependent: &DependentEntry<'_>) -> CargoResult<Option<Edit>>
     ensures ok { IfOk result (λ o. HasRisen dependent.now → edits_seen (option_to_list o)
         ≡ option_to_list (requirement_edit (dependent_of dependent.now))) }
@@ -35,7 +35,7 @@ fn requirement_edit(alloc: Global, dependent: &DependentEntry<'_>) -> CargoResul
     }
 }
 
-/// Adds what is written for a requirement on a bumped crate.
+/// Appends the edit of a requirement on a bumped crate.
 fn push_requirement(
     alloc: Global,
     dependent: &DependentEntry<'_>,
@@ -55,7 +55,7 @@ fn push_requirement(
     }
 }
 
-/// Adds what is written for requirements on bumped crates, in their order.
+/// Appends the edits of requirements on bumped crates, in order.
 pub(crate) fn push_requirements(
     alloc: Global,
     dependents: &[DependentEntry<'_>],
@@ -71,7 +71,7 @@ pub(crate) fn push_requirements(
     Ok(())
 }
 
-/// The place of a member of what stands at a place that is given up.
+/// The place of a key in the table at a place.
 fn keyed(alloc: Global, place: Place, name: &str) -> Result<Place, AllocError>
     ensures { IfOk result (λ p. place_seen p.items ≡ at (place_seen place.items) (key name.now)) }
 {
@@ -81,7 +81,7 @@ fn keyed(alloc: Global, place: Place, name: &str) -> Result<Place, AllocError>
     Ok(place)
 }
 
-/// What a version writes into the table at a place.
+/// The edit that sets the `version` of the table at a place.
 fn version_edit(alloc: Global, table: Place, next: &Version) -> Result<Edit, AllocError>
     ensures { IfOk result (λ e. edits_seen (e ∷ [])
         ≡ (at (place_seen table.items) (key (codes "version")), parts_text (parts_of next.now)) ∷ []) }
@@ -91,7 +91,7 @@ fn version_edit(alloc: Global, table: Place, next: &Version) -> Result<Edit, All
     Ok((place, text))
 }
 
-/// What a bumped crate that does not inherit its version writes.
+/// The edit of `package.version` for a bumped crate that does not inherit its version.
 pub(crate) fn own_edit(alloc: Global, next: &Version) -> Result<Edit, AllocError>
     ensures { IfOk result (λ e. edits_seen (e ∷ [])
         ≡ (package_version, parts_text (parts_of next.now)) ∷ []) }
@@ -100,7 +100,7 @@ pub(crate) fn own_edit(alloc: Global, next: &Version) -> Result<Edit, AllocError
     version_edit(alloc, table, next)
 }
 
-/// What the next version of the workspace writes.
+/// The edit of `workspace.package.version`.
 pub(crate) fn shared_edit(alloc: Global, next: &Version) -> Result<Edit, AllocError>
     ensures { IfOk result (λ e. edits_seen (e ∷ [])
         ≡ (shared_version, parts_text (parts_of next.now)) ∷ []) }

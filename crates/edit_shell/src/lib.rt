@@ -1,4 +1,5 @@
-//! Text that a POSIX shell evaluates: arguments and assignments that it reads back as they are.
+//! Text for a POSIX shell to evaluate: arguments and assignments, quoted so that the shell reads them
+//! unchanged.
 #![tactic(auto)]
 
 ghost use Rattle.std.specs.Prelude.{◌≡◌, ◌++◌, ◌∷◌, [], OnOk, codes, map, string_bytes};
@@ -7,8 +8,7 @@ ghost use Rattle.edit_shell.specs.Quoting.{argument_text, assignment_text, escap
 
 use std::alloc::AllocError;
 
-/// Adds a byte as it stands in single quotes. A single quote ends them, stands behind a backslash, and begins
-/// them anew.
+/// Appends a byte as it is written in single quotes. A single quote is written as `'\''`.
 fn push_escaped(text: &mut Vec<u8>, byte: u8) -> Result<(), AllocError>
     ensures { OnOk result (text.new.items ≡ text.old.items ++ escape_of byte) }
 {
@@ -18,7 +18,7 @@ fn push_escaped(text: &mut Vec<u8>, byte: u8) -> Result<(), AllocError>
     }
 }
 
-/// Adds the bytes of a value as they stand in single quotes.
+/// Appends the bytes of a value as they are written in single quotes.
 fn push_inner(text: &mut Vec<u8>, value: &[u8]) -> Result<(), AllocError>
     ensures { OnOk result (text.new.items ≡ text.old.items ++ flat_map escape_of value.now) }
 {
@@ -28,7 +28,7 @@ fn push_inner(text: &mut Vec<u8>, value: &[u8]) -> Result<(), AllocError>
     Ok(())
 }
 
-/// Adds a value in single quotes, which a shell reads as one argument with these bytes.
+/// Appends a value in single quotes, which a shell reads as one argument with these bytes.
 fn push_quoted(text: &mut Vec<u8>, value: &str) -> Result<(), AllocError>
     ensures { OnOk result (text.new.items ≡ text.old.items ++ quoted value.now) }
 {
@@ -38,7 +38,7 @@ fn push_quoted(text: &mut Vec<u8>, value: &str) -> Result<(), AllocError>
     Ok(())
 }
 
-/// Adds an argument behind a space.
+/// Appends a space and a quoted argument.
 fn push_argument(text: &mut Vec<u8>, argument: &str) -> Result<(), AllocError>
     ensures { OnOk result (text.new.items ≡ text.old.items ++ argument_text argument.now) }
 {
@@ -46,7 +46,7 @@ fn push_argument(text: &mut Vec<u8>, argument: &str) -> Result<(), AllocError>
     push_quoted(text, argument)
 }
 
-/// Adds the line `NAME='VALUE'`, which gives the variable NAME this value.
+/// Appends the line `NAME='VALUE'`, which assigns this value to the variable NAME.
 pub fn push_assignment(text: &mut Vec<u8>, name: &str, value: &str) -> Result<(), AllocError>
     ensures { OnOk result (text.new.items ≡ text.old.items ++ assignment_text name.now value.now) }
 {
@@ -57,7 +57,7 @@ pub fn push_assignment(text: &mut Vec<u8>, name: &str, value: &str) -> Result<()
     Ok(())
 }
 
-/// Adds the line `set -- 'ARGUMENT' ..`, which makes these the arguments of a script.
+/// Appends the line `set -- 'ARGUMENT' ..`, which sets the positional parameters of a script.
 pub fn push_arguments(text: &mut Vec<u8>, arguments: &[String]) -> Result<(), AllocError>
     ensures { OnOk result (text.new.items ≡ text.old.items
         ++ (codes "set --" ++ flat_map argument_text (map string_bytes arguments.now) ++ 10 ∷ [])) }

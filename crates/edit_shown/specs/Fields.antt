@@ -1,4 +1,4 @@
--- What the members of a message have, as JSON (own).
+-- The values of a message's members, as JSON (own).
 use Rattle.std.specs.Prelude.{ℕ, List, map, Option, Some, None, option_map, String, string_bytes}
 use Rattle.std.specs.declared.alloc.Global.{Global}
 use Rattle.serde_json.specs.Data.{Data, array, boolean, null, number, string, unsigned}
@@ -9,25 +9,25 @@ use Rattle.edit_shown.specs.declared.json.fields.Field.{Field}
 use Rattle.edit_shown.specs.declared.json.fields.Field.TheVariants as field
 use Rattle.edit_shown.specs.declared.json.fields.Member.{Member}
 
--- a text (own)
+-- a string (own)
 abbrev pub text_data : String Global → Data
 text_data text = string (string_bytes text)
 
--- a text, or null for none (own)
+-- a string, or null where there is none (own)
 abbrev pub text_or_null : Option (List ℕ) → Data
 text_or_null None = null
 text_or_null (Some text) = string text
 
--- a list (own)
+-- an array (own)
 abbrev pub list_data : {A : Type 0} → (A → Data) → List A → Data
 list_data of xs = array (items_of (map of xs))
 
--- a step of a place: a key as a text, an index as a number (own)
+-- a step of a place: a key as a string, an index as a number (own)
 abbrev pub step_data : Step → Data
 step_data (Key key) = string (string_bytes key)
 step_data (Index index) = number (unsigned index)
 
--- what a member has (own)
+-- the value of a member (own)
 abbrev pub field_data : Field → Data
 field_data (field.Text text) = string text.now
 field_data (field.Maybe text) = text_or_null (option_map (λ t. t.now) text)
@@ -36,6 +36,6 @@ field_data (field.Texts texts) = list_data text_data texts.now
 field_data (field.Lists lists) = list_data (λ l. list_data text_data l.items) lists.now
 field_data (field.Place steps) = list_data step_data steps.now
 
--- a member: its key and what it has (own)
+-- a member: its key and its value (own)
 abbrev pub member_data : Member → List ℕ × Data
 member_data m = (m.key.now, field_data m.field)

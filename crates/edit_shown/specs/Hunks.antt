@@ -1,12 +1,12 @@
--- The parts of a unified diff: a head, and lines behind their signs
--- (POSIX, "diff", Diff -u or -U Output Format).
+-- The hunks of a unified diff: a header, then lines after a space, `-` or `+` (POSIX, "diff", Diff -u or -U
+-- Output Format).
 use Rattle.std.specs.Prelude.{◌≡◌, ℕ, ◌+◌, ◌-◌, List, [], ◌∷◌, ◌++◌, Bool, not, ◌||◌, ◌==◌, codes, decimal, length, drop, take, slice_index, slice_index_or, if◌then◌else◌}
 use Rattle.std.specs.List.{count_by, flat_map, range_with_len}
 use Rattle.edit_shown.specs.declared.diff.marks.Mark.{Mark}
 use Rattle.edit_shown.specs.declared.diff.marks.Mark.TheVariants.{Kept, Removed, Added}
 use Rattle.edit_shown.specs.Shown.{is_new, is_old, is_shown, leading, shown_lines}
 
--- the sign of a line (POSIX, "diff", Diff -u)
+-- the character before a line (POSIX, "diff", Diff -u)
 abbrev pub sign : Mark → ℕ
 sign Kept = 32
 sign Removed = 45
@@ -16,60 +16,60 @@ sign Added = 43
 abbrev pub ends_with_feed : List ℕ → Bool
 ends_with_feed line = slice_index line (length line - 1) == 10
 
--- what follows a line: a note where its text ends without a line feed (POSIX, "diff", Diff -u)
+-- the note after a line whose text ends without a line feed, else nothing (POSIX, "diff", Diff -u)
 abbrev pub note : List ℕ → List ℕ
 note line = if ends_with_feed line then [] else codes "\n\\ No newline at end of file\n"
 
--- a line behind its sign (POSIX, "diff", Diff -u)
+-- a line after its character (POSIX, "diff", Diff -u)
 abbrev pub line_text : Mark → List ℕ → List ℕ
 line_text mark line = sign mark ∷ (line ++ note line)
 
--- the number of the first of some lines; where there are none, of the line before them
--- (POSIX, "diff", Diff -u)
+-- the number of the first line of a range; for an empty range that of the line before it (POSIX, "diff",
+-- Diff -u)
 abbrev pub first_number : ℕ → ℕ → ℕ
 first_number before count = if count == 0 then before else before + 1
 
--- from which line on, and how many; one line has its number alone (POSIX, "diff", Diff -u)
+-- a range as its first number and its length; for one line only its number (POSIX, "diff", Diff -u)
 abbrev pub range_text : ℕ → ℕ → List ℕ
 range_text before count =
     if count == 1 then decimal (first_number before count)
     else decimal (first_number before count) ++ (codes "," ++ decimal count)
 
--- how many lines of the old and of the new text are among lines (own)
+-- the numbers of lines of the old and of the new text among lines (own)
 pub record AreCounted (marks : List Mark) (old new : ℕ) : Type 0 where
   pub old_lines : old ≡ count_by is_old marks
   pub new_lines : new ≡ count_by is_new marks
 
--- the head of a part behind so many lines of the old and of the new text (POSIX, "diff", Diff -u)
+-- the header of a hunk, from the numbers of old and new lines before it (POSIX, "diff", Diff -u)
 abbrev pub head_behind : ℕ → ℕ → List Mark → List ℕ
 head_behind old new part =
     codes "@@ -" ++ (range_text old (count_by is_old part)
     ++ (codes " +" ++ (range_text new (count_by is_new part) ++ codes " @@\n")))
 
--- the head of a part behind some lines (POSIX, "diff", Diff -u)
+-- the header of a hunk after some lines (POSIX, "diff", Diff -u)
 abbrev pub head_text : List Mark → List Mark → List ℕ
 head_text before part = head_behind (count_by is_old before) (count_by is_new before) part
 
--- the head of the part that begins at a line: it has all lines that are shown in a row (own)
+-- the header of the hunk that begins at a line: the hunk has all consecutive lines that are shown (own)
 abbrev pub head_at : List Mark → ℕ → List ℕ
 head_at marks i =
     head_text (take i marks) (take (leading (drop i (shown_lines marks))) (drop i marks))
 
--- whether a part begins at a line that is shown (own)
+-- whether a hunk begins at a line that is shown (own)
 abbrev pub begins : List Mark → ℕ → Bool
 begins marks i = (i == 0) || not (is_shown marks (i - 1))
 
--- the head that stands before a line that is shown (own)
+-- the header before a line that is shown, where a hunk begins there (own)
 abbrev pub head_where : List Mark → ℕ → List ℕ
 head_where marks i = if begins marks i then head_at marks i else []
 
--- what stands of a line in a diff (own)
+-- the text of a line in a diff, where it is shown (own)
 abbrev pub text_at : List Mark → List (List ℕ) → ℕ → List ℕ
 text_at marks lines i =
     if is_shown marks i
     then head_where marks i ++ line_text (slice_index_or marks i Kept) (slice_index_or lines i [])
     else []
 
--- the parts of a diff (own)
+-- the hunks of a diff (own)
 abbrev pub parts_text : List Mark → List (List ℕ) → List ℕ
 parts_text marks lines = flat_map (text_at marks lines) (range_with_len 0 (length marks))

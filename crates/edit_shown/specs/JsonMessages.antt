@@ -16,15 +16,15 @@ use Rattle.edit_shown.specs.declared.json.messages.Summary.{Summary}
 abbrev pub MessageMembers : Type 0
 MessageMembers = List (List ℕ × Data)
 
--- one member more (own)
+-- the members with one more (own)
 abbrev pub with_member : Members → List ℕ × Data → Members
 with_member members m = put m.0 m.1 members
 
--- the member that each message has beside its own: the number of this format (own)
+-- the member that each message has beside its own: the version of this format (own)
 abbrev pub format_member : Members
 format_member = put (codes "version") (number (unsigned 1)) no_members
 
--- the object of the format's number and of some members, which stand in the byte order of their keys (own)
+-- the object of the format's version and of some members, in the byte order of their keys (own)
 abbrev pub message_data : MessageMembers → Data
 message_data members = object (fold with_member format_member members)
 
@@ -32,7 +32,7 @@ message_data members = object (fold with_member format_member members)
 abbrev pub message_text : MessageMembers → List ℕ
 message_text members = compact_text (message_data members) ++ 10 ∷ []
 
--- the word of a reason (own)
+-- the text of a reason (own)
 abbrev pub why_word : Option Reason → Option (List ℕ)
 why_word None = None
 why_word (Some reason.Latest) = Some (codes "latest")
@@ -43,7 +43,7 @@ why_word (Some reason.GitSource) = Some (codes "git")
 why_word (Some reason.PathSource) = Some (codes "local")
 why_word (Some reason.Excluded) = Some (codes "excluded")
 
--- the word of a change (own)
+-- the text of a kind of change (own)
 abbrev pub change_word : Option Change → Option (List ℕ)
 change_word None = None
 change_word (Some change.Explicit) = Some (codes "explicit")
@@ -66,7 +66,7 @@ row_members manifest row =
     ∷ (codes "change", text_or_null (change_word row.change))
     ∷ []
 
--- a warning on a manifest (own)
+-- a warning about a manifest (own)
 abbrev pub warning_members : List ℕ → List ℕ → MessageMembers
 warning_members manifest warning =
     (codes "reason", string (codes "upgrade-warning"))
@@ -82,7 +82,7 @@ file_members manifest written =
     ∷ (codes "written", boolean written)
     ∷ []
 
--- what an upgrade says last (own)
+-- the summary of an upgrade (own)
 abbrev pub summary_members : Summary → MessageMembers
 summary_members summary =
     (codes "reason", string (codes "upgrade-summary"))
@@ -95,7 +95,7 @@ summary_members summary =
     ∷ (codes "update_calls", list_data (λ l. list_data text_data l.items) summary.update_calls.now)
     ∷ []
 
--- a line of `set-version`: what is done, and to what (own)
+-- a line of `set-version`: an action and its text (own)
 abbrev pub change_members : List ℕ → List ℕ → MessageMembers
 change_members action message =
     (codes "reason", string (codes "set-version-change"))

@@ -11,12 +11,12 @@ abbrev pub lines_of : List ℕ → List (List ℕ)
 lines_of [] = []
 lines_of (b ∷ text) = if b == 10 then (b ∷ []) ∷ lines_of text else onto b (lines_of text)
 
--- how long the first line is (own)
+-- the length of the first line (own)
 abbrev pub line_length : List ℕ → ℕ
 line_length [] = 0
 line_length (b ∷ text) = if b == 10 then 1 else suc (line_length text)
 
--- a text is cut behind its first line (own)
+-- a text is split after its first line (own)
 pub record IsCut (text line rest : List ℕ) : Type 0 where
   pub lines : lines_of text ≡ line ∷ lines_of rest
   pub shorter : length rest < length text

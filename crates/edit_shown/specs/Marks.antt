@@ -1,15 +1,15 @@
--- The lines of two texts, compared one by one (own).
+-- Two texts compared line by line, each line with the one at the same index (own).
 use Rattle.std.specs.Prelude.{ℕ, max, Bool, List, [], ◌∷◌, Option, Some, None, length, map, slice_get, if◌then◌else◌}
 use Rattle.std.specs.List.{flat_map, range_with_len, filter}
 use Rattle.std.specs.Str.{bytes_eq}
 use Rattle.edit_shown.specs.declared.diff.marks.Mark.{Mark}
 use Rattle.edit_shown.specs.declared.diff.marks.Mark.TheVariants.{Kept, Removed, Added}
 
--- a line and what becomes of it (own)
+-- a line, and whether it is unchanged, removed or added (own)
 abbrev pub MarkedLine : Type 0
 MarkedLine = Mark × List ℕ
 
--- what becomes of the lines at one number of two texts (own)
+-- the result for the lines at one index of two texts (own)
 abbrev pub marked_at : Option (List ℕ) → Option (List ℕ) → List MarkedLine
 marked_at (Some old) (Some new) =
     if bytes_eq old new then (Kept, old) ∷ [] else (Removed, old) ∷ (Added, new) ∷ []
@@ -17,12 +17,12 @@ marked_at (Some old) None = (Removed, old) ∷ []
 marked_at None (Some new) = (Added, new) ∷ []
 marked_at None None = []
 
--- the lines of two texts, each against the one at its number (own)
+-- the result for all lines of two texts, each with the one at the same index (own)
 abbrev pub marked : List (List ℕ) → List (List ℕ) → List MarkedLine
 marked olds news = flat_map (λ i. marked_at (slice_get olds i) (slice_get news i))
     (range_with_len 0 (max (length olds) (length news)))
 
--- what becomes of each (own)
+-- the marks alone (own)
 abbrev pub marks_in : List MarkedLine → List Mark
 marks_in lines = map (λ line. line.0) lines
 
@@ -30,6 +30,6 @@ marks_in lines = map (λ line. line.0) lines
 abbrev pub lines_in : List MarkedLine → List (List ℕ)
 lines_in lines = map (λ line. line.1) lines
 
--- the lines of some marks (own)
+-- the lines that have certain marks (own)
 abbrev pub lines_with : (Mark → Bool) → List MarkedLine → List (List ℕ)
 lines_with is lines = lines_in (filter (λ line. is line.0) lines)

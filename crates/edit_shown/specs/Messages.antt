@@ -1,4 +1,4 @@
--- What is reported as JSON: messages, one a line (own).
+-- JSON messages, one a line (own).
 use Rattle.std.specs.Prelude.{ℕ, List, [], ◌∷◌, ◌++◌, not, ◌||◌, String, Vec, codes, map, slice_get, string_bytes}
 use Rattle.std.specs.List.{flat_map}
 use Rattle.std.specs.Option.{option_map_or}
@@ -13,7 +13,7 @@ use Rattle.edit_report.specs.declared.row.Row.{Row}
 use Rattle.edit_upgrade.specs.declared.upgrade.UpgradePlan.{UpgradePlan}
 use Rattle.edit_upgrade.specs.declared.upgrade.Warning.{Warning}
 
--- the path of the input with this number; the empty text where there is none (own)
+-- the path of the input at this index; the empty text where there is none (own)
 abbrev pub path_at : List Input → ℕ → List ℕ
 path_at inputs i = option_map_or (λ input. string_bytes input.path) (slice_get inputs i) []
 
@@ -25,15 +25,15 @@ row_message inputs row = message_text (row_members (path_at inputs row.input) ro
 abbrev pub warning_message : List Input → Warning → List ℕ
 warning_message inputs w = message_text (warning_members (path_at inputs w.input) (string_bytes w.text))
 
--- a manifest that changes: written, but at a dry run and where the manifests are locked (own)
+-- a manifest that changes: not written with a dry run and where the manifests are locked (own)
 abbrev pub file_message : Options → Output → List ℕ
 file_message o output = message_text (file_members (string_bytes output.path) (not (o.dry_run || o.locked)))
 
--- calls of `cargo update`, each as its words (own)
+-- calls of `cargo update`, each as its arguments (own)
 abbrev pub calls_shown : List (Vec (String Global) Global) → List (List (List ℕ))
 calls_shown calls = map (λ call. map string_bytes call.items) calls
 
--- the members of what an upgrade says last, with the calls of `cargo update` that are due (own)
+-- the members of the summary, with the calls of `cargo update` that follow (own)
 abbrev pub summary_members : UpgradePlan → Options → List (List (List ℕ)) → MessageMembers
 summary_members plan o calls =
     (codes "reason", string (codes "upgrade-summary"))
@@ -46,7 +46,7 @@ summary_members plan o calls =
     ∷ (codes "update_calls", list_data (λ call. list_data string call) calls)
     ∷ []
 
--- what an upgrade says last (own)
+-- the summary of an upgrade (own)
 abbrev pub summary_message : UpgradePlan → Options → List (List (List ℕ)) → List ℕ
 summary_message plan o calls = message_text (summary_members plan o calls)
 
@@ -58,7 +58,7 @@ messages plan inputs o calls =
     ++ (flat_map (file_message o) plan.outputs.items
     ++ summary_message plan o calls))
 
--- a line of new versions: what is done, and to what (own)
+-- a line of new versions: an action and its text (own)
 abbrev pub line_shown : String Global × String Global → List ℕ × List ℕ
 line_shown line = (string_bytes line.0, string_bytes line.1)
 

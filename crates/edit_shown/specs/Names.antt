@@ -4,11 +4,11 @@ use Rattle.std.specs.Prelude.{ℕ, ◌/◌, ◌%◌, ◌+◌, List, [], ◌∷�
 use Rattle.std.specs.List.{flat_map, list_all, list_any}
 use Rattle.std.specs.Option.{option_map_or}
 
--- whether a byte stands for itself: printable ASCII other than `"` and `\` (git, core.quotePath)
+-- whether a byte needs no escape: printable ASCII other than `"` and `\` (git, core.quotePath)
 abbrev pub is_plain : ℕ → Bool
 is_plain b = nat_le 32 b && nat_le b 126 && not ((b == 34) || (b == 92))
 
--- the letter behind the backslash, where the byte has one (C, "Character constants")
+-- the letter that escapes a byte after a backslash, where there is one (C, "Character constants")
 abbrev pub letter_of : ℕ → Option ℕ
 letter_of b =
     if b == 7 then Some 97
@@ -21,18 +21,17 @@ letter_of b =
     else if (b == 34) || (b == 92) then Some b
     else None
 
--- three octal digits of a byte (C, "Character constants")
+-- a byte as three octal digits (C, "Character constants")
 abbrev pub octal_digits : ℕ → List ℕ
 octal_digits b = (48 + b / 64) ∷ (48 + b / 8 % 8) ∷ (48 + b % 8) ∷ []
 
--- a byte in quotes (git, core.quotePath)
+-- a byte as it is written in double quotes (git, core.quotePath)
 abbrev pub escape_of : ℕ → List ℕ
 escape_of b =
     if is_plain b then b ∷ []
     else 92 ∷ option_map_or (λ letter. letter ∷ []) (letter_of b) (octal_digits b)
 
--- a name behind `a/` or `b/`: in quotes where one of its bytes does not stand for itself (git,
--- core.quotePath)
+-- a name after `a/` or `b/`: in double quotes where one of its bytes needs an escape (git, core.quotePath)
 abbrev pub quoted_name : List ℕ → List ℕ → List ℕ
 quoted_name side path =
     if list_all is_plain path then side ++ path
@@ -42,6 +41,6 @@ quoted_name side path =
 abbrev pub name_end : List ℕ → List ℕ
 name_end path = if list_any (λ b. b == 32) path then codes "\t" else []
 
--- a name on a line of its own, behind `a/` or `b/`
+-- a name on a line of its own, after `a/` or `b/`
 abbrev pub name_text : List ℕ → List ℕ → List ℕ
 name_text side path = quoted_name side path ++ (name_end path ++ codes "\n")

@@ -22,7 +22,7 @@ is_new Kept = true
 is_new Removed = false
 is_new Added = true
 
--- whether the line at a number is shown (own)
+-- whether the line at an index is shown (own)
 abbrev pub is_shown : List Mark → ℕ → Bool
 is_shown marks i = list_any is_change (slice_range marks (i - 3) (min (i + 4) (length marks)))
 
@@ -30,7 +30,7 @@ is_shown marks i = list_any is_change (slice_range marks (i - 3) (min (i + 4) (l
 abbrev pub shown_lines : List Mark → List Bool
 shown_lines marks = map (is_shown marks) (range_with_len 0 (length marks))
 
--- how many lines are shown in a row (own)
+-- the number of leading lines that are shown (own)
 abbrev pub leading : List Bool → ℕ
 leading [] = 0
 leading (true ∷ shown) = suc (leading shown)

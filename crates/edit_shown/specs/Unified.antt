@@ -1,4 +1,4 @@
--- The change of a file as a unified diff (POSIX, "diff", Diff -u or -U Output Format).
+-- The unified diff of two texts of a file (POSIX, "diff", Diff -u or -U Output Format).
 use Rattle.std.specs.Prelude.{ℕ, List, [], ◌++◌, codes, if◌then◌else◌}
 use Rattle.std.specs.Str.{bytes_eq}
 use Rattle.edit_shown.specs.Hunks.{parts_text}
@@ -11,11 +11,11 @@ abbrev pub names_text : List ℕ → List ℕ
 names_text path =
     codes "--- " ++ (name_text (codes "a/") path ++ (codes "+++ " ++ name_text (codes "b/") path))
 
--- the parts of a diff of lines that are compared (own)
+-- the hunks of a diff of compared lines (own)
 abbrev pub parts_of : List MarkedLine → List ℕ
 parts_of lines = parts_text (marks_in lines) (lines_in lines)
 
--- the change of a file; nothing where nothing changes (own)
+-- the unified diff of two texts of a file; empty where they are equal (own)
 abbrev pub diff_text : List ℕ → List ℕ → List ℕ → List ℕ
 diff_text path old new =
     if bytes_eq old new then []

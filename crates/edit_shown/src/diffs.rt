@@ -1,4 +1,4 @@
-//! The changes of manifests as unified diffs.
+//! Unified diffs of manifests.
 ghost use Rattle.std.specs.Prelude.{◌≡◌, ◌⊎◌, IfErr, IfOk, OnOk};
 ghost use Rattle.std.specs.Io.KnownBytes.{Appends};
 ghost use Rattle.edit_base.specs.Errors.{IsMemory};
@@ -13,14 +13,14 @@ use edit_report::Output;
 use std::alloc::Global;
 use std::io;
 
-/// Whether an output is this input's.
+/// Whether an output is that of this input.
 fn is_of(input: &Input, output: &Output) -> bool
     ensures { result ≡ is_of input.now output.now }
 {
     input.path.as_str() == output.path.as_str()
 }
 
-/// Prints the change of a manifest.
+/// Prints the diff of a manifest.
 fn print_diff<O: io::Write>(
     alloc: Global,
     root: &str,
@@ -36,7 +36,7 @@ fn print_diff<O: io::Write>(
     write_diff(alloc, out, path, &input.bytes, &output.bytes)
 }
 
-/// Prints the change of an input where the first output is its own. Answers the outputs of the other inputs.
+/// Prints the diff of an input where the first output is its own. Returns the outputs of the other inputs.
 fn print_next<'a, O: io::Write>(
     alloc: Global,
     root: &str,
@@ -59,9 +59,9 @@ fn print_next<'a, O: io::Write>(
     Ok(others)
 }
 
-/// Prints the change of each manifest as a unified diff, by its path below the folder `root` (another path
-/// without its first `/`), as `git apply` and `patch -p1` take it there. Outputs stand in the order of their
-/// inputs.
+/// Prints the unified diff of each manifest that changes. Paths are relative to the folder `root` (other
+/// paths lose their first `/`), so that `git apply` and `patch -p1` accept the diff there. Outputs must be
+/// in the order of their inputs.
 pub fn print_diffs<O: io::Write>(
     alloc: Global,
     root: &str,

@@ -1,4 +1,4 @@
-//! What is reported as JSON, one object a line.
+//! JSON output, one object a line.
 
 mod fields;
 pub mod messages;

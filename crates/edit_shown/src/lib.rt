@@ -1,4 +1,4 @@
-//! What standard output has of a plan in other forms than its tables: as JSON, and as unified diffs.
+//! The output of a plan in forms other than tables: JSON, and unified diffs.
 #![tactic(auto)]
 
 mod changes;

@@ -15,7 +15,7 @@ use edit_upgrade::{Options, UpgradePlan, Warning};
 use std::alloc::Global;
 use std::io;
 
-/// The path of the input with this number; the empty text where there is none.
+/// The path of the input at this index; the empty text where there is none.
 fn path_at(inputs: &[Input], i: usize) -> &str
     ensures { result.now ≡ spec.path_at inputs.now i }
 {
@@ -123,7 +123,7 @@ fn print_files<O: io::Write>(
     Ok(())
 }
 
-/// What a plan and its calls come to.
+/// The summary of a plan and its calls.
 fn summary_of<'a>(plan: &'a UpgradePlan, options: &Options, calls: &'a [Vec<String>]) -> Summary<'a>
     ensures { summary_members result
         ≡ spec.summary_members plan.now options.now (spec.calls_shown calls.now) }

@@ -1,4 +1,4 @@
-//! Paths of manifests as a diff has them.
+//! Paths of manifests in a diff.
 ghost use Rattle.std.specs.Prelude.{◌≡◌, IfErr, IfOk, string_bytes};
 ghost use Rattle.edit_base.specs.Errors.{IsMemory};
 ghost use Rattle.edit_shown.specs.Diffs.{below, folder_text, shown_path};
@@ -6,7 +6,7 @@ ghost use Rattle.edit_shown.specs.Diffs.{below, folder_text, shown_path};
 use edit_base::CargoResult;
 use std::alloc::Global;
 
-/// A folder's path with the `/` that ends it.
+/// A folder's path with a `/` at its end.
 fn folder_text(alloc: Global, folder: &str) -> CargoResult<String>
     ensures text { IfOk result (λ s. string_bytes s ≡ folder_text folder.now) }
     ensures refused { IfErr result IsMemory }
@@ -17,7 +17,7 @@ fn folder_text(alloc: Global, folder: &str) -> CargoResult<String>
     Ok(format!(in alloc; "{folder}/")?)
 }
 
-/// A path as it is shown below a folder: what stands behind the folder, else behind the first `/`.
+/// A path relative to a folder, or without its first `/` where it is not in the folder.
 fn below<'a>(folder: &str, path: &'a str) -> &'a str
     ensures { result.now ≡ below folder.now path.now }
 {
@@ -30,7 +30,7 @@ fn below<'a>(folder: &str, path: &'a str) -> &'a str
     }
 }
 
-/// A path as it is shown in a folder.
+/// The path of a file in a diff whose paths are relative to a folder.
 pub(crate) fn shown_path<'a>(alloc: Global, folder: &str, path: &'a str) -> CargoResult<&'a str>
     ensures text { IfOk result (λ s. s.now ≡ shown_path folder.now path.now) }
     ensures refused { IfErr result IsMemory }

@@ -1,16 +1,16 @@
-//! In what form standard output has a plan.
+//! The output format of a plan.
 
-/// In what form a report stands on standard output.
+/// The format of a report on standard output.
 #[derive(Clone, Copy, Debug)]
 pub enum MessageFormat {
     Human,
     Json,
 }
 
-/// What standard output has of a plan.
+/// What is printed of a plan on standard output.
 #[derive(Clone, Copy, Debug)]
 pub struct Presentation {
     pub format: MessageFormat,
-    /// Whether the change of each manifest is shown as a unified diff.
+    /// Whether the diff of each manifest is printed.
     pub diff: bool,
 }

@@ -1,19 +1,19 @@
-//! A line of a text as an error shows it, with a caret below the place at fault.
+//! A line of a text as an error shows it, with a caret below the column of the error.
 
 use std::alloc::{AllocError, Global};
 use std::str;
 
-/// How many bytes a line may have to be shown.
+/// The greatest length in bytes of a line that is shown.
 const LONGEST_LINE: usize = 200;
 
-/// Whether a character would change what a terminal shows besides it: one that controls the terminal, or
-/// one that turns the direction of the text.
+/// Whether a character must be escaped in a terminal: a control character, or one that changes the
+/// direction of the text.
 fn is_escaped(c: char) -> bool {
     c.is_control()
         || matches!(c, '\u{200e}' | '\u{200f}' | '\u{2028}'..='\u{202e}' | '\u{2066}'..='\u{2069}')
 }
 
-/// A character as it is shown: a tab as a space, and each other one that a terminal would obey by its number.
+/// A character as it is shown: a tab as a space, and each other escaped character by its code point.
 fn shown_char(alloc: Global, c: char) -> Result<String, AllocError> {
     if c == '\t' {
         return String::from_str(alloc, " ");
@@ -27,7 +27,7 @@ fn shown_char(alloc: Global, c: char) -> Result<String, AllocError> {
     Ok(text)
 }
 
-/// Adds as many spaces as a character takes where it is shown.
+/// Appends as many spaces as a character is wide where it is shown.
 fn push_spaces(pad: &mut String, shown: &str) -> Result<(), AllocError> {
     for _c in shown.chars() {
         pad.push(' ')?;
@@ -50,7 +50,7 @@ fn shown_line(alloc: Global, line: &str, column: usize) -> Result<(String, Strin
     Ok((text, pad))
 }
 
-/// The line of a number, which counts from 1, without its line end.
+/// The line with this number, which counts from 1, without its line end.
 fn line_at(bytes: &[u8], number: usize) -> Option<&str> {
     let wanted = number.saturating_sub(1);
     for (i, line) in bytes.split(|b| *b == b'\n').enumerate() {
@@ -62,8 +62,8 @@ fn line_at(bytes: &[u8], number: usize) -> Option<&str> {
     None
 }
 
-/// Three lines that show a line of a text and its character at a column; none where the line is not UTF-8,
-/// is longer than 200 bytes, or memory ran out.
+/// An excerpt of three lines that shows a line of a text, with a caret below a column. `None` where the
+/// line is not UTF-8, is longer than 200 bytes, or memory ran out.
 pub(crate) fn excerpt(alloc: Global, bytes: &[u8], line: usize, column: usize) -> Option<String> {
     let text = line_at(bytes, line)?;
     if text.len() > LONGEST_LINE {

@@ -1,4 +1,4 @@
-//! Where an error of a plan arose.
+//! The input that caused an error of a plan.
 ghost use Rattle.std.specs.Prelude.{◌≡◌};
 
 use crate::refusal::{Refusal, at_byte};
@@ -7,7 +7,7 @@ use edit_manifest::Manifest;
 use edit_metadata::Input;
 use std::alloc::Global;
 
-/// Whether an input is no manifest, for this refusal.
+/// Whether parsing the manifest of an input fails with this error.
 fn is_refused(alloc: Global, input: &Input, error: &Error) -> bool {
     match Manifest::read_bytes(alloc, &input.bytes) {
         Ok(_) => false,
@@ -15,7 +15,8 @@ fn is_refused(alloc: Global, input: &Input, error: &Error) -> bool {
     }
 }
 
-/// A refusal of a plan, with its place where an input is no manifest: it is that of the first such input.
+/// Adds to an error of a plan the place of the first input whose manifest cannot be parsed, where that is
+/// the error.
 pub fn at_input(alloc: Global, error: Error, inputs: &[Input]) -> Refusal
     ensures { result.error ≡ error }
 {

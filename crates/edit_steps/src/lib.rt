@@ -1,5 +1,5 @@
-//! Steps that the commands share: refusals with their place, paths of the command line, the workspace that
-//! is read, and the files that are written.
+//! Steps that the commands share: errors with their place, paths of the command line, reading the
+//! workspace, and writing files.
 #![tactic(auto)]
 
 mod excerpt;

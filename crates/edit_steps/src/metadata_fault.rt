@@ -1,4 +1,4 @@
-//! What is wrong with the metadata of a workspace.
+//! What is invalid in the metadata of a workspace.
 ghost use Rattle.std.specs.Prelude.{◌≡◌};
 
 use crate::refusal::{Refusal, at_path};
@@ -7,10 +7,10 @@ use semver::Version;
 use serde_json::Value;
 use std::alloc::Global;
 
-/// What a user can do about metadata that are not read.
+/// The help for metadata that cannot be read.
 const HELP: &str = "the file has to be what `cargo metadata --format-version 1` prints";
 
-/// The text of a member, where it is a string.
+/// The value of a key, where it is a string.
 fn text_at<'a>(value: &'a Value, name: &str) -> Option<&'a str> {
     match value.get(name) {
         Some(member) => member.as_str(),
@@ -18,7 +18,7 @@ fn text_at<'a>(value: &'a Value, name: &str) -> Option<&'a str> {
     }
 }
 
-/// Whether a member is the text of an absolute path.
+/// Whether the value of a key is an absolute path.
 fn is_path(value: &Value, name: &str) -> bool {
     match text_at(value, name) {
         Some(path) => path.starts_with('/'),
@@ -26,7 +26,7 @@ fn is_path(value: &Value, name: &str) -> bool {
     }
 }
 
-/// Whether a member is a string, or left out.
+/// Whether the value of a key is a string, or the key is absent.
 fn is_text_or_none(value: &Value, name: &str) -> bool {
     match value.get(name) {
         None | Some(Value::Null | Value::String(_)) => true,
@@ -34,7 +34,7 @@ fn is_text_or_none(value: &Value, name: &str) -> bool {
     }
 }
 
-/// Whether the member `version` is a version.
+/// Whether the value of `version` is a valid version.
 fn has_version(alloc: Global, package: &Value) -> bool {
     match text_at(package, "version") {
         Some(text) => Version::parse(alloc, text).is_ok(),
@@ -42,7 +42,7 @@ fn has_version(alloc: Global, package: &Value) -> bool {
     }
 }
 
-/// What is wrong with a package; none where nothing is.
+/// What is invalid in a package; `None` where nothing is.
 fn package_fault(alloc: Global, package: &Value) -> Option<&'static str> {
     if text_at(package, "name").is_none() {
         return Some("`name` is not a string");
@@ -65,7 +65,7 @@ fn package_fault(alloc: Global, package: &Value) -> Option<&'static str> {
     None
 }
 
-/// What is wrong with the first package of these that is at fault, by its name where it has one.
+/// What is invalid in the first invalid package, with its name where it has one.
 fn packages_fault(alloc: Global, packages: &[Value]) -> Option<String> {
     for (i, package) in packages.iter().enumerate() {
         if let Some(fault) = package_fault(alloc, package) {
@@ -78,7 +78,7 @@ fn packages_fault(alloc: Global, packages: &[Value]) -> Option<String> {
     None
 }
 
-/// What is wrong with metadata that are JSON; none where it is not found.
+/// What is invalid in metadata that are valid JSON; `None` where that is not found.
 fn value_fault(alloc: Global, metadata: &Value) -> Option<String> {
     if !is_path(metadata, "workspace_root") {
         return String::from_str(alloc, "`workspace_root` is not an absolute path").ok();
@@ -103,7 +103,8 @@ fn value_fault(alloc: Global, metadata: &Value) -> Option<String> {
     }
 }
 
-/// The place and the cause of metadata that are refused: JSON's own position, or the member that is at fault.
+/// The place and the cause of an error of metadata: the position of a JSON syntax error, or the key whose
+/// value is invalid.
 fn place_and_cause(alloc: Global, path: &str, bytes: &[u8]) -> (Option<String>, Option<String>) {
     match Value::from_slice(alloc, bytes) {
         Ok(value) => (
@@ -121,7 +122,7 @@ fn place_and_cause(alloc: Global, path: &str, bytes: &[u8]) -> (Option<String>, 
     }
 }
 
-/// An error of the metadata in the file at a path.
+/// Adds place and cause to an error of the metadata in the file at a path.
 pub(crate) fn at_metadata(alloc: Global, error: Error, path: &str, bytes: &[u8]) -> Refusal
     ensures { result.error ≡ error }
 {

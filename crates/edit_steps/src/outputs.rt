@@ -9,7 +9,7 @@ use edit_report::Output;
 use edit_store::Store;
 use std::alloc::{AllocError, Global};
 
-/// Makes the write of an output ready. No file changes.
+/// Stages the write of an output. No file changes.
 fn stage_output<S: Store>(alloc: Global, output: &Output, files: &mut S) -> RunResult<()>
     ensures tells { (S.view files.new).tells ≡ (S.view files.old).tells }
     ensures later { (S.view files.old).faults ≤ (S.view files.new).faults }
@@ -26,7 +26,7 @@ fn stage_output<S: Store>(alloc: Global, output: &Output, files: &mut S) -> RunR
     }
 }
 
-/// Brings the write of an output that is ready to the disk. No file changes.
+/// Flushes the staged write of an output to the disk. No file changes.
 fn flush_output<S: Store>(alloc: Global, output: &Output, files: &mut S) -> RunResult<()>
     ensures tells { (S.view files.new).tells ≡ (S.view files.old).tells }
     ensures later { (S.view files.old).faults ≤ (S.view files.new).faults }
@@ -43,7 +43,7 @@ fn flush_output<S: Store>(alloc: Global, output: &Output, files: &mut S) -> RunR
     }
 }
 
-/// Compares the file of an output with what was read of it. No file changes.
+/// Verifies that the file of an output still has the bytes that were read. No file changes.
 fn verify_output<S: Store>(alloc: Global, output: &Output, files: &mut S) -> RunResult<()>
     ensures tells { (S.view files.new).tells ≡ (S.view files.old).tells }
     ensures later { (S.view files.old).faults ≤ (S.view files.new).faults }
@@ -60,7 +60,7 @@ fn verify_output<S: Store>(alloc: Global, output: &Output, files: &mut S) -> Run
     }
 }
 
-/// Makes the writes of the outputs ready, in order. No file changes.
+/// Stages the writes of the outputs, in order. No file changes.
 fn stage_all<S: Store>(alloc: Global, outputs: &[Output], files: &mut S) -> RunResult<()>
     ensures tells { (S.view files.new).tells ≡ (S.view files.old).tells }
     ensures later { (S.view files.old).faults ≤ (S.view files.new).faults }
@@ -77,7 +77,7 @@ fn stage_all<S: Store>(alloc: Global, outputs: &[Output], files: &mut S) -> RunR
     Ok(())
 }
 
-/// Brings the writes of the outputs that are ready to the disk, in order. No file changes.
+/// Flushes the staged writes of the outputs to the disk, in order. No file changes.
 fn flush_all<S: Store>(alloc: Global, outputs: &[Output], files: &mut S) -> RunResult<()>
     ensures tells { (S.view files.new).tells ≡ (S.view files.old).tells }
     ensures later { (S.view files.old).faults ≤ (S.view files.new).faults }
@@ -94,7 +94,7 @@ fn flush_all<S: Store>(alloc: Global, outputs: &[Output], files: &mut S) -> RunR
     Ok(())
 }
 
-/// Makes the writes of the outputs ready, and then brings them to the disk. No file changes.
+/// Stages the writes of the outputs, and flushes them to the disk. No file changes.
 fn make_ready<S: Store>(alloc: Global, outputs: &[Output], files: &mut S) -> RunResult<()>
     ensures tells { (S.view files.new).tells ≡ (S.view files.old).tells }
     ensures later { (S.view files.old).faults ≤ (S.view files.new).faults }
@@ -109,7 +109,7 @@ fn make_ready<S: Store>(alloc: Global, outputs: &[Output], files: &mut S) -> Run
     flush_all(alloc, outputs, files)
 }
 
-/// Compares the files of the outputs with what was read of them, in order. No file changes.
+/// Verifies that the files of the outputs still have the bytes that were read, in order. No file changes.
 fn verify_all<S: Store>(alloc: Global, outputs: &[Output], files: &mut S) -> RunResult<()>
     ensures tells { (S.view files.new).tells ≡ (S.view files.old).tells }
     ensures later { (S.view files.old).faults ≤ (S.view files.new).faults }
@@ -147,7 +147,7 @@ fn write_output<S: Store>(alloc: Global, output: &Output, files: &mut S) -> RunR
     }
 }
 
-/// Which of the outputs were written, behind a reason.
+/// The cause of an error, and which of the outputs were written before it.
 fn written_text(
     alloc: Global,
     reason: &str,
@@ -168,7 +168,7 @@ fn written_text(
     Ok(text)
 }
 
-/// An error at which the writing of some outputs stopped, with how many of them were written, and which.
+/// Adds to an error of writing several outputs how many of them were written before it, and which.
 fn at_output(alloc: Global, refusal: Refusal, outputs: &[Output], done: usize) -> Refusal
     ensures { result.error ≡ refusal.error }
 {
@@ -213,7 +213,7 @@ fn write_all<S: Store>(alloc: Global, outputs: &[Output], files: &mut S) -> RunR
     Ok(())
 }
 
-/// Makes all outputs ready, and then writes them.
+/// Stages, flushes and verifies all outputs, and then writes them.
 fn stage_and_write<S: Store>(alloc: Global, outputs: &[Output], files: &mut S) -> RunResult<()>
     requires { HaveDistinctPaths outputs.now }
     ensures tells { (S.view files.new).tells ≡ (S.view files.old).tells }
@@ -230,8 +230,8 @@ fn stage_and_write<S: Store>(alloc: Global, outputs: &[Output], files: &mut S) -
     write_all(alloc, outputs, files)
 }
 
-/// Writes each output once, in order, to its own path, and stops at the first error: as `apply` does, but
-/// that error has its place, the machine's reason, and which of the outputs were written.
+/// Writes each output once, in order, to its own path, and stops at the first error. Like `apply`, but the
+/// error has its place, the operating system's reason, and which of the outputs were written before it.
 pub fn write_outputs<S: Store>(alloc: Global, outputs: &[Output], files: &mut S) -> RunResult<()>
     requires { HaveDistinctPaths outputs.now }
     ensures tells { (S.view files.new).tells ≡ (S.view files.old).tells }
@@ -252,8 +252,7 @@ pub fn write_outputs<S: Store>(alloc: Global, outputs: &[Output], files: &mut S)
     }
 }
 
-/// Makes the writes of outputs ready that `write_outputs` makes later. An error gives up every write that is
-/// ready. No file changes.
+/// Stages writes that `write_outputs` makes later. An error discards all staged writes. No file changes.
 pub fn stage_outputs<S: Store>(alloc: Global, outputs: &[Output], files: &mut S) -> RunResult<()>
     ensures reads { OnlyReads (S.view files.old) (S.view files.new) }
     ensures ready { OnOk result ((S.view files.new).stage_errors ≡ (S.view files.old).stage_errors) }

@@ -7,7 +7,7 @@ use edit_base::CargoResult;
 use edit_base::paths::{join, normal};
 use std::alloc::Global;
 
-/// An absolute path in normal form: `path`, below `current` where it is relative.
+/// The absolute, normalized form of `path`, which is relative to `current` where it is not absolute.
 pub fn absolute(alloc: Global, current: &str, path: &str) -> CargoResult<String>
     ensures text { IfOk result (λ s. IsAbsoluteOf current.now path.now (string_bytes s)) }
     ensures refused { IfErr result IsMemory }

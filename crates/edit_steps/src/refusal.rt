@@ -1,4 +1,4 @@
-//! An error of the program, with what helps a user to find and mend its cause.
+//! An error of the program, with its place, its cause and what a user can do about it.
 ghost use Rattle.std.specs.Prelude.{◌≡◌, IfSome, OnOk, option_map, string_bytes};
 ghost use Rattle.std.specs.Io.KnownBytes.{Appends};
 ghost use Rattle.edit_base.specs.declared.errors.Error.TheVariants.{Memory};
@@ -10,21 +10,21 @@ use edit_base::Error;
 use std::alloc::{AllocError, Global};
 use std::io;
 
-/// An error, and what is printed below its text, one line for each field that is known.
+/// An error, and what is printed below its message: one line for each field that is known.
 #[derive(Debug, Drop)]
 pub struct Refusal {
     pub error: Error,
-    /// The file at fault, where it helps with a line and a column: `PATH`, `PATH:LINE` or
-    /// `PATH:LINE:COLUMN`; of a text that is no TOML also the line, with a caret below the column, on lines
-    /// of their own.
+    /// The file that caused the error, with line and column where they help: `PATH`, `PATH:LINE` or
+    /// `PATH:LINE:COLUMN`. For a TOML syntax error an excerpt of the line follows, with a caret below the
+    /// column.
     pub place: Option<String>,
-    /// What the error's own text leaves open: the machine's reason, or what a parser expected.
+    /// What the message leaves open: the operating system's reason, or what a parser expected.
     pub cause: Option<String>,
     /// What the user can do about it.
     pub help: Option<String>,
 }
 
-/// What a step of the program answers.
+/// The result of a step of the program.
 pub type RunResult<T> = Result<T, Refusal>;
 
 impl From<Error> for Refusal {
@@ -48,7 +48,7 @@ impl From<AllocError> for Refusal {
     }
 }
 
-/// Prints a line that says something of an error, where it is known.
+/// Prints a line about an error, where its text is known.
 fn print_known<E: io::Write>(name: &str, known: &Option<String>, err: &mut E) -> io::Result<()>
     ensures { OnOk result (Appends (E.contents err.old) (E.contents err.new)
         (known_line name.now (option_map string_bytes known.now))) }
@@ -59,7 +59,7 @@ fn print_known<E: io::Write>(name: &str, known: &Option<String>, err: &mut E) ->
     }
 }
 
-/// Prints what is known of an error besides its text.
+/// Prints the place, the cause and the help of an error, where they are known.
 fn print_lines<E: io::Write>(refusal: &Refusal, err: &mut E) -> io::Result<()>
     ensures { OnOk result (Appends (E.contents err.old) (E.contents err.new) (known_lines refusal.now)) }
 {
@@ -68,8 +68,8 @@ fn print_lines<E: io::Write>(refusal: &Refusal, err: &mut E) -> io::Result<()>
     print_known("help: ", &refusal.help, err)
 }
 
-/// Prints an error as the program ends with it: its text behind `Error: `, and below it a line each for its
-/// place, its cause and the help, where they are known. What a text of an error is, no clause can say.
+/// Prints an error as the program ends with it: its message after `Error: `, and below it one line each for
+/// its place, its cause and the help, where they are known. The contract does not specify the message.
 pub fn print_error<E: io::Write>(refusal: &Refusal, err: &mut E) -> io::Result<()>
     ensures { OnOk result (EndsWith (known_lines refusal.now) (E.contents err.new)) }
 {
@@ -77,7 +77,7 @@ pub fn print_error<E: io::Write>(refusal: &Refusal, err: &mut E) -> io::Result<(
     print_lines(refusal, err)
 }
 
-/// Where an error of the file at a path arose: the file, or a line of it. Nothing where memory ran out.
+/// The place of an error in the file at a path: the file, or a line of it. `None` where memory ran out.
 fn place_of(alloc: Global, error: &Error, path: &str) -> Option<String> {
     match error {
         Error::IndexLine { line } => format!(in alloc; "{path}:{line}").ok(),
@@ -89,7 +89,7 @@ fn place_of(alloc: Global, error: &Error, path: &str) -> Option<String> {
     }
 }
 
-/// An error of the file at a path, or of a line of it.
+/// Adds to an error the file at a path, or a line of it, as its place.
 pub fn at_path(alloc: Global, error: Error, path: &str) -> Refusal
     ensures { result.error ≡ error }
 {
@@ -102,7 +102,8 @@ pub fn at_path(alloc: Global, error: Error, path: &str) -> Refusal
     }
 }
 
-/// An error of reading or writing the file at a path, with the machine's own reason where its device failed.
+/// Adds to an error of reading or writing a file its path, and the operating system's reason where the
+/// device failed.
 pub fn at_file(alloc: Global, error: Error, path: &str, reason: Option<String>) -> Refusal
     ensures { result.error ≡ error }
 {
@@ -114,8 +115,8 @@ pub fn at_file(alloc: Global, error: Error, path: &str, reason: Option<String>) 
     Refusal { cause, ..refusal }
 }
 
-/// The place of a byte of a file, as `PATH:LINE:COLUMN`, from 1, the column in characters; none where
-/// memory ran out. Of an offset past the end it is the place behind the last byte.
+/// The place of a byte in a file, as `PATH:LINE:COLUMN`. Line and column count from 1, the column in
+/// characters. An offset past the end is that of the end. `None` where memory ran out.
 pub fn position(alloc: Global, path: &str, bytes: &[u8], at: usize) -> Option<String>
     ensures { IfSome result (λ s. string_bytes s ≡ position_text path.now bytes.now at) }
 {
@@ -124,7 +125,7 @@ pub fn position(alloc: Global, path: &str, bytes: &[u8], at: usize) -> Option<St
     format!(in alloc; "{path}:{line}:{column}").ok()
 }
 
-/// The place of a byte of a file, and below it the line that it stands in.
+/// The place of a byte in a file, and an excerpt of its line.
 pub(crate) fn shown_position(alloc: Global, path: &str, bytes: &[u8], at: usize) -> Option<String> {
     let place = position(alloc, path, bytes, at)?;
     let behind = place_behind(&bytes[..at.min(bytes.len())]);
@@ -134,14 +135,14 @@ pub(crate) fn shown_position(alloc: Global, path: &str, bytes: &[u8], at: usize)
     }
 }
 
-/// What was expected where a text stops being TOML, as far as it is known.
+/// What the parser expected where a text stops being TOML, where that is known.
 fn expected(alloc: Global, bytes: &[u8]) -> Option<String> {
     let fault = toml_fault(alloc, bytes)?;
     Some(fault.message)
 }
 
-/// An error about what the file at a path holds: of a text that is no TOML with the line at fault and what
-/// was expected.
+/// Adds a place to an error about the contents of a file: for a TOML syntax error with an excerpt of the
+/// line, and with what was expected.
 pub fn at_byte(alloc: Global, error: Error, path: &str, bytes: &[u8]) -> Refusal
     ensures { result.error ≡ error }
 {
@@ -165,14 +166,14 @@ struct LineColumn {
     column: usize,
 }
 
-/// Whether a byte is a later one of a character.
+/// Whether a byte continues a UTF-8 sequence, so that it does not begin a character.
 fn is_later(byte: u8) -> bool
     ensures { result ≡ is_later byte }
 {
     0x80 <= byte && byte <= 0xbf
 }
 
-/// The line and the column behind these bytes.
+/// The line and the column of the end of these bytes.
 fn place_behind(before: &[u8]) -> LineColumn
     ensures { (result.line, result.column) ≡ place_behind before.now }
 {

@@ -1,4 +1,4 @@
-//! The file at fault among several, found by reading them again.
+//! Finds the file that caused an error among several, by reading them again.
 ghost use Rattle.std.specs.Prelude.{◌≡◌, ◌<◌, ◌^◌, IfSome, length};
 ghost use Rattle.edit_store.specs.Store.{OnlyReads};
 
@@ -8,7 +8,7 @@ use edit_sources::FileIndex;
 use edit_store::Store;
 use std::alloc::Global;
 
-/// Whether bytes are refused as lines of an index with this error.
+/// Whether parsing these bytes as lines of an index fails with this error.
 fn is_bad_index(alloc: Global, error: &Error, bytes: &[u8]) -> bool {
     let Error::IndexLine { line } = error else {
         return false;
@@ -19,8 +19,8 @@ fn is_bad_index(alloc: Global, error: &Error, bytes: &[u8]) -> bool {
     }
 }
 
-/// Whether reading the file at a path gives this error: it is not there, its device fails, or a line of it
-/// is not one of an index.
+/// Whether reading the file at a path fails with this error: the file is missing, its device fails, or one
+/// of its lines is not valid in an index.
 fn gives<S: Store>(alloc: Global, error: &Error, path: &str, files: &mut S) -> bool
     ensures reads { OnlyReads (S.view files.old) (S.view files.new) }
 {
@@ -31,7 +31,7 @@ fn gives<S: Store>(alloc: Global, error: &Error, path: &str, files: &mut S) -> b
     }
 }
 
-/// The first of these paths whose file gives this error.
+/// The first of these paths for which reading the file fails with this error.
 fn first_giving<S: Store>(
     alloc: Global,
     error: &Error,
@@ -49,9 +49,9 @@ fn first_giving<S: Store>(
     None
 }
 
-/// An error of reading one of several files, with the first of their paths that gives it when it is read
-/// again: a manifest that is not there, an entry of an index with a bad line, a file whose device fails.
-/// Another error, or one that is not seen again, stays without a place.
+/// Adds to an error of reading one of several files the first of their paths that causes it when it is read
+/// again: a missing manifest, an invalid line of an index, a device error. Other errors, and those that do
+/// not recur, get no place.
 pub fn at_first<S: Store>(alloc: Global, error: Error, paths: &[String], files: &mut S) -> Refusal
     ensures same { result.error ≡ error }
     ensures reads { OnlyReads (S.view files.old) (S.view files.new) }

@@ -1,20 +1,20 @@
-//! What TOML's own reader says of a text that is refused.
+//! The position and the message of a TOML syntax error.
 
 use std::alloc::Global;
 use std::str;
 
-/// The longest text that is read again, in bytes: reading takes some hundred bytes of memory for each.
+/// The longest text that is parsed again, in bytes: parsing takes some hundred bytes of memory for each.
 const LONGEST_TEXT: usize = 262144;
 
-/// Where a text stops being TOML, and what was expected there.
+/// The offset of a syntax error in bytes, and the message of the parser.
 #[derive(Drop)]
 pub(crate) struct TomlFault {
     pub(crate) at: usize,
     pub(crate) message: String,
 }
 
-/// What `toml` says of a text; none where it accepts it, where the text is not UTF-8 or longer than 256 kB,
-/// and where memory ran out.
+/// The syntax error that `toml` reports for a text. `None` where there is none, where the text is not UTF-8
+/// or longer than 256 KiB, and where memory ran out.
 pub(crate) fn toml_fault(alloc: Global, bytes: &[u8]) -> Option<TomlFault> {
     if bytes.len() > LONGEST_TEXT {
         return None;

@@ -1,4 +1,4 @@
-//! What an upgrade rests on, as it is read: manifests, their configurations and the index.
+//! Reads the files that an upgrade depends on: manifests, their configurations and the index.
 
 mod asked;
 mod config_faults;

@@ -1,4 +1,4 @@
-//! The workspace that a command is for.
+//! Reads the workspace of a command.
 ghost use Rattle.std.specs.Prelude.{◌≡◌, ◌<◌, ◌^◌, ◌⊎◌, All, IfErr, IfOk, option_map, true};
 ghost use Rattle.edit_base.specs.declared.errors.DeviceCall.TheVariants as call;
 ghost use Rattle.edit_metadata.specs.Inputs.{AreInputs, HaveOwnPaths};
@@ -21,15 +21,15 @@ use edit_store::Store;
 use edit_version::RustVersion;
 use std::alloc::Global;
 
-/// A workspace that was read: what its metadata say, and its manifests.
+/// A workspace that was read: its metadata, and its manifests.
 #[derive(Debug, Drop)]
 pub struct ReadWorkspace {
     pub workspace: Workspace,
     pub inputs: Vec<Input>,
 }
 
-/// Reads the metadata in the file that is named. Where files are to be written, other runs on the workspace
-/// are waited for and then kept waiting.
+/// Reads the given metadata file. Where files will be written, other runs on the workspace are waited for
+/// and then blocked.
 fn read_metadata<S: Store>(
     alloc: Global,
     named: &str,
@@ -64,7 +64,7 @@ fn read_metadata<S: Store>(
     }
 }
 
-/// Removes what runs that were killed left beside the manifests.
+/// Removes the leftovers of killed runs beside the manifests.
 fn tidy_folders<S: Store>(alloc: Global, inputs: &[Input], files: &mut S)
     ensures { OnlyReads (S.view files.old) (S.view files.new) }
 {
@@ -73,7 +73,7 @@ fn tidy_folders<S: Store>(alloc: Global, inputs: &[Input], files: &mut S)
     }
 }
 
-/// Where the manifests of a workspace stand: those of its members, and the root's.
+/// The paths of the manifests of a workspace: those of its members, and the root's.
 fn manifest_paths(alloc: Global, workspace: &Workspace) -> CargoResult<Vec<String>> {
     let mut paths = Vec::new(alloc);
     for package in &workspace.packages {
@@ -85,7 +85,7 @@ fn manifest_paths(alloc: Global, workspace: &Workspace) -> CargoResult<Vec<Strin
     Ok(paths)
 }
 
-/// An error of reading the manifests of a workspace, with the path of the one at fault.
+/// Adds to an error of reading the manifests of a workspace the path of the one that caused it.
 fn at_manifest<S: Store>(
     alloc: Global,
     error: Error,
@@ -103,9 +103,9 @@ fn at_manifest<S: Store>(
     at_first(alloc, error, &paths, files)
 }
 
-/// Reads the workspace whose metadata stand in the file that is named, and its manifests, for a Rust
-/// version or with those of the members ignored, as `workspace_inputs` does. `writes` says whether files
-/// are to be written: then other runs on the workspace are kept waiting.
+/// Reads the workspace of the metadata in a given file, and its manifests, as `workspace_inputs` does, with
+/// a Rust version, or ignoring those of the members. `writes` is set where files will be written: then
+/// other runs on the workspace are blocked.
 pub fn read_workspace<S: Store>(
     alloc: Global,
     named: &str,
@@ -120,7 +120,7 @@ pub fn read_workspace<S: Store>(
         → IsWorkspaceRead (S.view files.old).file_at current.now named.now
         (record { given = option_map numbers_of rust_version; ignored = ignore })
         (workspace_said r.workspace) r.inputs.items) }
-    // and what plans rest on, over any store
+    // and what plans require, over any store
     ensures inputs { IfOk result (λ r.
         AreInputs (record { given = option_map numbers_of rust_version; ignored = ignore })
         (workspace_said r.workspace) r.inputs.items) }

@@ -1,4 +1,4 @@
-//! Messages on a terminal, in which no character of a foreign text makes the terminal act.
+//! Writes messages to a terminal, with characters escaped that the terminal would interpret.
 #![tactic(auto)]
 
 mod characters;

@@ -14,12 +14,12 @@ use std::{io, mem, str};
 #[derive(Drop)]
 pub struct TerminalWriter<W: io::Write + Drop> {
     to: W,
-    /// The beginning of a character that has not come whole yet.
+    /// The first bytes of a character that is still incomplete.
     rest: Vec<u8>,
 }
 
 impl<W: io::Write + Drop> TerminalWriter<W> {
-    /// A writer that hands on to this one.
+    /// Wraps a writer.
     pub fn new(alloc: Global, to: W) -> TerminalWriter<W>
         ensures inner { result.to ≡ to }
         ensures rest { result.rest.items ≡ [] }
@@ -30,7 +30,7 @@ impl<W: io::Write + Drop> TerminalWriter<W> {
         }
     }
 
-    /// The writer that this one hands on to.
+    /// The wrapped writer.
     pub fn get_ref(&self) -> &W
         ensures { result.now ≡ self.now.to }
     {
@@ -38,8 +38,7 @@ impl<W: io::Write + Drop> TerminalWriter<W> {
     }
 }
 
-/// How many of the bytes are in whole characters: all, or all but those of a last character that is not
-/// whole.
+/// The length of the complete characters in these bytes: all but an incomplete last character.
 fn whole_length(bytes: &[u8]) -> io::Result<usize>
     ensures within { IfOk result (λ n. n ≤ length bytes.now) }
     ensures text { IfOk result (λ n. IsUtf8 (take n bytes.now)) }

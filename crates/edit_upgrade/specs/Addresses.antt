@@ -1,4 +1,4 @@
--- The addresses that were resolved, as the program has them.
+-- The resolved addresses of registries, over the program's type.
 use Rattle.std.specs.Prelude.{◌≡◌, ℕ, List, Bool, true, false, Option, Some, None}
 use Rattle.std.specs.BTreeMap.{get_by_text}
 use Rattle.std.specs.Str.{bytes_eq}
@@ -8,18 +8,19 @@ use Rattle.edit_sources.specs.declared.config.Config.{Config}
 use Rattle.url.specs.Parts as url
 use Rattle.edit_upgrade.specs.declared.addresses.Addresses.{Addresses}
 
--- the address that was resolved for a registry, if one was (own)
+-- the resolved address of a registry, if there is one (own)
 abbrev pub url_at : Addresses → Option (List ℕ) → Option url.Parts
 url_at a None = a.default
 url_at a (Some name) = get_by_text a.named name
 
--- each is the one that the configurations say, and theirs are the definitions (own)
+-- each address is the one that the configurations define for its registry, and the definitions are theirs
+-- (own)
 pub record AreAddresses (configs : List Config) (a : Addresses) : Type 0 where
   pub defines : Defines configs a.definitions
   pub has : (named : Option (List ℕ)) (address : url.Parts) → url_at a named ≡ Some address
       → HasAddress configs named address
 
--- the two names are the same, or there are none (own)
+-- the two names are equal, or both absent (own)
 abbrev pub is_named : Option (List ℕ) → Option (List ℕ) → Bool
 is_named None None = true
 is_named None (Some b) = false

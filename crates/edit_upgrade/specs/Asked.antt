@@ -1,10 +1,10 @@
--- What calls of `cargo update` are asked for after an upgrade (own, after cargo-edit).
+-- What the calls of `cargo update` after an upgrade depend on (own, after cargo-edit).
 use Rattle.std.specs.Prelude.{ℕ, List, length, Bool, ◌==◌, ◌&&◌, not, Option, map, string_bytes}
 use Rattle.std.specs.Option.{option_map_or}
 use Rattle.edit_upgrade.specs.declared.decision.options.Options.{Options}
 use Rattle.edit_upgrade.specs.declared.upgrade.UpgradePlan.{UpgradePlan}
 
--- the names that a plan modified and those that come from a repository, and what the options say
+-- the names that a plan modified, those of git dependencies, and the options
 pub record Asked : Type 0 where
   pub modified : List (List ℕ)
   pub git_crates : List (List ℕ)
@@ -14,7 +14,7 @@ pub record Asked : Type 0 where
   pub dry_run : Bool
   pub locked : Bool
 
--- what a plan and options ask for, by their texts
+-- the modified names, git dependencies and options of a plan
 abbrev pub asked_by : UpgradePlan → Options → Asked
 asked_by plan options = record {
   modified = map string_bytes plan.modified.items;
@@ -26,15 +26,15 @@ asked_by plan options = record {
   locked = options.locked;
 }
 
--- calls are due: something is modified, and the run is neither dry nor locked
+-- calls are needed: something is modified, and the run is neither dry nor locked
 abbrev pub is_due : Asked → Bool
 is_due a = not (length a.modified == 0) && not a.dry_run && not a.locked
 
--- what modified packages depend on is updated as well: as it is said, else where versions are raised to
--- compatible ones
+-- the dependencies of modified packages are updated as well: as `--recursive` sets it, else where entries
+-- are raised to compatible versions
 abbrev pub is_recursive : Asked → Bool
 is_recursive a = option_map_or (λ said. said) a.recursive a.compatible
 
--- repositories are asked anew: versions are raised to compatible ones, and some name comes from one
+-- git dependencies are updated: entries are raised to compatible versions, and there is a git dependency
 abbrev pub asks_repositories : Asked → Bool
 asks_repositories a = a.compatible && not (length a.git_crates == 0)

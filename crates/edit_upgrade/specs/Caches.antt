@@ -1,4 +1,4 @@
--- A cache as contracts see it, before and after a call: what the call leaves of it, and why it is refused.
+-- The views of a cache before and after a call, and what relates them.
 use Rattle.std.specs.Prelude.{ℕ, List}
 use Rattle.std.specs.Global.{Vec}
 use Rattle.edit_base.specs.declared.errors.Error.{Error}
@@ -11,14 +11,14 @@ use Rattle.edit_upgrade.specs.Causes.{HasBadEntry, IsCause, IsEntryCause}
 use Rattle.edit_upgrade.specs.Looked.{Leaves}
 use Rattle.edit_upgrade.specs.Looks.{Kept, kept_by}
 
--- an index and the answers that are kept over it, as contracts see them: the outcomes that its looks may
--- have, its count of faults, and the answers (own)
+-- the view of a cache: the possible outcomes of a query to its index, the number of faults so far, and the
+-- cached answers (own)
 pub record CacheView : Type 1 where
   pub gives : Outcomes
   pub faults : ℕ
   pub kept : Kept
 
--- those of a cache, over what contracts see of its index (own)
+-- the view of a cache, given the view of its index (own)
 abbrev pub cache_view : {I : Type 0} → (I → IndexView) → IndexCache I → CacheView
 cache_view view cache = record {
   gives = (view (index_of cache)).gives;
@@ -26,21 +26,21 @@ cache_view view cache = record {
   kept = kept_by cache;
 }
 
--- `Leaves`, from this cache to that (own)
+-- `Leaves`, over views of the cache before and after (own)
 abbrev pub LeavesCache : (List ℕ → List ℕ → Type 0) → CacheView → CacheView → Type 0
 LeavesCache Needed old new = Leaves Needed old.gives new.gives old.faults new.faults old.kept new.kept
 
--- `HasBadEntry`, from this cache to that (own)
+-- `HasBadEntry`, over views of the cache before and after (own)
 abbrev pub StopsManifest : List Config → List ℕ → CacheView → CacheView → Error → Type 0
 StopsManifest configs bytes old new e =
     HasBadEntry configs old.gives old.kept new.kept old.faults new.faults bytes e
 
--- `IsEntryCause`, from this cache to that (own)
+-- `IsEntryCause`, over views of the cache before and after (own)
 abbrev pub StopsDocuments : List Input → List (Vec Config) → CacheView → CacheView → Error → Type 0
 StopsDocuments inputs configs old new e =
     IsEntryCause inputs configs old.gives old.kept new.kept old.faults new.faults e
 
--- `IsCause`, from this cache to that (own)
+-- `IsCause`, over views of the cache before and after (own)
 abbrev pub StopsInputs : List Input → List (Vec Config) → CacheView → CacheView → Error → Type 0
 StopsInputs inputs configs old new e =
     IsCause inputs configs old.gives old.kept new.kept old.faults new.faults e

@@ -1,4 +1,4 @@
--- Why a plan is refused.
+-- The errors of a plan, and what causes them.
 use Rattle.std.specs.Prelude.{◌≡◌, ◌⊎◌, ◌<◌, ◌++◌, ◌∷◌, ℕ, List, All, IfSome, IsSome, Option, Some, None, slice_get}
 use Rattle.std.specs.Global.{Vec}
 use Rattle.edit_base.specs.Errors.{IsMemory}
@@ -18,15 +18,15 @@ use Rattle.edit_upgrade.specs.Records.{Seen, at_registry, seen}
 use Rattle.edit_upgrade.specs.Rows.{Needs}
 use Rattle.edit_metadata.specs.declared.input.Input.{Input}
 
--- an entry at which a plan goes on: the answer to each look that it needs is kept
+-- an entry that causes no error: the answer to each lookup that it needs is cached
 pub record IsPassed (configs : List Config) (new : Kept) (e : Seen) : Type 0 where
   pub answered : (address : url.Parts) (name : List ℕ) → Needs configs e address name
       → IsSome (new (serialize address) name)
   pub has : (named : Option (List ℕ)) → e.source ≡ at_registry named
       → (address : url.Parts) × HasAddress configs named address
 
--- why an entry stops a plan: its registry has no address, or the look that it needs is refused and no answer
--- was kept
+-- the error of an entry: its registry has no address, or the lookup that it needs fails and no answer was
+-- cached
 pub data StopsAt (configs : List Config) (gives : Outcomes) (old : Kept) (before now : ℕ) (e : Seen)
     (error : Error) : Type 0 where
   no_address : (named : Option (List ℕ)) → e.source ≡ at_registry named → HasNoUrl configs named error
@@ -35,7 +35,7 @@ pub data StopsAt (configs : List Config) (gives : Outcomes) (old : Kept) (before
       → old (serialize address) name ≡ None
       → IsRefusedAt gives address name before now error → StopsAt configs gives old before now e error
 
--- the first entry that stops a plan
+-- the first entry with an error
 pub record StopsFirst (configs : List Config) (gives : Outcomes) (old new : Kept) (before now : ℕ)
     (es : List Seen) (error : Error) : Type 0 where
   pub front : List Seen
@@ -45,20 +45,20 @@ pub record StopsFirst (configs : List Config) (gives : Outcomes) (old new : Kept
   pub passed : All (IsPassed configs new) front
   pub stops : StopsAt configs gives old before now entry error
 
--- the first seen entry of the manifest that stops a plan
+-- the first entry with an error, among those of a manifest that get a row
 pub record HasBadEntry (configs : List Config) (gives : Outcomes) (old new : Kept) (before now : ℕ)
     (bytes : List ℕ) (error : Error) : Type 0 where
   pub form : Text
   pub manifest : IsDocument bytes form
   pub stops : StopsFirst configs gives old new before now (seen (view_at form)) error
 
--- an input at which a plan goes on: it is a manifest, and each of its entries is passed
+-- an input that causes no error: it is a manifest, and the lookups of all its entries are cached
 pub record InputPasses (configs : List Config) (new : Kept) (input : Input) : Type 0 where
   pub form : Text
   pub manifest : IsDocument input.bytes.items form
   pub passed : All (IsPassed configs new) (seen (view_at form))
 
--- the first of the inputs at which a plan does not go on, for this reason
+-- the first of the inputs that causes an error, for this reason
 pub record FirstInput (inputs : List Input) (configs : List (Vec Config)) (new : Kept)
     (Stops : List Config → List ℕ → Type 0) : Type 0 where
   pub i : ℕ
@@ -71,15 +71,15 @@ pub record FirstInput (inputs : List Input) (configs : List (Vec Config)) (new :
       (λ earlier. IfSome (slice_get configs j) (λ c. InputPasses c.items new earlier))
   pub stops : Stops own.items input.bytes.items
 
--- why a plan over manifests that were read is refused: want of memory, or the first input with an entry that
--- stops it
+-- the error of a plan over parsed manifests: out of memory, or the first input with an entry that causes
+-- one
 abbrev pub IsEntryCause : List Input → List (Vec Config) → Outcomes → Kept → Kept → ℕ → ℕ → Error → Type 0
 IsEntryCause inputs configs gives old new before now e =
     IsMemory e
     ⊎ FirstInput inputs configs new (λ own bytes. HasBadEntry own gives old new before now bytes e)
 
--- why a plan is refused: the first input whose bytes are no manifest, or else with an entry that stops the
--- plan
+-- the error of a plan: out of memory, or the first input whose bytes are no manifest or that has an entry
+-- with an error
 abbrev pub IsCause : List Input → List (Vec Config) → Outcomes → Kept → Kept → ℕ → ℕ → Error → Type 0
 IsCause inputs configs gives old new before now e =
     FirstInput inputs configs new

@@ -1,4 +1,4 @@
--- The decision's values, as the program has them.
+-- The values that a decision is made of, over the program's types.
 use Rattle.std.specs.Prelude.{List, ℕ, Bool, true, false, not, ◌&&◌, if◌then◌else◌, is_some, Option, string_bytes, Some, None}
 use Rattle.edit_upgrade.specs.Decision.{Case, Choice, Outcome, first_reason, first_row, kept, given, left_out, or_else, row_change, row_text, same_text, to_compatible, to_latest, unless, unread, when}
 use Rattle.edit_upgrade.specs.declared.decision.options.Options.{Options}
@@ -8,7 +8,7 @@ use Rattle.edit_upgrade.specs.Offers.{offered}
 use Rattle.edit_upgrade.specs.declared.decision.decide.Decided.{Decided}
 use Rattle.edit_upgrade.specs.declared.decision.offers.Offer.{Offer}
 
--- what the decision rests on, as the program has it (own)
+-- the case of a decision, from the program's values (own)
 abbrev pub case_view : Bool → Bool → Bool → Option (List ℕ) → List ℕ → Option Offer → Option Offer → Case
 case_view excluded renamed never_lower selected old compatible latest = record {
   excluded = excluded;
@@ -20,16 +20,16 @@ case_view excluded renamed never_lower selected old compatible latest = record {
   latest = offered latest;
 }
 
--- what is decided, by its text (own)
+-- the choice of a decision, by its text (own)
 abbrev pub choice_view : Decided → Choice
 choice_view d = record { new = string_bytes d.new; change = d.change; reason = d.reason }
 
--- `held_back`, from the text that could be written for the latest version (own)
+-- `held_back`, from the candidate text for the latest version (own)
 abbrev pub held_by : Bool → Bool → Option (List ℕ) → Option Reason
 held_by jumps pinned far =
     when (is_some far && not jumps) (Some (if pinned then reason.Pinned else reason.Incompatible))
 
--- `row_reason`, from the texts that could be written (own)
+-- `row_reason`, from the candidate texts for the latest and the compatible version (own)
 abbrev pub reason_by : Bool → Bool → Option (List ℕ) → Option (List ℕ) → Outcome → Option Reason
 reason_by jumps pinned far near left_out = Some reason.Excluded
 reason_by jumps pinned far near (given text) = None
@@ -39,11 +39,12 @@ reason_by jumps pinned far near (to_compatible text) = held_by jumps pinned far
 reason_by jumps pinned far near kept =
     or_else (held_by jumps pinned far) (when (is_some near) (Some reason.Compatible))
 
--- whether an entry may get the latest version: pinned entries follow one option, the others another
+-- whether an entry may be raised to the latest version: the option `pinned` decides for pinned entries, the
+-- option `incompatible` for others
 abbrev pub jumps_by : Options → Bool → Bool
 jumps_by o pinned = if pinned then o.pinned else o.incompatible
 
--- the choice of a text, from the texts that could be written (own)
+-- the choice, from the candidate texts and the outcome (own)
 abbrev pub choice_by : Options → Bool → Bool → List ℕ → Option (List ℕ) → Option (List ℕ) → Outcome → Choice
 choice_by o pinned aside old far near row = record {
   new = row_text old row;
@@ -52,13 +53,13 @@ choice_by o pinned aside old far near row = record {
       (same_text (row_text old row) old);
 }
 
--- the decision for a readable text, where no given text is taken (own)
+-- the choice for a requirement that can be parsed, where no `--package` argument sets it (own)
 abbrev pub raised_choice : Options → Bool → Bool → List ℕ → Option (List ℕ) → Option (List ℕ) → Choice
 raised_choice o pinned aside old far near =
     choice_by o pinned aside old far near
     (first_row false None true (when (jumps_by o pinned) far) (when o.compatible near))
 
--- the decision, from the texts that could be written
+-- the choice, from the candidate texts for the latest and the compatible version
 abbrev pub decision_by : Options → Bool → Bool → Bool → Option (List ℕ) → List ℕ → Option (List ℕ)
     → Option (List ℕ) → Choice
 decision_by o excluded pinned readable selected old far near =

@@ -1,4 +1,4 @@
--- What is planned of inputs so far, as the program has it.
+-- The plan so far of the first inputs, over the program's type.
 use Rattle.std.specs.Prelude.{◌≡◌, ◌<◌, ◌==◌, ◌⊎◌, ℕ, List, [], ◌++◌, Some, All, filter, length, map, not, option_map, slice_get}
 use Rattle.std.specs.Global.{Vec}
 use Rattle.std.specs.List.{flat_map}
@@ -29,20 +29,20 @@ use Rattle.edit_upgrade.specs.Upgraded.{HasWarnings, IsNeeded}
 use Rattle.edit_upgrade.specs.declared.draft.Draft.{Draft}
 use Rattle.edit_upgrade.specs.declared.decision.options.Options.{Options}
 
--- of these rows, those of an input
+-- those of these rows that belong to an input
 abbrev pub lines_on : ℕ → List Line → List Line
 lines_on i lines = filter (λ line. line.input == i) lines
 
--- of these warnings, those on an input
+-- those of these warnings that belong to an input
 abbrev pub told_on : ℕ → List Told → List Told
 told_on i told = filter (λ t. t.input == i) told
 
--- of these outputs, those at a path
+-- those of these outputs that are at a path
 abbrev pub outputs_on : List ℕ → List Output → List Output
 outputs_on path outputs = filter (λ output. bytes_eq (output_path output) path) outputs
 
--- what is planned of one input over the answers that are kept: the answer that each of its entries needs is
--- kept, and these are its rows, outputs and warnings (own)
+-- the plan of one input over the cached answers: the answer that each of its entries needs is cached, and
+-- these are its rows, outputs and warnings (own)
 pub record IsPlanned (i : ℕ) (o : Options) (input : Input) (configs : List Config) (kept : Kept)
     (lines : List Line) (outputs : List Output) (told : List Told) : Type 0 where
   pub form : Text
@@ -53,16 +53,15 @@ pub record IsPlanned (i : ℕ) (o : Options) (input : Input) (configs : List Con
   pub writes : HasOutputs (path_of input) input.bytes.items lines outputs
   pub warned : HasWarnings o i input.bytes.items told
 
--- a path of one of the inputs (own)
+-- the path is that of one of the inputs (own)
 pub record IsPathAmong (inputs : List Input) (path : List ℕ) : Type 0 where
   pub i : ℕ
   pub input : Input
   pub at : slice_get inputs i ≡ Some input
   pub path_is : path ≡ path_of input
 
--- what is planned of these inputs over the answers that are kept: of each its own rows, outputs and
--- warnings,
--- in the order of the inputs, and no others (own)
+-- the plan of these inputs over the cached answers: the rows, outputs and warnings of each input, in the
+-- order of the inputs, and no others (own)
 pub record ArePlanned (o : Options) (kept : Kept) (inputs : List Input) (configs : List (Vec Config))
     (lines : List Line) (outputs : List Output) (told : List Told) : Type 0 where
   pub each : (i : ℕ) (input : Input) (own : Vec Config) → slice_get inputs i ≡ Some input
@@ -77,7 +76,7 @@ pub record ArePlanned (o : Options) (kept : Kept) (inputs : List Input) (configs
   pub told_below : All (λ t. t.input < length inputs) told
   pub paths_among : All (λ output. IsPathAmong inputs (output_path output)) outputs
 
--- what a draft has: the looks that these inputs need, in their order, and what is planned of them (own)
+-- the draft has the lookups that these inputs need, in order, and their plan (own)
 pub record IsDraft (o : Options) (inputs : List Input) (configs : List (Vec Config)) (gives : Outcomes)
     (old now : Kept) (draft : Draft) : Type 0 where
   pub kept : AreKept (holds_pair draft.books.pairs) now
@@ -87,9 +86,8 @@ pub record IsDraft (o : Options) (inputs : List Input) (configs : List (Vec Conf
   pub planned : ArePlanned o now inputs configs (map line_of draft.rows.items) draft.outputs.items
       (map warning_view draft.warnings.items)
 
--- what one more input adds to a draft: a walk over its entries, and its rows, outputs and warnings behind
--- those
--- that were there (own)
+-- how the next input extends a draft: by a walk over its entries, and by its rows, outputs and warnings at
+-- the end (own)
 pub record AddsInput (i : ℕ) (o : Options) (input : Input) (configs : List Config) (gives : Outcomes)
     (old new : Kept) (before after : Draft) : Type 0 where
   pub lines : List Line
@@ -102,7 +100,7 @@ pub record AddsInput (i : ℕ) (o : Options) (input : Input) (configs : List Con
   pub outputs_are : after.outputs.items ≡ before.outputs.items ++ outputs
   pub told_are : map warning_view after.warnings.items ≡ map warning_view before.warnings.items ++ told
 
--- the documents of the inputs are given, or none are (own)
+-- a document is given for each input, with its bytes, or none is given (own)
 abbrev pub AreGiven : List Input → List Shown → Type 0
 AreGiven inputs documents =
     (documents ≡ []) ⊎ (map (λ d. d.bytes) documents ≡ map (λ input. input.bytes.items) inputs)

@@ -1,4 +1,4 @@
--- Floors: from which version on requirements begin (own, over Cargo reference, "Specifying Dependencies", and
+-- Floors: the lower bounds of requirements (own, over Cargo reference, "Specifying Dependencies", and
 -- SemVer 2.0.0, item 11).
 use Rattle.std.specs.Prelude.{◌≡◌, ◌&&◌, ℕ, List, [], Bool, true, false, not, Option, Some, None, Result, Ok, Err, unwrap_or}
 use Rattle.std.specs.List.{Contains, list_any}
@@ -9,13 +9,13 @@ use Rattle.semver.specs.declared.Op.{Op}
 use Rattle.semver.specs.declared.Op.TheVariants as op
 use Rattle.edit_version.specs.Laws.{precedence}
 
--- `<` and `<=`, which say where a requirement ends
+-- `<` and `<=`, which bound a requirement from above only
 abbrev pub is_end : Op → Bool
 is_end op.Less = true
 is_end op.LessEq = true
 is_end o = false
 
--- the version that a comparator names: missing numbers are 0, and it keeps its pre-release
+-- the version that a comparator names: missing numbers are 0, the pre-release is its own
 abbrev pub named : Held → Parts
 named c = (c.1, unwrap_or c.2 0, unwrap_or c.3 0, c.4, [])
 
@@ -23,7 +23,7 @@ named c = (c.1, unwrap_or c.2 0, unwrap_or c.3 0, c.4, [])
 abbrev pub begins_after : Parts → Held → Bool
 begins_after v c = not (is_end c.0) && is_lt (precedence v (named c))
 
--- one of the comparators begins after the version
+-- one of the comparators, other than `<` and `<=`, names a later version than this one
 abbrev pub one_begins_after : List Held → Parts → Bool
 one_begins_after cs v = list_any (begins_after v) cs
 
@@ -39,7 +39,7 @@ pub record IsFloor (cs : List Held) (f : Parts) : Type 0 where
 abbrev pub HasFloor : List ℕ → Parts → Type 0
 HasFloor text f = (cs : List Held) × (req_of text ≡ Ok cs) × IsFloor cs f
 
--- what was read begins after the version: the version is lower than its floor (own)
+-- a parsed requirement has a floor above the version; false where parsing failed (own)
 abbrev pub read_begins_after : Result (List Held) Error → Parts → Bool
 read_begins_after (Ok cs) v = one_begins_after cs v
 read_begins_after (Err e) v = false

@@ -1,4 +1,4 @@
--- The entries that were found, as the program has them.
+-- The entries that get a row, over the program's types.
 use Rattle.std.specs.Prelude.{option_map, string_bytes}
 use Rattle.edit_document.specs.Items.{place_seen}
 use Rattle.edit_manifest.specs.EntryViews.{literal_by}
@@ -8,13 +8,13 @@ use Rattle.edit_upgrade.specs.declared.seen.Entry.{Entry}
 use Rattle.edit_upgrade.specs.declared.seen.Source.{Source}
 use Rattle.edit_upgrade.specs.declared.seen.Source.TheVariants.{Git, Path, Registry}
 
--- where the crate of an entry comes from, by its texts (own)
+-- the source of an entry, by its texts (own)
 abbrev pub source_view : Source → entry.Source
 source_view (Registry named) = at_registry (option_map string_bytes named)
 source_view Git = at_repository
 source_view Path = at_folder
 
--- what an entry says, by its texts (own)
+-- an entry, by its texts (own)
 abbrev pub seen_of : Entry → Seen
 seen_of e = record {
   name = string_bytes e.name;

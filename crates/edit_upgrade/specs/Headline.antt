@@ -1,4 +1,4 @@
--- What holds of every plan: what a change leaves of a requirement, which version it reaches, and that
+-- Theorems about every plan: what a change does to a requirement, which version it reaches, and that
 -- planning again changes nothing.
 use Rattle.std.specs.Prelude.{◌≡◌, ◌↔◌, ◌⊎◌, ℕ, List, [], ◌∷◌, All, Option, Some, None, Ok, IsOk, IsSome, IsTrue, length, map}
 use Rattle.std.specs.Ordering.{is_ge}
@@ -19,23 +19,23 @@ use Rattle.edit_report.specs.declared.output.Output.{Output}
 use Rattle.edit_upgrade.specs.declared.decision.options.Options.{Options}
 use Rattle.edit_upgrade.specs.declared.upgrade.UpgradePlan.{UpgradePlan}
 
--- a requirement that `semver` reads is told
+-- there is a requirement, and `semver` can parse it
 abbrev pub IsRead : Option (List ℕ) → Type 0
 IsRead None = ⊥
 IsRead (Some text) = IsOk (req_of text)
 
--- a requirement is told that admits the version
+-- there is a requirement, and it admits the version
 abbrev pub IsAdmittedBy : Option (List ℕ) → Parts → Type 0
 IsAdmittedBy None v = ⊥
 IsAdmittedBy (Some text) v = Admits text v
 
--- the text of this version is told
+-- there is a text, and it is that of this version
 abbrev pub IsVersionTold : Option (List ℕ) → Parts → Type 0
 IsVersionTold None v = ⊥
 IsVersionTold (Some text) v = version_parts text ≡ Ok v
 
--- where the change is Compatible, the new requirement is read, and every version that it admits the old one
--- admitted (own)
+-- where the change is Compatible, the new requirement parses, and the old one admits every version that it
+-- admits (own)
 abbrev pub Narrows : Line → Type 0
 Narrows line = line.change ≡ Some change.Compatible → IsRead line.new
     × ((v : Parts) → IsAdmittedBy line.new v → IsAdmittedBy line.old v)
@@ -48,25 +48,25 @@ pub record Reaches (line : Line) : Type 0 where
   pub latest : line.change ≡ Some change.Latest → (v : Parts) × IsVersionTold line.latest v
       × (length v.3 ≡ 0 → IsAdmittedBy line.new v)
 
--- where a compatible version is told, a latest one is told, and is not less (SemVer 2.0.0, item 11)
+-- where there is a compatible version, there is a latest one, and it is not less (SemVer 2.0.0, item 11)
 abbrev pub LatestIsNotLess : Line → Type 0
 LatestIsNotLess line = IsSome line.compatible
     → (u : Parts) × (v : Parts) × IsVersionTold line.compatible u × IsVersionTold line.latest v
     × IsTrue (is_ge (precedence v u))
 
--- a requirement with this floor is told
+-- there is a requirement, and this is its floor
 abbrev pub IsFloorTold : Option (List ℕ) → Parts → Type 0
 IsFloorTold None f = ⊥
 IsFloorTold (Some text) f = HasFloor text f
 
--- where the change is Latest or Compatible and the old requirement has a floor, the new one has one that is
--- not lower
+-- where the change is Latest or Compatible and the old requirement has a floor, the new one has a floor
+-- that is not lower
 abbrev pub KeepsFloor : Line → Type 0
 KeepsFloor line = (line.change ≡ Some change.Latest) ⊎ (line.change ≡ Some change.Compatible)
     → (f : Parts) → IsFloorTold line.old f
     → (g : Parts) × IsFloorTold line.new g × IsTrue (is_ge (precedence g f))
 
--- where requirements are never to be lowered, no row lowers its floor
+-- with `never_lower`, no row has a lower floor after its change
 abbrev pub NeverLowers : Options → UpgradePlan → Type 0
 NeverLowers o p = IsTrue o.never_lower → All KeepsFloor (map line_of p.rows.items)
 
@@ -74,14 +74,13 @@ NeverLowers o p = IsTrue o.never_lower → All KeepsFloor (map line_of p.rows.it
 abbrev pub HasNoChange : Line → Type 0
 HasNoChange line = line.change ≡ None
 
--- the bytes that stand after a plan for a manifest: those of its output, or its own where there is none
--- (own)
+-- the bytes of a manifest after a plan: those of its output, or its own where there is none (own)
 abbrev pub bytes_after : List ℕ → List Output → List ℕ
 bytes_after bytes [] = bytes
 bytes_after bytes (output ∷ more) = output.bytes.items
 
--- planned in this setting the bytes stay: they have rows, and whatever rows they have, none of them has a
--- change and there is no output (own)
+-- a fixed point of planning in this setting: the bytes have rows, and whatever rows they have, none of them
+-- has a change and there is no output (own)
 pub record IsFixedPoint (s : Setting) (bytes : List ℕ) : Type 0 where
   pub lines : List Line
   pub rows : HasRows s bytes lines
@@ -89,20 +88,20 @@ pub record IsFixedPoint (s : Setting) (bytes : List ℕ) : Type 0 where
   pub unwritten : (path : List ℕ) (again : List Line) (outputs : List Output) → HasRows s bytes again
       → HasOutputs path bytes again outputs → outputs ≡ []
 
--- two manifests need looks at the same addresses for the same names (own)
+-- two manifests need lookups of the same names at the same addresses (own)
 abbrev pub NeedSame : List Config → List ℕ → List ℕ → Type 0
 NeedSame configs bytes other = (address name : List ℕ) → IsNeededBy configs other address name
     ↔ IsNeededBy configs bytes address name
 
--- the bytes of an input that stand after the plan
+-- the bytes of an input after the plan
 abbrev pub left_of : Input → UpgradePlan → List ℕ
 left_of input p = bytes_after input.bytes.items (outputs_at (path_of input) p)
 
--- where no word gives a requirement, what the plan leaves of an input stays, planned again over the same
--- looks
+-- unless `--package` gives a requirement, planning the bytes of an input after the plan again over the same
+-- lookups changes nothing
 abbrev pub IsSettled : Setting → Input → UpgradePlan → Type 0
 IsSettled s input p = WordsSelect s.options → IsFixedPoint s (left_of input p)
 
--- what the plan leaves of an input needs the same looks
+-- the bytes of an input after the plan need the same lookups
 abbrev pub NeedsAsBefore : Setting → Input → UpgradePlan → Type 0
 NeedsAsBefore s input p = NeedSame s.configs input.bytes.items (left_of input p)

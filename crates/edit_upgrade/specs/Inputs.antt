@@ -1,4 +1,4 @@
--- What is said of a plan for each of its inputs, with what the rows of the input rest on.
+-- Properties of a plan stated for each of its inputs.
 use Rattle.std.specs.Prelude.{◌≡◌, ◌==◌, ℕ, zero, suc, List, [], ◌∷◌, ◌++◌, IfSome, Option, filter, length, map, not, option_map, slice_get, string_bytes}
 use Rattle.std.specs.Global.{Vec}
 use Rattle.std.specs.List.{flat_map}
@@ -15,8 +15,8 @@ use Rattle.edit_upgrade.specs.declared.decision.options.Options.{Options}
 use Rattle.edit_report.specs.declared.output.Output.{Output}
 use Rattle.edit_upgrade.specs.declared.upgrade.UpgradePlan.{UpgradePlan}
 
--- what the rows of an input rest on besides its text: which input it is, the options, its Rust version, its
--- configurations, and the looks that were made
+-- what the rows of an input depend on beside its bytes: its index, the options, its Rust version, its
+-- configurations, and the lookups made
 pub record Setting : Type 0 where
   pub input : ℕ
   pub options : Options
@@ -24,7 +24,7 @@ pub record Setting : Type 0 where
   pub configs : List Config
   pub looks : List Look
 
--- what the rows of this input rest on
+-- the setting of an input
 abbrev pub setting_of : ℕ → Options → Input → List Config → List Look → Setting
 setting_of i o input configs looks = record {
   input = i;
@@ -34,31 +34,31 @@ setting_of i o input configs looks = record {
   looks = looks;
 }
 
--- the plan does this for each input, in its setting (own)
+-- the property holds of the plan for each input, in its setting (own)
 abbrev pub EachInput : Options → List Input → List (Vec Config) → (Setting → Input → UpgradePlan → Type 0)
     → UpgradePlan → Type 0
 EachInput o inputs configs P p =
     (i : ℕ) → IfSome (slice_get inputs i) (λ input. IfSome (slice_get configs i)
     (λ own. P (setting_of i o input own.items p.looks.items) input p))
 
--- the rows of an input
+-- the rows of the input at an index
 abbrev pub rows_of : ℕ → UpgradePlan → List Line
 rows_of i p = filter (λ line. line.input == i) (map line_of p.rows.items)
 
--- the numbers below this one
+-- the numbers below this one, in order
 abbrev pub below : ℕ → List ℕ
 below zero = []
 below (suc n) = below n ++ n ∷ []
 
--- the rows are those of the inputs, one input after another (own)
+-- the rows are those of the inputs, in the order of the inputs (own)
 abbrev pub RowsInOrder : List Input → UpgradePlan → Type 0
 RowsInOrder inputs p = map line_of p.rows.items ≡ flat_map (λ i. rows_of i p) (below (length inputs))
 
--- the warnings on an input
+-- the warnings about the input at an index
 abbrev pub warnings_of : ℕ → UpgradePlan → List Told
 warnings_of i p = filter (λ told. told.input == i) (map warning_view p.warnings.items)
 
--- the warnings are those on the inputs, one input after another (own)
+-- the warnings are those about the inputs, in the order of the inputs (own)
 abbrev pub WarningsInOrder : List Input → UpgradePlan → Type 0
 WarningsInOrder inputs p =
     map warning_view p.warnings.items ≡ flat_map (λ i. warnings_of i p) (below (length inputs))
@@ -71,7 +71,7 @@ output_path output = string_bytes output.path
 abbrev pub outputs_at : List ℕ → UpgradePlan → List Output
 outputs_at path p = filter (λ output. bytes_eq (output_path output) path) p.outputs.items
 
--- the outputs stand in the order of their inputs, and there is no other (own)
+-- the outputs are in the order of their inputs, and there is no other (own)
 abbrev pub OutputsInOrder : List Input → UpgradePlan → Type 0
 OutputsInOrder inputs p =
     map output_path p.outputs.items

@@ -1,10 +1,10 @@
--- Rows, as the program has them.
+-- Rows, over the program's type.
 use Rattle.std.specs.Prelude.{option_map, string_bytes}
 use Rattle.edit_document.specs.Items.{place_seen}
 use Rattle.edit_upgrade.specs.Rows.{Line}
 use Rattle.edit_report.specs.declared.row.Row.{Row}
 
--- what a row tells, by its texts (own)
+-- a row, by its texts (own)
 abbrev pub line_of : Row → Line
 line_of r = record {
   input = r.input;

@@ -1,4 +1,4 @@
--- What a plan tells besides its rows.
+-- The parts of a plan beside its rows: warnings, and lists of names.
 use Rattle.std.specs.Prelude.{◌≡◌, map, ℕ, List, ◌++◌, codes, Bool, true, false, Option, Some, None, String, is_some, option_and_then, option_map, string_bytes, string_cmp}
 use Rattle.std.specs.List.{AllZip, filter_map, list_any}
 use Rattle.std.specs.List.Sorted.{IsStrictlySortedBy}
@@ -17,12 +17,12 @@ use Rattle.edit_upgrade.specs.declared.decision.options.Options.{Options}
 use Rattle.edit_upgrade.specs.declared.upgrade.Warning.{Warning}
 use Rattle.edit_upgrade.specs.declared.upgrade.UpgradePlan.{UpgradePlan}
 
--- the row's entry was not raised because it is pinned
+-- the row was left unchanged because its entry is pinned
 abbrev pub is_held_pinned : Option Reason → Bool
 is_held_pinned (Some reason.Pinned) = true
 is_held_pinned other = false
 
--- the row's entry was not raised because it does not admit the version
+-- the row was left unchanged because its requirement does not admit the latest version
 abbrev pub is_held_incompatible : Option Reason → Bool
 is_held_incompatible (Some reason.Incompatible) = true
 is_held_incompatible other = false
@@ -35,13 +35,13 @@ changed_name line = option_map (λ kind. line.name) line.change
 abbrev pub changed_names : List Line → List (List ℕ)
 changed_names lines = filter_map changed_name lines
 
--- what a warning tells
+-- a warning: the index of its input, whether only `--verbose` shows it, and its text
 pub record Told : Type 0 where
   pub input : ℕ
   pub verbose : Bool
   pub text : List ℕ
 
--- what a warning tells, by its text
+-- a warning of the program, by its text
 abbrev pub warning_view : Warning → Told
 warning_view w = record { input = w.input; verbose = w.verbose; text = string_bytes w.text }
 
@@ -49,25 +49,25 @@ warning_view w = record { input = w.input; verbose = w.verbose; text = string_by
 abbrev pub warned : ℕ → Bool → List ℕ → Told
 warned i verbose text = record { input = i; verbose = verbose; text = text }
 
--- what is told of an entry of this key that has no record, with the refusal's text
+-- the warning about an entry that is ignored, with the message of its error
 abbrev pub ignored_text : List ℕ → List ℕ → List ℕ
 ignored_text name text = codes "ignoring " ++ (name ++ (codes ", unsupported entry: " ++ text))
 
--- what is told of an entry of this key that takes all from its workspace
+-- the warning about an entry that inherits all its keys from its workspace
 abbrev pub workspace_text : List ℕ → List ℕ
 workspace_text name = codes "ignoring " ++ (name ++ codes ", source is workspace")
 
--- what is told of an entry of this key that keeps its requirement because that is not read
+-- the warning about an entry whose requirement cannot be parsed and is left unchanged
 abbrev pub unreadable_text : List ℕ → List ℕ → List ℕ
 unreadable_text name old =
     codes "keeping " ++ (name ++ (codes ", unreadable requirement `" ++ (old ++ codes "`")))
 
--- the entry keeps its text because that is not read
+-- the entry is left unchanged because its requirement cannot be parsed
 abbrev pub is_unread : Outcome → Bool
 is_unread unread = true
 is_unread row = false
 
--- what the decision for an entry of this record with this requirement rests on, where no version is told
+-- the case of an entry with this requirement where the index gives no version
 abbrev pub case_without_versions : Options → EntryRecord → List ℕ → Case
 case_without_versions o r old = record {
   excluded = is_excluded o r.name;
@@ -79,55 +79,56 @@ case_without_versions o r old = record {
   latest = None;
 }
 
--- the requirement of an entry of this record, where the decision keeps it because it is not read: the entry
--- is not left out, and no requirement that words give is taken
+-- the requirement of an entry, where it cannot be parsed and is left unchanged: the entry is not excluded,
+-- and no `--package` argument replaces the requirement
 abbrev pub kept_unread : Options → EntryRecord → List ℕ → Option (List ℕ)
 kept_unread o r old = when (is_unread (row_of o (case_without_versions o r old))) (Some old)
 
--- the warning on an entry of this key, record and source: that its workspace has the source, which only a
--- verbose report tells, or that it keeps a requirement that is not read
+-- the warning about an entry: that it inherits its source from its workspace, shown with `--verbose` only,
+-- or that its requirement cannot be parsed and is left unchanged
 abbrev pub warning_by : Options → ℕ → List ℕ → EntryRecord → Option Source → Option Told
 warning_by o i key r None = Some (warned i true (workspace_text key))
 warning_by o i key r (Some source) =
     option_map (λ old. warned i false (unreadable_text key old))
     (option_and_then (kept_unread o r) (version_of r))
 
--- the warning on an entry: where it has no record, one that tells why
+-- the warning about an entry: where it could not be read, one with the reason
 abbrev pub IsWarningBy : Options → ℕ → List ℕ → Option EntryRecord → Option Told → Type 0
 IsWarningBy o i key None told = (text : List ℕ) × (told ≡ Some (warned i false (ignored_text key text)))
 IsWarningBy o i key (Some r) told = told ≡ warning_by o i key r (source_of r)
 
--- the warning on an entry, by its key and what it says
+-- the warning about an entry of a dependency table
 abbrev pub IsWarningOn : Options → ℕ → Entry → Option Told → Type 0
 IsWarningOn o i e told = IsWarningBy o i e.name e.said told
 
--- the warnings on entries, one on each or none, in their order
+-- the warnings about entries, at most one for each, in order
 pub record AreWarnings (o : Options) (i : ℕ) (es : List Entry) (ts : List Told) : Type 0 where
   pub each : List (Option Told)
   pub on : AllZip (IsWarningOn o i) es each
   pub all : ts ≡ filter_map (λ told. told) each
 
--- the row's entry is one of a repository, without a requirement
+-- the row is that of a git dependency without a requirement
 abbrev pub is_git : Option Reason → Bool
 is_git (Some reason.GitSource) = true
 is_git other = false
 
--- the name of a row of a repository that has no requirement
+-- the name of a row, where it is that of a git dependency without a requirement
 abbrev pub git_name : Line → Option (List ℕ)
 git_name line = when (is_git line.reason) (Some line.name)
 
--- the names of those rows, in the order of the rows
+-- the names of the rows of git dependencies without a requirement, in order
 abbrev pub git_names : List Line → List (List ℕ)
 git_names lines = filter_map git_name lines
 
--- these names, each once in byte order
+-- these names, sorted by bytes, without duplicates
 pub record AreNames (names : List (List ℕ)) (told : List (String Global)) : Type 0 where
   pub ordered : IsStrictlySortedBy string_cmp told
   pub each : (name : List ℕ) → list_any (bytes_eq name) (map string_bytes told)
       ≡ list_any (bytes_eq name) names
 
--- what a plan tells of its rows: the names of those with a change, and of those of a repository without a
--- requirement; whether an entry was held back for being pinned, or for not admitting the version (own)
+-- the lists of a plan agree with its rows: the names of the rows that change, and of git dependencies
+-- without a requirement; whether an entry was left unchanged for being pinned, or for not admitting the
+-- latest version (own)
 pub record Tells (p : UpgradePlan) : Type 0 where
   pub modified : AreNames (changed_names (map line_of p.rows.items)) p.modified.items
   pub git_crates : AreNames (git_names (map line_of p.rows.items)) p.git_crates.items

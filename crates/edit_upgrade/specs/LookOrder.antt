@@ -1,4 +1,4 @@
--- In which order the looks of a plan stand: that in which the entries of the inputs need them.
+-- The order of the lookups of a plan: that in which the entries of the inputs need them.
 use Rattle.std.specs.Prelude.{◌≡◌, ◌&&◌, ℕ, List, [], ◌∷◌, Bool, Some, filter, length, map, not, slice_get, string_bytes}
 use Rattle.std.specs.Global.{Vec}
 use Rattle.std.specs.List.{AllZip, flat_map, list_any}
@@ -20,35 +20,34 @@ use Rattle.edit_upgrade.specs.declared.upgrade.Look.{Look}
 abbrev pub Pair : Type 0
 Pair = List ℕ × List ℕ
 
--- the two pairs are one
+-- the two pairs are equal
 abbrev pub is_pair : Pair → Pair → Bool
 is_pair p q = bytes_eq p.0 q.0 && bytes_eq p.1 q.1
 
--- each pair once, at its first place (own)
+-- the pairs without duplicates, each where it occurs first (own)
 abbrev pub pairs_once : List Pair → List Pair
 pairs_once [] = []
 pairs_once (p ∷ ps) = p ∷ filter (λ q. not (is_pair p q)) (pairs_once ps)
 
--- the address and the name that were looked up
+-- the address and the name of a lookup
 abbrev pub pair_of : Look → Pair
 pair_of look = (serialize look.registry, string_bytes look.name)
 
--- those of these entries whose crates come from a registry
+-- the entries whose crates come from a registry
 abbrev pub from_registries : List Seen → List Seen
 from_registries es = filter (λ e. not (is_elsewhere e.source)) es
 
--- the entry needs the look at this pair
+-- the entry needs the lookup of this pair
 abbrev pub NeedsPair : List Config → Seen → Pair → Type 0
 NeedsPair configs e pair = IsNeededFor configs e pair.0 pair.1
 
--- the bytes are a manifest, and these are the pairs that its seen entries of registries need, in their order
+-- the bytes are a manifest, and these are the pairs that its registry entries need, in order
 pub record AreNeedsOf (configs : List Config) (bytes : List ℕ) (pairs : List Pair) : Type 0 where
   pub form : Text
   pub manifest : IsDocument bytes form
   pub are : AllZip (NeedsPair configs) (from_registries (seen (view_at form))) pairs
 
--- the looks stand in the order of the inputs and of the entries of each that need them, each pair at the
--- first entry that needs it (own)
+-- the lookups are in the order of the inputs and their entries, each at the first entry that needs it (own)
 pub record AreInOrder (inputs : List Input) (configs : List (Vec Config)) (looks : List Look)
     : Type 0 where
   pub needs : ℕ → List Pair
@@ -56,12 +55,11 @@ pub record AreInOrder (inputs : List Input) (configs : List (Vec Config)) (looks
       → slice_get configs i ≡ Some own → AreNeedsOf own.items input.bytes.items (needs i)
   pub are : map pair_of looks ≡ pairs_once (flat_map needs (below (length inputs)))
 
--- the set of pairs holds these and no others (own)
+-- the set contains exactly these pairs (own)
 abbrev pub HoldsPairs : Pairs → List Pair → Type 0
 HoldsPairs set pairs = (address name : List ℕ) → set address name ≡ list_any (is_pair (address, name)) pairs
 
--- the looks that were made for these inputs are in their order, and the set holds the pairs that they need
--- (own)
+-- the lookups made for these inputs are in order, and the set contains the pairs that they need (own)
 pub record AreInOrderSoFar (inputs : List Input) (configs : List (Vec Config)) (looks : List Look)
     (set : Pairs) : Type 0 where
   pub looked : AreInOrder inputs configs looks

@@ -1,4 +1,4 @@
--- How looks are made, one after another.
+-- How lookups are made, one after another.
 use Rattle.std.specs.Prelude.{◌≡◌, ◌≤◌, ◌⊎◌, ℕ, List, [], ◌∷◌, ◌++◌, Bool, true, false, ◌&&◌, if◌then◌else◌, Option, IsSome, Some, Ok, is_some, string_bytes}
 use Rattle.std.specs.Str.{bytes_eq}
 use Rattle.edit_base.specs.Errors.{number_of}
@@ -14,11 +14,12 @@ use Rattle.edit_upgrade.specs.Records.{Seen, at_registry}
 use Rattle.edit_upgrade.specs.Rows.{is_elsewhere}
 use Rattle.edit_upgrade.specs.declared.upgrade.Look.{Look}
 
--- an answer that was kept stays
+-- cached answers are unchanged
 abbrev pub Stays : Kept → Kept → Type 0
 Stays old new = (address name : List ℕ) → IsSome (old address name) → new address name ≡ old address name
 
--- one look: its answer is kept, and was kept before or is one that the index gives; the other answers stay
+-- one lookup: its answer is in the cache, and was there before or is one that the index gives; other cached
+-- answers are unchanged
 pub record IsLook (address name : List ℕ) (gives : Outcomes) (old new : Kept) (look : Look) : Type 0 where
   pub at : serialize look.registry ≡ address
   pub of_name : string_bytes look.name ≡ name
@@ -28,37 +29,37 @@ pub record IsLook (address name : List ℕ) (gives : Outcomes) (old new : Kept) 
   pub others : (a n : List ℕ) → (bytes_eq address a && bytes_eq name n) ≡ false → new a n ≡ old a n
   pub stays : Stays old new
 
--- why a look is refused: the index gives this refusal, or its device failed and the count of faults rose
+-- the error of a lookup: one that the index gives, or a device fault, which raises the count of faults
 abbrev pub IsRefusedAt : Outcomes → url.Parts → List ℕ → ℕ → ℕ → Error → Type 0
 IsRefusedAt gives address name before now e =
     IsGivenRefusal gives address name e
     ⊎ ((number_of e ≡ 3) × raised before now)
 
--- a look at this address for this name
+-- a lookup at this address for this name
 abbrev pub IsAt : List ℕ → List ℕ → List ℕ → List ℕ → Type 0
 IsAt address of at name = (at ≡ address) × (name ≡ of)
 
--- what a call leaves, also where it is refused: of the answers that are kept; of the index, the outcomes
--- that it had; and a count of faults that has not fallen (own)
+-- the effect of a call, even where it fails: needed answers may be added to the cache, the index keeps its
+-- outcomes, and the count of faults does not fall (own)
 pub record Leaves (Needed : List ℕ → List ℕ → Type 0) (gives after : Outcomes) (before now : ℕ)
     (old new : Kept) : Type 0 where
   pub adds : AddsNeeded Needed gives old new
   pub same : SameOutcomes gives after
   pub later : before ≤ now
 
--- the pairs of address and name that a set holds
+-- a set of pairs of address and name
 abbrev pub Pairs : Type 0
 Pairs = List ℕ → List ℕ → Bool
 
--- where a walk over entries stands: the looks that were made, and the set of their addresses and names
+-- the state of a walk over entries: the lookups made so far, and the set of their addresses and names
 pub record IsSoFar (Needed : List ℕ → List ℕ → Type 0) (gives : Outcomes) (old now : Kept)
     (looks : List Look)
     (pairs : Pairs) : Type 0 where
   pub looked : AreLooks Needed gives old now looks
   pub set : (a n : List ℕ) → pairs a n ≡ is_some (look_at looks a n)
 
--- what a step does for an address and a name: nothing where they are among the pairs, else a look more; they
--- are among the pairs then
+-- a step for an address and a name: nothing where the set contains the pair, else one more lookup; the set
+-- contains the pair afterwards
 pub record IsStep (address name : List ℕ) (gives : Outcomes) (old new : Kept) (looks more : List Look)
     (pairs now : Pairs) : Type 0 where
   pub set : (a n : List ℕ) → now a n ≡ (if bytes_eq address a && bytes_eq name n then true else pairs a n)
@@ -66,8 +67,7 @@ pub record IsStep (address name : List ℕ) (gives : Outcomes) (old new : Kept) 
       ⊎ ((look : Look) × (pairs address name ≡ false) × (more ≡ looks ++ look ∷ [])
       × IsLook address name gives old new look)
 
--- what a step does for an entry: that for the address of its registry and its name, where it has one, else
--- nothing
+-- a step for an entry: that for its registry's address and its name, or nothing for an entry of no registry
 pub record IsEntryStep (configs : List Config) (e : Seen) (gives : Outcomes) (old new : Kept)
     (looks more : List Look) (pairs now : Pairs) : Type 0 where
   pub looked : (named : Option (List ℕ)) → e.source ≡ at_registry named
@@ -75,11 +75,11 @@ pub record IsEntryStep (configs : List Config) (e : Seen) (gives : Outcomes) (ol
       × IsStep (serialize address) e.name gives old new looks more pairs now
   pub idle : is_elsewhere e.source ≡ true → (more ≡ looks) × (now ≡ pairs) × (new ≡ old)
 
--- each pair of the set has an answer that is kept (own)
+-- each pair of the set has a cached answer (own)
 abbrev pub AreKept : Pairs → Kept → Type 0
 AreKept pairs kept = (address name : List ℕ) → pairs address name ≡ true → IsSome (kept address name)
 
--- what a walk does for entries: a step for each, one after another (own)
+-- a walk over entries: a step for each, in order (own)
 pub data AreSteps (configs : List Config) (gives : Outcomes)
     : List Seen → Kept → Kept → List Look → List Look → Pairs → Pairs → Type 0 where
   start : (kept : Kept) (looks : List Look) (pairs : Pairs) → AreSteps configs gives [] kept kept looks

@@ -1,4 +1,4 @@
--- The looks of a plan: what was looked up, and what each look answered.
+-- The lookups of a plan, and their answers.
 use Rattle.std.specs.Prelude.{◌≡◌, ℕ, List, [], ◌∷◌, Bool, ◌&&◌, All, ◌⊎◌, IfSome, IsSome, Option, Some, None, Ok, find, string_bytes, option_map, ⊤}
 use Rattle.std.specs.Str.{bytes_eq}
 use Rattle.edit_version.specs.IndexEntry.{IndexEntry}
@@ -15,46 +15,46 @@ use Rattle.edit_upgrade.specs.Rows.{Basis}
 use Rattle.edit_upgrade.specs.declared.upgrade.Look.{Look}
 use Rattle.edit_upgrade.specs.declared.decision.options.Options.{Options}
 
--- an answer: the entries of a name, or none where there is no such name
+-- an answer: the index entries of a crate, or none where the index does not have the crate
 abbrev pub Answer : Type 0
 Answer = Option (List IndexEntry)
 
--- the answers that are kept, by address and name
+-- the cached answers, by address and name
 abbrev pub Kept : Type 0
 Kept = List ℕ → List ℕ → Option Answer
 
--- the answers that a cache keeps
+-- the cached answers of a cache
 abbrev pub kept_by : {I : Type 0} → IndexCache I → Kept
 kept_by c address name = option_map answer_of (kept_at c address name)
 
--- the look was at this address for this name
+-- the lookup was made at this address for this name
 abbrev pub is_look_at : List ℕ → List ℕ → Look → Bool
 is_look_at address name look =
     bytes_eq (serialize look.registry) address && bytes_eq (string_bytes look.name) name
 
--- the first look at an address for a name
+-- the first lookup at an address for a name
 abbrev pub look_at : List Look → List ℕ → List ℕ → Option Look
 look_at looks address name = find (is_look_at address name) looks
 
--- the versions of an answer that may be taken with this Rust version
+-- the versions of an answer that this Rust version admits
 abbrev pub versions_in : Option Numbers → Option Answer → List Parts
 versions_in rust (Some (Some entries)) = admissible_in rust entries
 versions_in rust other = []
 
--- the versions that the looks tell of and that may be taken
+-- the admitted versions in the lookups of a name at an address
 abbrev pub told : Option Numbers → List Look → List ℕ → List ℕ → List Parts
 told rust looks address name =
     versions_in rust (option_map (λ look. answer_of look.answer) (look_at looks address name))
 
--- no two looks are at one address for one name
+-- no two lookups have the same address and name
 abbrev pub AreApart : List Look → Type 0
 AreApart [] = ⊤
 AreApart (look ∷ looks) =
     (look_at looks (serialize look.registry) (string_bytes look.name) ≡ None) × AreApart looks
 
--- the looks of a plan over the answers that were kept and are kept: each address and name that is needed and
--- no other, each once, with the answer that is kept now, which was kept before or is one that the index
--- gives; the other answers that are kept are those that were
+-- the lookups of a plan, given the cached answers before and after: each needed pair of address and name
+-- exactly once and no other, with the answer cached now, which was cached before or is one that the index
+-- gives; no other answer was added
 pub record AreLooks (Needed : List ℕ → List ℕ → Type 0) (gives : Outcomes) (old new : Kept)
     (looks : List Look) : Type 0 where
   pub complete : (address name : List ℕ) → Needed address name → IsSome (look_at looks address name)
@@ -68,20 +68,20 @@ pub record AreLooks (Needed : List ℕ → List ℕ → Type 0) (gives : Outcome
   pub others : (address name : List ℕ) → look_at looks address name ≡ None → new address name
       ≡ old address name
 
--- a look that the index answered so: at a registry of this address
+-- a lookup that the index answers so: at a registry with this address
 pub record IsGiven (gives : Outcomes) (address name : List ℕ) (answer : Answer) : Type 0 where
   pub registry : url.Parts
   pub at : serialize registry ≡ address
   pub given : gives registry name (Ok answer)
 
--- what a call leaves of the answers that are kept, also where it is refused: each one that was kept stays,
--- and each new one is needed and is one that the index gives (own)
+-- the effect of a call on the cached answers, even where it fails: those cached before are unchanged, and
+-- each new one is needed and is one that the index gives (own)
 pub record AddsNeeded (Needed : List ℕ → List ℕ → Type 0) (gives : Outcomes) (old new : Kept) : Type 0 where
   pub stays : (address name : List ℕ) → IsSome (old address name) → new address name ≡ old address name
   pub added : (address name : List ℕ) → old address name ≡ None
       → IfSome (new address name) (λ answer. Needed address name × IsGiven gives address name answer)
 
--- what rows are decided by, where the versions are those of the answers that are kept (own)
+-- what rows depend on, with versions from the cached answers (own)
 abbrev pub kept_basis : ℕ → Options → Option Numbers → List Config → Kept → Basis
 kept_basis input o rust configs kept = record {
   input = input;

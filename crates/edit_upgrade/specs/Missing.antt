@@ -1,4 +1,4 @@
--- The names that words select and that no entry has.
+-- The names that `--package` arguments select and that no entry has.
 use Rattle.std.specs.Prelude.{◌≡◌, ◌&&◌, ◌||◌, ℕ, List, [], Bool, Option, filter, map, not, option_map, string_bytes}
 use Rattle.std.specs.List.{AllZip, filter_map, list_any}
 use Rattle.std.specs.Str.{bytes_eq}
@@ -13,11 +13,11 @@ use Rattle.edit_upgrade.specs.Words.{is_named, words_of}
 use Rattle.edit_upgrade.specs.declared.decision.options.Options.{Options}
 use Rattle.edit_upgrade.specs.declared.upgrade.UpgradePlan.{UpgradePlan}
 
--- the crate's name of an entry that has a record
+-- the crate's name of an entry, where the entry can be read
 abbrev pub name_of : Entry → Option (List ℕ)
 name_of e = option_map (λ r. r.name) e.said
 
--- the crates' names of those entries, in their order
+-- the crates' names of the entries that can be read, in order
 abbrev pub names_in : List Entry → List (List ℕ)
 names_in es = filter_map name_of es
 

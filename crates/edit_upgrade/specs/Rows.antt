@@ -1,4 +1,4 @@
--- The rows of a manifest's seen entries, and what is written of them.
+-- The rows of a manifest, and the edits that they make.
 use Rattle.std.specs.Prelude.{◌≡◌, ℕ, List, [], ◌∷◌, Bool, true, false, Option, Some, None, is_some, option_map}
 use Rattle.std.specs.List.{AllZip}
 use Rattle.edit_tree.specs.Assertions.{Place}
@@ -17,15 +17,15 @@ use Rattle.edit_upgrade.specs.declared.decision.options.Options.{Options}
 use Rattle.edit_report.specs.declared.row.Reason.{Reason}
 use Rattle.edit_report.specs.declared.row.Reason.TheVariants as reason
 
--- what rows are decided by: which input they are of, the options, the configurations, and the versions that
--- may be taken, by address and name (own)
+-- what rows depend on: the index of their input, the options, the configurations, and the admitted versions
+-- by address and name (own)
 pub record Basis : Type 0 where
   pub input : ℕ
   pub options : Options
   pub configs : List Config
   pub versions : List ℕ → List ℕ → List Parts
 
--- what a row tells
+-- a row, by its texts
 pub record Line : Type 0 where
   pub input : ℕ
   pub name : List ℕ
@@ -38,8 +38,8 @@ pub record Line : Type 0 where
   pub reason : Option Reason
   pub change : Option Change
 
--- what is decided of an entry with this requirement: whether it is left out, and the requirement that words
--- give it, go by its name
+-- the case of an entry with this requirement: whether it is excluded, and which requirement `--package`
+-- gives, depend on its name
 abbrev pub case_for : Options → Seen → List ℕ → Option Parts → Option Parts → Case
 case_for o e old near far = record {
   excluded = is_excluded o e.name;
@@ -51,7 +51,7 @@ case_for o e old near far = record {
   latest = far;
 }
 
--- the row of an entry: its latest version is the newer one, where there is one, else the compatible one
+-- the row of an entry: its latest version is the newer one where there is one, else the compatible one
 abbrev pub line_for : ℕ → Seen → List ℕ → Option Parts → Option Parts → Choice → Line
 line_for i e old near far choice = record {
   input = i;
@@ -66,7 +66,7 @@ line_for i e old near far choice = record {
   change = choice.change;
 }
 
--- the row is what the decision gives over the greatest of the versions
+-- the row is the decision over the greatest of the versions
 pub record IsDecided (input : ℕ) (options : Options) (versions : List Parts) (e : Seen) (old : List ℕ)
     (line : Line) : Type 0 where
   pub near : Option Parts
@@ -75,14 +75,14 @@ pub record IsDecided (input : ℕ) (options : Options) (versions : List Parts) (
   pub latest : IsLatest old versions far
   pub is : line ≡ line_for input e old near far (decision options (case_for options e old near far))
 
--- why an entry without a requirement stays as it is: it is left out, or its crate comes from elsewhere
+-- why an entry without a requirement is unchanged: it is excluded, or a git or path dependency
 abbrev pub dash_reason : Bool → Source → Reason
 dash_reason true source = reason.Excluded
 dash_reason false at_folder = reason.PathSource
 dash_reason false at_repository = reason.GitSource
 dash_reason false (at_registry named) = reason.GitSource
 
--- the row of an entry without a requirement: dashes, and a reason
+-- the row of an entry without a requirement: no versions, only a reason
 abbrev pub dashes : ℕ → Options → Seen → Line
 dashes i o e = record {
   input = i;
@@ -97,32 +97,32 @@ dashes i o e = record {
   change = None;
 }
 
--- the row of an entry with this requirement or none, over versions
+-- the row of an entry with this requirement or none, over these versions
 abbrev pub IsRowOver : ℕ → Options → List Parts → Seen → Option (List ℕ) → Line → Type 0
 IsRowOver i o versions e None line = line ≡ dashes i o e
 IsRowOver i o versions e (Some old) line = IsDecided i o versions e old line
 
--- the look that an entry needs: at the address of its registry, for its name
+-- the lookup that an entry needs: at its registry's address, for its name
 pub record Needs (configs : List Config) (e : Seen) (address : url.Parts) (name : List ℕ) : Type 0 where
   pub named : Option (List ℕ)
   pub source : e.source ≡ at_registry named
   pub has : HasAddress configs named address
   pub crate_name : e.name ≡ name
 
--- an entry of a repository or a folder
+-- a git or path dependency
 abbrev pub is_elsewhere : Source → Bool
 is_elsewhere (at_registry named) = false
 is_elsewhere at_repository = true
 is_elsewhere at_folder = true
 
--- the versions that may be taken for an entry: those that are told of its name at the address of its
--- registry; none for an entry of a repository or a folder
+-- the versions admitted for an entry: those of its name at its registry's address; none for a git or path
+-- dependency
 pub data AreVersionsFor (s : Basis) (e : Seen) (versions : List Parts) : Type 0 where
   told_there : (address : url.Parts) → Needs s.configs e address e.name
       → versions ≡ s.versions (serialize address) e.name → AreVersionsFor s e versions
   elsewhere : is_elsewhere e.source ≡ true → versions ≡ [] → AreVersionsFor s e versions
 
--- the row of an entry, over the versions that may be taken for it
+-- the row of an entry, over the versions admitted for it
 pub record IsRowBy (s : Basis) (e : Seen) (line : Line) : Type 0 where
   pub versions : List Parts
   pub offered : AreVersionsFor s e versions
@@ -132,7 +132,7 @@ pub record IsRowBy (s : Basis) (e : Seen) (line : Line) : Type 0 where
 abbrev pub AreDecided : Basis → List Seen → List Line → Type 0
 AreDecided s es lines = AllZip (IsRowBy s) es lines
 
--- what a row writes at a place: its new text, where it has a change
+-- the edit of a row at a place: its new text, where it has a change
 abbrev pub write_at : Place → Line → Option (Place × List ℕ)
 write_at literal line = write_of line.change line.new
   where
@@ -140,11 +140,11 @@ write_at literal line = write_of line.change line.new
     write_of (Some kind) (Some text) = Some (literal, text)
     write_of kind text = None
 
--- what a row writes at the version literal of its entry; an entry without a requirement has none
+-- the edit of a row at the version literal of its entry; none for an entry without a requirement
 abbrev pub write_on : Seen → Line → Option (Place × List ℕ)
 write_on e line = when (is_some e.old) (write_at e.literal line)
 
--- one more write, where there is one
+-- the edits, with one more in front where there is one
 abbrev pub with_write : Option (Place × List ℕ) → List (Place × List ℕ) → List (Place × List ℕ)
 with_write None ws = ws
 with_write (Some w) ws = w ∷ ws

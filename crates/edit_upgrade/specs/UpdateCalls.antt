@@ -1,5 +1,5 @@
--- The calls of `cargo update` that follow an upgrade, as lists of words (The Cargo Book, "cargo update").
--- Which calls are made, and their order, is this project's own, after cargo-edit.
+-- The calls of `cargo update` that follow an upgrade, as lists of arguments (The Cargo Book, "cargo
+-- update"). Which calls are made, and their order, is this project's own, after cargo-edit.
 use Rattle.std.specs.Prelude.{ℕ, List, [], ◌∷◌, ◌++◌, Bool, false, ◌&&◌, if◌then◌else◌, Option, codes, is_none, map, nat_eq}
 use Rattle.std.specs.List.{filter, flat_map, list_any, starts_with}
 use Rattle.std.specs.Option.{option_map_or}
@@ -11,24 +11,24 @@ use Rattle.edit_version.specs.Admits.{admits}
 use Rattle.edit_upgrade.specs.Asked.{Asked, asks_repositories, is_due, is_recursive}
 use Rattle.edit_upgrade.specs.Pins.{Pin, pin_at, pins_of}
 
--- the words of a call
+-- the arguments of a call
 abbrev pub Call : Type 0
 Call = List (List ℕ)
 
--- a call for the manifest at a path, with the words that say what is updated
+-- a call for the manifest at a path, with the arguments that select what is updated
 abbrev pub call : List ℕ → List (List ℕ) → Call
 call manifest words =
     (codes "cargo" ∷ codes "update" ∷ codes "--manifest-path" ∷ manifest ∷ words) ++ codes "--offline" ∷ []
 
--- the words that name a package: `--package name@version`
+-- the arguments that name a package: `--package name@version`
 abbrev pub package_words : PackageSaid → List (List ℕ)
 package_words p = codes "--package" ∷ (p.name ++ (codes "@" ++ parts_text p.version)) ∷ []
 
--- the words that name these packages
+-- the arguments that name these packages
 abbrev pub packages_words : List PackageSaid → List (List ℕ)
 packages_words packages = flat_map package_words packages
 
--- the call that locks a package to a version
+-- the call that sets a package to a version with `--precise`
 abbrev pub precise_call : List ℕ → Pin → PackageSaid → Call
 precise_call manifest pin p =
     call manifest (codes "--precise" ∷ parts_text pin.version ∷ package_words p)
@@ -37,57 +37,58 @@ precise_call manifest pin p =
 abbrev pub named : List ℕ → List PackageSaid → List PackageSaid
 named name packages = filter (λ p. bytes_eq name p.name) packages
 
--- a call for each of these packages that a requirement admits
+-- a call for each of these packages whose version the pin's requirement admits
 abbrev pub admitted_calls : List ℕ → Pin → List PackageSaid → List Call
 admitted_calls manifest pin packages =
     map (precise_call manifest pin) (filter (λ p. admits pin.comparators p.version) packages)
 
--- these calls, where there is a precise version
+-- the calls for packages, none where there is no precise version
 abbrev pub entry_calls : List ℕ → List PackageSaid → Option Pin → List Call
 entry_calls manifest packages pin = option_map_or (λ q. admitted_calls manifest q packages) pin []
 
--- the calls for names, name by name, each for the packages of the name
+-- the calls for names, in order, each for the packages of that name
 abbrev pub precise_calls : List ℕ → List PackageSaid → List (List ℕ × Option Pin) → List Call
 precise_calls manifest packages pins =
     flat_map (λ e. entry_calls manifest (named e.0 packages) e.1) pins
 
--- the name is among these
+-- the name is one of these
 abbrev pub is_among : List (List ℕ) → List ℕ → Bool
 is_among names name = list_any (λ n. bytes_eq n name) names
 
--- the package comes from a repository
+-- the package comes from a git repository
 abbrev pub is_from_git : PackageSaid → Bool
 is_from_git p = option_map_or (λ source. starts_with nat_eq source (codes "git+")) p.source false
 
--- the packages of these names that come from a repository
+-- the packages of these names that come from a git repository
 abbrev pub from_git : List (List ℕ) → List PackageSaid → List PackageSaid
 from_git names packages = filter (λ p. is_among names p.name && is_from_git p) packages
 
--- one call for the packages of names that come from a repository, where these are asked anew
+-- one call for the packages from git repositories, where these are updated
 abbrev pub git_calls : List ℕ → Asked → List PackageSaid → List Call
 git_calls manifest a packages = if asks_repositories a
     then call manifest (packages_words (from_git a.git_crates packages)) ∷ [] else []
 
--- one call for packages with what they depend on, where there are any
+-- one `--aggressive` call for packages, none where there are no packages
 abbrev pub aggressive_calls : List ℕ → List PackageSaid → List Call
 aggressive_calls manifest [] = []
 aggressive_calls manifest (p ∷ ps) = call manifest (codes "--aggressive" ∷ packages_words (p ∷ ps)) ∷ []
 
--- the packages of modified names that have no precise version
+-- the packages of modified names for which no precise version is given
 abbrev pub unpinned : List (List ℕ × Option Pin) → List (List ℕ) → List PackageSaid → List PackageSaid
 unpinned pins modified packages =
     filter (λ p. is_among modified p.name && is_none (pin_at pins p.name)) packages
 
--- such a call for these, where dependencies are updated as well
+-- the `--aggressive` call for the modified packages without a precise version, where dependencies are
+-- updated as well
 abbrev pub recursive_calls : List ℕ → Asked → List PackageSaid → List Call
 recursive_calls manifest a packages = if is_recursive a
     then aggressive_calls manifest (unpinned (pins_of a.words) a.modified packages) else []
 
--- the calls for a manifest: with precise versions, for repositories, and for the other modified names
+-- the calls for a manifest: with precise versions, for git dependencies, and for the other modified names
 abbrev pub calls_for : List ℕ → Asked → List PackageSaid → List Call
 calls_for manifest a packages = precise_calls manifest packages (pins_of a.words)
     ++ (git_calls manifest a packages ++ recursive_calls manifest a packages)
 
--- the calls that follow an upgrade in a workspace: none where none are due
+-- the calls that follow an upgrade in a workspace: none where none are needed
 abbrev pub update_calls : Asked → WorkspaceSaid → List Call
 update_calls a w = if is_due a then calls_for (joined w.root (codes "Cargo.toml")) a w.packages else []

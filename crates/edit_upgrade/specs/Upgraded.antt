@@ -1,4 +1,4 @@
--- What a plan gives for a manifest: its rows, and the looks that they rest on.
+-- The plan of a manifest: its rows, and the lookups that they need.
 use Rattle.std.specs.Prelude.{◌≡◌, ℕ, List, [], Some, Contains, slice_get}
 use Rattle.std.specs.Global.{Vec}
 use Rattle.std.specs.List.{AllZip}
@@ -20,7 +20,7 @@ use Rattle.edit_metadata.specs.declared.input.Input.{Input}
 use Rattle.edit_upgrade.specs.declared.decision.options.Options.{Options}
 use Rattle.edit_upgrade.specs.declared.upgrade.UpgradePlan.{UpgradePlan}
 
--- what the rows of an input are decided by: the versions are those that the looks tell of
+-- what the rows of an input depend on, with versions from the lookups made
 abbrev pub basis_of : Setting → Basis
 basis_of s = record {
   input = s.input;
@@ -29,35 +29,35 @@ basis_of s = record {
   versions = told s.rust s.looks;
 }
 
--- the row of an entry, over the versions that the looks tell of
+-- the row of an entry, over the versions in the lookups made
 abbrev pub IsRow : Setting → Seen → Line → Type 0
 IsRow s e line = IsRowBy (basis_of s) e line
 
--- the bytes are a manifest, and these are the rows of its seen entries
+-- the bytes are a manifest, and these are its rows
 pub record HasRows (s : Setting) (bytes : List ℕ) (lines : List Line) : Type 0 where
   pub form : Text
   pub manifest : IsDocument bytes form
   pub decided : AllZip (IsRow s) (seen (view_at form)) lines
 
--- the entry needs this look
+-- the entry needs this lookup
 pub record IsNeededFor (configs : List Config) (e : Seen) (address name : List ℕ) : Type 0 where
   pub registry : url.Parts
   pub needs : Needs configs e registry name
   pub at : address ≡ serialize registry
 
--- one of the entries needs this look
+-- one of the entries needs this lookup
 pub record IsNeededIn (configs : List Config) (es : List Seen) (address name : List ℕ) : Type 0 where
   pub entry : Seen
   pub among : Contains es entry
   pub needs : IsNeededFor configs entry address name
 
--- a seen entry of the manifest needs this look
+-- an entry of the manifest that gets a row needs this lookup
 pub record IsNeededBy (configs : List Config) (bytes address name : List ℕ) : Type 0 where
   pub form : Text
   pub manifest : IsDocument bytes form
   pub needed : IsNeededIn configs (seen (view_at form)) address name
 
--- one of the inputs needs this look
+-- one of the inputs needs this lookup
 pub record IsNeeded (inputs : List Input) (configs : List (Vec Config))
     (address name : List ℕ) : Type 0 where
   pub i : ℕ
@@ -71,17 +71,17 @@ pub record IsNeeded (inputs : List Input) (configs : List (Vec Config))
 abbrev pub HasItsRows : Setting → Input → UpgradePlan → Type 0
 HasItsRows s input p = HasRows s input.bytes.items (rows_of s.input p)
 
--- the outputs of an input are what its rows write
+-- the outputs of an input are the edits of its rows
 abbrev pub HasItsOutputs : Setting → Input → UpgradePlan → Type 0
 HasItsOutputs s input p =
     HasOutputs (path_of input) input.bytes.items (rows_of s.input p) (outputs_at (path_of input) p)
 
--- the bytes are a manifest, and these are the warnings on its entries
+-- the bytes are a manifest, and these are the warnings about its entries
 pub record HasWarnings (o : Options) (input : ℕ) (bytes : List ℕ) (told : List Told) : Type 0 where
   pub form : Text
   pub manifest : IsDocument bytes form
   pub are : AreWarnings o input (entries (view_at form) []) told
 
--- the warnings of an input are those on the entries of its manifest
+-- the warnings about an input are those about the entries of its manifest
 abbrev pub HasItsWarnings : Setting → Input → UpgradePlan → Type 0
 HasItsWarnings s input p = HasWarnings s.options s.input input.bytes.items (warnings_of s.input p)

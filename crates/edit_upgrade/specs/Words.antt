@@ -1,12 +1,12 @@
--- What package words and excluded names ask for: which entries are left out, and which requirements are given
--- (own, after cargo-edit).
+-- Which entries `--package` and `--exclude` select, and which requirements `--package` gives (own, after
+-- cargo-edit).
 use Rattle.std.specs.Prelude.{◌≡◌, ◌==◌, ◌&&◌, ◌||◌, ℕ, List, [], All, Bool, not, Option, None, find, length, map, option_and_then, reverse, string_bytes}
 use Rattle.std.specs.List.{list_any}
 use Rattle.std.specs.Str.{bytes_eq}
 use Rattle.edit_version.specs.CrateWords.{IsReadOrAbsent, unfit, word_name, word_requirement}
 use Rattle.edit_upgrade.specs.declared.decision.options.Options.{Options}
 
--- the package words, as `serde` and `serde@1.0`
+-- the `--package` arguments, as `serde` and `serde@1.0`
 abbrev pub words_of : Options → List (List ℕ)
 words_of o = map string_bytes o.package.items
 
@@ -14,32 +14,33 @@ words_of o = map string_bytes o.package.items
 abbrev pub excluded_of : Options → List (List ℕ)
 excluded_of o = map string_bytes o.exclude.items
 
--- the word has this name
+-- the argument has this name
 abbrev pub is_word_of : List ℕ → List ℕ → Bool
 is_word_of name word = bytes_eq (word_name word) name
 
--- one of these words has this name
+-- one of these arguments has this name
 abbrev pub is_named : List (List ℕ) → List ℕ → Bool
 is_named words name = list_any (is_word_of name) words
 
--- an entry of this name is left out: there are words and none has its name, or its name is excluded
+-- an entry of this name is left out: there are `--package` arguments and none has its name, or its name is
+-- excluded
 abbrev pub is_excluded : Options → List ℕ → Bool
 is_excluded o name =
     (not (length o.package.items == 0) && not (is_named (words_of o) name))
     || list_any (bytes_eq name) (excluded_of o)
 
--- the requirement of the last of these words that has this name
+-- the requirement of the last of these arguments that has this name
 abbrev pub requirement_in : List (List ℕ) → List ℕ → Option (List ℕ)
 requirement_in words name = option_and_then word_requirement (find (is_word_of name) (reverse words))
 
--- the requirement that the words give to entries of this name
+-- the requirement that `--package` gives for this name
 abbrev pub requirement_for : Options → List ℕ → Option (List ℕ)
 requirement_for o name = requirement_in (words_of o) name
 
--- no word holds an `@`: the words select entries, and give no requirement
+-- no argument contains an `@`: the arguments select entries and give no requirement
 abbrev pub WordsSelect : Options → Type 0
 WordsSelect o = All (λ word. word_requirement word ≡ None) (words_of o)
 
--- the word names a crate, with a requirement that is read or with none
+-- a valid argument: a crate name, with no requirement or one that can be parsed
 abbrev pub IsWord : List ℕ → Type 0
 IsWord word = (unfit (word_name word) ≡ []) × IsReadOrAbsent (word_requirement word)

@@ -12,7 +12,7 @@ use std::alloc::{AllocError, Global};
 use std::collections::BTreeMap;
 use url::Url;
 
-/// The addresses of the registries that were resolved: of the default one, and of others by their names.
+/// The resolved addresses of registries: that of the default registry, and those of named ones.
 #[derive(Drop)]
 pub(crate) struct Addresses<'a> {
     definitions: Definitions<'a>,
@@ -21,7 +21,7 @@ pub(crate) struct Addresses<'a> {
 }
 
 impl<'a> Addresses<'a> {
-    /// None yet, of what these configurations define.
+    /// Returns an empty cache of addresses, which are resolved from these configurations.
     pub(crate) fn new(alloc: Global, configs: &'a [Config]) -> CargoResult<Addresses<'a>>
         ensures are { IfOk result (AreAddresses configs.entry.now) }
         ensures refused { IfErr result IsMemory }
@@ -34,7 +34,7 @@ impl<'a> Addresses<'a> {
         })
     }
 
-    /// The address of a registry, where it was resolved.
+    /// The address of a registry, or `None` where it was not resolved yet.
     pub(crate) fn url(&self, registry: Option<&str>) -> Option<&Url>
         ensures { option_copied result ≡ url_at self.now (given registry.entry) }
     {
@@ -44,7 +44,7 @@ impl<'a> Addresses<'a> {
         }
     }
 
-    /// Keeps the address of a registry.
+    /// Stores the resolved address of a registry.
     fn keep(&mut self, alloc: Global, registry: Option<&str>, url: Url) -> Result<(), AllocError>
         ensures kept { OnOk result ((named : Option (List ℕ)) → url_at self.new named
             ≡ (if is_named (given registry.entry) named then Some url else url_at self.old named)) }
@@ -63,7 +63,7 @@ impl<'a> Addresses<'a> {
         }
     }
 
-    /// Sees to it that the address of a registry is resolved, once.
+    /// Resolves the address of a registry, unless it is resolved already.
     pub(crate) fn see(&mut self, alloc: Global, registry: Option<&str>) -> CargoResult<()>
         ensures there { OnOk result (IsSome (url_at self.new (given registry.entry))) }
         ensures are { OnOk result

@@ -1,4 +1,4 @@
-//! What options ask for, of entries by their names.
+//! The options of an upgrade, applied to entries by their names.
 ghost use Rattle.std.specs.Prelude.{◌≡◌, ℕ, List, option_copied};
 ghost use Rattle.std.specs.BTreeSet.{contains_text};
 ghost use Rattle.std.specs.List.{list_any};
@@ -9,7 +9,7 @@ ghost use Rattle.edit_upgrade.specs.Words.{excluded_of, is_excluded, is_named, r
 use crate::decision::options::Options;
 use crate::picks::{Picks, has_name, kept_requirement};
 
-/// Options, with their words and excluded names as they were read.
+/// The options with their parsed `--package` arguments and the set of excluded names.
 #[derive(Clone, Copy)]
 pub(crate) struct Asked<'a> {
     pub(crate) options: &'a Options,
@@ -20,14 +20,15 @@ pub(crate) struct Asked<'a> {
         → contains_text picks.now.excluded n ≡ list_any (bytes_eq n) (excluded_of options.now) },
 }
 
-/// Whether words select entries of this name.
+/// Whether a `--package` argument selects entries of this name.
 pub(crate) fn is_named(asked: Asked<'_>, name: &str) -> bool
     ensures { result ≡ is_named (words_of asked.entry.options.now) name.now }
 {
     has_name(&asked.picks.words, name)
 }
 
-/// Whether entries of this name are left out.
+/// Whether entries of this name are excluded, by `--exclude` or because no `--package` argument selects
+/// them.
 pub(crate) fn is_excluded(asked: Asked<'_>, name: &str) -> bool
     ensures { result ≡ is_excluded asked.entry.options.now name.now }
 {
@@ -37,7 +38,7 @@ pub(crate) fn is_excluded(asked: Asked<'_>, name: &str) -> bool
     asked.picks.excluded.contains(name)
 }
 
-/// The requirement that words give to entries of this name.
+/// The requirement that the `--package` arguments give for this name.
 pub(crate) fn requirement_for<'a>(asked: Asked<'a>, name: &str) -> Option<&'a str>
     ensures { option_copied result ≡ requirement_for asked.entry.options.now name.now }
 {

@@ -1,4 +1,4 @@
-//! What is planned of inputs, one after another.
+//! The plan of an upgrade while it is built, one input after another.
 ghost use Rattle.std.specs.Prelude.{◌≡◌, ◌≢◌, ◌++◌, ◌⊎◌, [], List, ℕ, IfErr, IfOk, MatchOption, OnOk, false, map, string_bytes};
 ghost use Rattle.std.specs.BTreeSet.{contains_text};
 ghost use Rattle.edit_base.specs.Errors.{IsMemory};
@@ -32,11 +32,11 @@ use edit_report::{Output, Row};
 use edit_sources::{Config, Index};
 use std::alloc::{AllocError, Global};
 
-/// What is planned of inputs so far.
+/// The plan so far: what was computed for the inputs up to now.
 #[derive(Drop)]
 pub(crate) struct Draft {
     pub(crate) books: Books,
-    /// The names of entries that words select.
+    /// The names of entries seen so far that `--package` arguments select.
     pub(crate) known: Names,
     pub(crate) outputs: Vec<Output>,
     pub(crate) rows: Vec<Row>,
@@ -44,7 +44,7 @@ pub(crate) struct Draft {
 }
 
 impl Draft {
-    /// Nothing yet.
+    /// An empty draft.
     pub(crate) fn new(alloc: Global) -> Draft
         ensures looks { result.books.looks.items ≡ [] }
         ensures pairs { (address name : List ℕ) → holds_pair result.books.pairs address name ≡ false }
@@ -67,7 +67,7 @@ impl Draft {
     }
 }
 
-/// Adds items behind those of a list.
+/// Appends items to a list.
 fn push_all<T: Drop>(list: &mut Vec<T>, own: Vec<T>) -> Result<(), AllocError>
     ensures ok { OnOk result (list.new.items ≡ list.old.items ++ own.items) }
 {
@@ -77,7 +77,7 @@ fn push_all<T: Drop>(list: &mut Vec<T>, own: Vec<T>) -> Result<(), AllocError>
     Ok(())
 }
 
-/// The output at a path, where there is a new text.
+/// The output for the manifest at a path: none where its text does not change.
 fn outputs_of(alloc: Global, path: &str, text: Option<String>) -> Result<Vec<Output>, AllocError>
     ensures ok { IfOk result (λ v. MatchOption text (v.items ≡ [])
         (λ s. IsOnlyOutput path.now (string_bytes s) v.items)) }
@@ -96,7 +96,7 @@ fn outputs_of(alloc: Global, path: &str, text: Option<String>) -> Result<Vec<Out
     }
 }
 
-/// Adds the rows of a manifest, with what they write and the warnings.
+/// Adds the rows, the warnings and the output of a manifest to the draft.
 fn add_planned(
     alloc: Global,
     input: &Input,
@@ -124,7 +124,7 @@ fn add_planned(
     Ok(())
 }
 
-/// Plans one more input, whose manifest was read.
+/// Plans the next input, whose manifest is already parsed as `document`.
 pub(crate) fn add_input<I: Index>(
     alloc: Global,
     number: usize,
@@ -157,7 +157,7 @@ pub(crate) fn add_input<I: Index>(
     Ok(())
 }
 
-/// The plan that a draft without rows has.
+/// The finished plan of a draft that has no rows.
 fn rowless(alloc: Global, draft: Draft, missing: Vec<String>) -> UpgradePlan
     requires { draft.rows.items ≡ [] }
     ensures rows { (result.rows ≡ draft.rows) × (result.looks ≡ draft.books.looks) }
@@ -179,7 +179,7 @@ fn rowless(alloc: Global, draft: Draft, missing: Vec<String>) -> UpgradePlan
     }
 }
 
-/// The plan that a draft has, with the warnings about its rows.
+/// The finished plan of a draft, with the lists of names derived from its rows.
 pub(crate) fn finished(
     alloc: Global,
     draft: Draft,

@@ -1,4 +1,4 @@
-//! The upgrade of a manifest: what is planned for its entries.
+//! Plans the upgrade of manifests: the new requirement of each entry, and the new bytes of each manifest.
 #![tactic(auto)]
 
 mod addresses;

@@ -1,4 +1,4 @@
-//! What a plan tells besides its rows.
+//! The parts of a plan beside its rows: warnings, and lists of names.
 ghost use Rattle.std.specs.Prelude.{◌≡◌, ◌&&◌, ℕ, List, false, Option, Some, IfErr, IfOk, is_some, map, not, option_and_then, option_copied, option_map, string_bytes};
 ghost use Rattle.std.specs.BTreeSet.{contains_text};
 ghost use Rattle.std.specs.List.{list_any};
@@ -35,21 +35,21 @@ fn is_held_incompatible(reason: Option<Reason>) -> bool
     matches!(reason, Some(Reason::Incompatible))
 }
 
-/// Whether an entry was not raised because it is pinned.
+/// Whether a row was left unchanged because its entry is pinned.
 pub(crate) fn has_pinned(rows: &[Row]) -> bool
     ensures { result ≡ list_any (λ r. is_held_pinned r.reason) rows.now }
 {
     rows.iter().any(|row| is_held_pinned(row.reason))
 }
 
-/// Whether an entry was not raised because it does not admit the version.
+/// Whether a row was left unchanged because its requirement does not admit the latest version.
 pub(crate) fn has_incompatible(rows: &[Row]) -> bool
     ensures { result ≡ list_any (λ r. is_held_incompatible r.reason) rows.now }
 {
     rows.iter().any(|row| is_held_incompatible(row.reason))
 }
 
-/// The set of the names of the rows with a change.
+/// The set of the names of the rows that change.
 fn changed_set(alloc: Global, rows: &[Row]) -> Result<Names, AllocError>
     ensures names { IfOk result (λ s. (name : List ℕ) → contains_text s name
         ≡ list_any (bytes_eq name) (changed_names (map line_of rows.now))) }
@@ -63,7 +63,7 @@ fn changed_set(alloc: Global, rows: &[Row]) -> Result<Names, AllocError>
     Ok(names)
 }
 
-/// The names of the rows with a change, in byte order, each once.
+/// The names of the rows that change, sorted by bytes, without duplicates.
 pub(crate) fn modified_names(alloc: Global, rows: &[Row]) -> Result<Vec<String>, AllocError>
     ensures ok { IfOk result (λ v. AreNames (changed_names (map line_of rows.now)) v.items) }
 {
@@ -78,7 +78,7 @@ fn is_git(reason: Option<Reason>) -> bool
     matches!(reason, Some(Reason::GitSource))
 }
 
-/// The set of the names of the rows of repositories that have no requirement.
+/// The set of the names of the rows of git dependencies that have no requirement.
 fn git_set(alloc: Global, rows: &[Row]) -> Result<Names, AllocError>
     ensures names { IfOk result (λ s. (name : List ℕ) → contains_text s name
         ≡ list_any (bytes_eq name) (git_names (map line_of rows.now))) }
@@ -92,7 +92,7 @@ fn git_set(alloc: Global, rows: &[Row]) -> Result<Names, AllocError>
     Ok(names)
 }
 
-/// The names of the rows of repositories that have no requirement, in byte order, each once.
+/// The names of the rows of git dependencies without a requirement, sorted by bytes, without duplicates.
 pub(crate) fn git_crates(alloc: Global, rows: &[Row]) -> Result<Vec<String>, AllocError>
     ensures ok { IfOk result (λ v. AreNames (git_names (map line_of rows.now)) v.items) }
 {
@@ -101,14 +101,14 @@ pub(crate) fn git_crates(alloc: Global, rows: &[Row]) -> Result<Vec<String>, All
     Ok(names)
 }
 
-/// The warning about an entry that has no record, with this reason.
+/// The warning about an entry that is ignored for this reason.
 fn ignored_with(alloc: Global, key: &str, why: &str) -> Result<String, AllocError>
     ensures { IfOk result (λ s. string_bytes s ≡ ignored_text key.now why.now) }
 {
     format!(in alloc; "ignoring {key}, unsupported entry: {why}")
 }
 
-/// The warning about an entry that has no record, with the text of its error.
+/// The warning about an entry that is ignored because it could not be read, with the message of the error.
 fn ignored_text(alloc: Global, key: &str, error: &Error) -> Result<String, AllocError>
     ensures { IfOk result (λ s. (text : List ℕ) × (string_bytes s ≡ ignored_text key.now text)) }
 {
@@ -117,22 +117,22 @@ fn ignored_text(alloc: Global, key: &str, error: &Error) -> Result<String, Alloc
     Ok(text)
 }
 
-/// The warning about an entry that takes everything from its workspace.
+/// The warning about an entry that inherits all its keys with `workspace = true`.
 fn workspace_text(alloc: Global, key: &str) -> Result<String, AllocError>
     ensures { IfOk result (λ s. string_bytes s ≡ workspace_text key.now) }
 {
     format!(in alloc; "ignoring {key}, source is workspace")
 }
 
-/// The warning about a requirement that stays because it cannot be read.
+/// The warning about a requirement that is left unchanged because it cannot be parsed.
 fn unreadable_text(alloc: Global, key: &str, old: &str) -> Result<String, AllocError>
     ensures { IfOk result (λ s. string_bytes s ≡ unreadable_text key.now old.now) }
 {
     format!(in alloc; "keeping {key}, unreadable requirement `{old}`")
 }
 
-/// Whether an entry keeps a requirement because it is not read: the entry is not left out, and the
-/// requirement that words give is not taken.
+/// Whether an entry is left unchanged because its requirement cannot be parsed: it is not excluded, and no
+/// `--package` argument replaces the requirement.
 fn stays_unread(options: &Options, excluded: bool, selected: Option<&str>, pin: Pin) -> bool
     ensures { (far near : Option (List ℕ)) → result ≡ is_unread (first_row excluded
         (unless (is_some (option_copied selected.entry) && pin.pinned && not options.now.pinned)
@@ -147,7 +147,7 @@ fn stays_unread(options: &Options, excluded: bool, selected: Option<&str>, pin: 
     }
 }
 
-/// Whether an entry of this record keeps its requirement because that is not read.
+/// Whether an entry is left unchanged because its requirement `old` cannot be parsed.
 fn keeps_unread(
     alloc: Global,
     asked: Asked<'_>,
@@ -165,7 +165,7 @@ fn keeps_unread(
     Ok(stays_unread(asked.options, excluded, selected, pin))
 }
 
-/// The warning on an entry of this record, where it keeps its requirement because that is not read.
+/// The warning about an entry whose requirement cannot be parsed and is left unchanged.
 fn requirement_warning(
     alloc: Global,
     asked: Asked<'_>,
@@ -193,7 +193,7 @@ fn requirement_warning(
     }))
 }
 
-/// The warning on an entry that has a record.
+/// The warning about an entry that was read as a `Dependency`, where there is one.
 fn record_warning(
     alloc: Global,
     asked: Asked<'_>,
@@ -221,7 +221,7 @@ fn record_warning(
     requirement_warning(alloc, asked, input, key, dependency, version)
 }
 
-/// The text, where there is one.
+/// Borrows the text of an option as `&str`.
 fn text_of(text: Option<&String>) -> Option<&str>
     ensures { option_map (λ s. s.now) result ≡ option_map string_bytes (option_copied text.entry) }
 {
@@ -231,7 +231,7 @@ fn text_of(text: Option<&String>) -> Option<&str>
     }
 }
 
-/// The warning on an entry, where there is one.
+/// The warning about an entry of a dependency table, where there is one.
 fn entry_warning(
     alloc: Global,
     asked: Asked<'_>,
@@ -253,7 +253,7 @@ fn entry_warning(
     }
 }
 
-/// The warnings on entries, in their order.
+/// The warnings about the entries of a manifest, in the order of the entries.
 pub(crate) fn warnings_on(
     alloc: Global,
     asked: Asked<'_>,

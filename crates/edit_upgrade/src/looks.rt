@@ -1,4 +1,4 @@
-//! The looks of a plan.
+//! The lookups of a plan.
 ghost use Rattle.std.specs.Prelude.{◌≡◌, ◌⊎◌, ◌&&◌, if◌then◌else◌, ℕ, List, Some, None, Ok, true, false, IfErr, IfOk, IfSome, IsSome, OnOk, option_copied, string_bytes};
 ghost use Rattle.std.specs.Str.{bytes_eq};
 ghost use Rattle.edit_base.specs.Errors.{IsMemory};
@@ -18,10 +18,10 @@ use std::alloc::{AllocError, Global};
 use std::collections::BTreeMap;
 use url::Url;
 
-/// Pairs of address and name, each once.
+/// Pairs of a registry's address and a crate's name, without duplicates.
 pub(crate) type Pairs = BTreeMap<String, Names>;
 
-/// The same answer, on memory of its own.
+/// Copies an answer of the index into newly allocated memory.
 fn copied_answer(alloc: Global, answer: Option<&IndexKrate>) -> CargoResult<Option<IndexKrate>>
     ensures ok { IfOk result (λ o. answer_of o ≡ answer_of (option_copied answer.entry)) }
     ensures refused { IfErr result IsMemory }
@@ -35,7 +35,7 @@ fn copied_answer(alloc: Global, answer: Option<&IndexKrate>) -> CargoResult<Opti
     }
 }
 
-/// Sees to it that an answer is kept.
+/// Queries the index for a crate, unless the answer is cached.
 fn fetch_one<I: Index>(
     alloc: Global,
     registry: &Url,
@@ -60,7 +60,7 @@ fn fetch_one<I: Index>(
     index.fetch(alloc, registry, name)
 }
 
-/// A look with the answer that is kept.
+/// The record of a lookup, with the cached answer.
 fn look_of<I: Index>(
     alloc: Global,
     registry: &Url,
@@ -83,7 +83,7 @@ fn look_of<I: Index>(
     })
 }
 
-/// Looks a name up, and records the answer.
+/// Looks up a crate at a registry, and returns the record of the lookup.
 fn one_look<I: Index>(
     alloc: Global,
     registry: &Url,
@@ -105,7 +105,7 @@ fn one_look<I: Index>(
     look_of(alloc, registry, name, index)
 }
 
-/// Adds a pair of address and name, and says whether it was among them.
+/// Inserts a pair of address and name, and returns whether the pair was present before.
 fn add_pair(alloc: Global, pairs: &mut Pairs, address: &str, name: &str) -> Result<bool, AllocError>
     ensures had { IfOk result (λ b. b ≡ holds_pair pairs.old address.now name.now) }
     ensures ok { OnOk result ((a n : List ℕ) → holds_pair pairs.new a n
@@ -122,7 +122,7 @@ fn add_pair(alloc: Global, pairs: &mut Pairs, address: &str, name: &str) -> Resu
     Ok(false)
 }
 
-/// Looks a name up at an address, and records the answer, unless that was done.
+/// Looks up a crate at a registry and records the lookup, unless this plan has done so before.
 pub(crate) fn look_once<I: Index>(
     alloc: Global,
     registry: &Url,

@@ -1,4 +1,4 @@
-//! The names that words select and that no entry has.
+//! The names that `--package` arguments select and that no entry has.
 ghost use Rattle.std.specs.Prelude.{◌≡◌, ◌≢◌, ◌&&◌, ◌||◌, ◌++◌, [], ◌∷◌, ℕ, List, if◌then◌else◌, IfErr, IfOk, OnOk, filter, map, not, string_bytes};
 ghost use Rattle.std.specs.BTreeSet.{contains_text};
 ghost use Rattle.std.specs.List.{list_any};
@@ -14,7 +14,7 @@ use edit_base::CargoResult;
 use edit_manifest::entries::{Entry, Said};
 use std::alloc::{AllocError, Global};
 
-/// Adds the name of an entry, where words select it.
+/// Adds the name of an entry to the set of known names, where a `--package` argument selects it.
 fn add_entry(
     alloc: Global,
     asked: Asked<'_>,
@@ -35,7 +35,7 @@ fn add_entry(
     Ok(())
 }
 
-/// Adds the names of entries that words select.
+/// Adds the names of the entries that `--package` arguments select to the set of known names.
 pub(crate) fn add_names(
     alloc: Global,
     asked: Asked<'_>,
@@ -52,7 +52,7 @@ pub(crate) fn add_names(
     Ok(())
 }
 
-/// Adds a name, where it is not known.
+/// Adds a name to the missing ones, unless it is known.
 fn push_unknown(
     alloc: Global,
     known: &Names,
@@ -70,7 +70,7 @@ fn push_unknown(
     Ok(())
 }
 
-/// The names of this list that are not known, in their order.
+/// The names of this list that are not known, in the order of the list.
 pub(crate) fn unknown(alloc: Global, names: &[String], known: &Names) -> CargoResult<Vec<String>>
     ensures ok { IfOk result (λ v. map string_bytes v.items
         ≡ filter (λ name. not (contains_text known.now name)) (map string_bytes names.now)) }

@@ -6,10 +6,10 @@ ghost use Rattle.std.specs.Str.{bytes_eq};
 use std::alloc::{AllocError, Global};
 use std::collections::BTreeSet;
 
-/// Names in byte order, each once.
+/// A set of names, sorted by bytes.
 pub(crate) type Names = BTreeSet<String>;
 
-/// Adds a name, and says whether it was among them.
+/// Inserts a name, and returns whether it was present before.
 pub(crate) fn add_name(alloc: Global, names: &mut Names, name: &str) -> Result<bool, AllocError>
     ensures had { IfOk result (λ b. b ≡ contains_text names.old name.now) }
     ensures ok { OnOk result ((q : List ℕ) → contains_text names.new q

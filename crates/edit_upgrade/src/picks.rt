@@ -1,4 +1,4 @@
-//! Package words and excluded names, as they are read.
+//! Parsed `--package` arguments, and the set of excluded names.
 ghost use Rattle.std.specs.Prelude.{◌≡◌, ◌≢◌, ◌++◌, [], ◌∷◌, ℕ, List, if◌then◌else◌, IfErr, IfOk, OnOk, map, option_copied, string_bytes};
 ghost use Rattle.std.specs.BTreeSet.{contains_text};
 ghost use Rattle.std.specs.List.{list_any};
@@ -15,30 +15,30 @@ use edit_version::CrateSpec;
 use std::alloc::{AllocError, Global};
 use std::collections::{BTreeMap, BTreeSet};
 
-/// Package words that were read.
+/// Parsed `--package` arguments: names, some with a requirement.
 #[derive(Drop)]
 pub(crate) struct Words {
-    /// Their names, each once at its first place.
+    /// The selected names, each once, in the order of their first argument.
     pub(crate) names: Vec<String>,
-    /// What the last word of each name requires.
+    /// For each name the requirement of its last argument, `None` where that has none.
     pub(crate) requirements: BTreeMap<String, Option<String>>,
 }
 
-/// What options ask for by names.
+/// The selection by name: the parsed `--package` arguments and the excluded names.
 #[derive(Drop)]
 pub(crate) struct Picks {
     pub(crate) words: Words,
     pub(crate) excluded: Names,
 }
 
-/// Whether a word of this name was read.
+/// Whether a `--package` argument selects this name.
 pub(crate) fn has_name(words: &Words, name: &str) -> bool
     ensures { result ≡ has_name words.now name.now }
 {
     words.requirements.contains_key(name)
 }
 
-/// The requirement that is kept for this name.
+/// The requirement that the last `--package` argument of this name gives.
 pub(crate) fn kept_requirement<'a>(words: &'a Words, name: &str) -> Option<&'a str>
     ensures { option_copied result ≡ kept_requirement words.now name.now }
 {
@@ -48,7 +48,7 @@ pub(crate) fn kept_requirement<'a>(words: &'a Words, name: &str) -> Option<&'a s
     }
 }
 
-/// Keeps a name, where it is new.
+/// Appends a name, unless it is in the list.
 fn add_first(alloc: Global, words: &mut Words, name: &str) -> Result<(), AllocError>
     ensures names { OnOk result (map string_bytes words.new.names.items
         ≡ map string_bytes words.old.names.items
@@ -63,7 +63,7 @@ fn add_first(alloc: Global, words: &mut Words, name: &str) -> Result<(), AllocEr
     Ok(())
 }
 
-/// Reads one word more.
+/// Parses one more `--package` argument.
 fn add_word(alloc: Global, words: &mut Words, word: &str) -> CargoResult<()>
     ensures ok { OnOk result (AddsWord word.now words.old words.new) }
     ensures refused { IfErr result (IsRefusedWord word.now) }
@@ -74,7 +74,7 @@ fn add_word(alloc: Global, words: &mut Words, word: &str) -> CargoResult<()>
     Ok(())
 }
 
-/// Reads words, in their order.
+/// Parses `--package` arguments, in their order.
 fn read_words(alloc: Global, words: &[String]) -> CargoResult<Words>
     ensures ok { IfOk result (AreWordsRead (map string_bytes words.now)) }
     ensures refused { IfErr result (StopsAtWord (map string_bytes words.now)) }
@@ -102,7 +102,7 @@ fn name_set(alloc: Global, names: &[String]) -> CargoResult<Names>
     Ok(set)
 }
 
-/// Reads the package words of options, and then their excluded names.
+/// Parses the `--package` arguments of the options, then collects the excluded names.
 pub(crate) fn picks_of(alloc: Global, options: &Options) -> CargoResult<Picks>
     ensures ok { IfOk result (ArePicks options.now) }
     ensures refused { IfErr result (IsOptionCause options.now) }

@@ -36,7 +36,7 @@ use edit_metadata::Input;
 use edit_sources::{Config, Index};
 use std::alloc::Global;
 
-/// Plans one more input: over its document where that was read, else over that of its bytes.
+/// Plans the next input: over its document where one is given, else over the one parsed from its bytes.
 fn add_read<I: Index>(
     alloc: Global,
     number: usize,
@@ -79,14 +79,15 @@ fn add_read<I: Index>(
     }
 }
 
-/// The document at a place in a list.
+/// The document at an index, or `None` where the list is shorter.
 fn document_at(documents: &[Document], i: usize) -> Option<&Document>
     ensures { option_copied result ≡ slice_get documents.now i }
 {
     documents.get(i)
 }
 
-/// What is planned of inputs: over their documents, or over those of their bytes where none is given.
+/// Builds the draft of all inputs: over their documents, or, where that list is empty, over documents
+/// parsed from their bytes.
 fn drafted<I: Index>(
     alloc: Global,
     asked: Asked<'_>,
@@ -122,7 +123,8 @@ fn drafted<I: Index>(
     Ok(draft)
 }
 
-/// The plan of inputs: over their documents, or over those of their bytes where none is given.
+/// Plans all inputs: over their documents, or, where that list is empty, over documents parsed from their
+/// bytes.
 fn plan_all<I: Index>(
     alloc: Global,
     options: &Options,
@@ -157,7 +159,8 @@ fn plan_all<I: Index>(
     Ok(plan)
 }
 
-/// What an upgrade of manifests that were read gives: as `plan_upgrade`, over the documents of their bytes.
+/// Plans the upgrade of manifests that are already parsed: the plan that `plan_upgrade` makes from their
+/// bytes.
 pub fn plan_documents<I: Index>(
     alloc: Global,
     options: &Options,
@@ -169,13 +172,13 @@ pub fn plan_documents<I: Index>(
     requires documents { map (λ d. d.bytes) documents.now ≡ map (λ input. input.bytes.items) inputs.now }
     requires configurations { length configs.now ≡ length inputs.now }
     requires paths { HaveOwnPaths inputs.now }
-    // each promise that `plan_upgrade` makes on its plan, by the same name
+    // every guarantee of `plan_upgrade` on its plan, under the same name
     ensures plan { IfOk result (IsPlan options.now inputs.now configs.now
         (cache_view I.view index.old) (cache_view I.view index.new)) }
-    // also a refused plan adds to the answers that are kept only what is needed, as the index gives it
+    // also on an error the cache gains only answers that the plan needs, as the index gives them
     ensures left { LeavesCache (IsNeeded inputs.now configs.now)
         (cache_view I.view index.old) (cache_view I.view index.new) }
-    // for the options, else for the first input and its first entry that stops the plan
+    // the first error: that of the options, else that of the first entry of the first input that has one
     ensures refused { IfErr result (IsRefusedFor options.now (StopsDocuments inputs.now configs.now
         (cache_view I.view index.old) (cache_view I.view index.new))) }
 {
@@ -186,8 +189,8 @@ pub fn plan_documents<I: Index>(
     plan_all(alloc, options, inputs, documents, configs, index)
 }
 
-/// What an upgrade of manifests gives, whose lists of configurations are shared: as `plan_upgrade` where no
-/// documents are given, else as `plan_documents`. `which` has for each input the index of its list.
+/// Plans the upgrade of manifests whose lists of configurations are shared: like `plan_upgrade` where
+/// `documents` is empty, else like `plan_documents`. `which` has for each input the index of its list.
 pub fn plan_shared<I: Index>(
     alloc: Global,
     options: &Options,
@@ -201,13 +204,13 @@ pub fn plan_shared<I: Index>(
     requires configurations { length which.now ≡ length inputs.now }
     requires lists { AreIndices lists.now which.now }
     requires paths { HaveOwnPaths inputs.now }
-    // each promise that `plan_upgrade` makes on its plan, by the same name
+    // every guarantee of `plan_upgrade` on its plan, under the same name
     ensures plan { IfOk result (IsPlan options.now inputs.now (chosen_lists lists.now which.now)
         (cache_view I.view index.old) (cache_view I.view index.new)) }
-    // also a refused plan adds to the answers that are kept only what is needed, as the index gives it
+    // also on an error the cache gains only answers that the plan needs, as the index gives them
     ensures left { LeavesCache (IsNeeded inputs.now (chosen_lists lists.now which.now))
         (cache_view I.view index.old) (cache_view I.view index.new) }
-    // for the options, else for the first input and its first entry that stops the plan
+    // the first error: that of the options, else that of the first entry of the first input that has one
     ensures given { IfErr result (λ e. length documents.now ≡ length inputs.now
         → IsRefusedFor options.now (StopsDocuments inputs.now (chosen_lists lists.now which.now)
         (cache_view I.view index.old) (cache_view I.view index.new)) e) }
@@ -222,14 +225,15 @@ pub fn plan_shared<I: Index>(
     plan_all(alloc, options, inputs, documents, shared, index)
 }
 
-/// What an upgrade of manifests gives: their new bytes, a row for each entry that is seen, and the looks.
+/// Plans the upgrade of manifests: their new bytes, a row for each entry that is considered, and the
+/// lookups made.
 ///
-/// The words and the excluded names of the options are read first. Then the inputs are planned one after
-/// another, each over its own configurations, and the looks are made once over all of them. Seen are the
-/// entries of all dependency tables of a manifest that `Dependency::from_toml` reads, but for those that take
-/// all from their workspace; on the others there are warnings. An entry of a registry is looked up at the
-/// registry's address, once for each address and name, also where words or excluded names leave it out; one
-/// of a repository or a folder has its requirement alone, or a row without any.
+/// The `--package` arguments and the excluded names of the options are read first. Then the inputs are
+/// planned one after another, each with its own configurations; lookups are shared by all of them. A row is
+/// made for each entry of a dependency table that `Dependency::from_toml` reads, but for those that inherit
+/// all their keys with `workspace = true`; the others get a warning. An entry of a registry is looked up at
+/// the registry's address, once for each address and name, even where it is not selected or excluded; a git
+/// or path dependency gets a row from its requirement alone, or a row without any.
 pub fn plan_upgrade<I: Index>(
     alloc: Global,
     options: &Options,
@@ -239,41 +243,43 @@ pub fn plan_upgrade<I: Index>(
 ) -> CargoResult<UpgradePlan>
     requires configurations { length configs.now ≡ length inputs.now }
     requires paths { HaveOwnPaths inputs.now }
-    // each seen entry has one row: the decision over the greatest admissible versions that the looks tell of
+    // each considered entry has one row: the decision over the greatest admissible versions in the lookups
     ensures rows { IfOk result (EachInput options.now inputs.now configs.now HasItsRows) }
     ensures rows_in_order { IfOk result (RowsInOrder inputs.now) }
-    // the literals of the rows with a change, and no other byte
+    // only the version literals of the rows with a change differ, and no other byte
     ensures outputs { IfOk result (EachInput options.now inputs.now configs.now HasItsOutputs) }
     ensures outputs_in_order { IfOk result (OutputsInOrder inputs.now) }
-    // on each entry that has no record, takes all from its workspace, or keeps a requirement that is not read
+    // on each entry that cannot be read, inherits all its keys, or has an unparsable requirement left
+    // unchanged
     ensures warnings { IfOk result (EachInput options.now inputs.now configs.now HasItsWarnings) }
     ensures warnings_in_order { IfOk result (WarningsInOrder inputs.now) }
-    // a compatible change leaves a requirement that is read and admits nothing that the old one did not
+    // a compatible change leaves a requirement that parses and admits nothing that the old one did not
     ensures narrowing { IfOk result (λ p. All Narrows (map line_of p.rows.items)) }
-    // a change admits the version that it was made for
+    // the new requirement admits the version that it was made for
     ensures reach { IfOk result (λ p. All Reaches (map line_of p.rows.items)) }
     // where there is a compatible version, there is a latest one, and it is not less
     ensures latest { IfOk result (λ p. All LatestIsNotLess (map line_of p.rows.items)) }
-    // with the option, no change to a latest or compatible version lowers the floor of a requirement
+    // with `never_lower`, no change to a latest or compatible version lowers the floor of a requirement
     ensures never_lower { IfOk result (NeverLowers options.now) }
-    // where no word gives a requirement: planned again over the same looks, the bytes after the plan stay
+    // unless `--package` gives a requirement: planning the outputs again over the same lookups changes no
+    // byte
     ensures fixed_point { IfOk result (EachInput options.now inputs.now configs.now IsSettled) }
-    // and they need the same looks
+    // and it needs the same lookups
     ensures needs { IfOk result (EachInput options.now inputs.now configs.now NeedsAsBefore) }
-    // the names that words select and that no entry of an input has
+    // the names that `--package` arguments select and that no entry of an input has
     ensures missing { IfOk result (TellsMissing options.now inputs.now) }
-    // each look that is needed, and no other
+    // each lookup that is needed, and no other
     ensures looks { IfOk result (HasLooks inputs.now configs.now
         (cache_view I.view index.old) (cache_view I.view index.new)) }
-    // one input after another, in the order of its entries, each at the first entry that needs it
+    // in the order of the inputs and of their entries, each at the first entry that needs it
     ensures looks_in_order { IfOk result (LooksInOrder inputs.now configs.now) }
     ensures lists { IfOk result Tells }
-    // also a refused plan adds to the answers that are kept only what is needed, as the index gives it
+    // also on an error the cache gains only answers that the plan needs, as the index gives them
     ensures kept { AddsNeeded (IsNeeded inputs.now configs.now) (I.view (index_of index.old)).gives
         (kept_by index.old) (kept_by index.new) }
     ensures index { SameOutcomes (I.view (index_of index.old)).gives (I.view (index_of index.new)).gives }
     ensures faults { (I.view (index_of index.old)).faults ≤ (I.view (index_of index.new)).faults }
-    // for the options, else for the first input and its first entry that stops the plan
+    // the first error: that of the options, else that of the first entry of the first input that has one
     ensures refused { IfErr result (IsRefusedFor options.now (StopsInputs inputs.now configs.now
         (cache_view I.view index.old) (cache_view I.view index.new))) }
 {

@@ -1,4 +1,4 @@
-//! What is planned for one manifest.
+//! The rows of one manifest.
 ghost use Rattle.std.specs.Prelude.{◌≡◌, ◌⊎◌, IfErr, IfOk, OnOk, length, map};
 ghost use Rattle.std.specs.BTreeSet.{contains_text};
 ghost use Rattle.edit_base.specs.Errors.{IsMemory};
@@ -32,7 +32,7 @@ use edit_sources::Config;
 use edit_sources::index::Index;
 use std::alloc::Global;
 
-/// The rows of a manifest, and what they rest on.
+/// The rows of a manifest, with its entries and warnings.
 #[derive(Drop)]
 pub(crate) struct Planned {
     pub(crate) entries: Vec<Entry>,
@@ -40,7 +40,7 @@ pub(crate) struct Planned {
     pub(crate) warnings: Vec<Warning>,
 }
 
-/// Plans the rows of the entries of a manifest, and makes the looks that they need.
+/// Makes the rows of the entries of a manifest, and the lookups that they need.
 fn plan_entries<I: Index>(
     alloc: Global,
     number: usize,
@@ -75,7 +75,7 @@ fn plan_entries<I: Index>(
     Ok(rows)
 }
 
-/// Plans the rows of a manifest that was read, and makes the looks that they need and that were not made.
+/// Makes the rows of a parsed manifest, and the lookups that they need and that were not made before.
 pub(crate) fn plan_input<I: Index>(
     alloc: Global,
     number: usize,
@@ -105,7 +105,7 @@ pub(crate) fn plan_input<I: Index>(
         (cache_view I.view index.old) (cache_view I.view index.new) e) }
 {
     document.has_form();
-    // from which folder a path is meant shows in no row
+    // the base folder is empty since no row shows the folder of a path dependency
     let found = entries(alloc, "", document)?;
     let warnings = warnings_on(alloc, asked, number, &found)?;
     add_names(alloc, asked, &found, known)?;

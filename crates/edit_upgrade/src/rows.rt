@@ -1,4 +1,4 @@
-//! The rows of entries.
+//! The rows of a plan, one for each entry.
 ghost use Rattle.std.specs.Prelude.{◌≡◌, IfErr, IfOk, Option, map, option_copied, option_map, string_bytes};
 ghost use Rattle.edit_base.specs.Errors.{IsMemory};
 ghost use Rattle.edit_version.specs.Candidates.{numbers_in, parts_in};
@@ -32,18 +32,18 @@ use semver::Version;
 use std::alloc::{AllocError, Global};
 use url::Url;
 
-/// What the rows of an input are decided by.
+/// The inputs to the rows of one manifest.
 #[derive(Clone, Copy)]
 pub(crate) struct Job<'a> {
-    /// The index of the input, from 0.
+    /// The index of the manifest among the inputs, from 0.
     pub(crate) number: usize,
     pub(crate) asked: Asked<'a>,
     pub(crate) rust_version: Option<RustVersion>,
     pub(crate) configs: &'a [Config],
 }
 
-/// The greatest version that a requirement admits, and the latest: pre-releases are among those where the
-/// requirement has a `-`. None where the index has no version.
+/// The greatest version that a requirement admits, and the latest version. Pre-releases are considered
+/// where the requirement contains a `-`. `None` where the index has no such version.
 fn version_pair<'a>(
     ranked: Option<&'a Ranked>,
     old: &Requirement<'_>,
@@ -64,7 +64,7 @@ fn version_pair<'a>(
     }
 }
 
-/// The text of a version that is offered.
+/// The text of an offered version.
 fn offered_text(offer: Option<Offer<'_>>) -> Option<String>
     ensures { option_map string_bytes result ≡ option_map plain_text (offered offer.entry) }
 {
@@ -74,7 +74,7 @@ fn offered_text(offer: Option<Offer<'_>>) -> Option<String>
     }
 }
 
-/// The text of the latest version, of the compatible one where there is no latest.
+/// The text of the latest version, or of the compatible version where there is no latest.
 fn latest_text(
     alloc: Global,
     compatible: Option<&Offer<'_>>,
@@ -91,7 +91,7 @@ fn latest_text(
     }
 }
 
-/// The other name of an entry, on memory of its own.
+/// Copies the renamed key of an entry into newly allocated memory.
 fn copied_rename(alloc: Global, rename: Option<&String>) -> Result<Option<String>, AllocError>
     ensures ok { IfOk result
         (λ o. option_map string_bytes o ≡ option_map string_bytes (option_copied rename.entry)) }
@@ -102,7 +102,7 @@ fn copied_rename(alloc: Global, rename: Option<&String>) -> Result<Option<String
     }
 }
 
-/// The row of an entry with a requirement, over its versions.
+/// The row of an entry with a requirement, from its compatible and its latest version.
 fn row_over(
     alloc: Global,
     job: Job<'_>,
@@ -148,7 +148,7 @@ fn row_over(
     })
 }
 
-/// The row of an entry with a requirement, over the ranking of the index entries of its name.
+/// The row of an entry with a requirement, from the ranked versions of its crate.
 fn row_with(
     alloc: Global,
     job: Job<'_>,
@@ -167,7 +167,7 @@ fn row_with(
     Ok(row)
 }
 
-/// Why an entry without a requirement stays as it is.
+/// Why an entry without a requirement is left unchanged.
 fn dash_reason(excluded: bool, source: &Source) -> Reason
     ensures { result ≡ dash_reason excluded (source_view source.now) }
 {
@@ -201,7 +201,7 @@ fn dash_row(alloc: Global, job: Job<'_>, entry: &Entry) -> CargoResult<Row>
     })
 }
 
-/// The row of an entry, over the ranking of the index entries of its name.
+/// The row of an entry, from the ranked versions of its crate.
 pub(crate) fn row_for(
     alloc: Global,
     job: Job<'_>,
@@ -223,8 +223,8 @@ pub(crate) fn row_for(
     }
 }
 
-/// The row of an entry with a requirement, over the answer that is kept for its name, which is ranked where
-/// it was not. What the requirement leads to is remembered, for the further entries that have it.
+/// The row of an entry with a requirement, from the cached answer for its crate, whose versions are ranked
+/// at first use. The versions found for a requirement are cached for further entries that have it.
 fn kept_row_with<I: Index>(
     alloc: Global,
     job: Job<'_>,
@@ -248,7 +248,7 @@ fn kept_row_with<I: Index>(
     row_with(alloc, job, entry, &old, ranked)
 }
 
-/// The row of an entry, over the answer that is kept for its name.
+/// The row of an entry, from the cached answer for its crate.
 pub(crate) fn kept_row<I: Index>(
     alloc: Global,
     job: Job<'_>,

@@ -18,7 +18,7 @@ use std::alloc::{AllocError, Global};
 /// Where the crate of an entry comes from.
 #[derive(Drop)]
 pub(crate) enum Source {
-    /// A registry, by its name where one is given.
+    /// A registry, by its name, or the default one.
     Registry(Option<String>),
     Git,
     Path,
@@ -30,14 +30,14 @@ pub(crate) struct Entry {
     pub(crate) name: String,
     pub(crate) rename: Option<String>,
     pub(crate) place: Place,
-    /// Whether it is a string, which then is its version literal; else that is its member `version`.
+    /// Whether the entry is a string, its version literal; else the literal is its `version` key.
     pub(crate) bare: bool,
     pub(crate) source: Source,
-    /// Its requirement, cut before the first `+`.
+    /// Its requirement, without build metadata: cut before the first `+`.
     pub(crate) old: Option<String>,
 }
 
-/// The entry of a record at a place, where it gets a row.
+/// The entry from its `Dependency` and its place, where it gets a row.
 fn with_record(place: Place, bare: bool, dependency: Dependency) -> Option<Entry>
     ensures { (e : Found) → e.place ≡ place_seen place.items → e.literal
         ≡ literal_by bare (place_seen place.items)
@@ -69,7 +69,7 @@ fn with_record(place: Place, bare: bool, dependency: Dependency) -> Option<Entry
     })
 }
 
-/// The entry, where it gets a row.
+/// The entry in the form that rows are made from, where it gets a row.
 fn with_row(found: edit_manifest::entries::Entry) -> Option<Entry>
     ensures { option_map seen_of result ≡ with_row (entry_view found) }
 {

@@ -1,11 +1,11 @@
-//! What is planned for the entries of manifests.
+//! The plan of an upgrade: rows, lookups, warnings and outputs.
 
 pub use crate::decision::options::Options;
 use edit_report::{Output, Row};
 use edit_sources::index::IndexKrate;
 use url::Url;
 
-/// What an index answered for a name at a registry's address.
+/// A lookup: what an index answered for a crate's name at a registry's address.
 #[derive(Debug, Drop)]
 pub struct Look {
     pub registry: Url,
@@ -13,27 +13,27 @@ pub struct Look {
     pub answer: Option<IndexKrate>,
 }
 
-/// What a report says of an entry beside its row.
+/// A warning about an entry, beside its row.
 #[derive(Debug, Drop)]
 pub struct Warning {
     /// The index of the input, from 0.
     pub input: usize,
-    /// Whether only a verbose report has it.
+    /// Whether the warning is shown only with `--verbose`.
     pub verbose: bool,
     pub text: String,
 }
 
-/// What is planned.
+/// The plan of an upgrade.
 #[derive(Debug, Drop)]
 pub struct UpgradePlan {
-    /// The inputs that change, in order.
+    /// The new bytes of the manifests that change, in order.
     pub outputs: Vec<Output>,
     pub rows: Vec<Row>,
     pub looks: Vec<Look>,
     pub warnings: Vec<Warning>,
-    /// The selected names that no entry has.
+    /// The selected names that no entry of an input has.
     pub missing: Vec<String>,
-    /// The names of the rows with a change.
+    /// The names of the rows that change.
     pub modified: Vec<String>,
     pub git_crates: Vec<String>,
     pub pinned_present: bool,

@@ -1,4 +1,4 @@
-//! A walk over the entries of an input: their looks, each once, and their rows.
+//! A walk over the entries of an input: makes their lookups, each once, and their rows.
 ghost use Rattle.std.specs.Prelude.{◌≡◌, ◌⊎◌, All, IfErr, IfOk, None, OnOk, Some, map, option_map, string_bytes};
 ghost use Rattle.edit_base.specs.Errors.{IsMemory};
 ghost use Rattle.edit_version.specs.Candidates.{numbers_in};
@@ -28,14 +28,14 @@ use edit_report::Row;
 use edit_sources::index::Index;
 use std::alloc::Global;
 
-/// The looks that were made for a plan, with the set of their addresses and names.
+/// The lookups made for a plan, with the set of their addresses and names.
 #[derive(Drop)]
 pub(crate) struct Books {
     pub(crate) pairs: Pairs,
     pub(crate) looks: Vec<Look>,
 }
 
-/// The row of an entry of a registry, for whose name a look is made there, unless that was done.
+/// The row of an entry of a registry; its crate is looked up there, unless this plan has done so before.
 fn registry_row<I: Index>(
     alloc: Global,
     job: Job<'_>,
@@ -71,7 +71,7 @@ fn registry_row<I: Index>(
     Ok(row)
 }
 
-/// The row of an entry, with the look that it needs.
+/// The row of an entry, with the lookup that it needs.
 fn entry_row<I: Index>(
     alloc: Global,
     job: Job<'_>,
@@ -115,8 +115,8 @@ fn entry_row<I: Index>(
     }
 }
 
-/// The looks that entries need, each once, added to those that were made; and the rows of the entries over
-/// the answers that are kept.
+/// Makes the rows of entries from the cached answers of the index. Crates that were not looked up before
+/// are looked up, each once, and added to `books`.
 pub(crate) fn walk<I: Index>(
     alloc: Global,
     job: Job<'_>,

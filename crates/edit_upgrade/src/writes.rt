@@ -1,4 +1,4 @@
-//! What the rows of a manifest write into it.
+//! The edits of a manifest: the new requirements of its rows.
 ghost use Rattle.std.specs.Prelude.{◌≡◌, ◌++◌, [], IfErr, IfOk, MatchOption, OnOk, length, map, option_to_list, string_bytes};
 ghost use Rattle.edit_base.specs.Errors.{IsMemory};
 ghost use Rattle.edit_syntax.specs.Grammar.{Text};
@@ -17,7 +17,7 @@ use edit_document::{Document, Place};
 use edit_report::Row;
 use std::alloc::Global;
 
-/// What a row writes at the version literal of its entry, where it has a change.
+/// The edit of the version literal of an entry, where its row has a change.
 fn edit_for(alloc: Global, entry: &Entry, row: &Row) -> CargoResult<Option<(Place, String)>>
     ensures ok { IfOk result (λ o. edits_seen (option_to_list o)
         ≡ with_write (write_on (seen_of entry.now) (line_of row.now)) []) }
@@ -36,7 +36,7 @@ fn edit_for(alloc: Global, entry: &Entry, row: &Row) -> CargoResult<Option<(Plac
     }
 }
 
-/// Adds what a row writes.
+/// Appends the edit of a row, where it has a change.
 fn push_edit(
     alloc: Global,
     edits: &mut Vec<(Place, String)>,
@@ -58,7 +58,7 @@ fn push_edit(
     }
 }
 
-/// What the rows with a change write, each at the version literal of its entry.
+/// The edits of the rows with a change, each at the version literal of its entry.
 pub(crate) fn edits_of(
     alloc: Global,
     entries: &[Entry],
@@ -76,7 +76,7 @@ pub(crate) fn edits_of(
     Ok(edits)
 }
 
-/// The text of a manifest with what its rows write, where they write something.
+/// The new text of a manifest, or `None` where no row has a change.
 pub(crate) fn written(
     alloc: Global,
     document: &Document,

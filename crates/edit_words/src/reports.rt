@@ -1,11 +1,11 @@
-//! Words that say how a plan is printed, and whether it is only checked.
+//! Options for the output format of a plan, and for only checking it.
 ghost use Rattle.std.specs.Prelude.{◌≡◌, map};
 ghost use Rattle.edit_words.specs.Rules.{reports};
 ghost use Rattle.edit_words.specs.Tables.{word_rule};
 
 use crate::rules::{Form, Word, plain};
 
-/// What says how a plan is printed, and whether it is only checked.
+/// The options for the output format of a plan, and for only checking it.
 pub(crate) fn reports<'a>() -> [Word<'a>; 3]
     ensures { map word_rule result ≡ reports }
 {

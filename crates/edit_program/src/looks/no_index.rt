@@ -1,4 +1,4 @@
-//! An index that has no name.
+//! An index without any crate.
 ghost use Rattle.edit_program.specs.NoIndex.{no_view};
 
 use edit_base::{CargoResult, Error};
@@ -7,7 +7,7 @@ use edit_sources::is_crate_name;
 use std::alloc::Global;
 use url::Url;
 
-/// An index that has no name: of each that an index may have it says that there is no such crate.
+/// An index without any crate: every valid name is answered with "no such crate".
 #[derive(Debug, Drop)]
 pub struct NoIndex {}
 

@@ -1,4 +1,4 @@
-//! Looks as lines.
+//! Lookups as lines of text.
 ghost use Rattle.std.specs.Prelude.{◌≡◌, ◌⊎◌, ◌++◌, IfErr, IfOk, OnOk, string_bytes};
 ghost use Rattle.std.specs.List.{flat_map};
 ghost use Rattle.edit_base.specs.Errors.{IsMemory, number_of};
@@ -10,7 +10,7 @@ use edit_sources::index_dir::layout_path;
 use edit_upgrade::Look;
 use std::alloc::{AllocError, Global};
 
-/// Adds a line: three texts, parted by tabs.
+/// Appends a line: three texts, separated by tabs.
 fn push_line(text: &mut String, address: &str, name: &str, path: &str) -> Result<(), AllocError>
     ensures { OnOk result (string_bytes text.new
         ≡ string_bytes text.old ++ line_text address.now name.now path.now) }
@@ -23,7 +23,7 @@ fn push_line(text: &mut String, address: &str, name: &str, path: &str) -> Result
     text.push('\n')
 }
 
-/// Adds the line of a look.
+/// Appends the line of a lookup.
 fn push_look(alloc: Global, text: &mut String, look: &Look) -> CargoResult<()>
     ensures ok { OnOk result (string_bytes text.new ≡ string_bytes text.old ++ look_line look.now) }
     ensures refused { IfErr result
@@ -39,8 +39,8 @@ fn push_look(alloc: Global, text: &mut String, look: &Look) -> CargoResult<()>
     Ok(())
 }
 
-/// A line for each look: the address, the name, and the path of the name's file in an index's layout, parted
-/// by tabs. Refused with 29 for a name that no index may have.
+/// A line for each lookup: the address, the name, and the path of the name's file in an index, separated by
+/// tabs. Fails with `Error::BadCrateName` for a name that is not valid in an index.
 pub fn looks_text(alloc: Global, looks: &[Look]) -> CargoResult<String>
     ensures text { IfOk result (λ s. string_bytes s ≡ flat_map look_line looks.now) }
     ensures refused { IfErr result (λ e. IsMemory e ⊎ HasBadLook looks.now (number_of e)) }

@@ -18,9 +18,9 @@ const ALL: &str = "The flag `--all` has been deprecated in favor of `--workspace
 
 const DRY_RUN: &str = "aborting set-version due to dry run";
 
-/// Sets the versions that the words ask for in the workspace whose metadata they name. The plan is printed
-/// before a file is written; at a dry run none is. Answers whether the plan has an output: one that was
-/// written, or at a dry run would be.
+/// Sets the requested versions in the workspace whose metadata are given. The plan is printed before any
+/// file is written; with a dry run none is. Returns whether the plan has an output, written or, with a dry
+/// run, not.
 pub fn set_version<S: Store, O: io::Write, E: io::Write>(
     alloc: Global,
     words: &SetVersionWords<'_>,
@@ -33,13 +33,13 @@ pub fn set_version<S: Store, O: io::Write, E: io::Write>(
         → AreVersionsSet (Appends (O.contents out.old) (O.contents out.new))
         (Appends (E.contents err.old) (E.contents err.new)) words.now current.now due
         (S.view files.old) (S.view files.new)) }
-    // a refusal before the first write leaves each file as it was
+    // an error before the first write leaves each file as it was
     ensures refused { OnErr result ((S.view files.old).tells ≡ true
         → SameFiles (S.view files.old).file_at (S.view files.new).file_at
         ⊎ IsCutShort (Appends (O.contents out.old) (O.contents out.new))
         (Appends (E.contents err.old) (E.contents err.new)) words.now current.now
         (S.view files.old) (S.view files.new)) }
-    // and each refusal has its cause
+    // and each error has its cause
     ensures why { IfErr result (λ r. IsSetVersionCause words.now current.now
         (S.view files.old) (S.view files.new) r.error) }
     // over any store, an error of the device is counted

@@ -1,4 +1,4 @@
-//! The plan for the workspace that was read.
+//! The plan for the workspace.
 ghost use Rattle.std.specs.Prelude.{◌≡◌, ◌≢◌, All, IfErr, IfOk};
 ghost use Rattle.edit_base.specs.Errors.{number_of};
 ghost use Rattle.edit_metadata.specs.Inputs.{AreInputs};
@@ -18,7 +18,7 @@ use edit_set_version::{SetVersionPlan, plan_set_version};
 use edit_steps::{ReadWorkspace, RunResult};
 use std::alloc::Global;
 
-/// The plan that the words ask for, over the workspace that was read.
+/// The plan for the workspace, as the arguments request it.
 pub(crate) fn plan_for(
     alloc: Global,
     words: &SetVersionWords<'_>,
@@ -56,7 +56,7 @@ pub(crate) fn plan_for(
     }
 }
 
-/// The outputs that are to be written.
+/// The outputs to write: none with a dry run.
 pub(crate) fn written<'a>(words: &SetVersionWords<'_>, plan: &'a SetVersionPlan) -> &'a [Output]
     ensures { result.now ≡ written words.now plan.entry.now.outputs.items }
 {
@@ -67,7 +67,7 @@ pub(crate) fn written<'a>(words: &SetVersionWords<'_>, plan: &'a SetVersionPlan)
     }
 }
 
-/// Whether a plan has an output: one that is written, or at a dry run would be.
+/// Whether a plan has an output, even where a dry run writes none.
 pub(crate) fn has_some(plan: &SetVersionPlan) -> bool
     ensures { result ≡ has_some plan.now.outputs.items }
 {

@@ -16,7 +16,7 @@ use edit_shown::{MessageFormat, print_changes, print_diffs};
 use std::alloc::Global;
 use std::io;
 
-/// Prints a warning, where it is due.
+/// Prints a warning, where `due` is set.
 pub(crate) fn warn_if<E: io::Write>(due: bool, message: &str, err: &mut E) -> CargoResult<()>
     ensures text { OnOk result (Appends (E.contents err.old) (E.contents err.new)
         (warning_if due message.now)) }
@@ -29,7 +29,7 @@ pub(crate) fn warn_if<E: io::Write>(due: bool, message: &str, err: &mut E) -> Ca
     }
 }
 
-/// Prints the lines of a plan as statuses.
+/// Prints the lines of a plan as status lines.
 fn print_lines<E: io::Write>(lines: &[(String, String)], err: &mut E) -> CargoResult<()>
     ensures text { OnOk result (Appends (E.contents err.old) (E.contents err.new)
         (statuses (map line_told lines.now))) }
@@ -41,7 +41,7 @@ fn print_lines<E: io::Write>(lines: &[(String, String)], err: &mut E) -> CargoRe
     Ok(())
 }
 
-/// Prints the lines of a plan: as statuses, or as messages on standard output.
+/// Prints the lines of a plan: as status lines, or as JSON messages on standard output.
 fn print_lines_in<O: io::Write, E: io::Write>(
     alloc: Global,
     format: MessageFormat,
@@ -61,7 +61,7 @@ fn print_lines_in<O: io::Write, E: io::Write>(
     }
 }
 
-/// Prints the changes of the manifests, where they are asked for.
+/// Prints the diffs of the manifests, where they are requested.
 fn print_diffs_if<O: io::Write>(
     alloc: Global,
     asked: bool,
@@ -81,7 +81,7 @@ fn print_diffs_if<O: io::Write>(
     }
 }
 
-/// Prints a plan for inputs as the words ask for it: its lines, and the changes of the manifests.
+/// Prints a plan in the requested format: its lines, and the diffs of the manifests.
 pub(crate) fn print_plan<O: io::Write, E: io::Write>(
     alloc: Global,
     words: &SetVersionWords<'_>,

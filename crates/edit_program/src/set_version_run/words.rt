@@ -1,18 +1,18 @@
-//! What `set-version` is asked for.
+//! The arguments of `set-version`.
 
 use edit_set_version::{Selection, TargetVersion};
 use edit_shown::Presentation;
 
-/// What the words of `set-version` ask for.
+/// The arguments of `set-version`.
 #[derive(Debug, Drop)]
 pub struct SetVersionWords<'a> {
     /// The file with the metadata of the workspace.
     pub metadata_json: &'a str,
     pub target: TargetVersion,
     pub selection: Selection,
-    /// Whether all members are asked for by the old name of that flag, `--all`.
+    /// Whether `--all` is given, the deprecated name of `--workspace`.
     pub all: bool,
     pub dry_run: bool,
-    /// What standard output has of the plan.
+    /// What is printed of the plan on standard output.
     pub presentation: Presentation,
 }

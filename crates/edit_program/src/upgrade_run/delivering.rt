@@ -1,4 +1,4 @@
-//! What is delivered of a plan as the arguments ask for it.
+//! How a plan is printed and written, from the arguments.
 ghost use Rattle.std.specs.Prelude.{◌≡◌, IfErr, IfOk, option_map, string_bytes};
 ghost use Rattle.edit_base.specs.Errors.{IsMemory};
 ghost use Rattle.edit_lock.specs.Views.{packages_seen};
@@ -17,7 +17,7 @@ use edit_steps::upgrade_read::Target;
 use edit_upgrade::UpgradePlan;
 use std::alloc::Global;
 
-/// The absolute normal path of a file that is named; none where none is.
+/// The absolute, normalized path of a given file; `None` where none is given.
 pub(crate) fn path_of(
     alloc: Global,
     current: &str,
@@ -34,7 +34,8 @@ pub(crate) fn path_of(
     Ok(Some(path))
 }
 
-/// The folder that diffs name files from: the workspace's root, where one is known, else the current folder.
+/// The folder that paths in diffs are relative to: the workspace's root, where there is one, else the
+/// current folder.
 fn diff_root<'a>(workspace: Option<&'a Workspace>, current: &'a str) -> &'a str
     ensures { result.now ≡ diff_root current.now (option_map (λ w. workspace_said w.now) workspace.entry) }
 {
@@ -44,8 +45,8 @@ fn diff_root<'a>(workspace: Option<&'a Workspace>, current: &'a str) -> &'a str
     }
 }
 
-/// The delivery of a plan for manifests as the arguments ask for it, with this path for the file of the
-/// calls, which are right against the lock file where there is one.
+/// How the plan is printed and written, from the arguments. `update_calls` are made valid for the lock file
+/// where there is one.
 pub(crate) fn delivery_task<'a>(
     words: &'a UpgradeWords<'_>,
     current: &'a str,

@@ -26,7 +26,7 @@ use edit_upgrade::Options;
 use std::alloc::Global;
 use std::io;
 
-/// The lines of the lookups of a plan for manifests over an index that has no name, in the plan's order.
+/// The lines of the lookups of a plan made over an empty index, in the plan's order.
 fn lines_for(
     alloc: Global,
     options: &Options,
@@ -47,9 +47,9 @@ fn lines_for(
     looks_text(alloc, &plan.looks)
 }
 
-/// Prints a line for each lookup that an upgrade by these arguments needs, in the order of its plan: the
-/// address, the name, and the name's path in an index's layout, parted by tabs. No index is read, not even
-/// one that is named, and nothing is written.
+/// Prints a line for each lookup that an upgrade with these arguments needs, in the order of its plan: the
+/// address, the name, and the name's path in an index, separated by tabs. No index is read, even where one
+/// is given, and nothing is written.
 pub fn looks<S: Store, O: io::Write>(
     alloc: Global,
     words: &UpgradeWords<'_>,

@@ -1,4 +1,4 @@
-//! The plan over what was read.
+//! The plan over the files that were read.
 ghost use Rattle.std.specs.Prelude.{◌≡◌, ◌⊎◌, IfErr, IfOk, length};
 ghost use Rattle.edit_base.specs.Errors.{IsMemory};
 ghost use Rattle.edit_metadata.specs.Inputs.{HaveOwnPaths};
@@ -16,7 +16,7 @@ use edit_store::Store;
 use edit_upgrade::{Options, UpgradePlan, plan_shared};
 use std::alloc::Global;
 
-/// The plan for manifests over an index, by their documents where those were read.
+/// The plan for manifests over an index, from their parsed documents where there are any.
 pub(crate) fn plan_over<I: Index + Drop>(
     alloc: Global,
     options: &Options,
@@ -44,8 +44,8 @@ pub(crate) fn plan_over<I: Index + Drop>(
     plan_shared(alloc, options, inputs, documents, lists, which, &mut cache)
 }
 
-/// The plan for manifests over the lines that were read, over the folder that is named, or over the index in
-/// files.
+/// The plan for manifests over the lines of an index file, over an index folder, or over the index in
+/// `index_files`.
 pub(crate) fn plan_for<T: Store + Drop>(
     alloc: Global,
     options: &Options,

@@ -1,4 +1,4 @@
-//! What an upgrade reads.
+//! Reads the files that an upgrade depends on.
 ghost use Rattle.std.specs.Prelude.{◌≡◌, ◌⊎◌, IfErr, IfOk, Some, option_map, true};
 ghost use Rattle.edit_base.specs.declared.errors.DeviceCall.TheVariants as call;
 ghost use Rattle.edit_lock.specs.Views.{packages_seen};
@@ -18,13 +18,13 @@ use edit_steps::{RunResult, absolute, at_file, at_path};
 use edit_store::Store;
 use std::alloc::Global;
 
-/// What an upgrade rests on, and the lock file that its calls have to be right against.
+/// The files that an upgrade depends on, and the lock file that its calls must be valid for.
 pub(crate) struct Readings {
     pub(crate) sources: Sources,
     pub(crate) lock: Option<Lock>,
 }
 
-/// Reads the lock file at a path; it has no packages where no file stands.
+/// Reads the lock file at a path; without packages where there is no such file.
 fn read_lock_at<S: Store>(
     alloc: Global,
     named: &str,
@@ -51,7 +51,7 @@ fn read_lock_at<S: Store>(
     }
 }
 
-/// Reads the lock file that is named, where one is.
+/// Reads the given lock file, where one is given.
 fn read_lock<S: Store>(
     alloc: Global,
     named: Option<&str>,
@@ -75,7 +75,7 @@ fn read_lock<S: Store>(
     }
 }
 
-/// Reads the lock file that the words name, and then what the upgrade rests on. No file changes.
+/// Reads the given lock file, and then the files that the upgrade depends on. No file changes.
 pub(crate) fn read<S: Store>(
     alloc: Global,
     words: &UpgradeWords<'_>,

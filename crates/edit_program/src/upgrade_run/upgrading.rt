@@ -21,9 +21,8 @@ use edit_store::Store;
 use std::alloc::Global;
 use std::io;
 
-/// Raises the requirements of the manifests that the words name, over the index that they name, else over
-/// that in files; answers whether the plan changes a manifest. No file changes before the plan is made and
-/// printed.
+/// Raises the requirements of the given manifests, over the given index or else the one in `index_files`.
+/// Returns whether the plan changes a manifest. No file changes before the plan is made and printed.
 pub fn upgrade<S: Store, T: Store + Drop, O: io::Write, E: io::Write>(
     alloc: Global,
     words: &UpgradeWords<'_>,

@@ -1,4 +1,4 @@
-//! What the words of `upgrade` ask for.
+//! The arguments of `upgrade`.
 ghost use Rattle.std.specs.Prelude.{◌≡◌};
 ghost use Rattle.edit_steps.specs.Asking.{asking_of};
 ghost use Rattle.edit_program.specs.Planned.{asking, asking_for_looks};
@@ -7,34 +7,34 @@ use edit_shown::Presentation;
 use edit_steps::upgrade_read::{Asked, RustChoice};
 use edit_upgrade::Options;
 
-/// What the words of `upgrade` ask for.
+/// The arguments of `upgrade`.
 #[derive(Debug, Drop)]
 pub struct UpgradeWords<'a> {
     pub manifest_path: Option<&'a str>,
     /// The file with the metadata of a workspace, all of whose manifests are upgraded.
     pub metadata_json: Option<&'a str>,
-    /// The file with the lines of an index, which stands for the index in files.
+    /// The file with the lines of an index, which replaces the index in `index_files`.
     pub index_file: Option<&'a str>,
-    /// A folder with a folder for each registry, which stands for the index in files. Where an index file is
-    /// named it is not looked at.
+    /// A folder with a folder for each registry, which replaces the index in `index_files`. Ignored where
+    /// an index file is given.
     pub index_dir: Option<&'a str>,
-    /// A configuration file that counts before all others.
+    /// A configuration file with the highest precedence.
     pub config: Option<&'a str>,
-    /// A configuration file that counts after all others.
+    /// A configuration file with the lowest precedence.
     pub default_config: Option<&'a str>,
     pub rust: RustChoice,
     pub options: Options,
     pub presentation: Presentation,
     /// The file to which the calls of `cargo update` are written.
     pub update_calls: Option<&'a str>,
-    /// The lock file that the calls have to be right against; where none is named they are all made.
+    /// The lock file that the calls must be valid for; without it all calls are made.
     pub lock_file: Option<&'a str>,
-    /// Whether calls that are right against a lock file fetch nothing.
+    /// Whether calls that are valid for a lock file must not fetch anything.
     pub offline: bool,
 }
 
 impl<'a> UpgradeWords<'a> {
-    /// What is to be read.
+    /// The files to read.
     pub(crate) fn asked(&self) -> Asked<'a>
         ensures { asking_of result ≡ asking self.now }
     {
@@ -50,7 +50,7 @@ impl<'a> UpgradeWords<'a> {
         }
     }
 
-    /// What is to be read where the looks alone are asked for: no index is.
+    /// The files to read where only the lookups are requested: no index.
     pub(crate) fn asked_for_looks(&self) -> Asked<'a>
         ensures { asking_of result ≡ asking_for_looks self.now }
     {

@@ -1,4 +1,4 @@
-//! The crates for which an index has no entry.
+//! The crates that an index does not have.
 ghost use Rattle.std.specs.Prelude.{◌≡◌, ◌⊎◌, ◌++◌, IfErr, IfOk, OnOk, codes, map, string_bytes};
 ghost use Rattle.std.specs.Io.KnownBytes.{Appends};
 ghost use Rattle.std.specs.List.{join_by};
@@ -16,10 +16,10 @@ use std::alloc::{AllocError, Global};
 use std::collections::BTreeSet;
 use std::io;
 
-/// How many names a note has.
+/// The greatest number of names in a note.
 const MOST_NAMES: usize = 5;
 
-/// The set of these names.
+/// Collects names into a set.
 fn set_of<'a>(alloc: Global, names: &'a [String]) -> Result<BTreeSet<&'a str>, AllocError>
     ensures { IfOk result (λ s. HasNames s (map string_bytes names.now)) }
 {
@@ -30,14 +30,14 @@ fn set_of<'a>(alloc: Global, names: &'a [String]) -> Result<BTreeSet<&'a str>, A
     Ok(set)
 }
 
-/// Whether the index has no entry for a crate whose name is not excluded.
+/// Whether a crate that is not excluded was not found in the index.
 fn is_absent(excluded: &BTreeSet<&str>, look: &Look) -> bool
     ensures { result ≡ spec.is_absent (holds excluded.now) look.now }
 {
     look.answer.is_none() && !excluded.contains(look.name.as_str())
 }
 
-/// Adds the name of a crate, where the index has no entry for it and it is not excluded.
+/// Appends the name of a crate, where it was not found in the index and is not excluded.
 fn push_absent(
     alloc: Global,
     excluded: &BTreeSet<&str>,
@@ -53,8 +53,8 @@ fn push_absent(
     Ok(())
 }
 
-/// The names of the crates that are not excluded and for which the index has no entry, in the order in which
-/// they were looked up.
+/// The names of the crates that were not found in the index and are not excluded, in the order of the
+/// lookups.
 fn absent_names(
     alloc: Global,
     exclude: &[String],
@@ -71,7 +71,7 @@ fn absent_names(
     Ok(names)
 }
 
-/// Names, one behind another.
+/// Names, joined by commas.
 fn joined(alloc: Global, names: &[String]) -> Result<String, AllocError>
     ensures { IfOk result (λ s. string_bytes s
         ≡ join_by (λ name. name) (codes ", ") (map string_bytes names.now)) }
@@ -79,7 +79,7 @@ fn joined(alloc: Global, names: &[String]) -> Result<String, AllocError>
     names.join(alloc, ", ")
 }
 
-/// Names as the note has them: at most five, and how many follow.
+/// Names as a note lists them: at most five, and the number of the others.
 fn listed(alloc: Global, names: &[String]) -> Result<String, AllocError>
     ensures { IfOk result (λ s. string_bytes s ≡ spec.listed (map string_bytes names.now)) }
 {
@@ -91,14 +91,14 @@ fn listed(alloc: Global, names: &[String]) -> Result<String, AllocError>
     format!(in alloc; "{first} and {rest} more")
 }
 
-/// The word for so many crates.
+/// `crate` or `crates`, by their number.
 fn crates_word(count: usize) -> &'static str
     ensures { result.now ≡ spec.crates_word count }
 {
     if count == 1 { "crate" } else { "crates" }
 }
 
-/// The note on crates for which the index has no entry.
+/// The note about crates that were not found in the index.
 fn absent_text(alloc: Global, names: &[String]) -> Result<String, AllocError>
     ensures { IfOk result (λ s. string_bytes s ≡ spec.absent_text (map string_bytes names.now)) }
 {
@@ -108,8 +108,8 @@ fn absent_text(alloc: Global, names: &[String]) -> Result<String, AllocError>
     format!(in alloc; "no index entry was found for {count} {word}: {list}")
 }
 
-/// Prints the note on the crates for which the index has no entry, where there are some. Offline nothing is
-/// printed: what fills the index says then which entries it has not.
+/// Prints the note about crates that were not found in the index, where there are any. Offline nothing is
+/// printed: the tool that fills the index reports the missing entries then.
 pub(crate) fn print_absent<E: io::Write>(
     alloc: Global,
     plan: &UpgradePlan,

@@ -1,4 +1,4 @@
-//! The calls of `cargo update` that follow, as they are told.
+//! The calls of `cargo update` that follow an upgrade, as they are printed.
 ghost use Rattle.std.specs.Prelude.{◌≡◌, ◌⊎◌, IfErr, IfOk, OnOk, codes, map, option_map, string_bytes, true};
 ghost use Rattle.std.specs.Io.KnownBytes.{Appends};
 ghost use Rattle.std.specs.List.{join_by};
@@ -21,7 +21,7 @@ use edit_upgrade::{Options, UpgradePlan};
 use std::alloc::{AllocError, Global};
 use std::io;
 
-/// The calls that follow a plan: none where no workspace is known.
+/// The calls that follow a plan: none without a workspace.
 pub(crate) fn calls_of(
     alloc: Global,
     plan: &UpgradePlan,
@@ -39,7 +39,7 @@ pub(crate) fn calls_of(
     }
 }
 
-/// The calls that follow a plan as they are right against the lock file, where there is one.
+/// The calls that follow a plan, adapted to the lock file where there is one.
 pub(crate) fn calls_against(
     alloc: Global,
     calls: Vec<Vec<String>>,
@@ -55,7 +55,7 @@ pub(crate) fn calls_against(
     }
 }
 
-/// Words, one behind another.
+/// Arguments, joined by spaces.
 fn joined_words(alloc: Global, words: &[String]) -> Result<String, AllocError>
     ensures { IfOk result (λ s. string_bytes s
         ≡ join_by (λ word. word) (codes " ") (words_seen words.now)) }
@@ -73,7 +73,7 @@ fn print_call<E: io::Write>(alloc: Global, call: &[String], err: &mut E) -> Carg
     shell_status(err, "Run", words.as_str())
 }
 
-/// Prints calls, each as a status with its words.
+/// Prints calls, each as a status line with its arguments.
 pub(crate) fn print_calls<E: io::Write>(
     alloc: Global,
     calls: &[Vec<String>],

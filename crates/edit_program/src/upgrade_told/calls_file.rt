@@ -10,7 +10,7 @@ use edit_report::Output;
 use edit_upgrade::Options;
 use std::alloc::{AllocError, Global};
 
-/// Adds a word on a line.
+/// Appends an argument as a line.
 fn push_word(text: &mut Vec<u8>, word: &str) -> Result<(), AllocError>
     ensures { OnOk result (text.new.items ≡ text.old.items ++ word_line word.now) }
 {
@@ -19,7 +19,7 @@ fn push_word(text: &mut Vec<u8>, word: &str) -> Result<(), AllocError>
     Ok(())
 }
 
-/// Adds a call: one word a line, and an empty line behind them.
+/// Appends a call: one argument a line, then an empty line.
 fn push_call(text: &mut Vec<u8>, call: &[String]) -> Result<(), AllocError>
     ensures { OnOk result (text.new.items ≡ text.old.items ++ call_lines (words_seen call.now)) }
 {
@@ -30,7 +30,7 @@ fn push_call(text: &mut Vec<u8>, call: &[String]) -> Result<(), AllocError>
     Ok(())
 }
 
-/// The text of calls, one behind another.
+/// The text of calls, one after another.
 fn calls_text(alloc: Global, calls: &[Vec<String>]) -> Result<Vec<u8>, AllocError>
     ensures { IfOk result (λ v. v.items ≡ calls_text (calls_seen calls.now)) }
 {
@@ -41,7 +41,7 @@ fn calls_text(alloc: Global, calls: &[Vec<String>]) -> Result<Vec<u8>, AllocErro
     Ok(text)
 }
 
-/// The path of the file of the calls, where files are to be written.
+/// The path of the file of the calls, unless `--dry-run` or `--locked` forbids to write it.
 fn due_path<'a>(options: &Options, path: Option<&'a str>) -> Option<&'a str>
     ensures { option_map (λ p. p.now) result
         ≡ due_path options.now (option_map (λ p. p.now) path.entry) }
@@ -62,7 +62,7 @@ fn output_of(alloc: Global, path: &str, calls: &[Vec<String>]) -> Result<Output,
     Ok(Output { path, bytes })
 }
 
-/// The file of the calls as an output, where one is named and files are to be written.
+/// The file of the calls as an output, where one is given and files may be written.
 pub(crate) fn calls_outputs(
     alloc: Global,
     options: &Options,

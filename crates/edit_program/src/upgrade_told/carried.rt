@@ -1,4 +1,4 @@
-//! A plan carried out: its outputs written, the calls that follow told, and what is said last.
+//! Carries out a plan: writes its outputs, prints the calls that follow, and prints the notes.
 ghost use Rattle.std.specs.Prelude.{◌≡◌, ◌≢◌, ◌≤◌, ◌⊎◌, [], IfErr, OnErr, OnOk, map, string_bytes};
 ghost use Rattle.std.specs.Io.KnownBytes.{Appends};
 ghost use Rattle.edit_base.specs.Errors.{IsMemory};
@@ -21,9 +21,9 @@ use edit_upgrade::{Options, UpgradePlan};
 use std::alloc::Global;
 use std::io;
 
-/// Writes outputs, prints the calls of `cargo update`, and writes the file of the calls. That file is made
-/// ready first, so that a folder in which it cannot be written leaves the outputs as they were. An error
-/// gives up every write that is ready.
+/// Writes outputs, prints the calls of `cargo update`, and writes the file of the calls. That file is
+/// staged first, so that the outputs are unchanged where it cannot be written. An error discards all staged
+/// writes.
 pub(crate) fn carry_out<S: Store, E: io::Write>(
     alloc: Global,
     outputs: &[Output],
@@ -55,7 +55,7 @@ pub(crate) fn carry_out<S: Store, E: io::Write>(
     write_outputs(alloc, file, files)
 }
 
-/// Refuses a plan whose words name what no entry has, else prints the notes on it.
+/// Fails where `--package` arguments select names that no entry has, else prints the notes on the plan.
 pub(crate) fn conclude<E: io::Write>(
     alloc: Global,
     plan: &UpgradePlan,

@@ -1,4 +1,4 @@
-//! The delivery of a plan: what is printed of it, and its outputs written.
+//! Prints a plan and writes its outputs.
 ghost use Rattle.std.specs.Prelude.{◌≡◌, ◌≤◌, ◌⊎◌, IfErr, OnErr, OnOk};
 ghost use Rattle.std.specs.Io.KnownBytes.{Appends};
 ghost use Rattle.edit_report.specs.Applied.{HaveDistinctPaths};
@@ -20,12 +20,12 @@ use edit_store::Store;
 use std::alloc::Global;
 use std::io;
 
-/// Prints a plan, writes its outputs, prints the calls of `cargo update` that follow where the workspace is
-/// known, as they are right against the lock file where there is one, writes them to the file that is named
-/// for them, reports missing names as an error, and prints the notes.
+/// Prints a plan and writes its outputs. Then prints the calls of `cargo update` that follow, where there
+/// is a workspace, adapted to the lock file where there is one; writes them to the given file; fails for
+/// selected names that no entry has; and prints the notes.
 ///
-/// Nothing is written at a dry run or where the manifests are locked; if the plan has outputs where they are
-/// locked, that is an error.
+/// Nothing is written with a dry run or where the manifests are locked. Outputs of a plan for locked
+/// manifests are an error.
 pub fn deliver<S: Store, O: io::Write, E: io::Write>(
     alloc: Global,
     task: &DeliveryTask<'_>,
@@ -46,7 +46,7 @@ pub fn deliver<S: Store, O: io::Write, E: io::Write>(
     ensures stopped { OnErr result (SameFiles (S.view files.old).file_at (S.view files.new).file_at
         ⊎ IsCutShort (Appends (O.contents out.old) (O.contents out.new)) (delivery_of task.now)
         (S.view files.old) (S.view files.new)) }
-    // each error has its cause; missing names are one only once everything was written
+    // each error has its cause; missing names are an error only after everything was written
     ensures cause { IfErr result (λ r. IsDeliveryCause (Appends (O.contents out.old) (O.contents out.new))
         (delivery_of task.now) (S.view files.old) (S.view files.new) r.error) }
 {

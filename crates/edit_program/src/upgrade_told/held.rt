@@ -1,4 +1,4 @@
-//! What holds a plan back, and what of it is written.
+//! Checks that stop a plan, and the outputs to write.
 ghost use Rattle.std.specs.Prelude.{◌≡◌, ◌≢◌, ◌⊎◌, [], IfErr, IfOk, OnOk, map, string_bytes, true};
 ghost use Rattle.edit_base.specs.declared.errors.Error.TheVariants.{Locked};
 ghost use Rattle.edit_base.specs.Errors.{IsMemory};
@@ -10,7 +10,7 @@ use edit_report::Output;
 use edit_upgrade::{Options, UpgradePlan};
 use std::alloc::{AllocError, Global};
 
-/// Refuses a plan that has something to write, where the manifests are locked.
+/// Fails with `Error::Locked` where a plan has outputs and the manifests are locked.
 pub(crate) fn check_lock(options: &Options, plan: &UpgradePlan) -> CargoResult<()>
     ensures ok { OnOk result (options.now.locked ≡ true → plan.now.outputs.items ≡ []) }
     ensures refused { IfErr result (λ e. (e ≡ Locked) × (options.now.locked ≡ true)
@@ -22,7 +22,7 @@ pub(crate) fn check_lock(options: &Options, plan: &UpgradePlan) -> CargoResult<(
     Ok(())
 }
 
-/// These texts, on memory of their own.
+/// Copies names into newly allocated memory.
 fn copied_names(alloc: Global, names: &[String]) -> Result<Vec<String>, AllocError>
     ensures { IfOk result (λ v. map string_bytes v.items ≡ map string_bytes names.now) }
 {
@@ -33,7 +33,7 @@ fn copied_names(alloc: Global, names: &[String]) -> Result<Vec<String>, AllocErr
     Ok(copies)
 }
 
-/// Refuses a plan whose words name what no entry has.
+/// Fails with `Error::DependenciesMissing` where `--package` arguments select names that no entry has.
 pub(crate) fn check_names(alloc: Global, plan: &UpgradePlan) -> CargoResult<()>
     ensures ok { OnOk result (map string_bytes plan.now.missing.items ≡ []) }
     ensures refused { IfErr result (λ e. IsMemory e ⊎ ((map string_bytes plan.now.missing.items ≢ [])
@@ -47,7 +47,7 @@ pub(crate) fn check_names(alloc: Global, plan: &UpgradePlan) -> CargoResult<()>
     Err(Error::DependenciesMissing(MissingNames { kind, names }))
 }
 
-/// The outputs that are to be written.
+/// The outputs to write: none with `--dry-run` or `--locked`.
 pub(crate) fn written<'a>(options: &Options, plan: &'a UpgradePlan) -> &'a [Output]
     ensures { result.now ≡ written options.now plan.entry.now.outputs.items }
 {

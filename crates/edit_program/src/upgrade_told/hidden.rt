@@ -1,4 +1,4 @@
-//! How to see the rows that a report does not show.
+//! The note on rows that a report does not show.
 ghost use Rattle.std.specs.Prelude.{◌≡◌, ◌++◌, [], IfErr, IfOk, OnOk, codes, fold, map, string_bytes};
 ghost use Rattle.edit_base.specs.Errors.{IsMemory};
 ghost use Rattle.edit_program.specs.Said.{add_name, hidden, hidden_text, names_of, names_text, or_latest, reason_line, reason_said, rerun, with_name};
@@ -8,7 +8,7 @@ use edit_report::{Row, name_text, reason_text, shown};
 use std::alloc::{AllocError, Global};
 use std::collections::BTreeSet;
 
-/// The texts of the reasons, in byte order.
+/// The texts of the reasons, sorted by bytes.
 const REASONS: [&str; 7] = [
     "compatible",
     "excluded",
@@ -19,7 +19,7 @@ const REASONS: [&str; 7] = [
     "pinned",
 ];
 
-/// The text of a row's reason as notes have it: here a row with the latest version has one too.
+/// The text of a row's reason in notes, which has `latest` for a row without a reason.
 fn reason_said(row: &Row) -> &'static str
     ensures { result.now ≡ reason_said row.now }
 {
@@ -45,7 +45,7 @@ pub(crate) fn hidden_rows<'a>(
     Ok(hidden)
 }
 
-/// Adds the name of a row, where this is its reason.
+/// Inserts the name of a row, where it has this reason.
 fn add_name(alloc: Global, reason: &str, row: &Row, names: &mut BTreeSet<String>) -> CargoResult<()>
     ensures ok { OnOk result (map string_bytes names.new.keys
         ≡ add_name reason.now (map string_bytes names.old.keys) row.now) }
@@ -57,7 +57,7 @@ fn add_name(alloc: Global, reason: &str, row: &Row, names: &mut BTreeSet<String>
     Ok(())
 }
 
-/// The names of the rows of a reason, in byte order, each once.
+/// The names of the rows with a reason, sorted by bytes, without duplicates.
 fn names_of(alloc: Global, reason: &str, rows: &[&Row]) -> CargoResult<Vec<String>>
     ensures ok { IfOk result (λ v.
         map string_bytes v.items ≡ names_of reason.now (map (λ r. r.now) rows.now)) }
@@ -71,7 +71,7 @@ fn names_of(alloc: Global, reason: &str, rows: &[&Row]) -> CargoResult<Vec<Strin
     Ok(names)
 }
 
-/// Names as a line has them: at most three of them, else how many there are.
+/// Names as a line lists them: at most three, or else only their number.
 fn names_text(alloc: Global, names: &[String]) -> Result<String, AllocError>
     ensures { IfOk result (λ s. string_bytes s ≡ names_text (map string_bytes names.now)) }
 {
@@ -82,7 +82,7 @@ fn names_text(alloc: Global, names: &[String]) -> Result<String, AllocError>
     format!(in alloc; "{number} packages")
 }
 
-/// Adds the line of a reason with the names of its rows.
+/// Appends the line of a reason with names.
 fn push_line(text: &mut String, reason: &str, names: &str) -> Result<(), AllocError>
     ensures { OnOk result (string_bytes text.new
         ≡ string_bytes text.old ++ (codes "\n  " ++ (reason.now ++ (codes ": " ++ names.now)))) }
@@ -94,7 +94,7 @@ fn push_line(text: &mut String, reason: &str, names: &str) -> Result<(), AllocEr
     Ok(())
 }
 
-/// Adds the line of a reason, where there are rows of it.
+/// Appends the line of a reason, where rows have it.
 fn add_line(alloc: Global, text: &mut String, rows: &[&Row], reason: &str) -> CargoResult<()>
     ensures ok { OnOk result (string_bytes text.new
         ≡ string_bytes text.old ++ reason_line (map (λ r. r.now) rows.now) reason.now) }
@@ -109,7 +109,7 @@ fn add_line(alloc: Global, text: &mut String, rows: &[&Row], reason: &str) -> Ca
     Ok(())
 }
 
-/// The words before those lines.
+/// The first line of the note: which options show the rows.
 fn rerun(verbosity: i8) -> &'static str
     ensures { result.now ≡ rerun verbosity }
 {
@@ -120,7 +120,7 @@ fn rerun(verbosity: i8) -> &'static str
     }
 }
 
-/// How to see the rows that are not shown: the words, and a line for each reason.
+/// The note on rows that are not shown: which options show them, and a line for each reason.
 pub(crate) fn hidden_text(alloc: Global, rows: &[&Row], verbosity: i8) -> CargoResult<String>
     ensures ok { IfOk result (λ s. string_bytes s ≡ hidden_text verbosity (map (λ r. r.now) rows.now)) }
     ensures refused { IfErr result IsMemory }

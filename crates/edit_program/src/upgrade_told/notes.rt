@@ -1,4 +1,4 @@
-//! What an upgrade says last: how to see or raise more.
+//! The notes at the end of an upgrade: how to see or raise more.
 ghost use Rattle.std.specs.Prelude.{◌≡◌, ◌⊎◌, IfErr, OnOk};
 ghost use Rattle.std.specs.Io.KnownBytes.{Appends};
 ghost use Rattle.edit_base.specs.Errors.{IsMemory};
@@ -20,7 +20,7 @@ const INCOMPATIBLE: &str =
 
 const DRY_RUN: &str = "aborting upgrade due to dry run";
 
-/// Prints a note, where it is due.
+/// Prints a note, where `due` is set.
 fn note_if<E: io::Write>(due: bool, message: &str, err: &mut E) -> CargoResult<()>
     ensures text { OnOk result (Appends (E.contents err.old) (E.contents err.new)
         (when due (note message.now))) }
@@ -33,7 +33,7 @@ fn note_if<E: io::Write>(due: bool, message: &str, err: &mut E) -> CargoResult<(
     }
 }
 
-/// Prints a warning, where it is due.
+/// Prints a warning, where `due` is set.
 fn warn_if<E: io::Write>(due: bool, message: &str, err: &mut E) -> CargoResult<()>
     ensures text { OnOk result (Appends (E.contents err.old) (E.contents err.new)
         (when due (warning message.now))) }
@@ -46,7 +46,7 @@ fn warn_if<E: io::Write>(due: bool, message: &str, err: &mut E) -> CargoResult<(
     }
 }
 
-/// Prints how to see the rows that are not shown, where there are some.
+/// Prints the note on rows that are not shown, where there are any.
 fn print_hidden<E: io::Write>(
     alloc: Global,
     rows: &[Row],
@@ -65,7 +65,8 @@ fn print_hidden<E: io::Write>(
     shell_note(err, text.as_str())
 }
 
-/// Prints the notes on a plan, at a dry run that nothing was written, and the crates without an index entry.
+/// Prints the notes on a plan, the warning that a dry run wrote nothing, and the note on crates missing in
+/// the index.
 pub(crate) fn print_notes<E: io::Write>(
     alloc: Global,
     plan: &UpgradePlan,

@@ -1,4 +1,4 @@
-//! What is printed of each input: whose dependencies are looked at, the warnings, the table for people.
+//! The report on each input: a status line, the warnings, and the table.
 ghost use Rattle.std.specs.Prelude.{◌≡◌, ◌++◌, ◌⊎◌, IfErr, OnOk, codes, length, true};
 ghost use Rattle.std.specs.Io.KnownBytes.{Appends};
 ghost use Rattle.std.specs.List.{flat_map};
@@ -19,7 +19,7 @@ use edit_upgrade::{UpgradePlan, Warning};
 use std::alloc::Global;
 use std::io;
 
-/// Prints whose dependencies are looked at.
+/// Prints the status line with the name of the package whose dependencies are checked.
 fn print_status<E: io::Write>(alloc: Global, name: &str, err: &mut E) -> CargoResult<()>
     ensures text { OnOk result (Appends (E.contents err.old) (E.contents err.new)
         (message_text true (codes "Checking") (name.now ++ codes "'s dependencies"))) }
@@ -29,7 +29,7 @@ fn print_status<E: io::Write>(alloc: Global, name: &str, err: &mut E) -> CargoRe
     shell_status(err, "Checking", message.as_str())
 }
 
-/// Whether a report of this verbosity has the warning for this input.
+/// Whether a report of this verbosity shows a warning, and it is about this input.
 fn is_heard(warning: &Warning, input: usize, verbosity: i8) -> bool
     ensures { result ≡ is_heard verbosity input warning.now }
 {
@@ -37,7 +37,7 @@ fn is_heard(warning: &Warning, input: usize, verbosity: i8) -> bool
     heard && warning.input == input
 }
 
-/// Prints a warning, where a report of this verbosity has it for this input.
+/// Prints a warning, where it is about this input and a report of this verbosity shows it.
 fn print_warning<E: io::Write>(
     warning: &Warning,
     input: usize,
@@ -55,7 +55,7 @@ fn print_warning<E: io::Write>(
     }
 }
 
-/// Prints the warnings that a report of this verbosity has for this input.
+/// Prints the warnings about this input that a report of this verbosity shows.
 fn print_warnings<E: io::Write>(
     warnings: &[Warning],
     input: usize,
@@ -88,7 +88,7 @@ fn print_rows<O: io::Write>(
     write_table(alloc, rows_at(rows, input), verbosity, out)
 }
 
-/// Prints the table of the rows of an input; none where the plan is shown as JSON.
+/// Prints the table of the rows of an input, unless the plan is printed as JSON.
 fn print_table<O: io::Write>(
     alloc: Global,
     format: MessageFormat,
@@ -108,7 +108,7 @@ fn print_table<O: io::Write>(
     }
 }
 
-/// Prints what is said before an input, and its warnings.
+/// Prints the status line and the warnings of an input.
 fn print_check<E: io::Write>(
     alloc: Global,
     name: &str,
@@ -126,7 +126,7 @@ fn print_check<E: io::Write>(
     print_warnings(warnings_at(warnings, input), input, verbosity, err)
 }
 
-/// Prints what is said of each input, one behind another, before a file is written.
+/// Prints the report on each input, in order, before a file is written.
 pub(crate) fn print_reports<O: io::Write, E: io::Write>(
     alloc: Global,
     plan: &UpgradePlan,

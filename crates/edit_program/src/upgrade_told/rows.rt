@@ -4,8 +4,7 @@ ghost use Rattle.edit_program.specs.Tables.{AreInOrder, rows_at};
 
 use edit_report::Row;
 
-/// The rows of an input. They stand one behind another, so that no other row is looked at but to find their
-/// ends.
+/// The rows of an input. The rows of a plan are ordered by input, so that only their bounds are searched.
 pub(crate) fn rows_at(rows: &[Row], input: usize) -> &[Row]
     requires { AreInOrder rows.now }
     ensures { result.now ≡ rows_at input rows.now }

@@ -1,4 +1,4 @@
-//! What is printed of a plan before a file is written.
+//! Prints a plan before a file is written.
 ghost use Rattle.std.specs.Prelude.{◌≡◌, ◌++◌, ◌⊎◌, IfErr, OnOk, length};
 ghost use Rattle.std.specs.Io.KnownBytes.{Appends};
 ghost use Rattle.edit_base.specs.Errors.{IsMemory};
@@ -18,7 +18,7 @@ use edit_upgrade::{Options, UpgradePlan};
 use std::alloc::Global;
 use std::io;
 
-/// Prints a plan as JSON, where it is to be shown so.
+/// Prints a plan as JSON, where that is requested.
 fn print_as<O: io::Write>(
     alloc: Global,
     format: MessageFormat,
@@ -38,7 +38,7 @@ fn print_as<O: io::Write>(
     }
 }
 
-/// Prints the changes of manifests, where they are to be shown.
+/// Prints the diffs of manifests, where they are requested.
 fn print_diffs_if<O: io::Write>(
     alloc: Global,
     due: bool,
@@ -58,7 +58,7 @@ fn print_diffs_if<O: io::Write>(
     }
 }
 
-/// Prints a plan: of each input its table and what is said of it, the plan as JSON, the changes of manifests.
+/// Prints a plan: the report on each input, the plan as JSON, and the diffs of manifests, as requested.
 pub(crate) fn print_plan<O: io::Write, E: io::Write>(
     alloc: Global,
     task: &DeliveryTask<'_>,

@@ -1,27 +1,27 @@
-//! What is delivered of an upgrade.
+//! A plan to print and write.
 
 use edit_lock::Lock;
 use edit_metadata::{Input, Workspace};
 use edit_shown::Presentation;
 use edit_upgrade::{Options, UpgradePlan};
 
-/// A plan that is to be delivered: the manifests that it is for, how it is printed, and where its calls of
-/// `cargo update` go.
+/// A plan to print and write: its manifests, the output format, and the file for its calls of `cargo
+/// update`.
 #[derive(Clone, Copy)]
 pub struct DeliveryTask<'a> {
     pub plan: &'a UpgradePlan,
     pub inputs: &'a [Input],
-    /// The workspace of the manifests, where it is known: without it no calls follow.
+    /// The workspace of the manifests, where there is one: without it no calls follow.
     pub workspace: Option<&'a Workspace>,
     pub options: &'a Options,
-    /// The folder that diffs name files from.
+    /// The folder that paths in diffs are relative to.
     pub root: &'a str,
     pub presentation: Presentation,
-    /// The file, by an absolute normal path, to which the calls are written: one argument a line, and an
-    /// empty line behind each call.
+    /// The absolute, normalized path of the file for the calls: one argument a line, and an empty line
+    /// after each call.
     pub update_calls: Option<&'a str>,
-    /// The lock file that the calls have to be right against.
+    /// The lock file that the calls must be valid for.
     pub lock: Option<&'a Lock>,
-    /// Whether calls that are right against a lock file fetch nothing.
+    /// Whether calls that are valid for a lock file must not fetch anything.
     pub offline: bool,
 }

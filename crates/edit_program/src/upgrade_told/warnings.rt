@@ -1,11 +1,11 @@
-//! The warnings on one input among those of a plan.
+//! The warnings about one input among those of a plan.
 ghost use Rattle.std.specs.Prelude.{◌≡◌, leb, ltb};
 ghost use Rattle.edit_program.specs.Said.{AreWarningsInOrder, warnings_at};
 
 use edit_upgrade::Warning;
 
-/// The warnings on an input. They stand one behind another, so that no other warning is looked at but to find
-/// their ends.
+/// The warnings about an input. The warnings of a plan are ordered by input, so that only their bounds are
+/// searched.
 pub(crate) fn warnings_at(warnings: &[Warning], input: usize) -> &[Warning]
     requires { AreWarningsInOrder warnings.now }
     ensures { result.now ≡ warnings_at input warnings.now }

@@ -1,4 +1,4 @@
-//! The lines of a diff, and the heads of its parts.
+//! The hunks of a diff and their headers.
 ghost use Rattle.std.specs.Prelude.{◌≡◌, ◌+◌, ◌^◌, ◌<◌, ◌++◌, IfOk, OnOk, if◌then◌else◌, length, map, string_bytes, take};
 ghost use Rattle.edit_shown.specs.Hunks as spec;
 ghost use Rattle.edit_shown.specs.Hunks.{AreCounted};
@@ -18,7 +18,7 @@ fn ends_with_feed(line: &[u8]) -> bool
     }
 }
 
-/// The sign of a mark.
+/// The character before a line with this mark: space, `-` or `+`.
 fn sign(mark: Mark) -> u8
     ensures { result ≡ spec.sign mark }
 {
@@ -29,7 +29,7 @@ fn sign(mark: Mark) -> u8
     }
 }
 
-/// What follows a line: a note where its text ends without a line feed.
+/// The note after a line whose text ends without a line feed, else nothing.
 fn note(line: &[u8]) -> &'static str
     ensures { result.now ≡ spec.note line.now }
 {
@@ -40,7 +40,7 @@ fn note(line: &[u8]) -> &'static str
     }
 }
 
-/// Adds a line behind its sign.
+/// Appends a line, after the character of its mark.
 fn push_line(text: &mut Vec<u8>, mark: Mark, line: &[u8]) -> Result<(), AllocError>
     ensures ok { OnOk result (text.new.items ≡ text.old.items ++ spec.line_text mark line.now) }
 {
@@ -50,7 +50,8 @@ fn push_line(text: &mut Vec<u8>, mark: Mark, line: &[u8]) -> Result<(), AllocErr
     Ok(())
 }
 
-/// The number of the first of some lines, behind so many; where there are none, of the line before them.
+/// The number of the first line of a range, from the number of lines before it; for an empty range that of
+/// the line before it.
 fn first_number(before: usize, count: usize) -> usize
     requires { before + count < 2 ^ 64 }
     ensures { result ≡ spec.first_number before count }
@@ -58,7 +59,7 @@ fn first_number(before: usize, count: usize) -> usize
     if count == 0 { before } else { before + 1 }
 }
 
-/// From which line on, and how many: their number alone stands for one line.
+/// A range of lines as `START,COUNT`, or `START` where it has one line.
 fn range_text(alloc: Global, before: usize, count: usize) -> Result<String, AllocError>
     requires { before + count < 2 ^ 64 }
     ensures { IfOk result (λ s. string_bytes s ≡ spec.range_text before count) }
@@ -70,7 +71,7 @@ fn range_text(alloc: Global, before: usize, count: usize) -> Result<String, Allo
     format!(in alloc; "{first},{count}")
 }
 
-/// Adds from which line on, and how many.
+/// Appends a range of lines.
 fn push_range(
     alloc: Global,
     text: &mut Vec<u8>,
@@ -85,7 +86,7 @@ fn push_range(
     Ok(())
 }
 
-/// How many lines of the old and of the new text come before a line of a diff.
+/// The numbers of lines of the old and of the new text before a line of a diff.
 #[derive(Clone, Copy)]
 struct LineCounts {
     old: usize,
@@ -93,7 +94,7 @@ struct LineCounts {
 }
 
 impl LineCounts {
-    /// The counts before the next line, where this line has a mark.
+    /// The counts after a line with this mark.
     fn past(self, mark: Mark) -> LineCounts
         requires old { self.old + 1 < 2 ^ 64 }
         requires new { self.new + 1 < 2 ^ 64 }
@@ -117,7 +118,7 @@ impl LineCounts {
     }
 }
 
-/// Adds the head of a part; `before` has the lines that come before it.
+/// Appends the header of a hunk; `before` counts the lines before it.
 fn push_head(
     alloc: Global,
     text: &mut Vec<u8>,
@@ -137,7 +138,7 @@ fn push_head(
     Ok(())
 }
 
-/// Whether a part begins at a line that is shown.
+/// Whether a hunk begins at a line that is shown.
 fn begins(marks: &[Mark], i: usize) -> bool
     requires { i < length marks.now }
     ensures { result ≡ spec.begins marks.now i }
@@ -145,7 +146,7 @@ fn begins(marks: &[Mark], i: usize) -> bool
     i == 0 || !is_shown(marks, i - 1)
 }
 
-/// Adds the head of a part where one begins at a line that is shown. `before` has the lines that come before
+/// Appends the header of a hunk where one begins at a line that is shown. `before` counts the lines before
 /// it.
 fn push_head_at(
     alloc: Global,
@@ -165,7 +166,7 @@ fn push_head_at(
     push_head(alloc, text, before, part)
 }
 
-/// Adds what stands of a line in a diff, where it is shown: a head where a part begins, and the line.
+/// Appends a line of a diff, where it is shown, after the header of its hunk where one begins there.
 fn push_at(
     alloc: Global,
     text: &mut Vec<u8>,
@@ -187,7 +188,7 @@ fn push_at(
     push_line(text, marks[i], lines[i])
 }
 
-/// Adds the parts of a diff.
+/// Appends the hunks of a diff.
 pub(crate) fn push_parts(
     alloc: Global,
     text: &mut Vec<u8>,

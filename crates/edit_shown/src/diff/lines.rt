@@ -4,7 +4,7 @@ ghost use Rattle.edit_shown.specs.Lines.{line_length, lines_of, IsCut};
 
 use std::alloc::{AllocError, Global};
 
-/// How long the first line is, with its line feed.
+/// The length of the first line, with its line feed.
 fn line_length(text: &[u8]) -> usize
     ensures same { result ≡ line_length text.now }
     ensures within { result ≤ length text.now }
@@ -17,7 +17,7 @@ fn line_length(text: &[u8]) -> usize
     text.len()
 }
 
-/// The first line and what follows it; none where nothing is left.
+/// The first line and the rest of a text; `None` for an empty text.
 fn first_line(text: &[u8]) -> Option<(&[u8], &[u8])>
     ensures { MatchOption result (text.now ≡ []) (λ r. IsCut text.now r.0.now r.1.now) }
 {

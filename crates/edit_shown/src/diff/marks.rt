@@ -1,10 +1,10 @@
-//! The lines of two texts, compared one by one.
+//! Compares two texts line by line.
 ghost use Rattle.std.specs.Prelude.{◌≡◌, [], ◌∷◌, ◌++◌, IfOk, OnOk, map, option_copied, option_map, slice_get};
 ghost use Rattle.edit_shown.specs.Marks.{lines_in, marked, marked_at, marks_in};
 
 use std::alloc::{AllocError, Global};
 
-/// What becomes of a line.
+/// Whether a line is unchanged, removed or added.
 #[derive(Clone, Copy, Debug, PartialEq, Eq)]
 pub enum Mark {
     Kept,
@@ -12,7 +12,7 @@ pub enum Mark {
     Added,
 }
 
-/// Lines and what becomes of each.
+/// Lines with their marks.
 #[derive(Drop)]
 pub(crate) struct MarkedLines<'a> {
     pub(crate) marks: Vec<Mark>,
@@ -20,7 +20,7 @@ pub(crate) struct MarkedLines<'a> {
 }
 
 impl<'a> MarkedLines<'a> {
-    /// Adds a line.
+    /// Appends a line and its mark.
     fn push(&mut self, mark: Mark, line: &'a [u8]) -> Result<(), AllocError>
         ensures marks { OnOk result (self.new.marks.items ≡ self.old.marks.items ++ mark ∷ []) }
         ensures lines { OnOk result (map (λ l. l.now) self.new.lines.items
@@ -31,7 +31,8 @@ impl<'a> MarkedLines<'a> {
         Ok(())
     }
 
-    /// Adds the lines that stand at one number of two texts.
+    /// Appends the lines at the same index of two texts: one unchanged line where they are equal, else the
+    /// removed and the added one.
     fn push_at(&mut self, old: Option<&'a [u8]>, new: Option<&'a [u8]>) -> Result<(), AllocError>
         ensures marks { OnOk result (self.new.marks.items ≡ self.old.marks.items
             ++ marks_in (marked_at (option_map (λ l. l.now) old.entry)
@@ -56,21 +57,21 @@ impl<'a> MarkedLines<'a> {
     }
 }
 
-/// The line at a number, where the list has it.
+/// The line at an index, where the list has it.
 fn entry_at<'a, 'b>(lines: &'b [&'a [u8]], i: usize) -> Option<&'b &'a [u8]>
     ensures { option_copied result ≡ slice_get lines.now i }
 {
     lines.get(i)
 }
 
-/// The line at a number.
+/// The line at an index, where the list has it.
 fn line_at<'a>(lines: &[&'a [u8]], i: usize) -> Option<&'a [u8]>
     ensures { option_map (λ l. l.now) result ≡ slice_get (map (λ l. l.now) lines.now) i }
 {
     entry_at(lines, i).copied()
 }
 
-/// The lines of two texts, each against the one at its number.
+/// Compares two texts line by line, each line with the one at the same index.
 pub(crate) fn marked<'a>(
     alloc: Global,
     olds: &[&'a [u8]],

@@ -5,14 +5,14 @@ ghost use Rattle.edit_shown.specs.Names as spec;
 
 use std::alloc::AllocError;
 
-/// Whether a byte stands for itself: printable ASCII other than `"` and `\`.
+/// Whether a byte needs no escape: printable ASCII other than `"` and `\`.
 fn is_plain(byte: u8) -> bool
     ensures { result ≡ spec.is_plain byte }
 {
     32 <= byte && byte <= 126 && !(byte == b'"' || byte == b'\\')
 }
 
-/// The letter of a byte's escape; none where it has none.
+/// The letter that escapes a byte after a backslash; `None` where there is none.
 fn letter_of(byte: u8) -> Option<u8>
     ensures { result ≡ spec.letter_of byte }
 {
@@ -29,7 +29,7 @@ fn letter_of(byte: u8) -> Option<u8>
     }
 }
 
-/// Adds three octal digits of a byte.
+/// Appends a byte as three octal digits.
 fn push_digits(text: &mut Vec<u8>, byte: u8) -> Result<(), AllocError>
     ensures { OnOk result (text.new.items ≡ text.old.items ++ spec.octal_digits byte) }
 {
@@ -39,7 +39,7 @@ fn push_digits(text: &mut Vec<u8>, byte: u8) -> Result<(), AllocError>
     Ok(())
 }
 
-/// Adds a byte as it stands in quotes.
+/// Appends a byte as it is written in double quotes, escaped where needed.
 fn push_escaped(text: &mut Vec<u8>, byte: u8) -> Result<(), AllocError>
     ensures { OnOk result (text.new.items ≡ text.old.items ++ spec.escape_of byte) }
 {
@@ -54,7 +54,7 @@ fn push_escaped(text: &mut Vec<u8>, byte: u8) -> Result<(), AllocError>
     }
 }
 
-/// Adds the bytes of a path as they stand in quotes.
+/// Appends the bytes of a path as they are written in double quotes.
 fn push_inner(text: &mut Vec<u8>, path: &[u8]) -> Result<(), AllocError>
     ensures { OnOk result (text.new.items ≡ text.old.items ++ flat_map spec.escape_of path.now) }
 {
@@ -64,14 +64,14 @@ fn push_inner(text: &mut Vec<u8>, path: &[u8]) -> Result<(), AllocError>
     Ok(())
 }
 
-/// Whether each byte of a path stands for itself.
+/// Whether no byte of a path needs an escape.
 fn is_plain_path(path: &[u8]) -> bool
     ensures { result ≡ list_all spec.is_plain path.now }
 {
     path.iter().all(|byte| is_plain(*byte))
 }
 
-/// Adds a name behind `a/` or `b/`: in quotes where one of its bytes does not stand for itself.
+/// Appends a name after `a/` or `b/`, in double quotes where one of its bytes needs an escape.
 fn push_quoted(text: &mut Vec<u8>, side: &[u8], path: &[u8]) -> Result<(), AllocError>
     ensures { OnOk result (text.new.items ≡ text.old.items ++ spec.quoted_name side.now path.now) }
 {
@@ -93,14 +93,14 @@ fn has_space(path: &[u8]) -> bool
     path.iter().any(|byte| *byte == b' ')
 }
 
-/// What ends a name: a tab where it has a space, which would end it else.
+/// A tab for a name with a space, which would end the name otherwise, else nothing.
 fn name_end(path: &[u8]) -> &'static str
     ensures { result.now ≡ spec.name_end path.now }
 {
     if has_space(path) { "\t" } else { "" }
 }
 
-/// Adds a name and its line end, behind `a/` or `b/`.
+/// Appends a name after `a/` or `b/`, and a line end.
 pub(crate) fn push_name(text: &mut Vec<u8>, side: &[u8], path: &[u8]) -> Result<(), AllocError>
     ensures { OnOk result (text.new.items ≡ text.old.items ++ spec.name_text side.now path.now) }
 {

@@ -5,10 +5,10 @@ ghost use Rattle.edit_shown.specs.Shown.{is_new, is_old, is_shown, leading, show
 
 use crate::diff::marks::Mark;
 
-/// How many lines before and behind a change are shown.
+/// The number of unchanged lines that are shown before and after a change.
 const CONTEXT: usize = 3;
 
-/// Whether a line within three of the one at a number changes.
+/// Whether a line changes within three lines of this one, or this one does.
 pub(crate) fn is_shown(marks: &[Mark], i: usize) -> bool
     requires { i < length marks.now }
     ensures { result ≡ is_shown marks.now i }
@@ -22,7 +22,7 @@ pub(crate) fn is_shown(marks: &[Mark], i: usize) -> bool
     marks[from..to].iter().any(|mark| *mark != Mark::Kept)
 }
 
-/// How many lines are shown in a row from one on.
+/// The number of consecutive lines that are shown, from one on.
 pub(crate) fn part_length(marks: &[Mark], i: usize) -> usize
     requires { i ≤ length marks.now }
     ensures same { result ≡ leading (drop i (shown_lines marks.now)) }
@@ -36,14 +36,14 @@ pub(crate) fn part_length(marks: &[Mark], i: usize) -> usize
     marks.len() - i
 }
 
-/// How many lines stood before.
+/// The number of lines of the old text.
 pub(crate) fn count_old(marks: &[Mark]) -> usize
     ensures { result ≡ count_by is_old marks.now }
 {
     marks.iter().filter(|mark| **mark != Mark::Added).count()
 }
 
-/// How many lines stand afterwards.
+/// The number of lines of the new text.
 pub(crate) fn count_new(marks: &[Mark]) -> usize
     ensures { result ≡ count_by is_new marks.now }
 {

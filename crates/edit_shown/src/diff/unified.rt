@@ -1,4 +1,4 @@
-//! The change of a file as a unified diff.
+//! A unified diff of two texts of a file.
 ghost use Rattle.std.specs.Prelude.{◌≡◌, ◌⊎◌, ◌++◌, IfErr, IfOk, OnOk};
 ghost use Rattle.std.specs.Io.KnownBytes.{Appends};
 ghost use Rattle.edit_base.specs.Errors.{IsMemory};
@@ -15,7 +15,7 @@ use edit_base::{CargoResult, Error};
 use std::alloc::{AllocError, Global};
 use std::io;
 
-/// Adds the two lines that name a file.
+/// Appends the two lines that name a file.
 fn push_names(text: &mut Vec<u8>, path: &str) -> Result<(), AllocError>
     ensures ok { OnOk result (text.new.items ≡ text.old.items ++ spec.names_text path.now) }
 {
@@ -26,7 +26,7 @@ fn push_names(text: &mut Vec<u8>, path: &str) -> Result<(), AllocError>
     Ok(())
 }
 
-/// Adds the parts of the diff of two texts.
+/// Appends the hunks of the diff of two texts.
 fn push_changes(alloc: Global, text: &mut Vec<u8>, old: &[u8], new: &[u8]) -> Result<(), AllocError>
     ensures ok { OnOk result (text.new.items ≡ text.old.items
         ++ spec.parts_of (marked (lines_of old.now) (lines_of new.now))) }
@@ -37,8 +37,8 @@ fn push_changes(alloc: Global, text: &mut Vec<u8>, old: &[u8], new: &[u8]) -> Re
     push_parts(alloc, text, &marked.marks, &marked.lines)
 }
 
-/// The change of a file as a unified diff, with three lines around each change; nothing where nothing
-/// changes. `path` is the file's name in it, behind `a/` and `b/`.
+/// The unified diff of two texts of a file, with three lines of context; empty where the texts are equal.
+/// `path` is the file's name in the diff, after `a/` and `b/`.
 pub fn diff_text(alloc: Global, path: &str, old: &[u8], new: &[u8]) -> CargoResult<Vec<u8>>
     ensures text { IfOk result (λ v. v.items ≡ spec.diff_text path.now old.now new.now) }
     ensures refused { IfErr result IsMemory }
@@ -52,7 +52,7 @@ pub fn diff_text(alloc: Global, path: &str, old: &[u8], new: &[u8]) -> CargoResu
     Ok(text)
 }
 
-/// Writes the change of a file as a unified diff.
+/// Writes the unified diff of two texts of a file.
 pub fn write_diff<W: io::Write>(
     alloc: Global,
     out: &mut W,

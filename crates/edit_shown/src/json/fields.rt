@@ -7,7 +7,7 @@ use edit_document::Step;
 use serde_json::{Value, push};
 use std::alloc::{AllocError, Global};
 
-/// What a member has.
+/// The value of a member.
 #[derive(Clone, Copy)]
 pub(crate) enum Field<'a> {
     Text(&'a str),
@@ -25,7 +25,7 @@ pub(crate) struct Member<'a> {
     pub(crate) field: Field<'a>,
 }
 
-/// A list of texts.
+/// An array of strings.
 fn texts_value(alloc: Global, texts: &[String]) -> Result<Value, AllocError>
     ensures { IfOk result (λ v. view v ≡ list_data text_data texts.now) }
 {
@@ -36,7 +36,7 @@ fn texts_value(alloc: Global, texts: &[String]) -> Result<Value, AllocError>
     Ok(Value::Array(list))
 }
 
-/// A list of lists of texts.
+/// An array of arrays of strings.
 fn lists_value(alloc: Global, lists: &[Vec<String>]) -> Result<Value, AllocError>
     ensures { IfOk result (λ v. view v ≡ list_data (λ l. list_data text_data l.items) lists.now) }
 {
@@ -47,7 +47,7 @@ fn lists_value(alloc: Global, lists: &[Vec<String>]) -> Result<Value, AllocError
     Ok(Value::Array(list))
 }
 
-/// A step of a place: a key as a text, an index as a number.
+/// A step of a place: a key as a string, an index as a number.
 fn step_value(alloc: Global, step: &Step) -> Result<Value, AllocError>
     ensures { IfOk result (λ v. view v ≡ step_data step.now) }
 {
@@ -57,7 +57,7 @@ fn step_value(alloc: Global, step: &Step) -> Result<Value, AllocError>
     }
 }
 
-/// The steps of a place.
+/// The steps of a place, as an array.
 fn place_value(alloc: Global, steps: &[Step]) -> Result<Value, AllocError>
     ensures { IfOk result (λ v. view v ≡ list_data step_data steps.now) }
 {
@@ -68,7 +68,7 @@ fn place_value(alloc: Global, steps: &[Step]) -> Result<Value, AllocError>
     Ok(Value::Array(list))
 }
 
-/// A text, or null for none.
+/// A string, or null where there is none.
 fn text_or_null(alloc: Global, text: Option<&str>) -> Result<Value, AllocError>
     ensures { IfOk result (λ v. view v ≡ text_or_null (option_map (λ t. t.now) text.entry)) }
 {
@@ -78,7 +78,7 @@ fn text_or_null(alloc: Global, text: Option<&str>) -> Result<Value, AllocError>
     }
 }
 
-/// What a member has, as JSON.
+/// The value of a member, as JSON.
 pub(crate) fn value_of(alloc: Global, field: Field<'_>) -> Result<Value, AllocError>
     ensures { IfOk result (λ v. view v ≡ field_data field.entry) }
 {

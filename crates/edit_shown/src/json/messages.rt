@@ -64,7 +64,7 @@ pub fn row_message<'a>(alloc: Global, manifest: &'a str, row: &'a Row) -> CargoR
     message(alloc, &members)
 }
 
-/// The message of a warning on a manifest.
+/// The message of a warning about a manifest.
 pub fn warning_message<'a>(
     alloc: Global,
     manifest: &'a str,
@@ -91,7 +91,7 @@ pub fn warning_message<'a>(
     message(alloc, &members)
 }
 
-/// The message of a manifest that changes: whether it is written, which at a dry run it is not.
+/// The message of a manifest that changes; `written` is false where the run writes no file.
 pub fn file_message(alloc: Global, manifest: &str, written: bool) -> CargoResult<String>
     ensures text { IfOk result (λ s. string_bytes s ≡ message_text (file_members manifest.now written)) }
     ensures refused { IfErr result IsMemory }
@@ -113,7 +113,7 @@ pub fn file_message(alloc: Global, manifest: &str, written: bool) -> CargoResult
     message(alloc, &members)
 }
 
-/// What an upgrade says last.
+/// The summary of an upgrade.
 #[derive(Clone, Copy)]
 pub struct Summary<'a> {
     pub dry_run: bool,
@@ -122,11 +122,11 @@ pub struct Summary<'a> {
     pub missing: &'a [String],
     pub pinned_present: bool,
     pub incompatible_present: bool,
-    /// The calls of `cargo update` that are due, each as its words.
+    /// The calls of `cargo update` that follow, each as its arguments.
     pub update_calls: &'a [Vec<String>],
 }
 
-/// The last message of an upgrade.
+/// The last message of an upgrade, its summary.
 pub fn summary_message(alloc: Global, summary: Summary<'_>) -> CargoResult<String>
     ensures text { IfOk result (λ s. string_bytes s ≡ message_text (summary_members summary.entry)) }
     ensures refused { IfErr result IsMemory }
@@ -168,7 +168,7 @@ pub fn summary_message(alloc: Global, summary: Summary<'_>) -> CargoResult<Strin
     message(alloc, &members)
 }
 
-/// The message of a line of `set-version`: what is done, and to what.
+/// The message of a line of `set-version`: an action and its text.
 pub fn change_message<'a>(alloc: Global, action: &'a str, change: &'a str) -> CargoResult<String>
     ensures text { IfOk result (λ s. string_bytes s ≡ message_text (change_members action.now change.now)) }
     ensures refused { IfErr result IsMemory }

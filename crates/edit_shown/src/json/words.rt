@@ -1,10 +1,10 @@
-//! The words of a message.
+//! Constant texts in messages.
 ghost use Rattle.std.specs.Prelude.{◌≡◌, option_map, string_bytes};
 ghost use Rattle.edit_shown.specs.JsonMessages as spec;
 
 use edit_report::{Change, Reason};
 
-/// A text that need not be there.
+/// Borrows an optional text.
 pub(crate) fn maybe(text: &Option<String>) -> Option<&str>
     ensures { option_map (λ t. t.now) result ≡ option_map string_bytes text.now }
 {
@@ -14,7 +14,7 @@ pub(crate) fn maybe(text: &Option<String>) -> Option<&str>
     }
 }
 
-/// Why an entry did not get the newest requirement, or that it has it.
+/// The text of a reason.
 pub(crate) fn why_word(reason: Option<Reason>) -> Option<&'static str>
     ensures { option_map (λ t. t.now) result ≡ spec.why_word reason }
 {
@@ -30,7 +30,7 @@ pub(crate) fn why_word(reason: Option<Reason>) -> Option<&'static str>
     }
 }
 
-/// What the new requirement was taken from.
+/// The text of a kind of change.
 pub(crate) fn change_word(change: Option<Change>) -> Option<&'static str>
     ensures { option_map (λ t. t.now) result ≡ spec.change_word change }
 {

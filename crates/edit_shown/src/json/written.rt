@@ -11,10 +11,10 @@ use edit_base::CargoResult;
 use serde_json::{Map, Value, put};
 use std::alloc::{AllocError, Global};
 
-/// The number of this format of messages.
+/// The version of the format of messages.
 const FORMAT: u64 = 1;
 
-/// The object of the format's number and of some members.
+/// An object of the format's version and of these members.
 fn object_of(alloc: Global, members: &[Member<'_>]) -> Result<Value, AllocError>
     ensures { IfOk result (λ v. view v ≡ message_data (map member_data members.now)) }
 {
@@ -31,7 +31,7 @@ fn object_of(alloc: Global, members: &[Member<'_>]) -> Result<Value, AllocError>
     Ok(Value::Object(object))
 }
 
-/// The text of that object, without spaces.
+/// The text of an object of the format's version and of these members, without spaces.
 fn object_text(alloc: Global, members: &[Member<'_>]) -> Result<String, AllocError>
     ensures { IfOk result (λ s. string_bytes s ≡ compact_text (message_data (map member_data members.now))) }
 {
@@ -39,7 +39,7 @@ fn object_text(alloc: Global, members: &[Member<'_>]) -> Result<String, AllocErr
     object.to_string(alloc)
 }
 
-/// The text of a message with these members and the number of its format.
+/// The text of a message: an object of these members and the format's version, and a line end.
 pub(crate) fn message(alloc: Global, members: &[Member<'_>]) -> CargoResult<String>
     ensures text { IfOk result (λ s. string_bytes s ≡ message_text (map member_data members.now)) }
     ensures refused { IfErr result IsMemory }

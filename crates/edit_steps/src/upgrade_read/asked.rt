@@ -1,4 +1,4 @@
-//! What an upgrade is asked to rest on.
+//! The files that an upgrade is requested to read.
 ghost use Rattle.std.specs.Prelude.{◌≡◌, option_map};
 ghost use Rattle.edit_steps.specs.Asking.{asked_rust};
 ghost use Rattle.edit_version.specs.RustVersions.{numbers_of};
@@ -8,15 +8,15 @@ use edit_version::RustVersion;
 /// The Rust version to plan for.
 #[derive(Clone, Copy, Debug)]
 pub enum RustChoice {
-    /// Each manifest's own, where it names one.
+    /// That of each manifest, where it has one.
     Own,
-    /// None, whatever manifests name.
+    /// None, even where manifests have one.
     Ignored,
     Given(RustVersion),
 }
 
 impl RustChoice {
-    /// The Rust version that is given.
+    /// The Rust version, where one is given.
     pub(crate) fn given(self) -> Option<RustVersion>
         ensures { option_map numbers_of result ≡ (asked_rust self).given }
     {
@@ -26,7 +26,7 @@ impl RustChoice {
         }
     }
 
-    /// Whether those that manifests name are ignored.
+    /// Whether the Rust versions of manifests are ignored.
     pub(crate) fn is_ignored(self) -> bool
         ensures { result ≡ (asked_rust self).ignored }
     {
@@ -37,23 +37,23 @@ impl RustChoice {
     }
 }
 
-/// What an upgrade is asked to rest on. Relative paths start in the current folder.
+/// The files to read. Relative paths start in the current folder.
 #[derive(Clone, Copy, Debug)]
 pub struct Asked<'a> {
-    /// A manifest, or a folder that is searched upwards; none is the current folder. Where metadata are named
-    /// it is not read.
+    /// A manifest, or a folder from which it is searched upwards; the current folder where `None`. Ignored
+    /// where metadata are given.
     pub manifest_path: Option<&'a str>,
     /// The file with the metadata of a workspace.
     pub metadata_json: Option<&'a str>,
     /// The file with the lines of an index.
     pub index_file: Option<&'a str>,
-    /// A folder with a folder for each registry. Where an index file is named it is not read.
+    /// A folder with a folder for each registry. Ignored where an index file is given.
     pub index_dir: Option<&'a str>,
-    /// A configuration file that counts before all others.
+    /// A configuration file with the highest precedence.
     pub config: Option<&'a str>,
-    /// A configuration file that counts after all others.
+    /// A configuration file with the lowest precedence.
     pub default_config: Option<&'a str>,
     pub rust: RustChoice,
-    /// Whether files are to be written: then other runs on the same files are kept waiting.
+    /// Whether files will be written: then other runs on the same files are blocked.
     pub writes: bool,
 }

@@ -1,4 +1,4 @@
-//! The configuration file that an error is about.
+//! The configuration file that caused an error.
 ghost use Rattle.std.specs.Prelude.{◌≡◌, ◌<◌, ◌^◌};
 ghost use Rattle.edit_store.specs.Store.{OnlyReads};
 
@@ -12,11 +12,11 @@ use edit_store::Store;
 use std::alloc::Global;
 use std::collections::BTreeSet;
 
-/// What a configuration has to be that is TOML.
+/// The help for a configuration that is TOML but has values of other types.
 const SHAPE: &str =
     "`registries` and `source` have to be tables of tables, and `index`, `registry` and `replace-with` in these strings";
 
-/// Adds the two files that hold a folder's configuration, unless the folder was seen before.
+/// Adds the two paths of a folder's configuration, unless the folder was added before.
 fn push_files(
     alloc: Global,
     folder: &str,
@@ -30,7 +30,7 @@ fn push_files(
     Ok(())
 }
 
-/// Where the configurations of manifests and the one at home may stand, each path once.
+/// The possible paths of the configurations of manifests and of the home folder, without duplicates.
 fn config_paths(
     alloc: Global,
     inputs: &[Input],
@@ -53,8 +53,8 @@ fn config_paths(
     Ok(paths)
 }
 
-/// The place and the cause of the error of a configuration file: where it stops being TOML, else what it
-/// has to be.
+/// The place and the cause of an error of a configuration file: a TOML syntax error, or what its values
+/// must be.
 fn place_and_cause<S: Store>(
     alloc: Global,
     path: &str,
@@ -78,7 +78,7 @@ fn place_and_cause<S: Store>(
     }
 }
 
-/// An error of reading configurations, with the file at fault.
+/// Adds to an error of reading configurations the file that caused it.
 pub(crate) fn at_config<S: Store>(
     alloc: Global,
     error: Error,

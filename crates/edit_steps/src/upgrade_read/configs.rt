@@ -1,4 +1,4 @@
-//! The configurations of the manifests.
+//! Reads the configurations of the manifests.
 ghost use Rattle.std.specs.Prelude.{◌≡◌, ◌⊎◌, IfErr, IfOk, length, true};
 ghost use Rattle.edit_base.specs.Errors.{IsMemory};
 ghost use Rattle.edit_base.specs.declared.errors.DeviceCall.TheVariants as call;
@@ -22,7 +22,7 @@ use edit_store::Store;
 use std::alloc::Global;
 use std::collections::BTreeMap;
 
-/// The configurations of a manifest, the first one first, between those of the files that are named.
+/// The configurations of a manifest, in order of precedence, between those of the given files.
 fn gather<S: Store>(
     alloc: Global,
     named: &NamedFiles,
@@ -53,7 +53,7 @@ fn gather<S: Store>(
     Ok(configs)
 }
 
-/// Reads the configurations of each of the inputs, in their order, and each file once.
+/// Reads the configurations of each of the inputs, in order, each file once.
 fn read_all<S: Store>(
     alloc: Global,
     named: &NamedFiles,
@@ -91,7 +91,7 @@ fn read_all<S: Store>(
     Ok(shared)
 }
 
-/// The same, where an error has the configuration file that it is about.
+/// Reads the configurations of each of the inputs; an error has the configuration file that caused it.
 pub(crate) fn read_configurations<S: Store>(
     alloc: Global,
     named: &NamedFiles,

@@ -1,4 +1,4 @@
-//! The manifest that is found, where no metadata are named.
+//! Reads the manifest where no metadata are given.
 ghost use Rattle.std.specs.Prelude.{◌≡◌, ◌⊎◌, IfErr, IfOk, true};
 ghost use Rattle.edit_manifest.specs.Loaded.{IsBadManifest};
 ghost use Rattle.edit_sources.specs.Configured.{given};
@@ -19,14 +19,14 @@ use edit_metadata::Input;
 use edit_store::Store;
 use std::alloc::Global;
 
-/// A manifest that was read: what is to be planned, and the document that its bytes are.
+/// A manifest that was read: the input of a plan, and its parsed document.
 #[derive(Drop)]
 pub(crate) struct ReadManifest {
     pub(crate) input: Input,
     pub(crate) document: Document,
 }
 
-/// The manifest to plan for, by its own name. Its bytes are read once.
+/// Reads the manifest at a path as an input. Its bytes are parsed once.
 fn manifest_of(
     alloc: Global,
     rust: RustChoice,
@@ -54,8 +54,8 @@ fn manifest_of(
     Ok(ReadManifest { input, document })
 }
 
-/// Reads the manifest that is named, or the nearest one where none is. Where it is to be written, other
-/// runs on it are kept waiting.
+/// Reads the given manifest, or the nearest one where none is given. Where it will be written, other runs
+/// on it are blocked.
 pub(crate) fn read_manifest<S: Store>(
     alloc: Global,
     named: Option<&str>,

@@ -1,4 +1,4 @@
-//! The index that is planned over.
+//! The index that an upgrade queries.
 ghost use Rattle.std.specs.Prelude.{◌≡◌, ◌⊎◌, IfErr, IfOk, true};
 ghost use Rattle.edit_base.specs.declared.errors.DeviceCall.TheVariants as call;
 ghost use Rattle.edit_sources.specs.Configured.{given};
@@ -13,18 +13,18 @@ use edit_sources::FileIndex;
 use edit_store::Store;
 use std::alloc::Global;
 
-/// The index that an upgrade is planned over.
+/// The index that an upgrade queries.
 #[derive(Drop)]
 pub enum IndexSource {
-    /// The one in files.
+    /// The index in files of the default layout.
     Files,
-    /// The lines of the file that is named.
+    /// The lines of a given index file.
     Lines(FileIndex),
-    /// The folder with this absolute path, which has a folder for each registry.
+    /// A folder at this absolute path, which has a folder for each registry.
     Folder(String),
 }
 
-/// Reads the index in the file that is named.
+/// Reads the given index file.
 fn read_file<S: Store>(
     alloc: Global,
     named: &str,
@@ -51,8 +51,8 @@ fn read_file<S: Store>(
     }
 }
 
-/// The index to plan over: the lines of the file that is named, else the folder that is named, by its
-/// absolute normal path, else the one in files. Of a folder nothing is read.
+/// The index to query: a given index file, else a given folder, by its absolute, normalized path, else the
+/// index in files. Nothing is read from a folder yet.
 pub(crate) fn read_index<S: Store>(
     alloc: Global,
     file: Option<&str>,

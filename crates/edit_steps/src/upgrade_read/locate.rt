@@ -1,4 +1,4 @@
-//! Where the manifest stands.
+//! Finds the manifest.
 ghost use Rattle.std.specs.Prelude.{◌≡◌, ◌⊎◌, IfErr, IfOk, string_bytes, true};
 ghost use Rattle.edit_base.specs.declared.errors.DeviceCall.TheVariants as call;
 ghost use Rattle.edit_store.specs.Store.{OnlyReads, RefusesCall};
@@ -13,7 +13,7 @@ use edit_manifest::find;
 use edit_store::Store;
 use std::alloc::Global;
 
-/// An error about what stands at a path that is named, with the machine's own reason where its device failed.
+/// Adds to an error its path, and the operating system's reason where the device failed.
 fn at_named(
     alloc: Global,
     error: Error,
@@ -29,9 +29,9 @@ fn at_named(
     }
 }
 
-/// The path of the manifest: the file named, or the nearest `Cargo.toml` from the folder named upwards;
-/// from the current folder where none is named. Where it is to be written, other runs on it are waited for
-/// and then kept waiting, and what runs that were killed left beside it is removed.
+/// The path of the manifest: the given file, or the nearest `Cargo.toml` from the given folder upwards, or
+/// from the current folder where none is given. Where it will be written, other runs on it are waited for
+/// and then blocked, and leftovers of killed runs beside it are removed.
 pub(crate) fn manifest_path<S: Store>(
     alloc: Global,
     named: Option<&str>,

@@ -1,4 +1,4 @@
-//! The configuration files that the command line names.
+//! The configuration files that the command line gives.
 ghost use Rattle.std.specs.Prelude.{◌≡◌, ◌⊎◌, IfErr, IfOk, option_map, true};
 ghost use Rattle.edit_base.specs.Errors.{IsMemory};
 ghost use Rattle.edit_base.specs.declared.errors.DeviceCall.TheVariants as call;
@@ -16,22 +16,22 @@ use edit_sources::Config;
 use edit_store::Store;
 use std::alloc::Global;
 
-/// A configuration file that the command line names, as it was read.
+/// A configuration file that the command line gives, with its bytes.
 #[derive(Drop)]
 pub(crate) struct NamedFile {
     pub(crate) path: String,
     pub(crate) bytes: Vec<u8>,
 }
 
-/// The configuration files that the command line names: the one that counts before all others, and the one
-/// that counts after them.
+/// The configuration files that the command line gives: those with the highest and with the lowest
+/// precedence.
 #[derive(Drop)]
 pub(crate) struct NamedFiles {
     pub(crate) first: Option<NamedFile>,
     pub(crate) last: Option<NamedFile>,
 }
 
-/// Reads the file that is named; none where none is.
+/// Reads the given file; `None` where none is given.
 fn read_file<S: Store>(
     alloc: Global,
     named: Option<&str>,
@@ -57,7 +57,7 @@ fn read_file<S: Store>(
     }
 }
 
-/// Reads the configuration files that are named.
+/// Reads the given configuration files.
 pub(crate) fn read_named<S: Store>(
     alloc: Global,
     asked: &Asked<'_>,
@@ -77,7 +77,7 @@ pub(crate) fn read_named<S: Store>(
     Ok(NamedFiles { first, last })
 }
 
-/// The configuration that a file says, where there is one. A file that is no configuration is an error.
+/// Parses the configuration of a file, where there is one. A file that is no configuration is an error.
 pub(crate) fn configs_in(alloc: Global, file: Option<&NamedFile>) -> CargoResult<Vec<Config>>
     ensures said { IfOk result (λ v. AreSaid (seen file.entry) v.items) }
     ensures refused { IfErr result (λ e. IsMemory e ⊎ IsUnreadFile (seen file.entry) e) }

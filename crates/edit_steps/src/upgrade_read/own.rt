@@ -1,4 +1,4 @@
-//! What a manifest says of itself.
+//! The name and the Rust version of a manifest.
 ghost use Rattle.std.specs.Prelude.{◌≡◌, IfErr, IfOk, option_map, string_bytes};
 ghost use Rattle.edit_base.specs.Errors.{IsMemory};
 ghost use Rattle.edit_metadata.specs.Inputs.{rust_version_for};
@@ -23,7 +23,7 @@ fn package_text<'a>(document: &'a Document, key: &str) -> Option<&'a str>
     item.as_str()
 }
 
-/// The manifest's own Rust version, where it is there and is read.
+/// The manifest's `rust-version`, where it has a valid one.
 fn own_rust_version(alloc: Global, document: &Document) -> CargoResult<Option<RustVersion>>
     ensures ok { IfOk result (λ v. option_map numbers_of v ≡ own_rust (tree_of document.now)) }
     ensures refused { IfErr result IsMemory }
@@ -51,7 +51,7 @@ pub(crate) fn rust_version_for(
     }
 }
 
-/// What reports call the manifest.
+/// The name of the manifest in reports.
 pub(crate) fn own_name(alloc: Global, document: &Document) -> CargoResult<String>
     ensures ok { IfOk result (λ s. string_bytes s ≡ own_name (tree_of document.now)) }
     ensures refused { IfErr result IsMemory }

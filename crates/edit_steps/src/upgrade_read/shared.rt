@@ -11,13 +11,13 @@ use std::collections::BTreeMap;
 /// The configurations of inputs; inputs under the same configuration files share a list.
 #[derive(Drop)]
 pub struct SharedConfigs {
-    /// The lists, in each the configuration first that counts before the others.
+    /// The lists, each in order of precedence.
     pub lists: Vec<Vec<Config>>,
-    /// For each input, in their order, the index of its list.
+    /// For each input, in order, the index of its list.
     pub which: Vec<usize>,
 }
 
-/// Whether two lists are of the same files.
+/// Whether two lists have the same files.
 fn has_same_files(list: &[Config], own: &[Config]) -> bool
     ensures { IsTrue result → paths_of list.now ≡ paths_of own.now }
 {
@@ -43,7 +43,7 @@ fn path_lines(alloc: Global, list: &[Config]) -> Result<String, AllocError> {
 }
 
 impl SharedConfigs {
-    /// The configurations of no input.
+    /// No configurations, for no inputs.
     pub(crate) fn new(alloc: Global) -> SharedConfigs
         ensures lists { result.lists.items ≡ [] }
         ensures which { result.which.items ≡ [] }
@@ -54,7 +54,7 @@ impl SharedConfigs {
         }
     }
 
-    /// The list of an input; none where there are fewer inputs.
+    /// The list of an input; `None` where there are fewer inputs.
     pub fn list_of(&self, input: usize) -> Option<&Vec<Config>>
         ensures { MatchOption (slice_get self.now.which.items input) (option_copied result ≡ None)
             (λ j. option_copied result ≡ slice_get self.now.lists.items j) }
@@ -65,7 +65,7 @@ impl SharedConfigs {
         }
     }
 
-    /// Whether the list at an index is of the files of this one.
+    /// Whether the list at an index has the same files as this one.
     fn has_at(&self, index: usize, own: &[Config]) -> bool
         ensures { IsTrue result → (list : Vec Config) × (slice_get self.now.lists.items index ≡ Some list)
             × (paths_of list.items ≡ paths_of own.now) }
@@ -76,8 +76,8 @@ impl SharedConfigs {
         }
     }
 
-    /// Adds the list of one more input, unless one of the same files is there. `known` has the index of each
-    /// list by the paths of its files.
+    /// Adds the list of the next input, unless a list with the same files exists. `known` maps the paths of
+    /// a list's files to its index.
     pub(crate) fn add(
         &mut self,
         alloc: Global,

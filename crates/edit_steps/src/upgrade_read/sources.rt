@@ -1,4 +1,4 @@
-//! What an upgrade rests on, as it was read.
+//! The files that an upgrade depends on, as they were read.
 ghost use Rattle.std.specs.Prelude.{◌≡◌, ◌⊎◌, IfErr, IfOk, true};
 ghost use Rattle.edit_sources.specs.Configured.{given};
 ghost use Rattle.edit_store.specs.Store.{OnlyReads};
@@ -17,7 +17,7 @@ use crate::upgrade_read::target::{Target, read_target};
 use edit_store::Store;
 use std::alloc::Global;
 
-/// What an upgrade rests on, as it was read.
+/// The files that an upgrade depends on, as they were read.
 #[derive(Drop)]
 pub struct Sources {
     pub target: Target,
@@ -27,9 +27,9 @@ pub struct Sources {
     pub index: IndexSource,
 }
 
-/// Reads what an upgrade rests on, in this order: the metadata that are named with their manifests, else the
-/// manifest that is found; the configuration files that are named; the configurations of each manifest; the
-/// file of an index that is named. Nothing is read of an index in a folder, and no file changes.
+/// Reads the files that an upgrade depends on, in this order: the given metadata with their manifests, else
+/// the nearest manifest; the given configuration files; the configurations of each manifest; the given
+/// index file. Nothing is read from an index folder, and no file changes.
 pub fn read_sources<S: Store>(
     alloc: Global,
     asked: &Asked<'_>,
@@ -40,7 +40,7 @@ pub fn read_sources<S: Store>(
     ensures store { OnlyReads (S.view files.old) (S.view files.new) }
     ensures read { IfOk result (λ s. (S.view files.old).tells ≡ true
         → AreRead (S.view files.old).file_at current.now (given cargo_home.entry) (asking_of asked.now) s) }
-    // and what a plan asks for, over any store
+    // and what a plan requires, over any store
     ensures planned { IfOk result MayBePlanned }
     ensures refused { IfErr result (λ r. IsReadCause current.now (given cargo_home.entry)
         (asking_of asked.now) (S.view files.old) (S.view files.new) r.error) }

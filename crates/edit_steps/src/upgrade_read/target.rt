@@ -1,4 +1,4 @@
-//! The manifests that are planned for.
+//! The manifests to plan for.
 ghost use Rattle.std.specs.Prelude.{◌≡◌, ◌⊎◌, ◌∷◌, [], None, IfErr, IfOk, true};
 ghost use Rattle.edit_metadata.specs.Inputs.{HaveOwnPaths};
 ghost use Rattle.edit_store.specs.Store.{OnlyReads};
@@ -15,18 +15,18 @@ use edit_metadata::{Input, Workspace};
 use edit_store::Store;
 use std::alloc::{AllocError, Global};
 
-/// The manifests that are planned for.
+/// The manifests to plan for.
 #[derive(Drop)]
 pub struct Target {
-    /// What the metadata say, where they are named.
+    /// The given metadata, parsed.
     pub workspace: Option<Workspace>,
     pub inputs: Vec<Input>,
-    /// The documents that the inputs' bytes are. None are read where metadata are named: what such a manifest
-    /// holds is told later than what is wrong with a configuration or the index.
+    /// The parsed documents of the inputs. Empty where metadata are given: an error in such a manifest is
+    /// reported after errors of configurations and of the index.
     pub documents: Vec<Document>,
 }
 
-/// The manifest that was found, as the only one.
+/// The target of a single manifest without metadata.
 fn alone(alloc: Global, manifest: ReadManifest) -> Result<Target, AllocError>
     requires document { manifest.document.bytes ≡ manifest.input.bytes.items }
     ensures workspace { IfOk result (λ t. t.workspace ≡ None) }
@@ -43,7 +43,7 @@ fn alone(alloc: Global, manifest: ReadManifest) -> Result<Target, AllocError>
     })
 }
 
-/// Reads the workspace whose metadata are named, else the manifest that is found.
+/// Reads the workspace of the given metadata, else the nearest manifest.
 pub(crate) fn read_target<S: Store>(
     alloc: Global,
     asked: &Asked<'_>,

@@ -1,4 +1,4 @@
-//! The decision for one entry.
+//! The decision whether and how the requirement of an entry changes.
 ghost use Rattle.edit_base.specs.Errors.{IsMemory};
 ghost use Rattle.edit_report.specs.declared.row.Reason.TheVariants as reason;
 ghost use Rattle.std.specs.Prelude.{◌≡◌, if◌then◌else◌, Some, None, false, IfErr, IfOk, option_and_then, option_copied, option_map, string_bytes};
@@ -19,7 +19,7 @@ use edit_version::Requirement;
 use semver::Version;
 use std::alloc::{AllocError, Global};
 
-/// What is decided for an entry.
+/// The decision for an entry: its new requirement, the kind of change, and the reason where there is one.
 #[derive(Debug, Drop)]
 pub struct Decided {
     pub new: String,
@@ -27,7 +27,8 @@ pub struct Decided {
     pub reason: Option<Reason>,
 }
 
-/// The text `old` raised to a version, or `other` where a comparator cannot be raised.
+/// The requirement raised to a version; `other` where a comparator cannot be raised (`Error::Unsupported`),
+/// and `None` where the requirement cannot be parsed (`Error::InvalidRequirement`).
 fn candidate(
     alloc: Global,
     old: &Requirement<'_>,
@@ -77,7 +78,8 @@ fn latest_candidate(
     candidate(alloc, old, latest.version, text)
 }
 
-/// The text for the compatible version.
+/// The requirement raised to the compatible version; `None` where there is no such version, or where the
+/// requirement cannot be parsed.
 fn compatible_candidate(
     alloc: Global,
     old: &Requirement<'_>,
@@ -94,7 +96,7 @@ fn compatible_candidate(
     }
 }
 
-/// An entry whose text stays.
+/// The decision to leave a requirement unchanged, for this reason.
 fn keep(alloc: Global, old: &str, why: Reason) -> Result<Decided, AllocError>
     ensures { IfOk result (λ d. choice_view d ≡ record { new = old.now; change = None; reason = Some why }) }
 {
@@ -105,7 +107,7 @@ fn keep(alloc: Global, old: &str, why: Reason) -> Result<Decided, AllocError>
     })
 }
 
-/// The first reason, or that the text stays.
+/// The given reason, or `Reason::Latest` where none is given.
 fn why_same(why: Option<Reason>) -> Reason
     ensures { Some result ≡ or_else why (Some reason.Latest) }
 {
@@ -115,7 +117,7 @@ fn why_same(why: Option<Reason>) -> Reason
     }
 }
 
-/// An entry that gets a text.
+/// The decision to set this requirement; no change where it equals the old one.
 fn take(old: &str, text: String, kind: Change, why: Option<Reason>) -> Decided
     ensures { choice_view result ≡ record {
       new = string_bytes text;
@@ -138,7 +140,7 @@ fn take(old: &str, text: String, kind: Change, why: Option<Reason>) -> Decided
     }
 }
 
-/// Whether an entry may get the latest version.
+/// Whether the options allow to raise an entry to the latest version.
 fn may_jump(options: &Options, pinned: bool) -> bool
     ensures { result ≡ jumps_by options.now pinned }
 {
@@ -149,7 +151,7 @@ fn may_jump(options: &Options, pinned: bool) -> bool
     }
 }
 
-/// Why a latest version is not taken: the first reason, or that the entry may not get it.
+/// Why the latest version is not taken: the given reason, else `Pinned` or `Incompatible`.
 fn why_held(pinned: bool, why: Option<Reason>) -> Reason
     ensures { Some result ≡ or_else why (Some (if pinned then reason.Pinned else reason.Incompatible)) }
 {
@@ -165,7 +167,9 @@ fn why_held(pinned: bool, why: Option<Reason>) -> Reason
     }
 }
 
-/// The decision for a readable text, where no given text is taken; `aside` says that one was set aside.
+/// The decision for a requirement that can be parsed, where no `--package` argument sets it. `far` is the
+/// text for the latest version, `near` that for the compatible one; `aside` is set where a `--package`
+/// argument was ignored because the entry is pinned.
 fn decide_raised(
     alloc: Global,
     options: &Options,
@@ -199,7 +203,8 @@ fn decide_raised(
     }
 }
 
-/// The decision, from the texts that could be written.
+/// The decision from the candidate texts: `far` for the latest version, `near` for the compatible one,
+/// `selected` the requirement of a `--package` argument.
 fn decide_by(
     alloc: Global,
     options: &Options,
@@ -237,7 +242,8 @@ fn decide_by(
     )
 }
 
-/// What is decided for an entry that has a version text.
+/// Decides whether and how the requirement of an entry changes. `selected` is the requirement of a
+/// `--package` argument, `compatible` and `latest` are the versions that the index offers.
 pub fn decide(
     alloc: Global,
     options: &Options,

@@ -1,4 +1,4 @@
-//! From which version on requirements begin.
+//! The floors of requirements: the greatest version that a lower-bounding comparator names.
 ghost use Rattle.std.specs.List.{list_any};
 ghost use Rattle.std.specs.Prelude.{◌≡◌, Some};
 ghost use Rattle.edit_version.specs.ReadRequirement.{text_in};
@@ -27,7 +27,7 @@ fn begins_after(version: &Version, comparator: &Comparator) -> bool
     matches!(order, Ordering::Less)
 }
 
-/// Whether one of the comparators does.
+/// Whether one of the comparators, other than `<` and `<=`, names a later version than this one.
 fn one_begins_after(version: &Version, comparators: &[Comparator]) -> bool
     ensures { result
         ≡ list_any (λ c. begins_after (parts_of version.now) (comparator_view c)) comparators.now }
@@ -35,7 +35,8 @@ fn one_begins_after(version: &Version, comparators: &[Comparator]) -> bool
     comparators.iter().any(|c| begins_after(version, c))
 }
 
-/// Whether a version is lower than the floor of a requirement.
+/// Whether a version is lower than the floor of a requirement: than the version of one of its comparators
+/// other than `<` and `<=`.
 pub fn is_below(old: &Requirement<'_>, version: &Version) -> bool
     ensures { result ≡ is_below (text_in old.now) (Some (parts_of version.now)) }
 {

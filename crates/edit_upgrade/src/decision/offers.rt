@@ -1,4 +1,4 @@
-//! Versions that may be taken, each with its text.
+//! Versions that an entry may be raised to, each with its text.
 ghost use Rattle.std.specs.Prelude.{◌≡◌, IfErr, IfOk, map, option_map, string_bytes};
 ghost use Rattle.edit_base.specs.Errors.{IsMemory};
 ghost use Rattle.edit_version.specs.Candidates.{parts_in};
@@ -9,7 +9,7 @@ use edit_base::CargoResult;
 use semver::Version;
 use std::alloc::{AllocError, Global};
 
-/// A version that may be taken, and its text without build metadata.
+/// A version that an entry may be raised to, and its text without build metadata.
 #[derive(Drop)]
 pub struct Offer<'a> {
     pub version: &'a Version,
@@ -34,7 +34,7 @@ fn plain_version(alloc: Global, version: &Version) -> Result<String, AllocError>
     Ok(out)
 }
 
-/// A version with its text, where there is one.
+/// Pairs a version with its text without build metadata.
 pub fn offer_of<'a>(alloc: Global, version: Option<&'a Version>) -> CargoResult<Option<Offer<'a>>>
     ensures ok { IfOk result (λ o. option_map (λ f. parts_of f.version.now) o ≡ parts_in version.entry) }
     ensures refused { IfErr result IsMemory }

@@ -1,15 +1,15 @@
-//! What an upgrade may do.
+//! The options of an upgrade.
 
-/// What an upgrade may do.
+/// The options of an upgrade.
 #[derive(Debug, Drop)]
 pub struct Options {
-    /// Raise to the greatest compatible version.
+    /// Raise to the greatest version compatible with the requirement.
     pub compatible: bool,
-    /// Raise to the latest version, also where the requirement does not admit it.
+    /// Raise to the latest version, even where the requirement does not admit it.
     pub incompatible: bool,
     /// Raise pinned entries to the latest version.
     pub pinned: bool,
-    /// Take no latest version below the floor of a requirement: the greatest version that one of its
+    /// Never take a latest version below the floor of the requirement: the greatest version that one of its
     /// comparators other than `<` and `<=` names.
     pub never_lower: bool,
     pub package: Vec<String>,

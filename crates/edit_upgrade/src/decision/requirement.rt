@@ -1,4 +1,4 @@
-//! What the text of a requirement says.
+//! Whether a requirement can be parsed, and whether it pins its entry.
 ghost use Rattle.std.specs.List.{list_any};
 ghost use Rattle.std.specs.Prelude.{◌≡◌, ◌||◌, IfErr, IfOk, is_ok};
 ghost use Rattle.edit_base.specs.Errors.{IsMemory};
@@ -18,21 +18,22 @@ fn is_pin(op: Op) -> bool
     matches!(op, Op::Exact | Op::Less | Op::LessEq | Op::Wildcard)
 }
 
-/// Whether one of them pins its entry.
+/// Whether one of the comparators is `=`, `<`, `<=` or a wildcard, which pins the entry.
 fn has_pin(comparators: &[Comparator]) -> bool
     ensures { result ≡ list_any (λ c. is_pin c.op) comparators.now }
 {
     comparators.iter().any(|c| is_pin(c.op))
 }
 
-/// What a requirement's text says of its entry.
+/// Whether a requirement can be parsed, and whether its entry is pinned.
 #[derive(Clone, Copy)]
 pub struct Pin {
     pub readable: bool,
     pub pinned: bool,
 }
 
-/// Whether a text is a requirement, and whether it or another name pins the entry.
+/// Whether a requirement can be parsed, and whether its comparators or a `package` key (a renamed
+/// dependency) pin the entry.
 pub fn pin_of(renamed: bool, old: &Requirement<'_>) -> Pin
     ensures readable { result.readable ≡ is_ok (req_of (text_in old.now)) }
     ensures pinned { result.pinned ≡ (renamed || has_pin_read (req_of (text_in old.now))) }
@@ -49,7 +50,7 @@ pub fn pin_of(renamed: bool, old: &Requirement<'_>) -> Pin
     }
 }
 
-/// The same of a text that was not read yet.
+/// Parses a requirement, and returns whether it can be parsed and whether its entry is pinned.
 pub fn read_pin(alloc: Global, renamed: bool, text: &str) -> CargoResult<Pin>
     ensures readable { IfOk result (λ p. p.readable ≡ is_ok (req_of text.now)) }
     ensures pinned { IfOk result (λ p. p.pinned ≡ (renamed || has_pin_read (req_of text.now))) }

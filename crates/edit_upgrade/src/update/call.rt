@@ -1,4 +1,4 @@
-//! The words of calls.
+//! The arguments of `cargo update` calls.
 ghost use Rattle.std.specs.Prelude.{◌≡◌, ◌∷◌, ◌++◌, [], codes, IfOk, OnOk, string_bytes};
 ghost use Rattle.edit_metadata.specs.Workspaces.{package_said};
 ghost use Rattle.edit_upgrade.specs.PinViews.{pin_seen};
@@ -11,10 +11,10 @@ use edit_metadata::Package;
 use semver::Version;
 use std::alloc::{AllocError, Global};
 
-/// The words of a call.
+/// The arguments of a call.
 pub(crate) type Call = Vec<String>;
 
-/// Adds a word.
+/// Appends an argument.
 fn add(alloc: Global, words: &mut Call, word: &str) -> Result<(), AllocError>
     ensures { OnOk result (words_seen words.new.items ≡ words_seen words.old.items ++ word.now ∷ []) }
 {
@@ -23,7 +23,7 @@ fn add(alloc: Global, words: &mut Call, word: &str) -> Result<(), AllocError>
     Ok(())
 }
 
-/// The words that each call for a manifest begins with.
+/// The arguments that each call for a manifest begins with.
 pub(crate) fn begun(alloc: Global, manifest: &str) -> Result<Call, AllocError>
     ensures { IfOk result (λ v. words_seen v.items ≡ codes "cargo" ∷ codes "update"
         ∷ codes "--manifest-path" ∷ manifest.now ∷ []) }
@@ -36,7 +36,7 @@ pub(crate) fn begun(alloc: Global, manifest: &str) -> Result<Call, AllocError>
     Ok(words)
 }
 
-/// Adds the word that each call ends with.
+/// Appends the argument that each call ends with.
 pub(crate) fn end(alloc: Global, words: &mut Call) -> Result<(), AllocError>
     ensures { OnOk result (words_seen words.new.items
         ≡ words_seen words.old.items ++ codes "--offline" ∷ []) }
@@ -44,7 +44,7 @@ pub(crate) fn end(alloc: Global, words: &mut Call) -> Result<(), AllocError>
     add(alloc, words, "--offline")
 }
 
-/// Adds the word that asks for what packages depend on as well.
+/// Appends `--aggressive`, which also updates the dependencies of the packages.
 pub(crate) fn add_aggressive(alloc: Global, words: &mut Call) -> Result<(), AllocError>
     ensures { OnOk result (words_seen words.new.items
         ≡ words_seen words.old.items ++ codes "--aggressive" ∷ []) }
@@ -52,7 +52,7 @@ pub(crate) fn add_aggressive(alloc: Global, words: &mut Call) -> Result<(), Allo
     add(alloc, words, "--aggressive")
 }
 
-/// The name and version of a package, as one word.
+/// A package ID specification `NAME@VERSION`, as one argument.
 fn package_word(alloc: Global, krate: &Package) -> Result<String, AllocError>
     ensures { IfOk result (λ s. string_bytes s ≡ (package_said krate.now).name
         ++ (codes "@" ++ parts_text (package_said krate.now).version)) }
@@ -60,7 +60,7 @@ fn package_word(alloc: Global, krate: &Package) -> Result<String, AllocError>
     format!(in alloc; "{}@{}", krate.name, krate.version)
 }
 
-/// Adds the words that name a package.
+/// Appends the arguments that name a package.
 pub(crate) fn add_package(
     alloc: Global,
     words: &mut Call,
@@ -82,7 +82,7 @@ fn version_text(alloc: Global, version: &Version) -> Result<String, AllocError>
     format!(in alloc; "{version}")
 }
 
-/// The call that locks a package to a version.
+/// The call that sets a package to a version with `--precise`.
 pub(crate) fn precise_call(
     alloc: Global,
     manifest: &str,

@@ -13,7 +13,7 @@ use edit_metadata::Package;
 use std::alloc::{AllocError, Global};
 use std::collections::BTreeSet;
 
-/// Names, each once.
+/// A set of names.
 type Names<'a> = BTreeSet<&'a str>;
 
 /// The set of these names.
@@ -27,7 +27,7 @@ fn names_of<'a>(alloc: Global, names: &'a [String]) -> Result<Names<'a>, AllocEr
     Ok(set)
 }
 
-/// Whether a package comes from a repository.
+/// Whether a package comes from a git repository.
 fn is_from_git(krate: &Package) -> bool
     ensures { result ≡ is_from_git (package_said krate.now) }
 {
@@ -37,7 +37,7 @@ fn is_from_git(krate: &Package) -> bool
     }
 }
 
-/// Whether a package has one of these names and comes from a repository.
+/// Whether a package has one of these names and comes from a git repository.
 fn is_named_from_git(names: &Names, krate: &Package) -> bool
     ensures { result ≡ (holds names.now (string_bytes krate.now.name)
         && is_from_git (package_said krate.now)) }
@@ -45,7 +45,7 @@ fn is_named_from_git(names: &Names, krate: &Package) -> bool
     names.contains(krate.name.as_str()) && is_from_git(krate)
 }
 
-/// Whether a package has one of these names, and that no precise version.
+/// Whether a package has one of these names, and no precise version is given for that name.
 fn is_unpinned(names: &Names, pins: &Pins, krate: &Package) -> bool
     ensures { result ≡ (holds names.now (string_bytes krate.now.name)
         && is_none (pin_at (pins_seen pins.now) (string_bytes krate.now.name))) }
@@ -54,7 +54,7 @@ fn is_unpinned(names: &Names, pins: &Pins, krate: &Package) -> bool
     names.contains(name) && pin_at(pins, name).is_none()
 }
 
-/// The packages of these names that come from a repository, in their order.
+/// The packages of these names that come from a git repository, in order.
 pub(crate) fn from_git<'a>(
     alloc: Global,
     names: &[String],
@@ -73,7 +73,7 @@ pub(crate) fn from_git<'a>(
     Ok(found)
 }
 
-/// The packages of these names that have no precise version, in their order.
+/// The packages of these names for which no precise version is given, in order.
 pub(crate) fn unpinned<'a>(
     alloc: Global,
     pins: &Pins,

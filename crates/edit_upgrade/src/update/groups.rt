@@ -6,10 +6,10 @@ use edit_metadata::Package;
 use std::alloc::{AllocError, Global};
 use std::collections::BTreeMap;
 
-/// Packages by name, those of one name in their order.
+/// Packages by name; those of one name in order.
 pub(crate) type Groups<'a> = BTreeMap<&'a str, Vec<&'a Package>>;
 
-/// The packages by name.
+/// Groups packages by name.
 pub(crate) fn grouped<'a>(alloc: Global, packages: &'a [Package]) -> Result<Groups<'a>, AllocError>
     ensures { IfOk result (λ m. AreGroups m packages.now) }
 {

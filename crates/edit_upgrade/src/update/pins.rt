@@ -1,4 +1,4 @@
-//! The requirements that words select with a precise version.
+//! The `--package` arguments that name a precise version.
 ghost use Rattle.std.specs.Prelude.{◌≡◌, ◌⊎◌, All, IfErr, IfOk, map, option_and_then, option_copied, option_map, string_bytes};
 ghost use Rattle.std.specs.Ordering.{is_lt};
 ghost use Rattle.edit_base.specs.Errors.{IsMemory};
@@ -16,14 +16,14 @@ use semver::{BuildMetadata, Comparator, Op, Version, VersionReq};
 use std::alloc::{AllocError, Global};
 use std::collections::BTreeMap;
 
-/// A requirement with its precise version.
+/// A requirement and the precise version that it names.
 #[derive(Drop)]
 pub(crate) struct Pin {
     pub(crate) req: VersionReq,
     pub(crate) version: Version,
 }
 
-/// Names in byte order, each with its pin, where it has one.
+/// Names, sorted by bytes, each with its pin where there is one.
 pub(crate) type Pins = BTreeMap<String, Option<Pin>>;
 
 fn is_strict(op: Op) -> bool
@@ -32,7 +32,7 @@ fn is_strict(op: Op) -> bool
     matches!(op, Op::Greater | Op::Less)
 }
 
-/// The version that a comparator names.
+/// The full version that a comparator names, where it names one.
 fn named_version(alloc: Global, comparator: &Comparator) -> Result<Option<Version>, AllocError>
     ensures { IfOk result
         (λ o. option_map parts_of o ≡ named_version (comparator_view comparator.now)) }
@@ -55,14 +55,14 @@ fn named_version(alloc: Global, comparator: &Comparator) -> Result<Option<Versio
     }))
 }
 
-/// Whether a version comes before another in the full order.
+/// Whether a version precedes another in the full order, which includes build metadata.
 fn is_below(version: &Version, other: &Version) -> bool
     ensures { result ≡ is_lt (full_order (parts_of version.now) (parts_of other.now)) }
 {
     version < other
 }
 
-/// The later of two versions that is not below the other.
+/// The greater of two versions; the new one where they are equal.
 fn greater(best: Option<Version>, version: Version) -> Version
     ensures { parts_of result ≡ pick full_order (option_map parts_of best) (parts_of version) }
 {
@@ -78,7 +78,7 @@ fn greater(best: Option<Version>, version: Version) -> Version
     }
 }
 
-/// The greatest version that comparators name.
+/// The greatest of the full versions that comparators name.
 fn precise_version(alloc: Global, comparators: &[Comparator]) -> Result<Option<Version>, AllocError>
     ensures { IfOk result
         (λ o. option_map parts_of o ≡ precise_version (map comparator_view comparators.now)) }
@@ -94,7 +94,7 @@ fn precise_version(alloc: Global, comparators: &[Comparator]) -> Result<Option<V
     Ok(best)
 }
 
-/// The requirement that a text is, where it is one that has a precise version.
+/// Parses a requirement, and returns it with its precise version where it names one.
 fn pin_of(alloc: Global, text: &str) -> CargoResult<Option<Pin>>
     ensures ok { IfOk result (λ o. option_map pin_seen o ≡ pin_of text.now) }
     ensures refused { IfErr result IsMemory }
@@ -108,7 +108,7 @@ fn pin_of(alloc: Global, text: &str) -> CargoResult<Option<Pin>>
     Ok(Some(Pin { req, version }))
 }
 
-/// The same of a text that may not be there.
+/// Parses an optional requirement, and returns it with its precise version where it names one.
 fn maybe_pin(alloc: Global, text: Option<&String>) -> CargoResult<Option<Pin>>
     ensures ok { IfOk result (λ o. option_map pin_seen o
         ≡ option_and_then pin_of (option_map string_bytes (option_copied text.entry))) }
@@ -120,9 +120,9 @@ fn maybe_pin(alloc: Global, text: Option<&String>) -> CargoResult<Option<Pin>>
     }
 }
 
-/// The names that words select, each with the pin of its last word.
+/// The names that `--package` arguments select, each with the pin of its last argument.
 ///
-/// Refused where a word is.
+/// Fails where an argument cannot be parsed.
 pub(crate) fn read_pins(alloc: Global, words: &[String]) -> CargoResult<Pins>
     ensures pins { IfOk result (λ m. pins_seen m ≡ pins_of (map string_bytes words.now)) }
     ensures read { IfOk result (λ m. All IsWord (map string_bytes words.now)) }
@@ -139,7 +139,7 @@ pub(crate) fn read_pins(alloc: Global, words: &[String]) -> CargoResult<Pins>
     Ok(pins)
 }
 
-/// The pin of a name, where it has one.
+/// The pin of a name, where there is one.
 pub(crate) fn pin_at<'a>(pins: &'a Pins, name: &str) -> Option<&'a Pin>
     ensures { option_map pin_seen (option_copied result) ≡ pin_at (pins_seen pins.now) name.now }
 {

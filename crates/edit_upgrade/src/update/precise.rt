@@ -1,4 +1,4 @@
-//! Calls for the packages of selected names, with a precise version.
+//! Calls of `cargo update --precise` for selected names with a precise version.
 ghost use Rattle.std.specs.Prelude.{◌≡◌, ◌++◌, IfOk, OnOk, option_copied, option_map};
 ghost use Rattle.edit_metadata.specs.Workspaces.{packages_said};
 ghost use Rattle.edit_upgrade.specs.Groups.{group, nows};
@@ -13,7 +13,7 @@ use edit_metadata::Package;
 use edit_version::admits;
 use std::alloc::{AllocError, Global};
 
-/// Adds a call for each of these packages that a requirement admits.
+/// Adds a call for each of these packages that the pin's requirement admits.
 fn add_admitted(
     alloc: Global,
     manifest: &str,
@@ -33,7 +33,7 @@ fn add_admitted(
     Ok(())
 }
 
-/// Adds the calls for a name, where it has a precise version.
+/// Adds the calls for a name, where a precise version is given for it.
 fn add_entry(
     alloc: Global,
     manifest: &str,
@@ -55,7 +55,7 @@ fn add_entry(
     }
 }
 
-/// The calls for the names that words select, in byte order.
+/// The calls for the selected names, in byte order.
 pub(crate) fn precise_calls(
     alloc: Global,
     manifest: &str,

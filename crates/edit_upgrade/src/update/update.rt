@@ -21,21 +21,21 @@ use edit_base::paths::join;
 use edit_metadata::{Package, Workspace};
 use std::alloc::{AllocError, Global};
 
-/// Whether calls are due.
+/// Whether any calls are needed.
 fn is_due(plan: &UpgradePlan, options: &Options) -> bool
     ensures { result ≡ is_due (asked_by plan.now options.now) }
 {
     !plan.modified.is_empty() && !options.dry_run && !options.locked
 }
 
-/// Whether repositories are asked anew.
+/// Whether git dependencies are updated.
 fn asks_repositories(plan: &UpgradePlan, options: &Options) -> bool
     ensures { result ≡ asks_repositories (asked_by plan.now options.now) }
 {
     options.compatible && !plan.git_crates.is_empty()
 }
 
-/// Whether dependencies of the modified packages are updated as well.
+/// Whether the dependencies of the modified packages are updated as well.
 fn is_recursive(plan: &UpgradePlan, options: &Options) -> bool
     ensures { result ≡ is_recursive (asked_by plan.now options.now) }
 {
@@ -45,7 +45,7 @@ fn is_recursive(plan: &UpgradePlan, options: &Options) -> bool
     }
 }
 
-/// Adds the words that name these packages.
+/// Appends the arguments that name these packages.
 fn add_packages(alloc: Global, words: &mut Call, packages: &[&Package]) -> Result<(), AllocError>
     ensures { OnOk result (words_seen words.new.items
         ≡ words_seen words.old.items ++ packages_words (packages_said (nows packages.now))) }
@@ -56,7 +56,7 @@ fn add_packages(alloc: Global, words: &mut Call, packages: &[&Package]) -> Resul
     Ok(())
 }
 
-/// Adds the call for packages that come from a repository, where these are asked anew.
+/// Adds the call for packages from git repositories, where these are updated.
 fn add_git_call(
     alloc: Global,
     manifest: &str,
@@ -79,7 +79,7 @@ fn add_git_call(
     Ok(())
 }
 
-/// Adds one call for packages with what they depend on, where there are any.
+/// Adds one `--aggressive` call for these packages, where there are any.
 fn add_aggressive_call(
     alloc: Global,
     manifest: &str,
@@ -121,7 +121,7 @@ fn add_recursive_call(
     add_aggressive_call(alloc, manifest, &left, calls)
 }
 
-/// The calls for a manifest, over the pins of the options' words.
+/// The calls for a manifest. `pins` are the precise versions that the `--package` arguments give.
 fn calls_for(
     alloc: Global,
     manifest: &str,
@@ -140,11 +140,12 @@ fn calls_for(
     Ok(calls)
 }
 
-/// The calls of `cargo update` that follow an upgrade, each as the list of its words, in the order in which
-/// they are to be made.
+/// The `cargo update` calls that follow an upgrade, each as the list of its arguments, in the order in
+/// which they are to be run.
 ///
-/// None where nothing is modified, at a dry run, and where the lock file may not change. Then no word is
-/// read either; else it is refused as `CrateSpec::resolve` refuses it, with 20 or 14.
+/// Empty where nothing was modified, for a dry run, and where the lock file must not change; `--package`
+/// arguments are not parsed then. Else an argument that `CrateSpec::resolve` rejects fails with
+/// `Error::InvalidName` or `Error::InvalidRequirement`.
 pub fn update_calls(
     alloc: Global,
     plan: &UpgradePlan,
@@ -153,10 +154,10 @@ pub fn update_calls(
 ) -> CargoResult<Vec<Vec<String>>>
     ensures calls { IfOk result (λ v. calls_seen v.items
         ≡ update_calls (asked_by plan.now options.now) (workspace_said workspace.now)) }
-    // where calls are due, each word is read
+    // where calls are needed, each `--package` argument can be parsed
     ensures words { IfOk result (λ v. is_due (asked_by plan.now options.now) ≡ true
         → All IsWord (map string_bytes options.now.package.items)) }
-    // memory ran out, or calls are due and a word is refused
+    // out of memory, or calls are needed and a `--package` argument cannot be parsed
     ensures refused { IfErr result (λ e. IsMemory e
         ⊎ ((is_due (asked_by plan.now options.now) ≡ true)
         × StopsAtWord (map string_bytes options.now.package.items) e)) }
