@@ -1,3 +1,4 @@
 pub mod GrammarLemmas
 pub mod MemberLoop
 pub mod PutMemberLemmas
+pub mod RefusedLemmas

@@ -1,13 +1,15 @@
 //! Skips JSON values, token by token.
-ghost use Rattle.std.specs.Prelude.{◌≡◌, ◌<◌, ◌⊎◌, codes, true, length, IfSome};
+ghost use Rattle.std.specs.Prelude.{◌≡◌, ◌<◌, ◌⊎◌, codes, true, length, IfSome, None};
 ghost use Rattle.serde_json.specs.Data.{Data, Items, Members};
 ghost use Rattle.edit_json.specs.Reads.{ReadsItems, ReadsMembers, ReadsValue};
+ghost use Rattle.edit_json.specs.SmallNumbers.{ReadsNoItems, ReadsNoMembers, ReadsNoValue};
 
 use json::{Reader, Token};
 
 /// Whether a number is `1` or `2`, the only ones that registries write (as the member `v`).
 fn is_small_number(text: &str) -> bool
-    ensures { result ≡ true → (text.now ≡ codes "1") ⊎ (text.now ≡ codes "2") }
+    ensures small { result ≡ true → (text.now ≡ codes "1") ⊎ (text.now ≡ codes "2") }
+    ensures other { (text.now ≡ codes "1") ⊎ (text.now ≡ codes "2") → result ≡ true }
 {
     text == "1" || text == "2"
 }
@@ -20,6 +22,7 @@ pub fn skip_value(reader: &mut Reader<'_>, depth: usize) -> Option<()>
     ensures shorter { IfSome result (λ _. length reader.new < length reader.old) }
     ensures value { IfSome result
         (λ _. (d : Data) × ReadsValue depth reader.old d reader.new) }
+    ensures refused { result ≡ None → ReadsNoValue depth reader.old }
 {
     match reader.next() {
         Some(Token::String(_text)) => Some(()),
@@ -42,7 +45,11 @@ pub fn skip_value(reader: &mut Reader<'_>, depth: usize) -> Option<()>
             }
             skip_members(reader, depth - 1)
         }
-        _ => None,
+        Some(Token::EndObject) => None,
+        Some(Token::EndArray) => None,
+        Some(Token::Key(_key)) => None,
+        Some(Token::Bad) => None,
+        None => None,
     }
 }
 
@@ -52,6 +59,7 @@ pub fn skip_value(reader: &mut Reader<'_>, depth: usize) -> Option<()>
 fn skip_items(reader: &mut Reader<'_>, depth: usize) -> Option<()>
     ensures shorter { IfSome result (λ _. length reader.new < length reader.old) }
     ensures value { IfSome result (λ _. (ds : Items) × ReadsItems depth reader.old ds reader.new) }
+    ensures refused { result ≡ None → ReadsNoItems depth reader.old }
 {
     while !reader.take_end_array() {
         skip_value(reader, depth)?;
@@ -65,6 +73,7 @@ fn skip_items(reader: &mut Reader<'_>, depth: usize) -> Option<()>
 fn skip_members(reader: &mut Reader<'_>, depth: usize) -> Option<()>
     ensures shorter { IfSome result (λ _. length reader.new < length reader.old) }
     ensures value { IfSome result (λ _. (ms : Members) × ReadsMembers depth reader.old ms reader.new) }
+    ensures refused { result ≡ None → ReadsNoMembers depth reader.old }
 {
     while let Some(_) = reader.next_key().ok()? {
         skip_value(reader, depth)?;
