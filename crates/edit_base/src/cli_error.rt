@@ -1,4 +1,4 @@
-//! The error that ends the program, with its exit code.
+//! What ends a program: a refusal, and the status to end with.
 ghost use Rattle.std.specs.Prelude.{◌≡◌, None, Some, pos};
 ghost use Rattle.clap.specs.Words.{kind_of};
 ghost use Rattle.edit_base.specs.ExitCodes.{exit_code_of};
@@ -7,10 +7,10 @@ ghost use Rattle.edit_base.specs.declared.errors.Error.TheVariants.{CommandLine,
 use crate::errors::Error;
 use std::io;
 
-/// The result of a command of the program.
+/// What a program's command answers.
 pub type CliResult = Result<(), CliError>;
 
-/// Why the program ends: an error to print, if there is one, and the exit code.
+/// Why a program ends, and the status that it ends with; without an error nothing is left to tell.
 #[derive(Debug, Drop)]
 pub struct CliError {
     pub error: Option<Error>,
@@ -18,7 +18,7 @@ pub struct CliError {
 }
 
 impl CliError {
-    /// Ends the program with an error to print and an exit code.
+    /// An end with an error.
     pub fn new(error: Error, code: i32) -> CliError
         ensures { result ≡ record { error = Some error; exit_code = code } }
     {
@@ -28,7 +28,7 @@ impl CliError {
         }
     }
 
-    /// Ends the program with an exit code alone. Takes no memory.
+    /// An end with a status alone. It takes no memory.
     pub fn code(code: i32) -> CliError
         ensures { result ≡ record { error = None; exit_code = code } }
     {

@@ -1,4 +1,4 @@
-//! The errors of all crates of this project.
+//! Why a call is refused.
 ghost use Rattle.std.specs.Prelude.{◌≡◌};
 ghost use Rattle.edit_base.specs.declared.errors.Error.TheVariants.{CommandLine, Io, Memory};
 
@@ -9,7 +9,7 @@ use std::alloc::{AllocError, AllocFailed};
 use std::{fmt, io};
 use thiserror::Error;
 
-/// The result of a call that can fail.
+/// What a call of this project answers.
 pub type CargoResult<T> = Result<T, Error>;
 
 /// Which call of a store failed.
@@ -30,7 +30,7 @@ impl fmt::Display for DeviceCall {
     }
 }
 
-/// Why a call failed. Each variant has a number, which `number` returns, and a message, which `Display`
+/// Why a call is refused. Each refusal has a number, which `number` gives, and a text, which `Display`
 /// prints.
 #[derive(Debug, Drop, Error)]
 pub enum Error {
@@ -199,7 +199,7 @@ pub enum Error {
 impl Error {
     ghost use Rattle.edit_base.specs.Errors.{number_of};
 
-    /// The number of the error, from 1 to 49.
+    /// The number of the refusal, from 1 to 49.
     pub fn number(&self) -> u32
         ensures { result ≡ number_of self.now }
     {

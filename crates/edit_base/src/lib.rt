@@ -1,4 +1,4 @@
-//! The error type and lexical path operations that all crates of this project share.
+//! Why calls are refused, and paths as texts: what every crate above stands on.
 #![tactic(auto)]
 
 pub mod cli_error;

@@ -1,4 +1,4 @@
-//! Lexical operations on paths: the file system is not consulted.
+//! Paths as texts: no file is looked at.
 ghost use Rattle.std.specs.Prelude.{◌≡◌, ◌≤◌, ◌↔◌, IsTrue, IfOk, IfErr, string_bytes, codes, length, take, drop, replicate};
 ghost use Rattle.edit_base.specs.Errors.{IsMemory};
 ghost use Rattle.edit_base.specs.Paths.{joined, parts_of, texts, absolute, IsIdle, Named, Normal, IsNormalOf, IsFolderOf, BeginApart, way_text, IsRelative};
@@ -22,15 +22,14 @@ pub fn join(alloc: Global, base: &str, path: &str) -> CargoResult<String>
     Ok(format!(in alloc; "{base}/{path}")?)
 }
 
-/// Splits a path at its slashes.
+/// The parts of a text between slashes.
 fn parts<'a>(alloc: Global, path: &'a str) -> Result<Vec<&'a str>, AllocError>
     ensures { IfOk result (λ v. texts v.items ≡ parts_of path.now) }
 {
     path.split('/').collect(alloc)
 }
 
-/// The names left of an absolute path: empty and `.` parts are dropped, and each `..` drops the name before
-/// it.
+/// The names that are left of the parts of an absolute path.
 fn kept_names<'a>(alloc: Global, parts: &[&'a str]) -> Result<Vec<&'a str>, AllocError>
     ensures { IfOk result (λ v. Normal (texts parts.now) (texts v.items)) }
 {
@@ -48,14 +47,14 @@ fn kept_names<'a>(alloc: Global, parts: &[&'a str]) -> Result<Vec<&'a str>, Allo
     Ok(names)
 }
 
-/// Whether a part of a path is empty or `.`.
+/// Whether a part of a path leads nowhere else.
 fn is_idle(part: &str) -> bool
     ensures { IsTrue result ↔ IsIdle part.now }
 {
     part.is_empty() || part == "."
 }
 
-/// Joins names into an absolute path.
+/// The absolute path of these names.
 fn absolute_text(alloc: Global, names: &[&str]) -> Result<String, AllocError>
     ensures { IfOk result (λ s. string_bytes s ≡ absolute (texts names.now)) }
 {
@@ -81,8 +80,8 @@ pub fn normal(alloc: Global, path: &str) -> CargoResult<String>
     Ok(absolute_text(alloc, &names)?)
 }
 
-/// The parent folder of a path: the text before its last slash, or `/` where that is empty or the path has no
-/// slash.
+/// The folder that a path lies in: the text before the last slash, and `/` where that is empty or no slash is
+/// there.
 pub fn folder(path: &str) -> &str
     ensures { IsFolderOf path.now result.now }
 {
@@ -97,7 +96,7 @@ pub fn folder(path: &str) -> &str
     }
 }
 
-/// The parts of a path that are neither empty nor `.`; `..` is a part like others.
+/// The parts of a path that name something.
 fn named_parts<'a>(alloc: Global, parts: &[&'a str]) -> Result<Vec<&'a str>, AllocError>
     ensures { IfOk result (λ v. Named (texts parts.now) (texts v.items)) }
 {
@@ -111,7 +110,7 @@ fn named_parts<'a>(alloc: Global, parts: &[&'a str]) -> Result<Vec<&'a str>, All
     Ok(names)
 }
 
-/// The length of the longest common prefix of two lists of parts.
+/// How many parts both lists have in common at their fronts.
 fn common_count(to: &[&str], from: &[&str]) -> usize
     ensures within_to { result ≤ length to.now }
     ensures within_from { result ≤ length from.now }
@@ -128,7 +127,7 @@ fn common_count(to: &[&str], from: &[&str]) -> usize
     count
 }
 
-/// Returns `count` parts `..`.
+/// As many steps up as this.
 fn steps_up(alloc: Global, count: usize) -> Result<Vec<&'static str>, AllocError>
     ensures { IfOk result (λ v. texts v.items ≡ replicate count (codes "..")) }
 {
@@ -139,7 +138,7 @@ fn steps_up(alloc: Global, count: usize) -> Result<Vec<&'static str>, AllocError
     Ok(steps)
 }
 
-/// Joins `up` parts `..` and the names of `down` into a relative path.
+/// The way up by as many steps, and then down by these names.
 fn way_text(alloc: Global, up: usize, down: &[&str]) -> Result<String, AllocError>
     ensures { IfOk result (λ s. string_bytes s ≡ way_text up (texts down.now)) }
 {
@@ -149,7 +148,7 @@ fn way_text(alloc: Global, up: usize, down: &[&str]) -> Result<String, AllocErro
     Ok(text)
 }
 
-/// The path from the folder `from` to `to`, both absolute; `from` has no part `..`.
+/// The path `to` as seen from the folder `from`, both absolute; `from` has no part `..`.
 ///
 /// The result is empty where both name the same place. A part `..` of `to` is a part like others.
 pub fn relative(alloc: Global, to: &str, from: &str) -> CargoResult<String>

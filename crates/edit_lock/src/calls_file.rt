@@ -1,4 +1,4 @@
-//! The file of calls that `upgrade --update-calls` writes.
+//! The file of calls.
 ghost use Rattle.std.specs.Prelude.{◌≡◌, ◌++◌, ◌∷◌, [], ℕ, List, All, IfOk, OnOk, map};
 ghost use Rattle.std.specs.Str.Lines.{lines};
 ghost use Rattle.edit_lock.specs.CallsFile.{HasTexts, calls_behind, file_lines};
@@ -15,8 +15,7 @@ fn lines_of<'a>(alloc: Global, text: &'a str) -> Result<Vec<&'a str>, AllocError
     text.lines().collect(alloc)
 }
 
-/// Adds a line of the file: an argument of the current call or, where the line is empty, the end of that
-/// call.
+/// Adds a line: an argument of the call that is being read, or, where it is empty, the end of that call.
 fn add_line(
     alloc: Global,
     calls: &mut Vec<Vec<String>>,
@@ -37,7 +36,7 @@ fn add_line(
     Ok(())
 }
 
-/// Groups lines into calls. Arguments after the last empty line are dropped.
+/// The calls of lines. Arguments behind the last empty line are left out.
 fn calls_of(alloc: Global, lines: &[&str]) -> Result<Vec<Vec<String>>, AllocError>
     ensures { IfOk result (λ v. calls_seen v.items ≡ calls_behind [] (map (λ line. line.now) lines.now)) }
 {
@@ -49,11 +48,11 @@ fn calls_of(alloc: Global, lines: &[&str]) -> Result<Vec<Vec<String>>, AllocErro
     Ok(calls)
 }
 
-/// Reads the file of calls that `upgrade --update-calls` writes: one argument per line, and an empty line
-/// after each call. Arguments after the last empty line are dropped.
+/// Reads the file of calls that `upgrade --update-calls` writes: one argument a line, and an empty line
+/// behind each call. Arguments behind the last empty line are left out.
 pub fn read_calls(alloc: Global, text: &str) -> Result<Vec<Vec<String>>, AllocError>
     ensures read { IfOk result (λ v. calls_seen v.items ≡ calls_behind [] (lines text.now)) }
-    // round trip: calls that were written are read back
+    // what was written is read back
     ensures written { IfOk result (λ v. (calls : List Call) → All HasTexts calls
         → lines text.now ≡ file_lines calls → calls_seen v.items ≡ calls) }
 {

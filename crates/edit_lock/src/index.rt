@@ -1,4 +1,4 @@
-//! Lookups in two lock files: the one before the first call, and the current one.
+//! Lookups in two lock files: the one before the first call, and the present one.
 ghost use Rattle.std.specs.Prelude.{◌≡◌, ◌++◌, ◌∷◌, [], ℕ, List, true, IfOk, OnOk, if◌then◌else◌, map, not, string_bytes};
 ghost use Rattle.std.specs.BTreeMap.{get_by_text};
 ghost use Rattle.std.specs.BTreeSet.{contains_text};
@@ -13,7 +13,7 @@ use crate::lock::{Lock, LockedPackage};
 use std::alloc::{AllocError, Global};
 use std::collections::{BTreeMap, BTreeSet};
 
-/// A package that only the current lock file has.
+/// A package that is locked and was not.
 #[derive(Drop)]
 pub(crate) struct Gained {
     pub(crate) name: String,
@@ -21,18 +21,18 @@ pub(crate) struct Gained {
     pub(crate) spec: String,
 }
 
-/// The packages of two lock files, as strings of the form `NAME@VERSION`.
+/// What two lock files say, by texts of the form `NAME@VERSION`.
 #[derive(Drop)]
 pub(crate) struct Index {
-    /// The packages of the lock file before the first call.
+    /// The packages before the first call.
     pub(crate) had: BTreeSet<String>,
-    /// The packages of the current lock file.
+    /// The present packages.
     pub(crate) has: BTreeSet<String>,
-    /// The packages that only the current lock file has, by name.
+    /// The packages that only the present file has, by name.
     pub(crate) gained: BTreeMap<String, Vec<Gained>>,
 }
 
-/// Formats a package as `NAME@VERSION`.
+/// A package as `NAME@VERSION`.
 fn spec_of(alloc: Global, locked: &LockedPackage) -> Result<String, AllocError>
     ensures { IfOk result (λ s. string_bytes s ≡ spec_of (package_seen locked.now)) }
 {
@@ -42,7 +42,7 @@ fn spec_of(alloc: Global, locked: &LockedPackage) -> Result<String, AllocError>
     Ok(spec)
 }
 
-/// Adds a package to a set.
+/// Adds a text.
 fn add_spec(specs: &mut BTreeSet<String>, spec: String) -> Result<(), AllocError>
     ensures { OnOk result ((q : List ℕ) → contains_text specs.new q
         ≡ (if bytes_eq (string_bytes spec) q then true else contains_text specs.old q)) }
@@ -51,7 +51,7 @@ fn add_spec(specs: &mut BTreeSet<String>, spec: String) -> Result<(), AllocError
     Ok(())
 }
 
-/// The set of the packages of a lock file.
+/// The packages of a lock file.
 fn specs_of(alloc: Global, packages: &[LockedPackage]) -> Result<BTreeSet<String>, AllocError>
     ensures { IfOk result (λ s. (q : List ℕ)
         → contains_text s q ≡ locks (map package_seen packages.now) q) }
@@ -64,7 +64,7 @@ fn specs_of(alloc: Global, packages: &[LockedPackage]) -> Result<BTreeSet<String
     Ok(specs)
 }
 
-/// Adds a package, unless it is in `had`.
+/// Adds a package, where it was not locked.
 fn add_gained(
     alloc: Global,
     had: &BTreeSet<String>,
@@ -84,7 +84,7 @@ fn add_gained(
     Ok(())
 }
 
-/// The packages that are not in `had`, in their order.
+/// The packages that were not locked, in their order.
 fn new_packages(
     alloc: Global,
     had: &BTreeSet<String>,
@@ -101,7 +101,7 @@ fn new_packages(
     Ok(gained)
 }
 
-/// Groups packages by name; those of one name stay in their order.
+/// The packages by name, those of one name in their order.
 fn by_name(alloc: Global, gained: Vec<Gained>) -> Result<BTreeMap<String, Vec<Gained>>, AllocError>
     ensures { IfOk result (λ m. (q : List ℕ) → option_map_or (λ g. g.items) (get_by_text m q) []
         ≡ filter (λ g. bytes_eq q (string_bytes g.name)) gained.items) }
@@ -115,7 +115,7 @@ fn by_name(alloc: Global, gained: Vec<Gained>) -> Result<BTreeMap<String, Vec<Ga
 }
 
 impl Index {
-    /// Builds the sets and the map from the two lock files.
+    /// Reads both files into maps.
     pub(crate) fn new(alloc: Global, before: &Lock, now: &Lock) -> Result<Index, AllocError>
         ensures { IfOk result (λ i. changes_seen i
             ≡ changes (packages_seen before.now) (packages_seen now.now)) }

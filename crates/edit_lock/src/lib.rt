@@ -1,4 +1,4 @@
-//! Adapts calls of `cargo update` to a `Cargo.lock` that has changed since they were planned.
+//! Which calls of `cargo update` are right against a `Cargo.lock`.
 #![tactic(auto)]
 
 mod calls_file;

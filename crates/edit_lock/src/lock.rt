@@ -1,4 +1,4 @@
-//! Reads the packages of a `Cargo.lock`.
+//! The packages of a `Cargo.lock`.
 ghost use Rattle.std.specs.Prelude.{◌≡◌, ◌⊎◌, [], IfErr, IfOk, map, option_map};
 ghost use Rattle.edit_base.specs.Errors.{IsMemory};
 ghost use Rattle.edit_base.specs.declared.errors.Error.TheVariants.{Metadata};
@@ -12,28 +12,28 @@ use edit_base::{CargoResult, Error};
 use std::alloc::{AllocError, Global};
 use toml::{Table, Value};
 
-/// A package of a lock file.
+/// A package that a lock file names.
 #[derive(Debug, Drop)]
 pub struct LockedPackage {
     pub name: String,
     pub version: String,
 }
 
-/// The packages of a `Cargo.lock`.
+/// What a `Cargo.lock` says of packages.
 #[derive(Debug, Drop)]
 pub struct Lock {
     /// The packages in the order of the file.
     pub packages: Vec<LockedPackage>,
 }
 
-/// Returns the value of a key in a table.
+/// The value at a key of a table.
 fn value_at<'a>(table: &'a Table, key: &str) -> Option<&'a Value>
     ensures { option_map (λ v. view v.now) result ≡ get_member key.now (table_view table.now) }
 {
     table.get(key)
 }
 
-/// Returns the string of a key in a table; `None` where the key is absent or holds no string.
+/// The text at a key of a table, `None` where there is no text.
 fn text_at<'a>(table: &'a Table, key: &str) -> Option<&'a str>
     ensures { option_map (λ t. t.now) result ≡ said.text_at key.now (table_view table.now) }
 {
@@ -41,8 +41,7 @@ fn text_at<'a>(table: &'a Table, key: &str) -> Option<&'a str>
     value.as_str()
 }
 
-/// The package that an element of `package` describes; `None` where it is no table with the strings `name`
-/// and `version`.
+/// The package that an entry of `package` describes, `None` where it is misshapen.
 fn package_of(alloc: Global, value: &Value) -> Result<Option<LockedPackage>, AllocError>
     ensures { IfOk result (λ found. option_map package_seen found ≡ said.package_of (view value.now)) }
 {
@@ -61,7 +60,7 @@ fn package_of(alloc: Global, value: &Value) -> Result<Option<LockedPackage>, All
     }))
 }
 
-/// The packages that the elements of `package` describe; `None` where one of them is malformed.
+/// The packages that the entries of `package` describe, `None` where one of them is misshapen.
 fn packages_of(alloc: Global, values: &[Value]) -> Result<Option<Vec<LockedPackage>>, AllocError>
     ensures { IfOk result (λ found. option_map (λ v. map package_seen v.items) found
         ≡ said.packages_of (items_view values.now)) }
@@ -76,7 +75,7 @@ fn packages_of(alloc: Global, values: &[Value]) -> Result<Option<Vec<LockedPacka
     Ok(Some(packages))
 }
 
-/// The packages of a document, none where it has no `package`; `None` where `package` is malformed.
+/// The packages of a document, `None` where `package` is misshapen.
 fn packages_in(alloc: Global, table: &Table) -> Result<Option<Vec<LockedPackage>>, AllocError>
     ensures { IfOk result (λ found. option_map (λ v. map package_seen v.items) found
         ≡ said.packages_in (table_view table.now)) }
@@ -91,7 +90,7 @@ fn packages_in(alloc: Global, table: &Table) -> Result<Option<Vec<LockedPackage>
 }
 
 impl Lock {
-    /// Returns a lock file without packages, for a workspace without a `Cargo.lock`.
+    /// A lock file without packages, as where none stands.
     pub fn empty(alloc: Global) -> Lock
         ensures { packages_seen result ≡ [] }
     {
@@ -100,9 +99,9 @@ impl Lock {
         }
     }
 
-    /// Parses a lock file. `package` is absent or an array of tables, each with the strings `name` and
-    /// `version`; everything else is ignored. `Error::Metadata` where `package` has another shape, the bytes
-    /// are not UTF-8, or the text is not TOML.
+    /// Reads a lock file. `package` is absent or an array of tables, each with texts as `name` and `version`;
+    /// all else is ignored. `Metadata` where that is not so, where the bytes are not UTF-8 and where `toml`
+    /// does not read the text.
     pub fn read(alloc: Global, bytes: &[u8]) -> CargoResult<Lock>
         ensures said { IfOk result (λ l. LocksPackages bytes.now (packages_seen l)) }
         ensures refused { IfErr result (λ e. IsMemory e ⊎ ((e ≡ Metadata) × IsNoLock bytes.now)) }

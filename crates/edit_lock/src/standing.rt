@@ -1,4 +1,4 @@
-//! Adapts calls of `cargo update` to the current lock file.
+//! The calls of `cargo update` that are right against a lock file.
 ghost use Rattle.std.specs.Prelude.{◌≡◌, ◌++◌, ◌∷◌, [], All, IfOk, OnOk, codes, if◌then◌else◌, map, string_bytes};
 ghost use Rattle.std.specs.List.{flat_map};
 ghost use Rattle.edit_lock.specs.Right.{IsRight};
@@ -9,10 +9,10 @@ use crate::index::{Gained, Index};
 use crate::lock::Lock;
 use std::alloc::{AllocError, Global};
 
-/// The arguments of a call of `cargo update`.
+/// The arguments of a call.
 type Call = Vec<String>;
 
-/// The name of a package that is given as `NAME@VERSION`.
+/// The name in `NAME@VERSION`.
 fn name_in(spec: &str) -> &str
     ensures { result.now ≡ name_in spec.now }
 {
@@ -22,7 +22,7 @@ fn name_in(spec: &str) -> &str
     }
 }
 
-/// Appends an argument to a call.
+/// Adds an argument.
 fn push_argument(alloc: Global, call: &mut Call, argument: &str) -> Result<(), AllocError>
     ensures { OnOk result (arguments_seen call.new.items
         ≡ arguments_seen call.old.items ++ argument.now ∷ []) }
@@ -32,7 +32,7 @@ fn push_argument(alloc: Global, call: &mut Call, argument: &str) -> Result<(), A
     Ok(())
 }
 
-/// Appends `--package` and a package to a call.
+/// Adds the arguments that name a package.
 fn push_package(alloc: Global, call: &mut Call, spec: &str) -> Result<(), AllocError>
     ensures { OnOk result (arguments_seen call.new.items
         ≡ arguments_seen call.old.items ++ package_arguments spec.now) }
@@ -41,7 +41,7 @@ fn push_package(alloc: Global, call: &mut Call, spec: &str) -> Result<(), AllocE
     push_argument(alloc, call, spec)
 }
 
-/// Appends `--package` and the package to a call, for each of these packages.
+/// Adds the arguments that name packages.
 fn push_packages(alloc: Global, call: &mut Call, packages: &[Gained]) -> Result<(), AllocError>
     ensures { OnOk result (arguments_seen call.new.items
         ≡ arguments_seen call.old.items ++ flat_map package_arguments (gained_seen packages.now)) }
@@ -52,7 +52,7 @@ fn push_packages(alloc: Global, call: &mut Call, packages: &[Gained]) -> Result<
     Ok(())
 }
 
-/// Appends each package of this name that only the current lock file has.
+/// Adds the packages of a name that only the present lock file has.
 fn push_gained(alloc: Global, index: &Index, name: &str, call: &mut Call) -> Result<(), AllocError>
     ensures { OnOk result (arguments_seen call.new.items ≡ arguments_seen call.old.items
         ++ flat_map package_arguments ((changes_seen index.now).gained name.now)) }
@@ -63,8 +63,7 @@ fn push_gained(alloc: Global, index: &Index, name: &str, call: &mut Call) -> Res
     }
 }
 
-/// Appends the package that a call names, or its replacements: unchanged if the current lock file has it,
-/// each new version of its name if only the old one had it, and nothing else.
+/// Adds the packages that stand for one that a call names.
 fn push_standing(
     alloc: Global,
     index: &Index,
@@ -83,15 +82,14 @@ fn push_standing(
     push_gained(alloc, index, name_in(spec), call)
 }
 
-/// Whether an argument is dropped: `--package`, which is written again with its value, and `--offline`
-/// unless `offline` is set.
+/// Whether an argument does not stand by itself.
 fn is_left_out(offline: bool, argument: &str) -> bool
     ensures { result ≡ is_left_out offline argument.now }
 {
     argument == "--package" || (argument == "--offline" && !offline)
 }
 
-/// Appends what an argument becomes, given the argument before it.
+/// Adds what becomes of an argument, behind the one before it.
 fn add_argument(
     alloc: Global,
     index: &Index,
@@ -112,7 +110,7 @@ fn add_argument(
     push_argument(alloc, call, argument)
 }
 
-/// Adapts one call to the current lock file.
+/// What becomes of a call.
 fn standing_call(
     alloc: Global,
     index: &Index,
@@ -132,7 +130,7 @@ fn standing_call(
     Ok(standing)
 }
 
-/// Whether a call has an argument `--package`.
+/// Whether a call names a package.
 fn names_package(call: &[String]) -> bool
     ensures { result ≡ names_package (arguments_seen call.now) }
 {
@@ -144,7 +142,7 @@ fn names_package(call: &[String]) -> bool
     false
 }
 
-/// Appends a call, if it has an argument `--package`.
+/// Adds a call, where it names a package.
 fn push_call(calls: &mut Vec<Call>, call: Call) -> Result<(), AllocError>
     ensures { OnOk result (calls_seen calls.new.items ≡ calls_seen calls.old.items
         ++ (if names_package (arguments_seen call.items) then arguments_seen call.items ∷ [] else [])) }
@@ -155,14 +153,15 @@ fn push_call(calls: &mut Vec<Call>, call: Call) -> Result<(), AllocError>
     Ok(())
 }
 
-/// Adapts calls of `cargo update` to the lock file `now`, in their order; `before` is the lock file before
-/// the first of them was made.
+/// The calls of `cargo update` that are right against the lock file `now`, in their order; `before` is the
+/// lock file before the first of them was made.
 ///
-/// A call is a list of arguments, in which `NAME@VERSION` follows each `--package`. A package that `now` has
-/// is unchanged. One that only `before` had was updated by an earlier call: `--package` with each package of
-/// that name that `now` has and `before` had not replaces it. Any other package is dropped. A call without a
-/// package left is dropped, since it would update every package. `--offline` is dropped unless `offline` is
-/// set. All other arguments are unchanged.
+/// A call is a list of arguments, of which each `--package` is followed by `NAME@VERSION`. It stays where
+/// `now` has that package. Where it does not and `before` had it, a call before this one has changed that
+/// version: then `--package` with each package of that name which `now` has and `before` had not stands in
+/// its place. Else it is dropped. A call that names no package then is dropped, since it would update every
+/// package. `--offline` stays only where `offline` says that nothing may be fetched. All else of a call
+/// stays.
 pub fn standing_calls(
     alloc: Global,
     calls: &[Vec<String>],
@@ -173,7 +172,7 @@ pub fn standing_calls(
     ensures calls { IfOk result (λ v. calls_seen v.items
         ≡ standing_calls (changes (packages_seen before.now) (packages_seen now.now)) offline
         (calls_seen calls.now)) }
-    // whatever `calls` are, each call of the result names at least one package, and only locked packages
+    // whatever the calls are, each that is left names packages, at least one, and only such that are locked
     ensures right { IfOk result (λ v. All (IsRight (packages_seen now.now)) (calls_seen v.items)) }
 {
     let index = Index::new(alloc, before, now)?;

@@ -1,5 +1,4 @@
-//! Text for a POSIX shell to evaluate: arguments and assignments, quoted so that the shell reads them
-//! unchanged.
+//! Text that a POSIX shell evaluates: arguments and assignments that it reads back as they are.
 #![tactic(auto)]
 
 ghost use Rattle.std.specs.Prelude.{◌≡◌, ◌++◌, ◌∷◌, [], OnOk, codes, map, string_bytes};
@@ -8,7 +7,8 @@ ghost use Rattle.edit_shell.specs.Quoting.{argument_text, assignment_text, escap
 
 use std::alloc::AllocError;
 
-/// Appends a byte as it is written in single quotes. A single quote is written as `'\''`.
+/// Adds a byte as it stands in single quotes. A single quote ends them, stands behind a backslash, and begins
+/// them anew.
 fn push_escaped(text: &mut Vec<u8>, byte: u8) -> Result<(), AllocError>
     ensures { OnOk result (text.new.items ≡ text.old.items ++ escape_of byte) }
 {
@@ -18,7 +18,7 @@ fn push_escaped(text: &mut Vec<u8>, byte: u8) -> Result<(), AllocError>
     }
 }
 
-/// Appends the bytes of a value as they are written in single quotes.
+/// Adds the bytes of a value as they stand in single quotes.
 fn push_inner(text: &mut Vec<u8>, value: &[u8]) -> Result<(), AllocError>
     ensures { OnOk result (text.new.items ≡ text.old.items ++ flat_map escape_of value.now) }
 {
@@ -28,7 +28,7 @@ fn push_inner(text: &mut Vec<u8>, value: &[u8]) -> Result<(), AllocError>
     Ok(())
 }
 
-/// Appends a value in single quotes, which a shell reads as one argument with these bytes.
+/// Adds a value in single quotes, which a shell reads as one argument with these bytes.
 fn push_quoted(text: &mut Vec<u8>, value: &str) -> Result<(), AllocError>
     ensures { OnOk result (text.new.items ≡ text.old.items ++ quoted value.now) }
 {
@@ -38,7 +38,7 @@ fn push_quoted(text: &mut Vec<u8>, value: &str) -> Result<(), AllocError>
     Ok(())
 }
 
-/// Appends a space and a quoted argument.
+/// Adds an argument behind a space.
 fn push_argument(text: &mut Vec<u8>, argument: &str) -> Result<(), AllocError>
     ensures { OnOk result (text.new.items ≡ text.old.items ++ argument_text argument.now) }
 {
@@ -46,7 +46,7 @@ fn push_argument(text: &mut Vec<u8>, argument: &str) -> Result<(), AllocError>
     push_quoted(text, argument)
 }
 
-/// Appends the line `NAME='VALUE'`, which assigns this value to the variable NAME.
+/// Adds the line `NAME='VALUE'`, which gives the variable NAME this value.
 pub fn push_assignment(text: &mut Vec<u8>, name: &str, value: &str) -> Result<(), AllocError>
     ensures { OnOk result (text.new.items ≡ text.old.items ++ assignment_text name.now value.now) }
 {
@@ -57,7 +57,7 @@ pub fn push_assignment(text: &mut Vec<u8>, name: &str, value: &str) -> Result<()
     Ok(())
 }
 
-/// Appends the line `set -- 'ARGUMENT' ..`, which sets the positional parameters of a script.
+/// Adds the line `set -- 'ARGUMENT' ..`, which makes these the arguments of a script.
 pub fn push_arguments(text: &mut Vec<u8>, arguments: &[String]) -> Result<(), AllocError>
     ensures { OnOk result (text.new.items ≡ text.old.items
         ++ (codes "set --" ++ flat_map argument_text (map string_bytes arguments.now) ++ 10 ∷ [])) }

@@ -1,4 +1,4 @@
-//! Carries out a staged write: by rename, in place, or by appending.
+//! How a write that is ready is made.
 use crate::reason::{Answer, Reason};
 use crate::staged::{Staged, Way, keep_copy};
 use crate::temporary::Temporary;
@@ -8,7 +8,7 @@ use std::fs::{File, Files, OpenOptions};
 use std::io::{ErrorKind, Seek, SeekFrom, Write};
 use std::{fs, io};
 
-/// Carries out a staged write. After an error of the rename the temporary file is removed.
+/// Makes a write that is ready.
 pub(crate) fn commit<R: Files<File = File> + Alloc<A = Global> + Env>(
     rt: &R,
     alloc: Global,
@@ -30,8 +30,7 @@ pub(crate) fn commit<R: Files<File = File> + Alloc<A = Global> + Env>(
     }
 }
 
-/// Renames a temporary file to `target`. Where the system does not allow the rename, `target` is overwritten
-/// instead.
+/// Moves a temporary file over a file; where the machine refuses that, the file is overwritten.
 fn rename<R: Files<File = File> + Alloc<A = Global> + Env>(
     rt: &R,
     alloc: Global,
@@ -52,8 +51,8 @@ fn rename<R: Files<File = File> + Alloc<A = Global> + Env>(
     }
 }
 
-/// Whether a rename failed in a way that still lets the target be overwritten: the target is a mount point,
-/// belongs to another user in a sticky folder, or is on another device.
+/// Whether the machine refuses to move a file over another one that it might let be overwritten: one that is
+/// mounted, or another user's in a folder where each may remove only what is theirs.
 fn is_refused(kind: ErrorKind) -> bool {
     matches!(
         kind,
@@ -61,8 +60,8 @@ fn is_refused(kind: ErrorKind) -> bool {
     )
 }
 
-/// Overwrites `target` while `copy` holds its old text. After an error the old text is restored; where that
-/// fails too, the copy stays, and the error names its path.
+/// Overwrites a file while a copy of its old text stands. After an error it gets its old text again; where
+/// that fails too, the copy stays, and the error says where.
 fn overwrite_beside<R: Files<File = File> + Alloc<A = Global>>(
     rt: &R,
     alloc: Global,
@@ -82,7 +81,7 @@ fn overwrite_beside<R: Files<File = File> + Alloc<A = Global>>(
     Err(Reason::Found(format!(in alloc; "{error}; its old text stands in {path}")?))
 }
 
-/// Restores the text of a file from its copy.
+/// Gives a file the text of its copy.
 fn restore<R: Files<File = File> + Alloc<A = Global>>(
     rt: &R,
     target: &str,
@@ -95,8 +94,8 @@ fn restore<R: Files<File = File> + Alloc<A = Global>>(
     file.sync_all()
 }
 
-/// Overwrites a file. The bytes past its old end are written first, so that a full disk leaves the old bytes
-/// unchanged.
+/// Overwrites a file. What goes past its old end is written first, so that a disk without room for
+/// it leaves the old bytes.
 fn overwrite<R: Files<File = File>>(rt: &R, path: &str, bytes: &[u8]) -> io::Result<()> {
     let mut file = OpenOptions::new().write(true).open(rt, path)?;
     let end = file.metadata()?.len();
@@ -115,7 +114,7 @@ fn overwrite<R: Files<File = File>>(rt: &R, path: &str, bytes: &[u8]) -> io::Res
     file.sync_all()
 }
 
-/// Writes bytes at the end of a file; after an error the file is cut back to its old length.
+/// Writes bytes behind a file's end, or leaves the file as it was.
 fn write_behind(file: &mut File, end: u64, bytes: &[u8]) -> io::Result<()> {
     file.seek(SeekFrom::Start(end))?;
     let done = file.write_all(bytes);
@@ -125,7 +124,7 @@ fn write_behind(file: &mut File, end: u64, bytes: &[u8]) -> io::Result<()> {
     done
 }
 
-/// Appends bytes to a file, a pipe or a device; a missing file is created.
+/// Writes bytes to a pipe or a device, or behind the end of a file.
 fn append<R: Files<File = File>>(rt: &R, path: &str, bytes: &[u8]) -> io::Result<()> {
     let mut file = OpenOptions::new().append(true).create(true).open(rt, path)?;
     file.write_all(bytes)

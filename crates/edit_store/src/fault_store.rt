@@ -1,4 +1,4 @@
-//! A store in memory in which one call fails, for tests.
+//! Files in memory, one call of which fails.
 ghost use Rattle.std.specs.Prelude.{◌≡◌, ◌↔◌, Some, true, IsTrue, IfOk, IfErr, OnErr, OnOk, option_map};
 ghost use Rattle.edit_store.specs.Store.{HasCause, IsWrittenAtMostOnce, IsWrittenOnce, SameFiles, SameBut, StandsAt, raised};
 ghost use Rattle.edit_store.specs.Memory.{files_in, writes_in};
@@ -9,10 +9,9 @@ use crate::store::{Kind, Store};
 use edit_base::errors::{CargoResult, DeviceCall, Error};
 use std::alloc::Global;
 
-/// A store in memory in which one call fails: call number `at`, counted from 0 over `kind`, `read` and
-/// `write`.
+/// A store in memory whose call number `at`, from 0 over `kind`, `read` and `write`, fails once.
 ///
-/// The `write` that fails leaves the first `cut` bytes of the text in its file.
+/// A `write` that fails leaves the first `cut` bytes of the text in its file.
 #[derive(Debug, Drop)]
 pub struct FaultStore {
     pub inner: MemoryStore,
@@ -22,7 +21,7 @@ pub struct FaultStore {
 }
 
 impl FaultStore {
-    /// Returns a store over `inner` that has not failed yet.
+    /// A store over `inner` that has failed in no call.
     pub fn new(inner: MemoryStore, at: u64, cut: usize) -> FaultStore
         ensures inner { result.inner ≡ inner }
         ensures turn { calls_left result ≡ Some at }
@@ -37,7 +36,7 @@ impl FaultStore {
         }
     }
 
-    /// Counts a call down; returns whether it is the one that fails.
+    /// Counts a call, and tells whether it is the one that fails.
     fn is_due(&mut self) -> bool
         ensures due { IsTrue result ↔ (self.old.left ≡ Some 0) }
         ensures turn { self.new ≡ record self.old { left = one_less self.old.left } }
@@ -55,7 +54,7 @@ impl FaultStore {
         }
     }
 
-    /// Counts a fault and returns the error of the call that failed.
+    /// The fault of a call.
     fn fault(&mut self, call: DeviceCall) -> Error
         ensures error { result ≡ Error.Device call }
         ensures raised { raised self.old.failed self.new.failed }

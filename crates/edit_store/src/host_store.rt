@@ -1,4 +1,4 @@
-//! The store of the files of the machine.
+//! The files of the machine.
 ghost use Rattle.std.specs.Prelude.{◌≡◌, []};
 ghost use Rattle.edit_store.specs.Host.{IsRefusal, host_faults, host_stage_errors, host_view, host_writes};
 ghost use Rattle.edit_store.specs.Store.{raised};
@@ -16,22 +16,21 @@ use std::fs;
 use std::fs::{File, Files};
 use std::io::{Eprint, ErrorKind};
 
-/// The store of the files of the machine. Its contracts do not state what the files hold; they count the
-/// writes.
+/// The files of the machine. No clause can say what they hold; which of them were written, it counts.
 #[derive(Debug, Drop)]
 pub struct HostStore<R> {
     rt: R,
     failed: u64,
     stage_errors: u64,
-    /// The path of each write that was begun, in order, so that contracts can count the writes.
+    /// The path of each write that was begun, in order: contracts count the writes by it.
     writes: Vec<String>,
-    /// Why the last call that failed did so.
+    /// Why the last call failed.
     reason: Option<Reason>,
     work: Work,
 }
 
 impl<R: Files<File = File> + Alloc<A = Global> + Drop> HostStore<R> {
-    /// Returns a store of the files that the runtime reaches, with the process number 0.
+    /// The files that the runtime reaches.
     pub fn new(rt: R) -> HostStore<R>
         ensures faults { host_faults result ≡ 0 }
         ensures ready { host_stage_errors result ≡ 0 }
@@ -40,8 +39,7 @@ impl<R: Files<File = File> + Alloc<A = Global> + Drop> HostStore<R> {
         HostStore::for_process(rt, 0)
     }
 
-    /// Returns a store of the files that the runtime reaches. The names of temporary files contain
-    /// `process`, the number of the process.
+    /// The files that the runtime reaches; the names of temporary files have the number of the process.
     pub fn for_process(rt: R, process: u32) -> HostStore<R>
         ensures faults { host_faults result ≡ 0 }
         ensures ready { host_stage_errors result ≡ 0 }
@@ -59,7 +57,7 @@ impl<R: Files<File = File> + Alloc<A = Global> + Drop> HostStore<R> {
         }
     }
 
-    /// Turns a reason into the error of a call. Every reason except lack of memory counts as a fault.
+    /// The error of a call. Each but want of memory counts as a fault.
     fn refused(&mut self, call: DeviceCall, reason: Reason) -> Error
         ensures cause { IsRefusal call self.old.failed self.new.failed result }
         ensures ready { host_stage_errors self.new ≡ host_stage_errors self.old }
@@ -73,7 +71,7 @@ impl<R: Files<File = File> + Alloc<A = Global> + Drop> HostStore<R> {
         Error::Device(call)
     }
 
-    /// Turns a reason into the error of a write that could not be staged, flushed or verified.
+    /// The error of a write that cannot be made ready.
     fn not_ready(&mut self, reason: Reason) -> Error
         ensures cause { IsRefusal DeviceCall.Write self.old.failed self.new.failed result }
         ensures counted { raised (host_stage_errors self.old) (host_stage_errors self.new) }
@@ -84,7 +82,7 @@ impl<R: Files<File = File> + Alloc<A = Global> + Drop> HostStore<R> {
     }
 }
 
-/// Returns the bytes of a file, or `None` where no file exists at the path, which is no error.
+/// The bytes of a file, where one stands: what the machine says of a path at which none stands is no error.
 fn where_found(answer: Answer<Vec<u8>>) -> Answer<Option<Vec<u8>>> {
     match answer {
         Ok(bytes) => Ok(Some(bytes)),
@@ -93,7 +91,7 @@ fn where_found(answer: Answer<Vec<u8>>) -> Answer<Option<Vec<u8>>> {
     }
 }
 
-/// Whether an error of the system means that no file exists at a path.
+/// Whether the machine says that no file stands at a path.
 fn is_absent(kind: ErrorKind) -> bool {
     matches!(
         kind,

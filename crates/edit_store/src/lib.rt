@@ -1,4 +1,4 @@
-//! Stores of files that may fail: of the machine, in memory, and in memory with one failing call.
+//! Files that may fail: those of the machine, those in memory, and those that fail in one call.
 #![tactic(auto)]
 
 mod commit;

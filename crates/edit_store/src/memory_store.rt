@@ -1,4 +1,4 @@
-//! The store of files in memory.
+//! Files in memory.
 ghost use Rattle.std.specs.Prelude.{◌≡◌, ◌↔◌, ℕ, List, [], Option, Some, None, IsTrue};
 ghost use Rattle.edit_store.specs.Memory.{files_in, memory_view, writes_in, IsBelow, IsFrontOf};
 
@@ -7,18 +7,18 @@ use edit_base::errors::CargoResult;
 use std::alloc::Global;
 use std::collections::BTreeMap;
 
-/// A store of files in memory, which never fails.
+/// Files in memory, which never fail.
 ///
-/// Where no file exists, `/` and every prefix of a file's path that ends before a `/` are folders.
+/// Where no file stands, `/` and each front of a file's path before a `/` are folders.
 #[derive(Debug, Drop)]
 pub struct MemoryStore {
     files: BTreeMap<String, Vec<u8>>,
-    /// The path of each write that was begun, in order, so that contracts can count the writes.
+    /// The path of each write that was begun, in order: contracts count the writes by it.
     writes: Vec<String>,
 }
 
 impl MemoryStore {
-    /// Returns a store without files.
+    /// A store without files.
     pub fn new(alloc: Global) -> MemoryStore
         ensures files { (path : List ℕ) → files_in result path ≡ None }
         ensures writes { writes_in result ≡ [] }
@@ -29,7 +29,7 @@ impl MemoryStore {
         }
     }
 
-    /// Whether `path`, followed by `/`, is a prefix of the path of a file: `path` is a folder.
+    /// Whether a file's path is this path, a `/`, and more.
     fn is_front(&self, path: &str) -> bool
         ensures { IsTrue result ↔ IsFrontOf self.now path.now }
     {
@@ -37,7 +37,7 @@ impl MemoryStore {
     }
 }
 
-/// Whether `name` begins with `path` followed by `/`.
+/// Whether a name is a path, a `/`, and more.
 fn is_below(name: &str, path: &str) -> bool
     ensures { IsTrue result ↔ IsBelow name.now path.now }
 {

@@ -1,22 +1,22 @@
-//! Why a call on a file of the machine failed.
+//! Why a call for a file of the machine failed.
 use std::alloc::{AllocError, AllocFailed, Global};
 use std::io;
 use std::io::ErrorKind;
 
-/// Why a call on a file failed.
+/// Why a call for a file failed.
 #[derive(Debug, Drop)]
 pub(crate) enum Reason {
-    /// An error of the system.
+    /// The error of the machine.
     Machine(io::Error),
-    /// An error that this store detected itself, as a message.
+    /// What this store found wrong.
     Found(String),
 }
 
-/// The result of a step of a call.
+/// What a step of a call answers.
 pub(crate) type Answer<T> = Result<T, Reason>;
 
 impl Reason {
-    /// Whether the reason is lack of memory.
+    /// Whether memory ran out.
     pub(crate) fn is_memory(&self) -> bool {
         match self {
             Reason::Machine(error) => error.kind() == ErrorKind::OutOfMemory,
@@ -24,7 +24,7 @@ impl Reason {
         }
     }
 
-    /// The message of the reason; `None` where memory runs out.
+    /// The reason in words; none where memory is short.
     pub(crate) fn text(&self, alloc: Global) -> Option<String> {
         match self {
             Reason::Machine(error) => format!(in alloc; "{error}").ok(),
@@ -51,7 +51,7 @@ impl<T: Drop> From<AllocFailed<T>> for Reason {
     }
 }
 
-/// Returns the reason for an error that this store detected itself.
+/// What this store found wrong.
 pub(crate) fn found(alloc: Global, text: &str) -> Reason {
     match String::from_str(alloc, text) {
         Ok(text) => Reason::Found(text),

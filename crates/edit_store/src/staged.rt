@@ -1,4 +1,4 @@
-//! A staged write: a temporary file to be renamed, or a copy of the old text.
+//! A write that is ready: the file that takes a manifest's place, or a copy of the manifest's text.
 use crate::reading::Fingerprint;
 use crate::reason::{Answer, Reason, found};
 use crate::temporary::{Temporary, make_temporary};
@@ -10,35 +10,35 @@ use std::io::{ErrorKind, Write};
 use std::os::unix::fs::{MetadataExt, fchown};
 use std::{env, fs, io};
 
-/// How a staged write is carried out.
+/// How a write that is ready is made.
 #[derive(Debug, Drop)]
 pub(crate) enum Way {
-    /// The temporary file is renamed to the target.
+    /// The temporary file takes the place of the file.
     Rename(Temporary),
-    /// The target is overwritten, while this copy of its old text exists.
+    /// The file is overwritten, while this copy of its old text stands.
     InPlace(Temporary),
-    /// The bytes are appended: to a pipe, a device, or an open file that a path as `/dev/stdout` names.
+    /// The bytes are written to a pipe or a device, or to the end of what `/dev/stdout` and the like lead to.
     Append,
 }
 
-/// A staged write.
+/// A write that is ready.
 #[derive(Debug, Drop)]
 pub(crate) struct Staged {
-    /// The path that the caller passed.
+    /// The path as the caller names it.
     pub(crate) path: String,
-    /// The canonical path of the file.
+    /// The real path of the file.
     pub(crate) target: String,
     pub(crate) way: Way,
-    /// The device and the inode of the file that exists there.
+    /// The device and the number of the file that stands there.
     pub(crate) identity: Option<(u64, u64)>,
     /// The fingerprint of the new text.
     pub(crate) text: Fingerprint,
-    /// Whether the file was compared with the text that was read of it.
+    /// Whether the file was compared with what was read of it.
     pub(crate) verified: bool,
 }
 
-/// Stages a write. Either the bytes are in a temporary file with the owner and the permissions of the old
-/// one, which has still to be flushed, or a copy of the old text is on the disk.
+/// Makes a write ready: the bytes are in a new file with the owner and the permissions of the old one, which
+/// is still to be flushed, or a copy of the old text is on the disk.
 pub(crate) fn prepare<R: Files<File = File> + Alloc<A = Global> + Env>(
     rt: &R,
     alloc: Global,
@@ -81,8 +81,8 @@ fn is_descriptor(path: &str) -> bool {
         || (path.starts_with("/proc/") && path.contains("/fd/"))
 }
 
-/// Builds a staged write. Its strings are allocated before any file is created, so that lack of memory
-/// leaves no file behind.
+/// A write of these bytes. The texts are made before any file is, so that a lack of memory leaves none
+/// behind.
 fn make_staged(
     path: String,
     target: String,
@@ -100,8 +100,8 @@ fn make_staged(
     }
 }
 
-/// Stages a write to a path where no file exists. A dangling symbolic link is followed only when the write
-/// is carried out.
+/// Makes a write ready where no file stands yet. A link that leads nowhere is followed when the write is
+/// made.
 fn prepare_new<R: Files<File = File>>(
     rt: &R,
     alloc: Global,
@@ -133,15 +133,15 @@ fn prepare_new<R: Files<File = File>>(
     Ok(make_staged(name, same, Way::Rename(temporary), None, bytes))
 }
 
-/// Writes bytes to a file and flushes it to the disk.
+/// Writes bytes to the disk.
 fn fill(file: &mut File, bytes: &[u8]) -> io::Result<()> {
     file.write_all(bytes)?;
     file.sync_all()
 }
 
-/// Chooses and prepares how a regular file is written. It is overwritten in place where its folder lets no
-/// file be created, or where a new file could not get the old owner and group: somebody might lose access to
-/// it.
+/// How a regular file is to be written, made ready. It is overwritten where no file may be made in its
+/// folder, and where a new file could not have its owner and its group, which might take the access to it
+/// from somebody.
 fn way_over<R: Files<File = File> + Alloc<A = Global> + Env>(
     rt: &R,
     alloc: Global,
@@ -168,7 +168,7 @@ fn way_over<R: Files<File = File> + Alloc<A = Global> + Env>(
     Ok(Way::InPlace(keep_copy(rt, alloc, target, process)?))
 }
 
-/// Returns an error for a file that must not be written.
+/// An error for a file that may not be written.
 fn may_write<R: Files>(rt: &R, path: &str, old: &Metadata) -> io::Result<()> {
     if old.permissions().readonly() {
         return Err(io::Error::from(ErrorKind::PermissionDenied));
@@ -177,9 +177,8 @@ fn may_write<R: Files>(rt: &R, path: &str, old: &Metadata) -> io::Result<()> {
     Ok(())
 }
 
-/// Writes bytes to a file that gets the owner, the group and then the permissions of the old one; returns
-/// whether the owner and the group could be set. Each is set on the open file, so that no link can lead
-/// elsewhere.
+/// Writes bytes to a file that gets the owner, the group and then the permissions of the old one; answers
+/// whether it could. Each is set on the open file, so that no link can lead elsewhere.
 fn fill_like(file: &mut File, old: &Metadata, bytes: &[u8]) -> io::Result<bool> {
     let new = file.metadata()?;
     if new.uid() != old.uid() || new.gid() != old.gid() {
@@ -193,8 +192,8 @@ fn fill_like(file: &mut File, old: &Metadata, bytes: &[u8]) -> io::Result<bool> 
     Ok(true)
 }
 
-/// Copies a file's text to the disk: into its own folder, or into the folder for temporary files where its
-/// own lets no file be created.
+/// A copy of a file's text on the disk: in its folder, or in the folder for temporary files where none may be
+/// made there.
 pub(crate) fn keep_copy<R: Files<File = File> + Alloc<A = Global> + Env>(
     rt: &R,
     alloc: Global,
@@ -221,7 +220,7 @@ pub(crate) fn keep_copy<R: Files<File = File> + Alloc<A = Global> + Env>(
     }
 }
 
-/// The folder for temporary files: `TMPDIR`, or else `/tmp`.
+/// The folder for temporary files that `TMPDIR` names, else `/tmp`.
 fn temporary_folder<R: Env + Alloc<A = Global>>(rt: &R, alloc: Global) -> Answer<String> {
     match env::var(rt, "TMPDIR") {
         Ok(folder) if folder.starts_with('/') => Ok(folder),
@@ -230,7 +229,7 @@ fn temporary_folder<R: Env + Alloc<A = Global>>(rt: &R, alloc: Global) -> Answer
 }
 
 impl Staged {
-    /// Whether the temporary file of the write, if it has one, is still at its path.
+    /// Whether the files that were made for the write stand as they were made.
     pub(crate) fn stands<R: Files<File = File>>(&self, rt: &R) -> bool {
         match &self.way {
             Way::Rename(file) | Way::InPlace(file) => file.stands(rt),
@@ -238,7 +237,7 @@ impl Staged {
         }
     }
 
-    /// Whether the bytes have still to be flushed to the disk.
+    /// Whether the bytes are still to be flushed to the disk.
     pub(crate) fn is_open(&self) -> bool {
         match &self.way {
             Way::Rename(file) => file.is_open(),
@@ -246,7 +245,7 @@ impl Staged {
         }
     }
 
-    /// Flushes the bytes to the disk, if that has still to be done.
+    /// Flushes the bytes to the disk, where that is still to be done.
     pub(crate) fn flush(&mut self) -> io::Result<()> {
         match &mut self.way {
             Way::Rename(file) => file.flush(),
@@ -254,7 +253,7 @@ impl Staged {
         }
     }
 
-    /// Removes the temporary file of the write, if it has one.
+    /// Removes the files that were made for the write.
     pub(crate) fn give_up<R: Files<File = File>>(&self, rt: &R) {
         match &self.way {
             Way::Rename(file) | Way::InPlace(file) => file.remove(rt),

@@ -1,4 +1,4 @@
-//! Temporary files beside a manifest, under names that no other program uses.
+//! New files of a run beside a manifest, under names that no other program has.
 use crate::reason::{Answer, Reason};
 use edit_base::paths::folder;
 use std::alloc::Global;
@@ -7,21 +7,21 @@ use std::io::ErrorKind;
 use std::os::unix::fs::{MetadataExt, OpenOptionsExt};
 use std::{fs, io};
 
-/// A temporary file of this run. Its name contains the process number and the inode.
+/// A new file of this run, whose name has the number of the run's process and the file's own number.
 #[derive(Debug, Drop)]
 pub(crate) struct Temporary {
     pub(crate) path: String,
     device: u64,
     inode: u64,
-    /// The open file, until its bytes are flushed to the disk.
+    /// The file itself, open until what was written to it is flushed to the disk.
     open: Option<File>,
 }
 
-/// Creates an empty temporary file in a folder, with this mode and this suffix; `None` where no file may be
-/// created there.
+/// Makes an empty file in a folder, with this mode and this end of its name; none where none may be made
+/// there.
 ///
-/// No link is followed, and no existing file is touched. The file is renamed to its final name once its
-/// inode is known.
+/// No link is followed, and nothing that stands there is touched. The file gets its name once its number is
+/// known.
 pub(crate) fn make_temporary<R: Files<File = File>>(
     rt: &R,
     alloc: Global,
@@ -47,7 +47,7 @@ pub(crate) fn make_temporary<R: Files<File = File>>(
     Err(Reason::from(io::Error::from(ErrorKind::AlreadyExists)))
 }
 
-/// Whether an error of the system means that no file may be created in a folder.
+/// Whether the machine says that no file may be made in a folder.
 fn is_forbidden(kind: ErrorKind) -> bool {
     matches!(
         kind,
@@ -55,7 +55,7 @@ fn is_forbidden(kind: ErrorKind) -> bool {
     )
 }
 
-/// Renames a temporary file to the name with its inode; removes the file where that fails.
+/// A new file under the name with its own number. It is removed where that fails.
 fn named<R: Files<File = File>>(
     rt: &R,
     alloc: Global,
@@ -73,7 +73,7 @@ fn named<R: Files<File = File>>(
     }
 }
 
-/// Renames a temporary file to the name with its inode.
+/// Gives a new file the name with its own number.
 fn rename_by_number<R: Files<File = File>>(
     rt: &R,
     alloc: Global,
@@ -96,17 +96,17 @@ fn rename_by_number<R: Files<File = File>>(
 }
 
 impl Temporary {
-    /// Stores the open file, to be flushed later.
+    /// Holds the file, to be flushed later.
     pub(crate) fn hold(&mut self, file: File) {
         self.open = Some(file);
     }
 
-    /// Whether the file has still to be flushed.
+    /// Whether it is still to be flushed.
     pub(crate) fn is_open(&self) -> bool {
         self.open.is_some()
     }
 
-    /// Flushes the file to the disk and closes it, if that has still to be done.
+    /// Flushes it to the disk and closes it, where that is still to be done.
     pub(crate) fn flush(&mut self) -> io::Result<()> {
         match self.open.take() {
             Some(file) => file.sync_all(),
@@ -114,7 +114,7 @@ impl Temporary {
         }
     }
 
-    /// Whether its path still leads to this file, by device and inode.
+    /// Whether its name still leads to it.
     pub(crate) fn stands<R: Files<File = File>>(&self, rt: &R) -> bool {
         match fs::symlink_metadata(rt, self.path.as_str()) {
             Ok(there) => there.dev() == self.device && there.ino() == self.inode,
@@ -122,7 +122,7 @@ impl Temporary {
         }
     }
 
-    /// Removes the file, if its path still leads to it.
+    /// Removes it.
     pub(crate) fn remove<R: Files<File = File>>(&self, rt: &R) {
         if self.stands(rt) {
             let _ = fs::remove_file(rt, self.path.as_str());
@@ -130,15 +130,15 @@ impl Temporary {
     }
 }
 
-/// The numbers in the name of a temporary file.
+/// What the name of a temporary file says.
 #[derive(Clone, Copy, Debug)]
 struct Name {
     process: u32,
-    /// The inode; `None` in the first name, which the file has before its inode is known.
+    /// The file's own number; none where it was not yet known.
     inode: Option<u64>,
 }
 
-/// Parses the name of a temporary file; `None` for any other name.
+/// What the name of a temporary file says; none of another name.
 fn read_name(name: &str) -> Option<Name> {
     let rest = name.strip_prefix(".cargo-edit.")?;
     if let Some(numbers) = rest.strip_suffix(".new") {
@@ -155,7 +155,7 @@ fn read_name(name: &str) -> Option<Name> {
     })
 }
 
-/// Removes the temporary files in a folder that killed runs have left.
+/// Removes the temporary files in a folder whose runs were killed.
 pub(crate) fn remove_leavings<R: Files<File = File> + Alloc<A = Global> + Clone + Drop>(
     rt: &R,
     alloc: Global,
@@ -172,7 +172,7 @@ pub(crate) fn remove_leavings<R: Files<File = File> + Alloc<A = Global> + Clone 
     }
 }
 
-/// Removes an entry of a folder if it is a temporary file of a killed run.
+/// Removes what a folder holds under a name, where it is a temporary file whose run was killed.
 fn remove_left<R: Files<File = File> + Alloc<A = Global>>(
     rt: &R,
     alloc: Global,
@@ -187,8 +187,8 @@ fn remove_left<R: Files<File = File> + Alloc<A = Global>>(
     }
 }
 
-/// Whether an entry with the name of a temporary file is one: a regular file with one link and the inode in
-/// its name, or an empty one where its name has no inode.
+/// Whether a file under the name of a temporary one is one: a regular file with the number in its name, or an
+/// empty one where the name has none.
 fn is_own<R: Files<File = File>>(entry: &DirEntry<R>, name: Name) -> bool {
     match entry.metadata() {
         Ok(metadata) if !metadata.is_file() || metadata.nlink() != 1 => false,
@@ -200,7 +200,7 @@ fn is_own<R: Files<File = File>>(entry: &DirEntry<R>, name: Name) -> bool {
     }
 }
 
-/// Whether another process with this number runs this program.
+/// Whether a process of this program, but for the own one, runs under a number.
 fn is_running<R: Files<File = File> + Alloc<A = Global>>(
     rt: &R,
     alloc: Global,

@@ -1,4 +1,4 @@
-//! Replaced files, watched for changes by other programs until the replacement is on the disk.
+//! Files that were replaced, watched until the replacement is on the disk.
 use crate::commit::commit;
 use crate::reading::Fingerprint;
 use crate::reason::{Answer, Reason};
@@ -9,22 +9,22 @@ use std::fs::{File, Files};
 use std::io;
 use std::io::{Read, Seek, SeekFrom};
 
-/// The greatest number of replaced files that are watched at once: each takes a file descriptor.
+/// How many replaced files are watched at most: each takes one of the process's open files.
 pub(crate) const WATCHED: usize = 400;
 
-/// The file that was at a path before the write, still open.
+/// The file that stood at a path before the write, still open.
 #[derive(Debug, Drop)]
 pub(crate) struct Watched {
     path: String,
     file: File,
-    /// The fingerprint of the text that was read for the plan.
+    /// The fingerprint of its text as it was read for the plan.
     old: Fingerprint,
     /// The fingerprint of the text that is written.
     new: Fingerprint,
 }
 
 impl Watched {
-    /// Opens the file at a path; `None` where it does not hold the old text.
+    /// Opens the file at a path; none where it does not hold the old text.
     pub(crate) fn open<R: Files<File = File>>(
         rt: &R,
         alloc: Global,
@@ -46,7 +46,7 @@ impl Watched {
         }
     }
 
-    /// Returns the bytes of the open file.
+    /// What the file holds.
     fn bytes(&mut self, alloc: Global) -> io::Result<Vec<u8>> {
         let mut bytes = Vec::new(alloc);
         self.file.seek(SeekFrom::Start(0))?;
@@ -54,7 +54,7 @@ impl Watched {
         Ok(bytes)
     }
 
-    /// Whether another program has written to the file since it was opened.
+    /// Whether another program wrote to the file since it was opened.
     fn has_changed(&mut self, alloc: Global) -> bool {
         match self.bytes(alloc) {
             Ok(bytes) => {
@@ -65,7 +65,7 @@ impl Watched {
         }
     }
 
-    /// Writes the bytes of the open file back to its path.
+    /// Puts what the file holds back at its path.
     fn put_back<R: Files<File = File> + Alloc<A = Global> + Env>(
         &mut self,
         rt: &R,
@@ -83,8 +83,8 @@ impl Watched {
     }
 }
 
-/// Checks whether another program wrote to one of the files while they were replaced. If so, every file gets
-/// its old text back, with what that program wrote, and the error names the file that changed.
+/// Looks whether another program wrote to one of the files while they were replaced. Then each of them gets
+/// its old text again, with what was written, and the answer is an error with the path of that file.
 pub(crate) fn settle<R: Files<File = File> + Alloc<A = Global> + Env>(
     rt: &R,
     alloc: Global,

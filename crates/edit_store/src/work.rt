@@ -1,4 +1,4 @@
-//! The state of a run over the files of the machine: what it has read, staged and written.
+//! What a store of the machine's files has read, made ready and written in a run.
 use crate::commit::commit;
 use crate::reading::Fingerprint;
 use crate::reason::{Answer, Reason, found};
@@ -11,34 +11,33 @@ use std::env::Env;
 use std::fs::{File, Files, TryLockError};
 use std::io::Eprint;
 
-/// The greatest number of temporary files that are open at once, waiting for a flush: each takes a file
-/// descriptor.
+/// How many new files wait open to be flushed together at most: each takes one of the process's open files.
 const OPEN: usize = 400;
 
-/// The state of a run over the files of the machine: what it has read, staged and written.
+/// What a store of the machine's files has read, made ready and written in a run.
 #[derive(Debug, Drop)]
 pub(crate) struct Work {
-    /// The number of the process, for the names of temporary files.
+    /// The number of the run's process, for the names of new files.
     process: u32,
-    /// The fingerprint of each file when it was first read, or when it was last written since, by path.
+    /// The text of each file as it was read first, or was written since.
     texts: BTreeMap<String, Fingerprint>,
-    /// The staged writes, by path.
+    /// The writes that are ready, by their paths.
     staged: BTreeMap<String, Staged>,
-    /// The number of staged writes that have still to be flushed to the disk.
+    /// How many of them are still to be flushed to the disk.
     open: usize,
-    /// The number of staged writes that were compared with what was read.
+    /// How many of them were compared with what was read.
     verified: usize,
-    /// The path that is staged for each file, by the file's device and inode.
+    /// The path that is staged for each file, by the file's device and number.
     paths: BTreeMap<(u64, u64), String>,
-    /// The files that were replaced since the last flush of their folders, and those folders.
+    /// The files that were replaced since the last flush, and their folders.
     watched: Vec<Watched>,
     folders: Vec<String>,
-    /// The locked folders: each stays locked while its file is open.
+    /// Locked folders, which stay so while they are open.
     locked: Vec<File>,
 }
 
 impl Work {
-    /// Returns the state at the beginning of a run.
+    /// Nothing yet.
     pub(crate) fn new(alloc: Global, process: u32) -> Work {
         Work {
             process,
@@ -53,12 +52,12 @@ impl Work {
         }
     }
 
-    /// The number of the process.
+    /// The number of the run's process.
     pub(crate) fn process(&self) -> u32 {
         self.process
     }
 
-    /// Stores the fingerprint of a file when it is first read.
+    /// Remembers the text of a file as it is read first.
     pub(crate) fn remember(
         &mut self,
         alloc: Global,
@@ -73,7 +72,7 @@ impl Work {
         Ok(())
     }
 
-    /// Stages a write. Two paths of one file are an error.
+    /// Makes a write ready. Two paths of one file are an error.
     pub(crate) fn stage<R: Files<File = File> + Alloc<A = Global> + Env>(
         &mut self,
         rt: &R,
@@ -110,7 +109,7 @@ impl Work {
         }
     }
 
-    /// Stages a write without recording it. It is flushed at once where `OPEN` others wait for a flush.
+    /// A write made ready. It is flushed at once where many others wait for that.
     fn prepare_write<R: Files<File = File> + Alloc<A = Global> + Env>(
         &self,
         rt: &R,
@@ -128,8 +127,8 @@ impl Work {
         Ok(staged)
     }
 
-    /// Records the path of a staged write and returns a copy of it; an error where another path of that file
-    /// is staged.
+    /// Notes the path of a write that is ready, and answers a copy of it; an error where another path of the
+    /// same file is staged.
     fn put(&mut self, alloc: Global, path: &str, staged: &Staged) -> Answer<String> {
         if let Some(identity) = staged.identity
             && matches!(staged.way, Way::Rename(_) | Way::InPlace(_))
@@ -145,7 +144,7 @@ impl Work {
         Ok(String::from_str(alloc, path)?)
     }
 
-    /// Discards the write that is staged for a path, if there is one, and removes its temporary file.
+    /// Removes the files that were made for a write, where it is ready.
     fn give_up<R: Files<File = File>>(&mut self, rt: &R, path: &str) {
         if let Some(staged) = self.staged.remove(path) {
             if staged.verified {
@@ -158,7 +157,7 @@ impl Work {
         }
     }
 
-    /// Flushes the write that is staged for a path to the disk. After an error it is no longer staged.
+    /// Flushes what is staged for a path to the disk. After an error it is staged no more.
     pub(crate) fn flush<R: Files<File = File>>(&mut self, rt: &R, path: &str) -> Answer<()> {
         let Some(staged) = self.staged.get_mut(path) else {
             return Ok(());
@@ -177,7 +176,7 @@ impl Work {
         }
     }
 
-    /// Compares a file for which a write is staged with what was read of it.
+    /// Compares a file that is staged with what was read of it.
     pub(crate) fn verify<R: Files<File = File>>(
         &mut self,
         rt: &R,
@@ -206,8 +205,8 @@ impl Work {
         Ok(())
     }
 
-    /// Writes a file. After the last verified write the folders are flushed to the disk, and the replaced
-    /// files are checked for changes by other programs.
+    /// Writes a file. Behind the last write that is compared the folders are flushed to the disk, and the
+    /// files that were replaced are looked at again.
     pub(crate) fn write<R: Files<File = File> + Alloc<A = Global> + Env>(
         &mut self,
         rt: &R,
@@ -233,7 +232,7 @@ impl Work {
         Ok(())
     }
 
-    /// Records a write that was carried out.
+    /// Notes a write that was made.
     fn note(&mut self, alloc: Global, staged: &Staged) -> Answer<()> {
         let path = String::from_str(alloc, staged.path.as_str())?;
         self.texts.insert(path, staged.text)?;
@@ -244,8 +243,8 @@ impl Work {
         Ok(())
     }
 
-    /// Flushes the folders of the replaced files, and checks those files for changes by other programs. A
-    /// folder that cannot be flushed is skipped: each file in it is whole, the old one or the new one.
+    /// Flushes the folders of the files that were replaced, and looks at those files again. A folder that
+    /// cannot be flushed is passed over: each file is whole, the old one or the new one.
     fn settle<R: Files<File = File> + Alloc<A = Global> + Env>(
         &mut self,
         rt: &R,
@@ -262,7 +261,7 @@ impl Work {
         done
     }
 
-    /// Discards the staged writes that were not carried out.
+    /// Gives up the writes that are ready and not made.
     pub(crate) fn unstage<R: Files<File = File> + Alloc<A = Global> + Env>(
         &mut self,
         rt: &R,
@@ -278,8 +277,8 @@ impl Work {
         let _ = self.settle(rt, alloc);
     }
 
-    /// Locks a folder until the end of the run. Where another run has locked it, a message is printed, and
-    /// the call waits.
+    /// Locks a folder until the end of the run. Where another run has locked it, this is told, and waited
+    /// for.
     pub(crate) fn lock<R: Files<File = File> + Eprint>(
         &mut self,
         rt: &R,

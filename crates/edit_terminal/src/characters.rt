@@ -1,4 +1,4 @@
-//! Characters that a terminal would interpret, and their escapes.
+//! Characters as a terminal shows them.
 ghost use Rattle.std.specs.Prelude.{◌≡◌, OnOk};
 ghost use Rattle.std.specs.Io.KnownBytes.{Appends};
 ghost use Rattle.std.specs.Str.{chars};
@@ -6,14 +6,15 @@ ghost use Rattle.edit_terminal.specs.Shown.{code_escape, escape, is_active, is_d
 
 use std::io;
 
-/// Whether a code point is in a range, its bounds included.
+/// Whether a character is one of those from the first to the last.
 fn is_within(code: u32, first: u32, last: u32) -> bool
     ensures { result ≡ is_within first last code }
 {
     first <= code && code <= last
 }
 
-/// Whether a character changes the direction of text, so that a terminal may show a line in another order.
+/// Whether a character sets the direction of text: then a terminal may show a line in another order than it
+/// has.
 fn is_directional(c: char) -> bool
     ensures { result ≡ is_directional c }
 {
@@ -24,8 +25,8 @@ fn is_directional(c: char) -> bool
         || is_within(code, 0x2066, 0x2069)
 }
 
-/// Whether a terminal would interpret a character instead of showing it. Tabs and line ends are not
-/// counted.
+/// Whether a terminal does something else with a character than to show it. Tabs and line ends are left to
+/// it.
 fn is_active(c: char) -> bool
     ensures { result ≡ is_active c }
 {
@@ -36,7 +37,7 @@ fn is_active(c: char) -> bool
     c.is_control() || is_within(code, 0x2028, 0x2029) || is_directional(c)
 }
 
-/// Writes the code point of a character, as `\u{1b}`.
+/// Writes the number of a character, as `\u{1b}`.
 fn write_code<W: io::Write>(to: &mut W, c: char) -> io::Result<()>
     ensures { OnOk result (Appends (W.contents to.old) (W.contents to.new) (code_escape c)) }
 {
@@ -44,7 +45,7 @@ fn write_code<W: io::Write>(to: &mut W, c: char) -> io::Result<()>
     write!(to, "\\u{{{code:x}}}")
 }
 
-/// Writes the escape of a character, as `char::escape_debug` does.
+/// Writes the escape of a character, as `escape_debug` has it.
 fn write_escape<W: io::Write>(to: &mut W, c: char) -> io::Result<()>
     ensures { OnOk result (Appends (W.contents to.old) (W.contents to.new) (escape c)) }
 {
@@ -58,7 +59,7 @@ fn write_escape<W: io::Write>(to: &mut W, c: char) -> io::Result<()>
     write_code(to, c)
 }
 
-/// Writes a character, escaped as `\u{1b}` where a terminal would interpret it.
+/// Writes a character so that a terminal shows it: as `\u{1b}` where the terminal would act on it.
 fn write_char<W: io::Write>(to: &mut W, c: char) -> io::Result<()>
     ensures { OnOk result (Appends (W.contents to.old) (W.contents to.new) (shown_char c)) }
 {
@@ -69,7 +70,7 @@ fn write_char<W: io::Write>(to: &mut W, c: char) -> io::Result<()>
     to.write_all(c.encode_utf8(&mut bytes).as_bytes())
 }
 
-/// Writes a text; characters that a terminal would interpret are escaped as `\u{1b}`.
+/// Writes a text so that a terminal shows each of its characters: those on which it would act as `\u{1b}`.
 pub fn write_shown<W: io::Write>(to: &mut W, text: &str) -> io::Result<()>
     ensures { OnOk result (Appends (W.contents to.old) (W.contents to.new) (shown (chars text.now))) }
 {

@@ -1,4 +1,4 @@
-//! Writes messages to a terminal, with characters escaped that the terminal would interpret.
+//! Messages on a terminal, in which no character of a foreign text makes the terminal act.
 #![tactic(auto)]
 
 mod characters;

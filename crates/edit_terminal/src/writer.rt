@@ -14,12 +14,12 @@ use std::{io, mem, str};
 #[derive(Drop)]
 pub struct TerminalWriter<W: io::Write + Drop> {
     to: W,
-    /// The first bytes of a character that is still incomplete.
+    /// The beginning of a character that has not come whole yet.
     rest: Vec<u8>,
 }
 
 impl<W: io::Write + Drop> TerminalWriter<W> {
-    /// Wraps a writer.
+    /// A writer that hands on to this one.
     pub fn new(alloc: Global, to: W) -> TerminalWriter<W>
         ensures inner { result.to ≡ to }
         ensures rest { result.rest.items ≡ [] }
@@ -30,7 +30,7 @@ impl<W: io::Write + Drop> TerminalWriter<W> {
         }
     }
 
-    /// The wrapped writer.
+    /// The writer that this one hands on to.
     pub fn get_ref(&self) -> &W
         ensures { result.now ≡ self.now.to }
     {
@@ -38,7 +38,8 @@ impl<W: io::Write + Drop> TerminalWriter<W> {
     }
 }
 
-/// The length of the complete characters in these bytes: all but an incomplete last character.
+/// How many of the bytes are in whole characters: all, or all but those of a last character that is not
+/// whole.
 fn whole_length(bytes: &[u8]) -> io::Result<usize>
     ensures within { IfOk result (λ n. n ≤ length bytes.now) }
     ensures text { IfOk result (λ n. IsUtf8 (take n bytes.now)) }

@@ -1,4 +1,4 @@
--- Parsed entries of an index, as contracts see them.
+-- What is read of an entry of an index, as clauses see it.
 use Rattle.std.specs.Borrow.{Bor}
 use Rattle.std.specs.Prelude.{Bool, Option, option_copied, option_map}
 use Rattle.semver.specs.Identifiers.{parts_of}
@@ -11,7 +11,8 @@ use Rattle.edit_version.specs.RustVersions.{Numbers, numbers_of}
 use Rattle.edit_version.specs.declared.rust_version.RustVersion.{RustVersion}
 use Rattle.edit_version.specs.declared.candidates.Candidate.{Candidate}
 
--- the version matches the requirement; without one, it is no pre-release, or these are allowed (own)
+-- the versions that are wanted, by what a call is given: a requirement admits them, or without one they may
+-- have their pre-release (own)
 abbrev pub wants : Bool → Option (Bor VersionReq) → Parts → Bool
 wants pre req = is_wanted pre (option_map comparators_of (option_copied req))
 
@@ -19,10 +20,10 @@ wants pre req = is_wanted pre (option_map comparators_of (option_copied req))
 abbrev pub numbers_in : Option RustVersion → Option Numbers
 numbers_in rust = option_map numbers_of rust
 
--- the parts of a borrowed version, if there is one (own)
+-- the parts of a version that is lent, where one is (own)
 abbrev pub parts_in : Option (Bor Version) → Option Parts
 parts_in version = option_map parts_of (option_copied version)
 
--- the parsed version and the minimum Rust version of an entry (own)
+-- the version that was read, and the Rust version that the entry asks for (own)
 abbrev pub candidate_view : Candidate → Parts × Option Numbers
 candidate_view c = (parts_of c.version, option_map numbers_of c.rust_version)

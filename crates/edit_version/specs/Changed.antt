@@ -1,4 +1,4 @@
--- The results of calls that change a version.
+-- What a call that changes a version answers.
 use Rattle.std.specs.Prelude.{◌≡◌, false, List, ℕ, Result, Ok, Err, string_bytes}
 use Rattle.semver.specs.Grammar.{is_build}
 use Rattle.semver.specs.Identifiers.{parts_of, parts_text}
@@ -9,7 +9,7 @@ use Rattle.edit_base.specs.declared.errors.Error.TheVariants as error
 use Rattle.edit_version.specs.Increments.{AtEnd, Behind, Change, Metadata, Refused, Scheme, To, word}
 use Rattle.edit_version.specs.declared.version.Phase.{Phase}
 
--- the error for a change that fails, with the details it has of the unchanged version (own)
+-- why a change was refused, with what the refusal tells of the version as it was (own)
 abbrev pub IsCause : Change → Parts → Error → Type 0
 IsCause c old (error.ReleaseLevel level version) =
     (p : Phase) × (c ≡ Refused (Behind p)) × (string_bytes level ≡ word p)
@@ -21,20 +21,19 @@ IsCause c old (error.InvalidMetadata text) = c ≡ Refused (Metadata (string_byt
 IsCause c old error.Memory = Unit {0}
 IsCause c old _ = ⊥
 
--- the version is changed in this way, or it is unchanged and the call fails for this reason (own)
+-- the version was changed so, or is as it was and the call was refused for cause (own)
 abbrev pub IsChanged : Change → Version → Version → Result (Unit {0}) Error → Type 0
 IsChanged c old new (Ok u) = c ≡ To (parts_of new)
 IsChanged c old new (Err e) = (new ≡ old) × IsCause c (parts_of old) e
 
--- the result of a call that does not allocate: the version is changed, or it is unchanged and a number is
--- `u64::MAX` (own)
+-- the same of a call that takes no memory: it is refused only where a number stands at its end (own)
 abbrev pub IsRaisedOrAtEnd : Change → Version → Version → Result (Unit {0}) Error → Type 0
 IsRaisedOrAtEnd c old new (Ok u) = c ≡ To (parts_of new)
 IsRaisedOrAtEnd c old new (Err (error.NumberAtEnd major minor patch)) =
     (new ≡ old) × (c ≡ Refused AtEnd) × (major ≡ old.major) × (minor ≡ old.minor) × (patch ≡ old.patch)
 IsRaisedOrAtEnd c old new (Err _) = ⊥
 
--- the error for invalid build metadata, or `Error::Memory` (own)
+-- build metadata outside its grammar is refused as such, where memory lasts (own)
 abbrev pub IsUnreadBuild : List ℕ → Error → Type 0
 IsUnreadBuild text (error.InvalidMetadata s) = (is_build text ≡ false) × (string_bytes s ≡ text)
 IsUnreadBuild text error.Memory = Unit {0}

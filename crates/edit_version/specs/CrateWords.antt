@@ -1,4 +1,4 @@
--- Crate specifications such as `serde` and `serde@1.0` (Cargo reference, "Package ID Specifications").
+-- Words that name a crate, as `serde` and `serde@1.0` (Cargo reference, "Package ID Specifications").
 use Rattle.std.specs.Prelude.{◌≡◌, ◌<◌, ℕ, List, [], ◌∷◌, ◌++◌, Bool, not, ◌==◌, ◌||◌, if◌then◌else◌, Option, Some, None, IsErr, IsOk, IfSome, codes, encode_utf8, length, option_map, string_bytes}
 use Rattle.std.specs.List.{after_first, before_first, filter, position_or_len}
 use Rattle.std.specs.Str.{chars}
@@ -11,60 +11,59 @@ use Rattle.edit_base.specs.declared.errors.Error.{Error}
 use Rattle.edit_base.specs.declared.errors.Error.TheVariants as error
 use Rattle.edit_version.specs.declared.crate_spec.CrateSpec.{CrateSpec}
 
--- the name in a specification: the text before its first `@` (own)
+-- the name in a word, up to its first `@` (own)
 abbrev pub word_name : List ℕ → List ℕ
 word_name word = before_first (λ b. b == 64) word
 
--- the requirement in a specification: the text after its first `@`, if there is one (own)
+-- the requirement in a word, after its first `@`, none where there is no `@` (own)
 abbrev pub word_requirement : List ℕ → Option (List ℕ)
 word_requirement word = if position_or_len (λ b. b == 64) word == length word
     then None else Some (after_first (λ b. b == 64) word)
 
--- a character that crate names may have: `-`, `_`, a letter or a number of Unicode (own)
+-- a character that a crate's name may have: `-`, `_`, a letter or a number of Unicode (own)
 abbrev pub is_name_char : ℕ → Bool
 is_name_char c = c == 45 || c == 95 || is_alphabetic c || in_group Number (general_category c)
 
--- the characters of a name that crate names may not have, in order (own)
+-- the characters of a name that no name may have, in their order (own)
 abbrev pub unfit : List ℕ → List ℕ
 unfit name = filter (λ c. not (is_name_char c)) (chars name)
 
--- a list of characters, each after a comma and a space
+-- further characters, each after a comma and a space
 abbrev pub after_comma : List ℕ → List ℕ
 after_comma [] = []
 after_comma (c ∷ cs) = codes ", " ++ (encode_utf8 c ++ after_comma cs)
 
--- a list of characters joined by a comma and a space (own)
+-- characters as a text, joined by a comma and a space (own)
 abbrev pub listed : List ℕ → List ℕ
 listed [] = []
 listed (c ∷ cs) = encode_utf8 c ++ after_comma cs
 
--- there is no requirement, or it can be parsed (own)
+-- the requirement in a word is there and is read, or there is none (own)
 abbrev pub IsReadOrAbsent : Option (List ℕ) → Type 0
 IsReadOrAbsent req = IfSome req (λ text. IsOk (req_of text))
 
--- the name and the requirement of a valid specification (own)
+-- what a word names: a name of fit characters, and a requirement that is read (own)
 pub record IsNamedBy (word : List ℕ) (spec : CrateSpec) : Type 0 where
   pub crate_name : string_bytes spec.name ≡ word_name word
   pub fit : unfit (word_name word) ≡ []
   pub requirement : option_map string_bytes spec.version_req ≡ word_requirement word
   pub readable : IsReadOrAbsent (word_requirement word)
 
--- the error for an invalid name, with its invalid characters (own)
+-- why a name is refused, with its unfit characters (own)
 abbrev pub IsRefusedName : List ℕ → Error → Type 0
 IsRefusedName text (error.InvalidName name characters) =
     (0 < length (unfit text)) × (string_bytes name ≡ text) × (string_bytes characters ≡ listed (unfit text))
 IsRefusedName text error.Memory = Unit {0}
 IsRefusedName text _ = ⊥
 
--- the error for an invalid requirement in a specification (own)
+-- why the requirement of a word is refused (own)
 abbrev pub IsRefusedRequirement : Option (List ℕ) → Error → Type 0
 IsRefusedRequirement req (error.InvalidRequirement text) =
     (req ≡ Some (string_bytes text)) × IsErr (req_of (string_bytes text))
 IsRefusedRequirement req error.Memory = Unit {0}
 IsRefusedRequirement req _ = ⊥
 
--- the error for an invalid specification: of its name first, then of its requirement, or `Error::Memory`
--- (own)
+-- why a word is refused: for the characters of its name, else for its requirement, where memory lasts (own)
 abbrev pub IsRefusedWord : List ℕ → Error → Type 0
 IsRefusedWord word (error.InvalidName name characters) =
     (0 < length (unfit (word_name word))) × (string_bytes name ≡ word_name word)

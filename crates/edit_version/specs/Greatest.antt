@@ -1,11 +1,10 @@
--- The last of the greatest elements of a list that pass a test (own).
+-- The last of the greatest kept entries of a list (own).
 use Rattle.std.specs.Prelude.{◌≡◌, if◌then◌else◌, ◌++◌, ◌∷◌, List, Bool, Option, Some, None, true, false, All}
 use Rattle.std.specs.Ordering.{is_le, is_lt}
 use Rattle.std.specs.declared.cmp.Ordering.{Ordering}
 use Rattle.std.specs.declared.cmp.Ordering.TheVariants.{Less}
 
--- an element that passes the test: no earlier one that passes is greater, and every later one that passes is
--- below it
+-- an entry that is kept, that no kept entry before it exceeds, and that every kept entry after it is below
 pub record IsGreatestKept {X : Type 0} (keep : X → Bool) (cmp : X → X → Ordering) (xs : List X) (e : X)
     : Type 0 where
   pub front : List X
@@ -15,16 +14,16 @@ pub record IsGreatestKept {X : Type 0} (keep : X → Bool) (cmp : X → X → Or
   pub before : All (λ x. keep x ≡ true → is_le (cmp x e) ≡ true) front
   pub after : All (λ x. keep x ≡ true → cmp x e ≡ Less) rest
 
--- the last greatest element that passes the test, or `None` where none passes
+-- such an entry, or none where none is kept
 abbrev pub IsGreatest : {X : Type 0} → (X → Bool) → (X → X → Ordering) → List X → Option X → Type 0
 IsGreatest keep cmp xs None = All (λ x. keep x ≡ false) xs
 IsGreatest keep cmp xs (Some e) = IsGreatestKept keep cmp xs e
 
--- the new element, unless it is below the greatest so far
+-- the entry itself, unless it is below the one before it
 abbrev pub pick : {X : Type 0} → (X → X → Ordering) → Option X → X → X
 pick cmp None x = x
 pick cmp (Some e) x = if is_lt (cmp x e) then e else x
 
--- the greatest so far, after one more element
+-- the greatest so far, after one more entry
 abbrev pub advance : {X : Type 0} → (X → Bool) → (X → X → Ordering) → Option X → X → Option X
 advance keep cmp best x = if keep x then Some (pick cmp best x) else best

@@ -1,4 +1,4 @@
--- The increments of a version (SemVer 2.0.0, items 6 to 10).
+-- What increments make of a version (SemVer 2.0.0, items 6 to 10).
 use Rattle.std.specs.Prelude.{ℕ, List, [], ◌∷◌, ◌++◌, ◌+◌, ◌^◌, ◌==◌, ◌&&◌, ◌||◌, Bool, false, Option, Some, None, codes, if◌then◌else◌, length, nat_eq, nat_lt}
 use Rattle.std.specs.Cmp.Lexicographic.{pointwise}
 use Rattle.std.specs.Fmt.{decimal}
@@ -17,23 +17,23 @@ pub data Level : Type 0 where
   Patch : Level
   Pre : Phase → Level
 
--- why a version cannot be changed (own)
+-- why a version is not changed (own)
 pub data Refusal : Type 0 where
   -- its pre-release is of a later phase
   Behind : Phase → Refusal
-  -- its pre-release is neither a word nor a word and a number
+  -- its pre-release is no word, and no word and a number
   Scheme : Refusal
-  -- a number is at its maximum
+  -- a number stands at its end
   AtEnd : Refusal
-  -- the build metadata is not valid
+  -- the build metadata is outside its grammar
   Metadata : List ℕ → Refusal
 
--- the result of a change of a version (own)
+-- what a change of a version gives (own)
 pub data Change : Type 0 where
   Refused : Refusal → Change
   To : Parts → Change
 
--- the version with an incremented number, where 64 bits hold that (own)
+-- a version with a number that rose, where 64 bits hold it (own)
 abbrev pub if_fits : ℕ → Parts → Change
 if_fits n v = if nat_lt n (2 ^ 64) then To v else Refused AtEnd
 
@@ -57,11 +57,11 @@ word phase.Alpha = codes "alpha"
 word phase.Beta = codes "beta"
 word phase.Rc = codes "rc"
 
--- the two texts are equal
+-- two texts are one
 abbrev pub is_text : List ℕ → List ℕ → Bool
 is_text a b = pointwise nat_eq a b
 
--- the word is that of a phase after this one (own)
+-- whether a word is that of a phase after this one (own)
 abbrev pub is_behind : Phase → List ℕ → Bool
 is_behind phase.Alpha w = is_text w (codes "beta") || is_text w (codes "rc")
 is_behind phase.Beta w = is_text w (codes "rc")
@@ -71,7 +71,7 @@ is_behind phase.Rc w = false
 abbrev pub numbered : Phase → ℕ → List ℕ
 numbered p n = word p ++ (46 ∷ decimal n)
 
--- the value of a text that is a decimal number of 64 bits (own)
+-- the decimal number of 64 bits that a text is (own)
 abbrev pub number_of : List ℕ → Option ℕ
 number_of text =
     if is_numeric text && nat_lt 0 (length text) && nat_lt (digits_value 10 text) (2 ^ 64)
@@ -87,7 +87,7 @@ number_after pre =
     if position_or_len (λ b. b == 46) pre == length pre
     then Some 0 else number_of (after_first (λ b. b == 46) pre)
 
--- the next pre-release of a phase, from the current word and its number (own)
+-- the next pre-release of a phase, from a word and its number, none where it is no number (own)
 abbrev pub next_of : Phase → Parts → List ℕ → Option ℕ → Change
 next_of p v w None = Refused Scheme
 next_of p v w (Some n) =
@@ -95,20 +95,20 @@ next_of p v w (Some n) =
     else (if is_text w (word p) then if_fits (n + 1) (v.0, v.1, v.2, numbered p (n + 1), v.4)
     else To (v.0, v.1, v.2, numbered p 1, v.4))
 
--- the next version of a phase: its first pre-release of the next patch version; for a pre-release of the same
--- phase its next number, and for another one the first pre-release of this phase (own)
+-- the next version of a phase: the first of the next patch version, or
+-- of a pre-release the next number, or the first of a later phase (own)
 abbrev pub next_phase : Phase → Parts → Change
 next_phase p v =
     if length v.3 == 0 then if_fits (v.2 + 1) (v.0, v.1, v.2 + 1, numbered p 1, [])
     else next_of p v (word_of v.3) (number_after v.3)
 
--- the result of an increment (own)
+-- what incrementing gives (own)
 abbrev pub step : Level → Parts → Change
 step Major v = if_fits (v.0 + 1) (next_major v)
 step Minor v = if_fits (v.1 + 1) (next_minor v)
 step Patch v = if_fits (v.2 + 1) (next_patch v)
 step (Pre p) v = next_phase p v
 
--- the version with other build metadata (SemVer 2.0.0, item 10)
+-- with other build metadata (SemVer 2.0.0, item 10)
 abbrev pub with_build : List ℕ → Parts → Change
 with_build m v = if is_build m then To (v.0, v.1, v.2, v.3, m) else Refused (Metadata m)

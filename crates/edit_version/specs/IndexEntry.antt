@@ -1,15 +1,15 @@
--- An entry of an index, for one version of a crate (Cargo reference, "Registries", index format).
+-- What an index tells of one version of a crate (Cargo reference, "Registries", index format).
 use Rattle.std.specs.Prelude.{ℕ, List, Option, Bool, option_map, string_bytes}
 use Rattle.edit_version.specs.declared.fetch.IndexVersion.{IndexVersion}
 
--- the crate's name, the version's text, whether it is yanked, and its minimum Rust version
+-- the crate's name, the version's text, whether it is yanked, and the Rust version that it asks for
 pub record IndexEntry : Type 0 where
   pub name : List ℕ
   pub version : List ℕ
   pub yanked : Bool
   pub rust_version : Option (List ℕ)
 
--- the model of an `IndexVersion` (own)
+-- an entry by its texts (own)
 abbrev pub entry_of : IndexVersion → IndexEntry
 entry_of v = record {
   name = string_bytes v.name;

@@ -1,4 +1,4 @@
--- The increments of pre-releases, one for each phase, for crates that cannot name `Phase` (own).
+-- The increments of pre-releases, one for each phase, for crates that cannot name a phase (own).
 use Rattle.edit_version.specs.Increments.{Level, Pre}
 use Rattle.edit_version.specs.declared.version.Phase.TheVariants as phase
 

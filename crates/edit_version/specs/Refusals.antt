@@ -1,4 +1,4 @@
--- The results of calls on requirements and Rust versions, and their errors.
+-- What calls on requirements and Rust versions answer, and why they are refused.
 use Rattle.std.specs.Prelude.{◌≡◌, List, ℕ, Option, Some, None, Result, Ok, Err, IsErr, IsOk, String, string_bytes}
 use Rattle.std.specs.declared.alloc.Global.{Global}
 use Rattle.semver.specs.Parse.{Held, req_of}
@@ -7,21 +7,20 @@ use Rattle.edit_base.specs.declared.errors.Error.TheVariants as error
 use Rattle.edit_version.specs.Requirement.{Raised, Unread, Nothing, Unsupported, Text, comparator_text}
 use Rattle.edit_version.specs.RustVersions.{rust_of}
 
--- `Error::InvalidRequirement` with a text that is not a requirement, or `Error::Memory` (own)
+-- a text that is read as no requirement is refused with that text, where memory lasts (own)
 abbrev pub IsUnread : List ℕ → Error → Type 0
 IsUnread text (error.InvalidRequirement s) = IsErr (req_of text) × (string_bytes s ≡ text)
 IsUnread text error.Memory = Unit {0}
 IsUnread text _ = ⊥
 
--- the error for a text that is not a Rust version, because it is no requirement or one of another form (own)
+-- a text that is read as no Rust version is refused, as no requirement or as another requirement (own)
 abbrev pub IsNoRustVersion : List ℕ → Error → Type 0
 IsNoRustVersion text (error.InvalidRequirement s) = IsErr (req_of text) × (string_bytes s ≡ text)
 IsNoRustVersion text error.BadRustVersion = IsOk (req_of text) × (rust_of text ≡ None)
 IsNoRustVersion text error.Memory = Unit {0}
 IsNoRustVersion text _ = ⊥
 
--- the error for a requirement that cannot be upgraded: it is invalid, or a comparator has an unsupported
--- operator (own)
+-- why a text is not raised: it is no requirement, or a comparator of it cannot be raised (own)
 abbrev pub IsRefusal : Raised → List ℕ → Error → Type 0
 IsRefusal r text (error.InvalidRequirement s) = (r ≡ Unread) × (string_bytes s ≡ text)
 IsRefusal r text (error.Unsupported s) =
@@ -29,7 +28,7 @@ IsRefusal r text (error.Unsupported s) =
 IsRefusal r text error.Memory = Unit {0}
 IsRefusal r text _ = ⊥
 
--- the result of upgrading a requirement, or `Error::Memory` (own)
+-- the answer is what raising the text gives, where memory lasts (own)
 abbrev pub IsAnswer : Raised → List ℕ → Result (Option (String Global)) Error → Type 0
 IsAnswer r text (Ok None) = r ≡ Nothing
 IsAnswer r text (Ok (Some s)) = r ≡ Text (string_bytes s)

@@ -1,6 +1,6 @@
--- How a requirement is written and how it is upgraded to a version (own; the operators are those of Cargo
--- reference, "Specifying Dependencies"). A comparator is what `semver` parses: an operator, numbers and a
--- pre-release; a version is its numbers and texts.
+-- How a requirement is written, and how it is raised to a version (own; the signs are those of Cargo
+-- reference, "Specifying Dependencies"). A comparator is what `semver` read of it: its
+-- operator, its numbers and its pre-release; a version is its numbers and texts.
 use Rattle.std.specs.Prelude.{ℕ, List, [], ◌∷◌, ◌++◌, Option, Some, None, Result, Ok, Err, Bool, true, false, ◌==◌, nat_eq, codes, map, find, if◌then◌else◌}
 use Rattle.std.specs.Cmp.Lexicographic.{pointwise}
 use Rattle.std.specs.Fmt.{decimal}
@@ -13,15 +13,15 @@ use Rattle.semver.specs.declared.Op.{Op}
 use Rattle.semver.specs.declared.VersionReq.{VersionReq}
 use Rattle.semver.specs.declared.Op.TheVariants as op
 
--- the comparators of a parsed requirement (own)
+-- the comparators of a requirement that was read (own)
 abbrev pub comparators_of : VersionReq → List Held
 comparators_of req = map comparator_view req.comparators.items
 
--- the parsed comparators of a text; none where it is not a requirement
+-- what is read of a text as a requirement, none where it is none
 abbrev pub requirement_read : List ℕ → Option (List Held)
 requirement_read text = result_ok (req_of text)
 
--- an operator as written (Cargo reference, "Specifying Dependencies")
+-- the sign of an operator (Cargo reference, "Specifying Dependencies")
 abbrev pub sign : Op → List ℕ
 sign op.Exact = codes "="
 sign op.Greater = codes ">"
@@ -32,22 +32,22 @@ sign op.Tilde = codes "~"
 sign op.Caret = codes "^"
 sign op.Wildcard = []
 
--- a dot and a number, where there is one
+-- a number that may be left out, with the dot before it
 abbrev pub dotted : Option ℕ → List ℕ
 dotted None = []
 dotted (Some n) = 46 ∷ decimal n
 
--- a pre-release, which is written only after a patch number
+-- a pre-release, which stands only after a patch number
 abbrev pub after_patch : Option ℕ → List ℕ → List ℕ
 after_patch None pre = []
 after_patch (Some p) pre = marked 45 pre
 
--- the `.*` of a wildcard without patch number
+-- the star of a wildcard without patch number
 abbrev pub star : Op → Option ℕ → List ℕ
 star op.Wildcard None = codes ".*"
 star o p = []
 
--- a comparator without its operator
+-- a comparator after its sign
 abbrev pub unsigned_text : Held → List ℕ
 unsigned_text c = decimal c.1 ++ (dotted c.2 ++ (dotted c.3 ++ (after_patch c.3 c.4 ++ star c.0 c.3)))
 
@@ -55,7 +55,7 @@ unsigned_text c = decimal c.1 ++ (dotted c.2 ++ (dotted c.3 ++ (after_patch c.3 
 abbrev pub comparator_text : Held → List ℕ
 comparator_text c = sign c.0 ++ unsigned_text c
 
--- further comparators, each after a comma and a space
+-- further comparators, each after a comma
 abbrev pub more_text : List Held → List ℕ
 more_text [] = []
 more_text (c ∷ cs) = codes ", " ++ (comparator_text c ++ more_text cs)
@@ -65,12 +65,12 @@ abbrev pub requirement_text : List Held → List ℕ
 requirement_text [] = codes "*"
 requirement_text (c ∷ cs) = comparator_text c ++ more_text cs
 
--- the version's number in the place of one that is there
+-- a number takes the version's where it is there
 abbrev pub renumbered : Option ℕ → ℕ → Option ℕ
 renumbered None n = None
 renumbered (Some m) n = Some n
 
--- the version's pre-release; a wildcard keeps its own
+-- the version's pre-release, but a wildcard keeps its own
 abbrev pub raised_pre : Op → List ℕ → List ℕ → List ℕ
 raised_pre op.Wildcard own pre = own
 raised_pre o own pre = pre
@@ -79,7 +79,7 @@ raised_pre o own pre = pre
 abbrev pub raised : Parts → Held → Held
 raised v c = (c.0, v.0, renumbered c.2 v.1, renumbered c.3 v.2, raised_pre c.0 c.4 v.3)
 
--- the operator is `>`, `>=`, `<` or `<=`
+-- whether an operator is `>`, `>=`, `<` or `<=`
 abbrev pub is_inequality : Op → Bool
 is_inequality op.Greater = true
 is_inequality op.GreaterEq = true
@@ -87,47 +87,47 @@ is_inequality op.Less = true
 is_inequality op.LessEq = true
 is_inequality o = false
 
--- the text begins with `^`
+-- whether a text begins with `^`
 abbrev pub starts_with_caret : List ℕ → Bool
 starts_with_caret [] = false
 starts_with_caret (b ∷ rest) = b == 94
 
--- the text without its leading `^`
+-- a text without the `^` that leads it
 abbrev pub without_caret : List ℕ → List ℕ
 without_caret [] = []
 without_caret (b ∷ rest) = if b == 94 then rest else b ∷ rest
 
--- the new text begins with `^` only where the old one does
+-- a new text leads with `^` only where the old one does
 abbrev pub led_as : List ℕ → List ℕ → List ℕ
 led_as old new = if starts_with_caret old then new else without_caret new
 
--- the result of upgrading a requirement to a version
+-- what raising a requirement to a version gives
 pub data Raised : Type 0 where
-  -- the text is not a requirement
+  -- `semver` does not read the text
   Unread : Raised
-  -- the text stays the same
+  -- there is no other text
   Nothing : Raised
-  -- the first comparator that cannot be upgraded
+  -- the first comparator that cannot be raised
   Unsupported : Held → Raised
   -- the new text
   Text : List ℕ → Raised
 
--- the new text, where it differs from the old one
+-- the new text, where it is another
 abbrev pub unless_same : List ℕ → List ℕ → Raised
 unless_same old new = if pointwise nat_eq new old then Nothing else Text new
 
--- the first comparator that cannot be upgraded, or the text of all comparators upgraded
+-- the first comparator that cannot be raised, or the text of all raised
 abbrev pub raise_all : List ℕ → Parts → List Held → Option Held → Raised
 raise_all text v cs (Some c) = Unsupported c
 raise_all text v cs None = unless_same text (led_as text (requirement_text (map (raised v) cs)))
 
--- the upgrade of a parsed requirement
+-- raising what was read of a text
 abbrev pub raise_read : List ℕ → Parts → Result (List Held) Error → Raised
 raise_read text v (Err e) = Unread
 raise_read text v (Ok []) = Nothing
 raise_read text v (Ok (c ∷ cs)) = raise_all text v (c ∷ cs) (find (λ d. is_inequality d.0) (c ∷ cs))
 
--- the upgrade of a requirement to a version
+-- a requirement raised to a version
 abbrev pub raise : List ℕ → Parts → Raised
 raise text v = raise_read text v (req_of text)
 

@@ -1,4 +1,5 @@
--- Rust versions, as in manifests and indexes (Cargo reference, "The Manifest Format", rust-version).
+-- Versions of Rust, as a manifest or an index names them
+-- (Cargo reference, "The Manifest Format", rust-version).
 use Rattle.std.specs.Prelude.{ℕ, List, [], ◌∷◌, Bool, nat_lt, ◌==◌, ◌&&◌, ◌||◌, Option, Some, None, Result, Ok, Err, unwrap_or}
 use Rattle.semver.specs.Parse.{Held, req_of}
 use Rattle.semver.specs.declared.error.Error.{Error}
@@ -13,21 +14,21 @@ Numbers = ℕ × ℕ × ℕ
 abbrev pub numbers_of : RustVersion → Numbers
 numbers_of v = (v.major, v.minor, v.patch)
 
--- the numbers of one caret comparator without pre-release, where the list is exactly that; missing numbers
--- are 0 (Cargo reference, "The Manifest Format", rust-version)
+-- the numbers that comparators name: those of one caret without pre-release, missing ones being 0 (Cargo
+-- reference, "The Manifest Format", rust-version)
 abbrev pub rust_numbers : List Held → Option Numbers
 rust_numbers ((op.Caret, major, minor, patch, []) ∷ []) = Some (major, unwrap_or minor 0, unwrap_or patch 0)
 rust_numbers other = None
 
--- the numbers of a parsed requirement that is a Rust version
+-- the numbers of what was read of a text
 abbrev rust_read : Result (List Held) Error → Option Numbers
 rust_read (Ok comparators) = rust_numbers comparators
 rust_read (Err e) = None
 
--- the Rust version of a text; none where the text is not one
+-- the Rust version that a text names, none where it is no such text
 abbrev pub rust_of : List ℕ → Option Numbers
 rust_of text = rust_read (req_of text)
 
--- a Rust version is above another, in lexicographic order
+-- whether a Rust version is above another, in list order
 abbrev pub is_above : Numbers → Numbers → Bool
 is_above a b = nat_lt b.0 a.0 || ((a.0 == b.0) && (nat_lt b.1 a.1 || ((a.1 == b.1) && nat_lt b.2 a.2)))

@@ -1,4 +1,4 @@
-//! Selects the greatest version among the entries of an index.
+//! What is read of an index's entries, and the greatest of them.
 ghost use Rattle.std.specs.Prelude.{◌≡◌, None, Some, Ok, not, IfOk, IfErr, map, option_map};
 ghost use Rattle.edit_base.specs.Errors.{IsMemory};
 ghost use Rattle.edit_version.specs.Admissible.{asked_rust, candidate_in, entry_order, is_kept, is_too_new, kept_in, version_in};
@@ -18,16 +18,16 @@ use edit_base::errors::CargoResult;
 use semver::{Version, VersionReq};
 use std::alloc::Global;
 
-/// The parsed form of an index entry that is not yanked and whose version can be parsed.
+/// What is read of an entry that is not yanked and whose version is readable.
 #[derive(Drop)]
 pub struct Candidate {
     pub version: Version,
-    /// The minimum Rust version of the entry; `None` where it has none or one that cannot be parsed.
+    /// The Rust version that the entry asks for, none where it asks for none or for what is no Rust version.
     pub rust_version: Option<RustVersion>,
 }
 
 impl Candidate {
-    /// Whether the given Rust version is at least the entry's minimum; true where either is missing.
+    /// Whether the Rust version that the entry asks for is not above a given one, where there are both.
     pub fn is_for(&self, rust_version: Option<RustVersion>) -> bool
         ensures { result ≡ not (is_too_new (numbers_in self.now.rust_version) (numbers_in rust_version)) }
     {
@@ -35,7 +35,7 @@ impl Candidate {
     }
 }
 
-/// Whether `asked`, a minimum Rust version, is at most `given`; true where either is missing.
+/// Whether the Rust version that is asked for is not above the given one, where there are both.
 pub fn is_for(asked: Option<RustVersion>, given: Option<RustVersion>) -> bool
     ensures { result ≡ not (is_too_new (numbers_in asked) (numbers_in given)) }
 {
@@ -45,7 +45,7 @@ pub fn is_for(asked: Option<RustVersion>, given: Option<RustVersion>) -> bool
     }
 }
 
-/// The minimum Rust version of an entry; `None` where it has none or one that cannot be parsed.
+/// The Rust version that an entry asks for, none where it asks for none or for what is no Rust version.
 fn asked_rust_version(alloc: Global, told: &IndexVersion) -> CargoResult<Option<RustVersion>>
     ensures ok { IfOk result (λ o. option_map numbers_of o ≡ asked_rust (entry_of told.now)) }
     ensures refused { IfErr result IsMemory }
@@ -56,7 +56,7 @@ fn asked_rust_version(alloc: Global, told: &IndexVersion) -> CargoResult<Option<
     }
 }
 
-/// Parses an index entry; `None` where it is yanked or its version cannot be parsed.
+/// What is read of an entry, none where it is yanked or its version is not readable.
 pub fn read_candidate(alloc: Global, told: &IndexVersion) -> CargoResult<Option<Candidate>>
     ensures ok { IfOk result (λ o. option_map candidate_view o ≡ candidate_in (entry_of told.now)) }
     ensures refused { IfErr result IsMemory }
@@ -74,7 +74,7 @@ pub fn read_candidate(alloc: Global, told: &IndexVersion) -> CargoResult<Option<
     }))
 }
 
-/// Whether a version matches the requirement; without one, whether it is no pre-release or these are allowed.
+/// Whether a version is wanted: a requirement admits it, or without one, it may have its pre-release.
 pub fn is_wanted(version: &Version, allow_prerelease: bool, req: Option<&VersionReq>) -> bool
     ensures { result ≡ wants allow_prerelease req.entry (parts_of version.now) }
 {
@@ -84,7 +84,7 @@ pub fn is_wanted(version: &Version, allow_prerelease: bool, req: Option<&Version
     }
 }
 
-/// The version of an index entry, where it is not yanked, fits the Rust version and matches.
+/// The version of an entry that is admissible and wanted.
 fn kept_version(
     alloc: Global,
     told: &IndexVersion,
@@ -105,7 +105,7 @@ fn kept_version(
     Ok(Some(candidate.version))
 }
 
-/// The entry with the greatest version among those that qualify; the last of several equal ones.
+/// The greatest of the entries that are admissible and wanted, the last of equal ones.
 pub fn greatest_entry<'a>(
     alloc: Global,
     versions: &'a [IndexVersion],
@@ -129,7 +129,7 @@ pub fn greatest_entry<'a>(
     }
 }
 
-/// An entry that qualifies, with its parsed version.
+/// An entry that is kept, with its version.
 #[derive(Drop)]
 struct Found<'a> {
     told: &'a IndexVersion,
@@ -137,14 +137,14 @@ struct Found<'a> {
     ghost read: { version_in (entry_of told.now) ≡ Some (parts_of version) },
 }
 
-/// Whether a version precedes another in the full order, which includes build metadata.
+/// Whether a version comes before another in the full order.
 fn is_below(version: &Version, other: &Version) -> bool
     ensures { result ≡ is_lt (full_order (parts_of version.now) (parts_of other.now)) }
 {
     version < other
 }
 
-/// The entry with the greater version; `found` where they are equal.
+/// The later of two entries that is not below the other.
 fn later<'a>(best: Option<Found<'a>>, found: Found<'a>) -> Found<'a>
     ensures { entry_of result.told.now
         ≡ pick entry_order (option_map (λ f. entry_of f.told.now) best.entry)
@@ -162,7 +162,7 @@ fn later<'a>(best: Option<Found<'a>>, found: Found<'a>) -> Found<'a>
     }
 }
 
-/// The greatest entry so far, updated with one more entry.
+/// The greatest entry so far, after one more.
 fn advanced<'a>(
     alloc: Global,
     best: Option<Found<'a>>,

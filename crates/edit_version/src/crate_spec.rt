@@ -1,4 +1,4 @@
-//! Crate specifications: a name with an optional requirement, as in `serde@1.0`.
+//! Words that name a crate, and perhaps a requirement.
 ghost use Rattle.std.specs.Prelude.{◌≡◌, [], IfErr, IfOk, OnOk, None, Some, encode_utf8, length, map, option_map, string_bytes};
 ghost use Rattle.std.specs.List.{after_first, before_first, filter};
 ghost use Rattle.std.specs.Str.{chars};
@@ -11,7 +11,7 @@ use edit_base::errors::{CargoResult, Error};
 use std::alloc::{AllocError, Global};
 use unicode::properties::{GeneralCategory, GeneralCategoryGroup, is_alphabetic};
 
-/// A crate's name and an optional version requirement.
+/// A crate's name, and perhaps a requirement.
 #[derive(Debug, Drop)]
 pub struct CrateSpec {
     pub name: String,
@@ -27,14 +27,14 @@ fn is_name_char(c: char) -> bool
         || GeneralCategoryGroup::Number.contains(GeneralCategory::for_char(c))
 }
 
-/// The characters of a name that are not allowed in crate names.
+/// The characters of a name that no name may have.
 fn unfit(alloc: Global, name: &str) -> Result<Vec<char>, AllocError>
     ensures { IfOk result (λ v. v.items ≡ unfit name.now) }
 {
     name.chars().filter(|c| !is_name_char(*c)).collect(alloc)
 }
 
-/// The characters joined by `, `.
+/// Characters joined by a comma and a space.
 fn listed(alloc: Global, characters: &[char]) -> Result<String, AllocError>
     ensures { IfOk result (λ s. string_bytes s ≡ listed characters.now) }
 {
@@ -50,7 +50,7 @@ fn listed(alloc: Global, characters: &[char]) -> Result<String, AllocError>
     Ok(out)
 }
 
-/// Fails with `Error::InvalidName` where a name has a character that is not allowed.
+/// Refuses a name with a character that no name may have.
 fn check_name(alloc: Global, name: &str) -> CargoResult<()>
     ensures ok { OnOk result (unfit name.now ≡ []) }
     ensures refused { IfErr result (λ e. IsRefusedName name.now e) }
@@ -65,7 +65,7 @@ fn check_name(alloc: Global, name: &str) -> CargoResult<()>
     })
 }
 
-/// Checks that the text parses as a requirement and returns a copy of it.
+/// The requirement of a word, where it is one.
 fn check_requirement(alloc: Global, req: Option<&str>) -> CargoResult<Option<String>>
     ensures ok { IfOk result (λ o. (option_map string_bytes o ≡ option_map (λ s. s.now) req.entry)
         × IsReadOrAbsent (option_map (λ s. s.now) req.entry)) }
@@ -78,7 +78,7 @@ fn check_requirement(alloc: Global, req: Option<&str>) -> CargoResult<Option<Str
     Ok(Some(String::from_str(alloc, req)?))
 }
 
-/// Splits a text at its first `@`.
+/// A word before and after its first `@`.
 fn split_word(word: &str) -> (&str, Option<&str>)
     ensures name { result.0.now ≡ word_name word.now }
     ensures requirement { option_map (λ s. s.now) result.1 ≡ word_requirement word.now }
@@ -90,10 +90,10 @@ fn split_word(word: &str) -> (&str, Option<&str>)
 }
 
 impl CrateSpec {
-    /// Parses a text such as `serde` or `serde@1.0`; the name may be empty.
-    ///     ///
-    /// `Error::InvalidName` where a character of the name is neither a letter nor a number of Unicode, nor
-    /// `-` or `_`; `Error::InvalidRequirement` where the text after the first `@` is no requirement.
+    /// Reads a word as `serde` or `serde@1.0`, of which the name may be empty.
+    ///
+    /// Refused with 20 where the name has a character that is no letter and no number of Unicode, no `-` and
+    /// no `_`, and with 14 where the text after the first `@` is no requirement.
     pub fn resolve(alloc: Global, word: &str) -> CargoResult<CrateSpec>
         ensures ok { IfOk result (λ s. IsNamedBy word.now s) }
         ensures refused { IfErr result (λ e. IsRefusedWord word.now e) }
@@ -107,7 +107,7 @@ impl CrateSpec {
         })
     }
 
-    /// Parses a text as `resolve` does.
+    /// The same as `resolve`.
     pub fn from_str(alloc: Global, word: &str) -> CargoResult<CrateSpec>
         ensures ok { IfOk result (λ s. IsNamedBy word.now s) }
         ensures refused { IfErr result (λ e. IsRefusedWord word.now e) }

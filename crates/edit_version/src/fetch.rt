@@ -1,4 +1,4 @@
-//! The entry of an index for one version of a crate.
+//! What an index tells of a version of a crate.
 ghost use Rattle.std.specs.Prelude.{◌≡◌, IfOk, IfErr, Some, option_copied, option_map, string_bytes};
 ghost use Rattle.edit_base.specs.Errors.{IsMemory};
 ghost use Rattle.edit_version.specs.IndexEntry.{entry_of};
@@ -6,8 +6,8 @@ ghost use Rattle.edit_version.specs.IndexEntry.{entry_of};
 use edit_base::errors::CargoResult;
 use std::alloc::{AllocError, Global};
 
-/// The entry of an index for one version of a crate: the crate's name, the version's text, whether it is
-/// yanked, and its minimum Rust version.
+/// What an index tells of one version of a crate: the crate's name, the version's text, whether it is
+/// yanked, and the Rust version that it asks for.
 #[derive(Debug, PartialEq, Eq, Drop)]
 pub struct IndexVersion {
     pub name: String,
@@ -17,7 +17,7 @@ pub struct IndexVersion {
 }
 
 impl IndexVersion {
-    /// A copy of the entry.
+    /// The same entry on memory of its own.
     pub fn try_clone(&self, _alloc: Global) -> CargoResult<IndexVersion>
         ensures ok { IfOk result (λ v. entry_of v ≡ entry_of self.now) }
         ensures refused { IfErr result IsMemory }
@@ -31,7 +31,7 @@ impl IndexVersion {
     }
 }
 
-/// A copy of the text, where there is one.
+/// The same text on memory of its own, where there is one.
 fn copied_text(text: Option<&String>) -> Result<Option<String>, AllocError>
     ensures { IfOk result (λ o. option_map string_bytes o
         ≡ option_map string_bytes (option_copied text.entry)) }

@@ -1,4 +1,5 @@
-//! Versions, version requirements, crate specifications, Rust versions, and the index entries of versions.
+//! Versions, requirements, the words that name a crate, versions of Rust, and what an index tells of a
+//! version.
 #![tactic(auto)]
 
 pub mod candidates;

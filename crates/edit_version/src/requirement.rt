@@ -1,4 +1,4 @@
-//! Version requirements, and upgrading them to a version.
+//! Requirements raised to a version.
 ghost use Rattle.std.specs.Prelude.{◌≡◌, ◌<◌, ◌^◌, false, length, IfErr, IfOk, IfSome, IsTrue, None, Ok, option_copied, option_map, string_bytes};
 ghost use Rattle.edit_version.specs.Admits.{admits};
 ghost use Rattle.edit_version.specs.Laws.{Admits, AdmitsNoLower, CanReach, IsNarrower, IsPlainRequirement, IsReadable, IsRelease, IsSettled, KeepsForm, holds_dash, holds_plus, text_after};
@@ -13,7 +13,7 @@ use edit_base::errors::{CargoResult, Error};
 use semver::{Version, VersionReq};
 use std::alloc::{AllocError, Global};
 
-/// Parses a requirement; `None` where the text is not one.
+/// The requirement that a text is; none where it is none.
 pub fn read_requirement(alloc: Global, text: &str) -> CargoResult<Option<VersionReq>>
     ensures read { IfOk result (λ o. option_map comparators_of o ≡ requirement_read text.now) }
     ensures refused { IfErr result IsMemory }
@@ -29,7 +29,7 @@ pub fn read_requirement(alloc: Global, text: &str) -> CargoResult<Option<Version
     }
 }
 
-/// The error for a text that is not a requirement.
+/// That a text is no requirement.
 fn unread(alloc: Global, text: &str) -> Error
     requires { requirement_read text.now ≡ None }
     ensures { IsUnread text.now result }
@@ -40,7 +40,7 @@ fn unread(alloc: Global, text: &str) -> Error
     }
 }
 
-/// Parses a requirement; `Error::InvalidRequirement` where the text is not one.
+/// The requirement that a text is, refused with 14 where it is none.
 pub(crate) fn required(alloc: Global, text: &str) -> CargoResult<VersionReq>
     ensures ok { IfOk result (λ r. req_of text.now ≡ Ok (comparators_of r)) }
     ensures refused { IfErr result (λ e. IsUnread text.now e) }
@@ -51,7 +51,7 @@ pub(crate) fn required(alloc: Global, text: &str) -> CargoResult<VersionReq>
     }
 }
 
-/// A text together with the requirement parsed from it, so that it is parsed once.
+/// A text with what is read of it as a requirement, once.
 #[derive(Debug, Drop)]
 pub struct Requirement<'a> {
     text: &'a str,
@@ -62,7 +62,7 @@ pub struct Requirement<'a> {
 impl<'a> Requirement<'a> {
     ghost use Rattle.edit_version.specs.ReadRequirement.{text_in};
 
-    /// Parses a text; it need not be a requirement.
+    /// Reads a text; it need not be a requirement.
     pub fn read(alloc: Global, text: &'a str) -> CargoResult<Requirement<'a>>
         ensures text { IfOk result (λ r. text_in r ≡ text.now) }
         ensures refused { IfErr result IsMemory }
@@ -71,21 +71,21 @@ impl<'a> Requirement<'a> {
         Ok(Requirement { text, read })
     }
 
-    /// The text that was parsed.
+    /// The text.
     pub fn text(&self) -> &'a str
         ensures { result.now ≡ text_in self.now }
     {
         self.text
     }
 
-    /// The parsed requirement; `None` where the text is not one.
+    /// The requirement; none where the text is none.
     pub fn version_req(&self) -> Option<&VersionReq>
         ensures { option_map comparators_of (option_copied result) ≡ requirement_read (text_in self.now) }
     {
         self.read.as_ref()
     }
 
-    /// The requirement upgraded to a version, as `upgrade_requirement` does.
+    /// The text raised to a version, as `upgrade_requirement` gives it.
     pub fn raised(&self, alloc: Global, version: &Version) -> CargoResult<Option<String>>
         ensures { IsAnswer (raise (text_in self.now) (parts_of version.now)) (text_in self.now) result }
     {
@@ -96,7 +96,7 @@ impl<'a> Requirement<'a> {
     }
 }
 
-/// The requirement `req`, parsed as `parsed`, upgraded to `version`; `None` where the text stays the same.
+/// The requirement `req`, of which `parsed` was read, raised to `version`, where that is another text.
 fn raised_from(
     alloc: Global,
     req: &str,
@@ -122,7 +122,7 @@ fn raised_from(
     Ok(Some(String::from_str(alloc, text)?))
 }
 
-/// The requirement `req` upgraded to `version`; `None` where the text stays the same.
+/// The requirement `req` raised to `version`, where that is another text.
 fn raised_requirement(alloc: Global, req: &str, version: &Version) -> CargoResult<Option<String>>
     ensures { IsAnswer (raise req.now (parts_of version.now)) req.now result }
 {
@@ -130,16 +130,16 @@ fn raised_requirement(alloc: Global, req: &str, version: &Version) -> CargoResul
     read.raised(alloc, version)
 }
 
-/// For proofs: a `u64` is below 2^64. Does nothing.
+/// A number of 64 bits, for proofs over the numbers of a version.
 fn bounded(number: u64)
     ensures { number < 2 ^ 64 }
 {}
 
-/// Upgrades the requirement `req` to `version`: each number in `req` becomes that of the version, and each
-/// comparator but a wildcard takes its pre-release. `None` where the text stays the same.
+/// The requirement `req` raised to `version`, none where that is the same text: each number that stands
+/// in `req` becomes the version's, and each comparator but a wildcard takes its pre-release.
 ///
-/// `Error::InvalidRequirement` where `req` is no requirement; `Error::Unsupported`, with the first such
-/// comparator, where one is `>`, `>=`, `<` or `<=`.
+/// Refused with 14 where `req` is no requirement, and with 15 where a comparator of it is `>`, `>=`, `<`
+/// or `<=`, with the first of these.
 pub fn upgrade_requirement(
     alloc: Global,
     req: &str,

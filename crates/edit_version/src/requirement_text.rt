@@ -1,4 +1,4 @@
-//! Writes a requirement upgraded to a version.
+//! The text of a requirement, raised to a version.
 ghost use Rattle.std.specs.Prelude.{◌≡◌, ◌++◌, IfOk, OnOk, find, map, option_copied, string_bytes};
 ghost use Rattle.edit_version.specs.Requirement.{comparator_text, dotted, is_inequality, led_as, raised, requirement_text, sign, starts_with_caret, without_caret};
 ghost use Rattle.semver.specs.Identifiers.{comparator_view, parts_of};
@@ -6,7 +6,7 @@ ghost use Rattle.semver.specs.Identifiers.{comparator_view, parts_of};
 use semver::{Comparator, Op, Version};
 use std::alloc::{AllocError, Global};
 
-/// The operator of a comparator, as written; empty for a wildcard.
+/// The sign that stands before a comparator.
 fn sign(op: Op) -> &'static str
     ensures { result.now ≡ sign op }
 {
@@ -22,7 +22,7 @@ fn sign(op: Op) -> &'static str
     }
 }
 
-/// Appends a dot and the number, where there is one.
+/// Writes a number after its dot, where it is there.
 fn push_number(out: &mut String, number: Option<u64>) -> Result<(), AllocError>
     ensures { OnOk result (string_bytes out.new ≡ string_bytes out.old ++ dotted number) }
 {
@@ -57,7 +57,7 @@ fn push_comparator(
     Ok(())
 }
 
-/// Appends a comparator upgraded to a version.
+/// Writes a comparator raised to a version.
 fn push_raised(
     out: &mut String,
     comparator: &Comparator,
@@ -75,7 +75,7 @@ fn push_raised(
     push_comparator(out, comparator.op, version.major, minor, patch, pre)
 }
 
-/// The text of the comparators upgraded to a version.
+/// The text of a requirement, raised to a version.
 pub(crate) fn raised_text(
     alloc: Global,
     comparators: &[Comparator],
@@ -103,7 +103,7 @@ fn is_inequality(op: Op) -> bool
     matches!(op, Op::Greater | Op::GreaterEq | Op::Less | Op::LessEq)
 }
 
-/// The first comparator that cannot be upgraded: one with `>`, `>=`, `<` or `<=`.
+/// The first comparator that cannot be raised.
 pub(crate) fn first_inequality(comparators: &[Comparator]) -> Option<&Comparator>
     ensures { option_copied result ≡ find (λ c. is_inequality c.op) comparators.now }
 {
@@ -125,7 +125,7 @@ fn without_caret(text: &str) -> &str
     }
 }
 
-/// `new` without its leading `^`, unless `old` begins with `^`.
+/// `new` without the `^` that leads it, unless one leads `old`.
 pub(crate) fn led_as<'a>(old: &str, new: &'a str) -> &'a str
     ensures { result.now ≡ led_as old.now new.now }
 {

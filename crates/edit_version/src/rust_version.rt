@@ -1,4 +1,4 @@
-//! Rust versions, as in the `rust-version` fields of manifests and index entries.
+//! Versions of Rust, as manifests and indexes name them.
 ghost use Rattle.std.specs.Prelude.{◌≡◌, IfOk, IfErr, IsSome, Some, map, option_map};
 ghost use Rattle.edit_base.specs.Errors.{IsMemory};
 ghost use Rattle.edit_version.specs.Refusals.{IsNoRustVersion};
@@ -11,7 +11,7 @@ use edit_base::errors::{CargoResult, Error};
 use semver::{Comparator, Op, Version, VersionReq};
 use std::alloc::Global;
 
-/// A Rust version, ordered by its numbers.
+/// A version of Rust, ordered by its numbers.
 #[derive(Clone, Copy, Debug, PartialEq, Eq, PartialOrd, Ord, Hash)]
 pub struct RustVersion {
     pub major: u64,
@@ -27,15 +27,15 @@ impl RustVersion {
         patch: 0,
     };
 
-    /// Greater than every release of Rust.
+    /// Above every release of Rust.
     pub const MAX: RustVersion = RustVersion {
         major: u64::MAX,
         minor: u64::MAX,
         patch: u64::MAX,
     };
 
-    /// Parses a text such as `1.32`: `Error::InvalidRequirement` where it is no requirement,
-    /// `Error::BadRustVersion` where it is a requirement other than one to three numbers.
+    /// Reads a text as `1.32`: refused with 14 where it is no requirement, with 26 where it is another
+    /// requirement than one to three numbers.
     pub fn from_str(alloc: Global, text: &str) -> CargoResult<RustVersion>
         ensures ok { IfOk result (λ v. rust_of text.now ≡ Some (numbers_of v)) }
         ensures refused { IfErr result (λ e. IsNoRustVersion text.now e) }
@@ -47,7 +47,7 @@ impl RustVersion {
         }
     }
 
-    /// The version in a requirement such as `1.32`; missing numbers are 0.
+    /// The version that a requirement as `1.32` names, missing numbers being 0.
     pub fn from_requirement(req: &VersionReq) -> RustVersion
         requires form { IsSome (rust_numbers (comparators_of req.now)) }
         ensures { rust_numbers (comparators_of req.now) ≡ Some (numbers_of result) }
@@ -71,7 +71,7 @@ impl From<&Version> for RustVersion {
     }
 }
 
-/// Parses a Rust version such as `1.32`; missing numbers are 0. `None` where the text is not one.
+/// The Rust version that a text names as `1.32`, missing numbers being 0; none where it names none.
 pub fn read_rust_version(alloc: Global, text: &str) -> CargoResult<Option<RustVersion>>
     ensures read { IfOk result (λ o. option_map numbers_of o ≡ rust_of text.now) }
     ensures refused { IfErr result IsMemory }
@@ -82,7 +82,7 @@ pub fn read_rust_version(alloc: Global, text: &str) -> CargoResult<Option<RustVe
     }
 }
 
-/// The Rust version in a list of comparators; `None` unless it is one caret comparator without pre-release.
+/// The Rust version that comparators name, none where they are not one caret without pre-release.
 fn rust_version_of(comparators: &[Comparator]) -> Option<RustVersion>
     ensures { option_map numbers_of result ≡ rust_numbers (map comparator_view comparators.now) }
 {

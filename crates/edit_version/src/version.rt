@@ -1,4 +1,4 @@
-//! Increments of versions, as an extension trait of `semver::Version`.
+//! Versions incremented, as calls on `semver::Version`.
 
 ghost use Rattle.std.specs.Prelude.{◌≡◌, ◌<◌, ◌+◌, ◌↔◌, IfErr, IfOk, IsTrue, MatchOption, None, OnOk, Some, length, option_map};
 ghost use Rattle.edit_version.specs.Changed.{IsCause, IsChanged, IsRaisedOrAtEnd, IsUnreadBuild};
@@ -18,7 +18,7 @@ use edit_base::errors::{CargoResult, Error};
 use semver::{BuildMetadata, Prerelease, Version};
 use std::alloc::{AllocError, Global};
 
-/// Parses a version; `None` where the text is not one.
+/// The version that a text is; none where it is none.
 pub fn read_version(alloc: Global, text: &str) -> CargoResult<Option<Version>>
     ensures read { IfOk result (λ o. option_map parts_of o ≡ version_read text.now) }
     ensures refused { IfErr result IsMemory }
@@ -34,41 +34,37 @@ pub fn read_version(alloc: Global, text: &str) -> CargoResult<Option<Version>>
     }
 }
 
-/// Extension methods of this project for `semver::Version`.
+/// What this project adds to `semver::Version`.
 pub trait VersionExt {
-    /// Increments the major number, sets the lower ones to 0 and clears pre-release and build metadata.
-    /// `Error::NumberAtEnd`, with the version unchanged, where the number is `u64::MAX`.
+    /// The next major version: lower numbers 0, without pre-release and build metadata. Refused with 18,
+    /// and unchanged, where the number is the greatest of 64 bits.
     fn increment_major(&mut self) -> CargoResult<()>;
 
-    /// Increments the minor number, sets patch to 0 and clears pre-release and build metadata.
-    /// `Error::NumberAtEnd`, with the version unchanged, where the number is `u64::MAX`.
+    /// The next minor version, likewise.
     fn increment_minor(&mut self) -> CargoResult<()>;
 
-    /// Increments the patch number and clears pre-release and build metadata. `Error::NumberAtEnd`, with the
-    /// version unchanged, where the number is `u64::MAX`.
+    /// The next patch version, likewise.
     fn increment_patch(&mut self) -> CargoResult<()>;
 
-    /// Moves to the next alpha. A release becomes `alpha.1` of the next patch version; an alpha gets the next
-    /// number; another pre-release becomes `alpha.1`, and build metadata stays. `Error::PrereleaseScheme`
-    /// where the pre-release is not a word or a word and a number, `Error::ReleaseLevel` where it is a beta
-    /// or rc, `Error::NumberAtEnd` where the number is `u64::MAX`.
+    /// The next alpha: `alpha.1` of the next patch version, or of a pre-release the next number, or
+    /// `alpha.1` in the place of another word, with its build metadata. Refused with 17 where the
+    /// pre-release is not a word or a word and a number, with 16 where it is a beta or rc, and with 18.
     fn increment_alpha(&mut self, alloc: Global) -> CargoResult<()>;
 
-    /// Moves to the next beta, by the rules of `increment_alpha`; `Error::ReleaseLevel` where the pre-release
-    /// is an rc.
+    /// The next beta, likewise; refused with 16 where the pre-release is an rc.
     fn increment_beta(&mut self, alloc: Global) -> CargoResult<()>;
 
-    /// Moves to the next rc, by the rules of `increment_alpha`; never fails with `Error::ReleaseLevel`.
+    /// The next rc, likewise; never refused with 16.
     fn increment_rc(&mut self, alloc: Global) -> CargoResult<()>;
 
-    /// Sets the build metadata; `Error::InvalidMetadata` where the text is not valid.
+    /// Sets the build metadata; refused with 19 where the text is none.
     fn metadata(&mut self, alloc: Global, metadata: &str) -> CargoResult<()>;
 
     /// Whether the version has a pre-release.
     fn is_prerelease(&self) -> bool;
 }
 
-/// The phases of a pre-release, lowest first.
+/// The phases of a pre-release, in their order.
 #[derive(Clone, Copy)]
 enum Phase {
     Alpha,
@@ -87,7 +83,7 @@ impl Phase {
         }
     }
 
-    /// Whether a word names a phase after this one.
+    /// Whether a word is that of a phase behind this one.
     fn is_before(self, word: &str) -> bool
         ensures { result ≡ is_behind self word.now }
     {
@@ -99,7 +95,7 @@ impl Phase {
     }
 }
 
-/// The error for a number that cannot be incremented.
+/// The refusal at a number that can rise no further.
 fn at_end(version: &Version) -> Error
     ensures { result ≡ error.NumberAtEnd version.now.major version.now.minor version.now.patch }
 {
@@ -182,7 +178,7 @@ impl VersionExt for Version {
     }
 }
 
-/// Parses build metadata.
+/// Reads build metadata.
 fn read_build(alloc: Global, text: &str) -> CargoResult<BuildMetadata>
     ensures ok { IfOk result (λ b. (build_text b ≡ text.now) × IsTrue (is_build text.now)) }
     ensures err { IfErr result (λ e. IsUnreadBuild text.now e) }
@@ -200,7 +196,7 @@ fn read_build(alloc: Global, text: &str) -> CargoResult<BuildMetadata>
     }
 }
 
-/// The pre-release `word.number` of a phase.
+/// A pre-release of a phase.
 fn numbered(alloc: Global, phase: Phase, number: u64) -> CargoResult<Prerelease>
     ensures ok { IfOk result (λ p. (pre_text p ≡ numbered phase number)
         × IsTrue (is_pre_release (pre_text p))) }
@@ -220,7 +216,7 @@ fn is_numeric(text: &str) -> bool
     text.as_bytes().iter().all(|byte| byte.is_ascii_digit())
 }
 
-/// Parses a decimal number of 64 bits.
+/// The decimal number of 64 bits that a text is.
 fn read_number(text: &str) -> Option<u64>
     ensures { result ≡ number_of text.now }
 {
@@ -233,7 +229,7 @@ fn read_number(text: &str) -> Option<u64>
     }
 }
 
-/// Splits a pre-release into its word and the number after its first dot, 0 where there is no dot.
+/// The word of a pre-release, and the number after its first dot, 0 where there is no dot.
 fn word_and_number(pre: &str) -> Option<(&str, u64)>
     ensures { MatchOption result (number_after pre.now ≡ None)
         (λ x. (x.0.now ≡ word_of pre.now) × (number_after pre.now ≡ Some x.1)) }
@@ -277,7 +273,7 @@ fn next_number(alloc: Global, version: &Version, phase: Phase) -> CargoResult<u6
     }
 }
 
-/// Moves a version to its next pre-release of a phase.
+/// Raises a version to the next one of a phase.
 fn increment_phase(alloc: Global, version: &mut Version, phase: Phase) -> CargoResult<()>
     ensures changed { IsChanged (next_phase phase (parts_of version.old)) version.old version.new result }
     ensures readable { OnOk result (IsReadable (parts_of version.new)) }

@@ -1,4 +1,4 @@
--- The command line of the program: its subcommands and their arguments.
+-- The command line: which words the program has.
 pub use Rattle.edit_words.specs.Rules.{choice_rule, count_rule, flag_rule, list_rule, path_rule}
 pub use Rattle.edit_words.specs.Rules.{reports, selections, with_rules}
 use Rattle.std.specs.Prelude.{List, [], ◌∷◌, Some, true, codes}
@@ -6,7 +6,7 @@ use Rattle.clap.specs.Words.{App, Rule, Shape, Text, new_app, with_subcommand}
 use Rattle.clap.specs.declared.builder.value_parser.ValueParser.TheVariants as value
 use Rattle.edit_words.specs.SetVersionLine.{set_version_app}
 
--- the options that give files
+-- the options that name files
 abbrev pub places : List Rule
 places =
     path_rule (codes "manifest-path")
@@ -14,8 +14,8 @@ places =
     ∷ path_rule (codes "index-file")
     ∷ []
 
--- the options for the index folder, for the file of the calls that follow, and for the lock file that these
--- must be valid for
+-- the options that name the folder of an index, the file of the calls that follow, and the lock file that
+-- these have to be right against
 abbrev pub outlets : List Rule
 outlets =
     path_rule (codes "index-dir")
@@ -23,11 +23,11 @@ outlets =
     ∷ path_rule (codes "lock-file")
     ∷ []
 
--- the options that give configuration files, beside those that cargo finds
+-- the options that name configuration files beside those that cargo finds
 abbrev pub configurations : List Rule
 configurations = path_rule (codes "config") ∷ path_rule (codes "default-config") ∷ []
 
--- the options for versions of Rust
+-- the options that say which versions of Rust count
 abbrev pub rust_choices : List Rule
 rust_choices = choice_rule (codes "rust-version") ∷ flag_rule (codes "ignore-rust-version") ∷ []
 
@@ -42,7 +42,7 @@ switches =
     ∷ flag_rule (codes "never-lower")
     ∷ []
 
--- the options that allow or ignore kinds of upgrades; two of them default to `ignore`
+-- the options that say what may be upgraded, two of them ignored where they are not given
 abbrev pub choices : List Rule
 choices =
     record (choice_rule (codes "compatible")) { defaults = codes "allow" ∷ [] }
@@ -51,13 +51,13 @@ choices =
     ∷ record (choice_rule (codes "recursive")) { parser = Some value.Bool }
     ∷ []
 
--- the subcommand `upgrade`, and the one with the same arguments
+-- the subcommand `upgrade`, and the one that takes the same words
 abbrev pub upgrade_app : Text → App
 upgrade_app name =
     with_rules (with_rules (with_rules (with_rules (with_rules (with_rules (with_rules (with_rules
     (new_app name) places) outlets) configurations) rust_choices) switches) reports) choices) selections
 
--- the settings of the program's own command
+-- the program's own settings
 abbrev pub top_shape : Shape
 top_shape = record (new_app (codes "cargo-edit")).top {
   no_binary_name = true;

@@ -1,15 +1,15 @@
--- Arguments with defaults inserted for options that are given without a value.
+-- Words with the values that are left out of them.
 use Rattle.std.specs.Prelude.{Bool, false, List, [], ◌∷◌, ◌++◌, Option, Some, None, codes, if◌then◌else◌, slice_get}
 use Rattle.std.specs.List.{list_any}
 use Rattle.std.specs.Option.{option_map_or}
 use Rattle.std.specs.Str.{bytes_eq}
 use Rattle.clap.specs.Words.{Text}
 
--- the values that allow or ignore a kind of upgrade
+-- the values of what may be upgraded: allowed, or ignored
 abbrev pub statuses : List Text
 statuses = codes "allow" ∷ codes "true" ∷ codes "ignore" ∷ codes "false" ∷ []
 
--- the options that take such a value
+-- the options that have such a value
 abbrev pub status_options : List Text
 status_options = codes "--compatible" ∷ codes "-i" ∷ codes "--incompatible" ∷ codes "--pinned" ∷ []
 
@@ -17,28 +17,28 @@ status_options = codes "--compatible" ∷ codes "-i" ∷ codes "--incompatible" 
 abbrev pub is_one : List Text → Text → Bool
 is_one texts text = list_any (λ other. bytes_eq text other) texts
 
--- the values of an option that may be given without one; the first is the default
+-- the values of an option that may stand without one; the first of them is the one that it then has
 abbrev pub values_behind : Text → List Text
 values_behind word =
     if is_one status_options word then statuses
     else (if bytes_eq word (codes "--recursive") then codes "true" ∷ codes "false" ∷ [] else [])
 
--- the default of an option, where the next argument is none of its values
+-- the value that such an option gets where the next word is none of its values
 abbrev pub missing_value : List Text → Option Text → Option Text
 missing_value values next =
     if option_map_or (is_one values) next false then None else slice_get values 0
 
--- the value as a list, empty where there is none
+-- the value, where there is one
 abbrev pub option_list : Option Text → List Text
 option_list None = []
 option_list (Some value) = value ∷ []
 
--- what is inserted between an argument and the next one: nothing after `--`
+-- what is added behind a word before this next one: behind a word `--` nothing
 abbrev pub added : Bool → Text → Option Text → List Text
 added ended word next =
     if ended then [] else option_list (missing_value (values_behind word) next)
 
--- the arguments, with a default inserted after each option before `--` that is given without a value
+-- the words, with a value behind each option that stands without one, before a word `--`
 unfoldable pub filled : List Text → List Text
 filled [] = []
 filled (word ∷ rest) =

@@ -5,7 +5,7 @@ use Rattle.clap.specs.declared.builder.action.ArgAction.TheVariants.{Set}
 use Rattle.clap.specs.declared.builder.value_parser.ValueParser.TheVariants as value
 use Rattle.edit_words.specs.Rules.{choice_rule, count_rule, flag_rule, option_rule, reports, selections, with_rules}
 
--- the version, as a positional argument
+-- the version, as a word of its own
 abbrev pub version_word : Rule
 version_word =
     record (new_rule (codes "target")) {
@@ -14,7 +14,7 @@ version_word =
       parser = Some value.String;
     }
 
--- the options for the new versions
+-- what the new versions are
 abbrev pub targets : List Rule
 targets =
     version_word
@@ -22,11 +22,11 @@ targets =
     ∷ record (choice_rule (codes "metadata")) { short = Some 109 }
     ∷ []
 
--- the options that give files; the second is accepted and ignored
+-- the options that name files; the second changes nothing
 abbrev pub sources : List Rule
 sources = option_rule (codes "metadata-json") ∷ choice_rule (codes "manifest-path") ∷ []
 
--- the flags that select all members, and the flag for a dry run
+-- the flags that ask for all members, and that for a dry run
 abbrev pub members : List Rule
 members =
     flag_rule (codes "all")
@@ -34,7 +34,7 @@ members =
     ∷ record (flag_rule (codes "dry-run")) { short = Some 110 }
     ∷ []
 
--- the flags that are accepted and ignored
+-- the flags that change nothing
 abbrev pub ignored : List Rule
 ignored =
     flag_rule (codes "offline")

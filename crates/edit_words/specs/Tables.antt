@@ -1,4 +1,4 @@
--- Arguments of command lines as the code lists them, and their rules.
+-- Words of command lines as the code lists them, and the rules of what they become.
 use Rattle.std.specs.Prelude.{◌≡◌, List, [], ◌∷◌, Option, Some, None, false}
 use Rattle.std.specs.Borrow.{Bor}
 use Rattle.clap.specs.Words.{App, Rule, Text, app_of, new_rule}
@@ -11,12 +11,12 @@ use Rattle.edit_words.specs.declared.rules.Form.{Form}
 use Rattle.edit_words.specs.declared.rules.Form.TheVariants as form
 use Rattle.edit_words.specs.declared.rules.Word.{Word}
 
--- a positional argument, with one value
+-- what stands alone, with one value
 abbrev pub alone_rule : Text → Rule
 alone_rule id =
     record (new_rule id) { action = Some Set; value_names = 1; parser = Some value.String }
 
--- the rule of an argument without a short option and without a default
+-- the rule of a word with neither a letter nor a default
 abbrev pub form_rule : Form → Text → Rule
 form_rule (form.Alone _) id = alone_rule id
 form_rule (form.Path _) id = path_rule id
@@ -27,12 +27,12 @@ form_rule (form.List _) id = list_rule id
 form_rule form.Flag id = flag_rule id
 form_rule form.Counted id = record (flag_rule id) { action = Some Count }
 
--- the value of an option that is not given, as a list of at most one
+-- the value of an option that is not given, as a list
 abbrev pub default_list : Option (Bor Text) → List Text
 default_list (Some value) = value.now ∷ []
 default_list None = []
 
--- the rule of an argument
+-- the rule of a word
 abbrev pub word_rule : Word → Rule
 word_rule word =
     record (form_rule word.form word.id.now) { short = word.letter; defaults = default_list word.default }

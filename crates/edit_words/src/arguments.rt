@@ -1,4 +1,4 @@
-//! The command line of the program: its subcommands and their arguments.
+//! The command line: which words there are.
 ghost use Rattle.std.specs.Prelude.{◌≡◌, ◌++◌, IfOk, map, true};
 ghost use Rattle.clap.specs.Words.{app_of, is_simple, is_simple_and_free};
 ghost use Rattle.edit_words.specs.CommandLine.{choices, configurations, edit_app, outlets, places, rust_choices, selections, switches, upgrade_app};
@@ -10,7 +10,7 @@ use crate::set_version_line::set_version_command;
 use clap::Command;
 use std::alloc::{AllocError, Global};
 
-/// The options that give files and the folder of an index.
+/// The options that name files and the folder of an index.
 fn files<'a>() -> [Word<'a>; 6]
     ensures { map word_rule result ≡ places ++ outlets }
 {
@@ -48,7 +48,7 @@ fn files<'a>() -> [Word<'a>; 6]
     ]
 }
 
-/// The options that give configuration files, beside those that cargo finds.
+/// The options that name configuration files beside those that cargo finds.
 fn configurations<'a>() -> [Word<'a>; 2]
     ensures { map word_rule result ≡ configurations }
 {
@@ -66,7 +66,7 @@ fn configurations<'a>() -> [Word<'a>; 2]
     ]
 }
 
-/// The options for versions of Rust, and the flags.
+/// What says which versions of Rust count, and the flags.
 fn switches<'a>() -> [Word<'a>; 8]
     ensures { map word_rule result ≡ rust_choices ++ switches }
 {
@@ -99,7 +99,7 @@ fn switches<'a>() -> [Word<'a>; 8]
     ]
 }
 
-/// The options that allow or ignore kinds of upgrades.
+/// The options that say what may be upgraded.
 fn choices<'a>() -> [Word<'a>; 4]
     ensures { map word_rule result ≡ choices }
 {
@@ -131,7 +131,7 @@ fn choices<'a>() -> [Word<'a>; 4]
     ]
 }
 
-/// The options that select entries.
+/// The options that say which entries may be upgraded.
 fn selections<'a>() -> [Word<'a>; 2]
     ensures { map word_rule result ≡ selections }
 {
@@ -150,7 +150,7 @@ fn selections<'a>() -> [Word<'a>; 2]
     ]
 }
 
-/// Adds the arguments of `upgrade` to a subcommand.
+/// A subcommand with the words of `upgrade`.
 fn upgrade_command<'a>(
     alloc: Global,
     name: &'a str,
@@ -167,13 +167,13 @@ fn upgrade_command<'a>(
     with_words(alloc, command, &selections())
 }
 
-/// The program's command line, built anew for each parse, which consumes it. The contract does not specify
-/// the texts of help and version. Fails only where memory runs out.
+/// The program's command line, made anew for each parse, which takes it over. Its help and its version are
+/// texts of which no clause speaks; it is refused for want of memory alone.
 pub fn command<'a>(alloc: Global) -> Result<Command<'a>, AllocError>
     ensures app { IfOk result (λ c. app_of c ≡ edit_app) }
-    // for such a command `clap` specifies the matches of arguments
+    // of such a command `clap` says which matches words have
     ensures simple { IfOk result (λ c. is_simple (app_of c) ≡ true) }
-    // and for such a command, the errors
+    // and of such a one, which faults
     ensures free { IfOk result (λ c. is_simple_and_free (app_of c) ≡ true) }
 {
     Command::new(alloc, "cargo-edit")

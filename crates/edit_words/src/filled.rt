@@ -1,4 +1,4 @@
-//! Inserts defaults for options that are given without a value.
+//! Words with the values that are left out of them.
 ghost use Rattle.std.specs.Prelude.{◌≡◌, ◌++◌, ◌∷◌, ◌||◌, IfOk, codes, false, OnOk, map, option_map};
 ghost use Rattle.std.specs.List.{list_any};
 ghost use Rattle.std.specs.Option.{option_map_or};
@@ -7,8 +7,7 @@ ghost use Rattle.edit_words.specs.Filled.{added, filled, is_one, missing_value, 
 
 use std::alloc::{AllocError, Global};
 
-/// The values of an option that may be given without one; the first is the default. Empty for other
-/// arguments.
+/// The values of an option that may stand without one; the first of them is the one that it then has.
 fn values_behind(word: &str) -> &'static [&'static str]
     ensures { map (λ v. v.now) result.now ≡ values_behind word.now }
 {
@@ -28,7 +27,7 @@ fn is_one(texts: &[&str], text: &str) -> bool
     texts.iter().any(|other| text == *other)
 }
 
-/// Whether the next argument is one of these values.
+/// Whether the next word is one of these values.
 fn has_value(values: &[&str], next: Option<&&str>) -> bool
     ensures { result ≡ option_map_or (is_one (map (λ v. v.now) values.now))
         (option_map (λ w. w.now.now) next.entry) false }
@@ -39,7 +38,7 @@ fn has_value(values: &[&str], next: Option<&&str>) -> bool
     }
 }
 
-/// The default value of an option, where the next argument is none of its values.
+/// The value that a word gets where the next one is none of its values.
 fn missing_value(word: &str, next: Option<&&str>) -> Option<&'static str>
     ensures { option_map (λ v. v.now) result
         ≡ missing_value (values_behind word.now) (option_map (λ w. w.now.now) next.entry) }
@@ -52,14 +51,14 @@ fn missing_value(word: &str, next: Option<&&str>) -> Option<&'static str>
     }
 }
 
-/// Whether options have ended at a `--` before this argument, or end here.
+/// Whether words have ended at a word `--` before this one, or end here.
 fn has_ended(ended: bool, word: &str) -> bool
     ensures { result ≡ (ended || bytes_eq word.now (codes "--")) }
 {
     ended || word == "--"
 }
 
-/// Appends an argument, and the default value of an option that has none, unless options have ended.
+/// Adds a word, and the value that it gets, where words have not ended.
 fn push_word<'a>(
     words: &mut Vec<&'a str>,
     word: &'a str,
@@ -79,8 +78,8 @@ fn push_word<'a>(
     Ok(())
 }
 
-/// The arguments, with a default value inserted after each option before `--` that is given without a
-/// value. Only the list is allocated, the arguments are borrowed. Fails only where memory runs out.
+/// The words, with a value behind each option that stands without one, before a word `--`: such an option
+/// then says yes. Only the list is new, the words are lent; it is refused for want of memory alone.
 pub fn filled_words<'a>(alloc: Global, words: &[&'a str]) -> Result<Vec<&'a str>, AllocError>
     ensures { IfOk result (λ v. map (λ w. w.now) v.items ≡ filled (map (λ w. w.now) words.now)) }
 {

@@ -1,4 +1,4 @@
-//! The command line of `cargo-edit`: its arguments, and how they are completed before they are parsed.
+//! The command line of `cargo-edit`: which words there are, and what becomes of words before they are parsed.
 #![tactic(auto)]
 
 mod arguments;

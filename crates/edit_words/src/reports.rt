@@ -1,11 +1,11 @@
-//! Options for the output format of a plan, and for only checking it.
+//! Words that say how a plan is printed, and whether it is only checked.
 ghost use Rattle.std.specs.Prelude.{◌≡◌, map};
 ghost use Rattle.edit_words.specs.Rules.{reports};
 ghost use Rattle.edit_words.specs.Tables.{word_rule};
 
 use crate::rules::{Form, Word, plain};
 
-/// The options for the output format of a plan, and for only checking it.
+/// What says how a plan is printed, and whether it is only checked.
 pub(crate) fn reports<'a>() -> [Word<'a>; 3]
     ensures { map word_rule result ≡ reports }
 {

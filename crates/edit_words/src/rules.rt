@@ -1,5 +1,4 @@
-//! Arguments of a command line as data: options, flags and positional arguments, and their `clap`
-//! arguments.
+//! Words of command lines: options, flags and what stands alone, as data, and the arguments that they become.
 ghost use Rattle.std.specs.Prelude.{◌≡◌, ◌∷◌, [], IfOk, Some, false, map};
 ghost use Rattle.clap.specs.Words.{App, rule_of};
 ghost use Rattle.clap.specs.declared.builder.action.ArgAction.TheVariants.{Set};
@@ -11,39 +10,39 @@ use clap::builder::ValueParser;
 use clap::{Arg, ArgAction, Command};
 use std::alloc::{AllocError, Global};
 
-/// The form of an argument, and the name of its value in the help.
+/// What a word is, and what help calls its value.
 #[derive(Clone, Copy)]
 pub(crate) enum Form<'a> {
-    /// A positional argument.
+    /// A value that stands alone.
     Alone(&'a str),
-    /// An optional option with a value that must not be empty.
+    /// An option that may be given, with a value that is not empty.
     Path(&'a str),
-    /// A required option with a value that must not be empty.
+    /// An option that must be given, with a value that is not empty.
     Needed(&'a str),
-    /// An optional option with a value.
+    /// An option that may be given, with a value.
     Choice(&'a str),
-    /// An optional option with the value `true` or `false`.
+    /// An option that may be given, with `true` or `false`.
     Truth(&'a str),
-    /// An option that may be repeated, each time with a value that must not be empty.
+    /// An option that may be given any number of times, each time with a value that is not empty.
     List(&'a str),
     /// A flag.
     Flag,
-    /// A flag that may be repeated, and is counted.
+    /// A flag of which the uses are counted.
     Counted,
 }
 
-/// An argument of a command line.
+/// A word of a command line.
 #[derive(Clone, Copy)]
 pub(crate) struct Word<'a> {
     pub(crate) id: &'a str,
     pub(crate) form: Form<'a>,
     pub(crate) about: &'a str,
     pub(crate) letter: Option<char>,
-    /// The value where the option is not given.
+    /// The value of an option that is not given.
     pub(crate) default: Option<&'a str>,
 }
 
-/// An argument without a short option and without a default.
+/// A word with neither a letter nor a default.
 pub(crate) fn plain<'a>(id: &'a str, form: Form<'a>, about: &'a str) -> Word<'a>
     ensures { word_rule result ≡ form_rule form.entry id.entry.now }
 {
@@ -57,7 +56,7 @@ pub(crate) fn plain<'a>(id: &'a str, form: Form<'a>, about: &'a str) -> Word<'a>
 }
 
 impl<'a> Word<'a> {
-    /// Adds a short option, `-` and this letter.
+    /// With a letter.
     pub(crate) fn short(mut self, letter: char) -> Word<'a>
         ensures { word_rule result ≡ record (word_rule self.entry) { short = Some letter } }
     {
@@ -65,7 +64,7 @@ impl<'a> Word<'a> {
         self
     }
 
-    /// Sets the value for an option that is not given.
+    /// With a value where it is not given.
     pub(crate) fn default_value(mut self, value: &'a str) -> Word<'a>
         ensures { word_rule result ≡ record (word_rule self.entry) { defaults = value.entry.now ∷ [] } }
     {
@@ -74,7 +73,7 @@ impl<'a> Word<'a> {
     }
 }
 
-/// A `clap` argument with a value.
+/// An argument with a value.
 fn taking<'a>(arg: Arg<'a>, value: &'a str, action: ArgAction, parser: ValueParser<'a>) -> Arg<'a>
     ensures rule { rule_of result ≡ record (rule_of arg.entry) {
       action = Some action;
@@ -86,7 +85,7 @@ fn taking<'a>(arg: Arg<'a>, value: &'a str, action: ArgAction, parser: ValuePars
     arg.value_name(value).action(action).value_parser(parser)
 }
 
-/// A `clap` argument with a value that must not be empty.
+/// An argument with a value that is not empty.
 fn path<'a>(arg: Arg<'a>, value: &'a str) -> Arg<'a>
     ensures rule { rule_of result ≡ record (rule_of arg.entry) {
       action = Some Set;
@@ -98,7 +97,7 @@ fn path<'a>(arg: Arg<'a>, value: &'a str) -> Arg<'a>
     taking(arg, value, ArgAction::Set, ValueParser::NonEmptyString)
 }
 
-/// The `clap` argument, without its short option and its default.
+/// The argument that a word becomes, without its letter and its default.
 fn formed<'a>(alloc: Global, word: Word<'a>) -> Arg<'a>
     ensures rule { rule_of result ≡ form_rule word.entry.form word.entry.id.now }
     ensures local { result.global ≡ false }
@@ -122,7 +121,7 @@ fn formed<'a>(alloc: Global, word: Word<'a>) -> Arg<'a>
     }
 }
 
-/// The `clap` argument.
+/// The argument that a word becomes.
 fn made<'a>(alloc: Global, word: Word<'a>) -> Arg<'a>
     ensures rule { rule_of result ≡ word_rule word.entry }
     ensures local { result.global ≡ false }
@@ -136,8 +135,8 @@ fn made<'a>(alloc: Global, word: Word<'a>) -> Arg<'a>
     }
 }
 
-/// Adds arguments to a command, in order. The command may be a failed one already, so that callers can
-/// chain calls and check for an error once, at the end.
+/// Adds words, in their order. The command may have failed already: so a caller that adds more than once
+/// has no exit between, at which what it holds would be dropped.
 pub(crate) fn with_words<'a>(
     alloc: Global,
     command: Result<Command<'a>, AllocError>,

@@ -9,7 +9,7 @@ use crate::rules::{Form, Word, plain, with_words};
 use clap::Command;
 use std::alloc::{AllocError, Global};
 
-/// The options for the versions to set, and those that give files.
+/// What says which versions are set, and the options that name files.
 fn targets<'a>() -> [Word<'a>; 5]
     ensures { map word_rule result ≡ targets ++ sources }
 {
@@ -39,7 +39,7 @@ fn targets<'a>() -> [Word<'a>; 5]
     ]
 }
 
-/// The options that select members, and the flag for a dry run.
+/// What says which members are meant, and the flag for a dry run.
 fn members<'a>() -> [Word<'a>; 5]
     ensures { map word_rule result ≡ selections ++ members }
 {
@@ -70,7 +70,7 @@ fn members<'a>() -> [Word<'a>; 5]
     ]
 }
 
-/// The flags that are accepted and ignored.
+/// The flags that change nothing.
 fn ignored<'a>() -> [Word<'a>; 4]
     ensures { map word_rule result ≡ ignored }
 {

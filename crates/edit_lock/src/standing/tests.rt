@@ -34,7 +34,7 @@ package = [
 ]
 "#;
 
-/// Splits a text into calls: one call per line, its arguments separated by spaces.
+/// One call a line, its arguments parted by spaces.
 fn calls_in(alloc: Global, text: &str) -> Result<Vec<Vec<String>>, AllocError> {
     let mut calls = Vec::new(alloc);
     for line in text.lines() {
@@ -47,7 +47,7 @@ fn calls_in(alloc: Global, text: &str) -> Result<Vec<Vec<String>>, AllocError> {
     Ok(calls)
 }
 
-/// Formats calls as a text: one call per line, a space after each argument.
+/// The same, as a text.
 fn shown(alloc: Global, calls: &[Vec<String>]) -> Result<String, AllocError> {
     let mut text = String::new(alloc);
     for call in calls {
