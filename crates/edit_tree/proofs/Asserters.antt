@@ -1,5 +1,4 @@
--- What defines a place: each place above one that a statement names is defined by that statement or one above
--- it.
+-- What defines a place: each place on the path to one that a statement names is defined on that path.
 use Rattle.std.proofs.Common.{◌≡◌, ℕ, Bool, true, false, not, List, [], ◌∷◌, ◌++◌, map, refl, sym, ap, subst, ◌∙◌, inl, inr, true≢false, append_assoc}
 use Rattle.std.specs.List.{AllByRecursion}
 use Rattle.edit_syntax.specs.Grammar.{Value}
