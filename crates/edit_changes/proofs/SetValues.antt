@@ -1,4 +1,4 @@
--- A value set at a place: the bytes are a document, and its tree is the one that is meant.
+-- A value set at a place: the bytes are a document, with the intended tree.
 use Rattle.std.proofs.Common.{◌≡◌, ℕ, true, false, ◌&&◌, ◌||◌, cond, List, [], ◌∷◌, ◌++◌, length, None, Some, option_map, refl, sym, ap, ◌∙◌, subst, true≢false, append-nil}
 use Rattle.edit_syntax.specs.Grammar.{Text, text}
 use Rattle.edit_syntax.proofs.Cases.{by_test}

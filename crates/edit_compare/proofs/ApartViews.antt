@@ -1,4 +1,4 @@
--- No name stands twice among the members of a tree's tables.
+-- The tables of a tree have no two members of the same name.
 use Rattle.std.proofs.Common.{◌≡◌, ℕ, true, false, List, [], ◌∷◌, Option, Some, None, refl, sym, ap, ◌∙◌}
 use Rattle.std.specs.Prelude.{slice_get, option_map}
 use Rattle.std.specs.List.{filter_map}

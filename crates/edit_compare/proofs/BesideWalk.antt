@@ -1,5 +1,5 @@
--- The walk along a place through two documents that show the same, or the same but for the order of members,
--- but there and below.
+-- The walk along a place through two documents that are equal except at and below it, with or without the
+-- order of members.
 use Rattle.std.proofs.Common.{◌≡◌, ℕ, ◌+◌, ◌<◌, List, [], ◌∷◌, ◌++◌, length, get_or, take, drop, Some, None, sym, ap, subst, ◌∙◌}
 use Rattle.std.specs.Prelude.{map}
 use Rattle.std.proofs.lemmas.List.{map-append, take-append-drop}

@@ -1,4 +1,5 @@
--- Trees that show the same but at one place and below it, and what the parts of two nodes tell of that.
+-- Trees that are equal except at and below one place, and what the children of two nodes determine about
+-- that.
 use Rattle.std.proofs.Common.{◌≡◌, ℕ, Bool, true, false, ◌&&◌, [], ◌∷◌, ◌++◌, Option, Some, None, refl, sym, ap, ap₂, ◌∙◌, ◌⊎◌, inl, inr, append-nil}
 use Rattle.std.specs.Bool.{Decides}
 use Rattle.std.proofs.lemmas.Option.{same_Some}

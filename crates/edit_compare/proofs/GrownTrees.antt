@@ -1,4 +1,4 @@
--- A tree with a member more in a table: the same beside the table, and the table grown.
+-- A tree with one more member in a table: equal outside the table, and the table has one more member.
 use Rattle.std.proofs.Common.{◌≡◌, ℕ, Bool, true, false, List, [], ◌∷◌, ◌++◌, Option, Some, None, refl, sym, ap, subst, ◌∙◌, inl, inr, append_assoc, append-nil}
 use Rattle.std.specs.Bool.{Decides}
 use Rattle.edit_tree.specs.Assertions.{Step, key, Place, at, same_place}

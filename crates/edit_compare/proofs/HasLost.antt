@@ -1,5 +1,5 @@
--- A document has lost an item where all beside the innermost table that is left is the same, and that table
--- has lost a part.
+-- A document is another one without an item where all outside the innermost table that stays is equal and
+-- that table has lost a child.
 use Rattle.std.proofs.Common.{◌≡◌, ℕ, zero, suc, ◌+◌, ◌<◌, Bool, true, false, List, [], ◌∷◌, ◌++◌, length, get_or, take, drop, Option, None, refl, sym, ap, subst, ◌∙◌, append_assoc, true≢false, arith}
 use Rattle.std.specs.Bool.{Decides}
 use Rattle.edit_syntax.specs.Grammar.{Text}

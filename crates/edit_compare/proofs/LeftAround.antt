@@ -1,4 +1,4 @@
--- What stays around an item that is removed, and what vanishes with it.
+-- Which tables and arrays around a removed item stay, and which vanish with it.
 use Rattle.std.proofs.Common.{◌≡◌, ℕ, Bool, true, false, ◌&&◌, if◌then◌else◌, List, [], ◌∷◌, ◌++◌, Option, Some, None, refl, sym, ap, subst, ◌∙◌, ◌⊎◌, inl, inr, true≢false, append_assoc, append-nil}
 use Rattle.std.proofs.lemmas.Bool.{and_parts}
 use Rattle.edit_syntax.specs.Grammar.{Text}

@@ -8,7 +8,7 @@ pub mod ApartViews
 pub mod ReplacedEntries
 pub mod UnorderedViews
 pub mod UnorderedNodes
--- What is left when an item is removed
+-- The tables and arrays that stay when an item is removed
 pub mod KeptParts
 pub mod KeptSteps
 pub mod LostParts

@@ -1,4 +1,4 @@
--- The parts of two nodes that are compared where an item is removed in one of them.
+-- The children of two nodes that are compared where an item was removed from one of them.
 use Rattle.std.proofs.Common.{◌≡◌, ℕ, Bool, [], ◌∷◌, ◌++◌, Option, Some, None, refl, sym, ap, subst, ◌∙◌, inl, inr, append-nil}
 use Rattle.std.specs.Bool.{Decides}
 use Rattle.std.proofs.lemmas.Option.{same_Some}

@@ -1,4 +1,4 @@
--- The number of a member or an element of a node.
+-- The index of the node of a member or an element.
 use Rattle.std.proofs.Common.{◌≡◌, ℕ, List, Option, Some, None, refl, sym, ap, ◌∙◌, inl, inr}
 use Rattle.std.specs.Prelude.{slice_get}
 use Rattle.edit_tree.specs.Assertions.{Step, key, index, at}

@@ -1,5 +1,5 @@
--- A tree has lost an item where all beside the innermost table that stays is the same, and that table has lost a
--- part.
+-- A tree is another one without an item where all outside the innermost table that stays is equal and that
+-- table has lost a child.
 use Rattle.std.proofs.Common.{◌≡◌, ℕ, true, false, ◌&&◌, if◌then◌else◌, List, [], ◌∷◌, ◌++◌, None, refl, sym, ap, subst, ◌∙◌, ◌⊎◌, inl, inr, true≢false, append_assoc, append-nil}
 use Rattle.edit_syntax.specs.Grammar.{Text}
 use Rattle.edit_syntax.proofs.Cases.{by_test}

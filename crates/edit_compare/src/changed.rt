@@ -76,7 +76,7 @@ fn shows_members(
     true
 }
 
-/// Whether a node equals a new entry; `inside` says whether the entry is part of an inline table.
+/// Whether a node equals a new entry; `inside` is true where the entry is part of an inline table.
 fn shows_item(document: &Document, number: usize, item: &NewItem, inside: bool) -> bool
     requires { number < length document.now.nodes }
     ensures { Decides result

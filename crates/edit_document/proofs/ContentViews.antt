@@ -1,4 +1,4 @@
--- What a node shows, by its content.
+-- The view of a node, by its content.
 use Rattle.std.proofs.Common.{◌≡◌, ℕ, List, length, sym, ap, ◌∙◌}
 use Rattle.edit_tree.specs.declared.nodes.Content.{Content}
 use Rattle.edit_tree.specs.declared.nodes.Node.{Node}

@@ -1,4 +1,4 @@
--- How a fact of an edit is shown: the text is read to its form, and what is said of that form is worked out.
+-- How an example of an edit is proved: the text is parsed, and the claim is computed on its syntax tree.
 use Rattle.std.proofs.Common.{◌≡◌, ℕ, Bool, true, false, List, Option, Some, None, refl, sym, ap, ◌∙◌, true≢false}
 use Rattle.std.specs.Prelude.{not}
 use Rattle.edit_syntax.specs.Grammar.{Text, Spells}

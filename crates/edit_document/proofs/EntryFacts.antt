@@ -1,4 +1,4 @@
--- New values and entries as they are written, values set, entries replaced, and what one pair names.
+-- Examples: new values and entries as written, values set, entries replaced, and what one pair names.
 use Rattle.std.proofs.Common.{◌≡◌, true, false, [], ◌∷◌, refl}
 use Rattle.std.specs.Prelude.{codes}
 use Rattle.edit_syntax.specs.Grammar.{value}

@@ -1,4 +1,4 @@
--- What stands at the parts of a new entry, and below them.
+-- The views at and below the parts of a new entry.
 use Rattle.std.proofs.Common.{◌≡◌, ℕ, Bool, true, false, List, [], ◌∷◌, ◌++◌, Option, Some, None, is_some, refl, sym, ap, ◌∙◌, append-nil}
 use Rattle.std.specs.Prelude.{option_and_then, find}
 use Rattle.std.specs.Str.{bytes_eq}

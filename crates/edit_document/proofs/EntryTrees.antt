@@ -1,4 +1,4 @@
--- A new entry as a document by itself shows what the entry shows.
+-- The document that consists of a new entry has the tree of the entry.
 use Rattle.std.proofs.Common.{◌≡◌, ℕ, zero, suc, ◌+◌, ◌<◌, Bool, true, false, cond, ◌||◌, List, [], ◌∷◌, length, map, Option, Some, None, refl, sym, ap, ◌∙◌, eq-eqb, arith}
 use Rattle.std.specs.Prelude.{slice_get, option_map, option_and_then, find}
 use Rattle.std.specs.List.{list_any, cons_option, filter_map, flat_map, range_with_len}

@@ -1,6 +1,5 @@
--- From what the reader and the walk answer to the definitions: a text over which the walk ends is a document
--- and has its tree,
--- and one over which it stops is none.
+-- From the results of the parser and the walk to the definitions: a text is a document, with this tree,
+-- exactly where the walk succeeds.
 use Rattle.std.proofs.Common.{◌≡◌, ℕ, ◌+◌, length, Bool, true, false, ◌==◌, ◌&&◌, ◌||◌, List, Option, Some, None, refl, sym, ap, subst, ◌∙◌, true≢false}
 use Rattle.std.specs.Prelude.{map, not}
 use Rattle.std.specs.Str.{is_utf8}

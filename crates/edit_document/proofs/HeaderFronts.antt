@@ -1,4 +1,4 @@
--- What a header that goes on below a member makes of the spots.
+-- How a header that passes through a member changes the model nodes.
 use Rattle.std.proofs.Common.{◌≡◌, ℕ, zero, suc, ◌-◌, ◌<◌, Bool, true, false, cond, List, [], ◌∷◌, length, Option, Some, None, refl, sym, ap, ◌∙◌, ◌⊎◌, inl, inr, arith}
 use Rattle.std.specs.Prelude.{slice_get, nat_lt, unwrap_or}
 use Rattle.std.proofs.lemmas.Bool.Decides.{nat_tests}

@@ -1,4 +1,4 @@
--- Members inserted: one fact for each kind of table, each kind of line end, and each spot of a text.
+-- Examples of inserted members, for each kind of table, each newline and each position of a text.
 use Rattle.std.proofs.Common.{true, [], ◌∷◌, refl}
 use Rattle.std.specs.Prelude.{codes}
 use Rattle.edit_tree.specs.Assertions.{key, index}

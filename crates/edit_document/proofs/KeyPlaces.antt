@@ -1,4 +1,4 @@
--- Where a key leads: each part before the last asserts a place, and the last one the place that is named.
+-- The places that a key leads to: each part before the last defines one, and the last one is the place named.
 use Rattle.std.proofs.Common.{◌≡◌, ℕ, Bool, true, false, List, [], ◌∷◌, ◌++◌, map, Option, Some, None, refl, sym, ap, subst, ◌∙◌, ◌⊎◌, inl, inr, append_assoc}
 use Rattle.std.proofs.lemmas.List.{append-nil}
 use Rattle.edit_syntax.specs.declared.span.Span.{Span}

@@ -1,4 +1,4 @@
--- The walk over the marks of a key and of what it is for, against the assertions that are made.
+-- The walk over the tokens of a key and of what it names, against its assertions.
 use Rattle.std.proofs.Common.{◌≡◌, ℕ, ◌<◌, Bool, true, false, List, [], ◌∷◌, ◌++◌, length, Option, Some, None, refl, sym, ap, subst, ◌∙◌, arith}
 use Rattle.std.proofs.lemmas.Option.{slice_get_past}
 use Rattle.edit_syntax.specs.declared.read.marks.Mark.{Mark}

@@ -1,14 +1,14 @@
 -- The table of nodes
 pub mod Views
 pub mod MemberViews
--- What statements assert, and the spots that stand for it
+-- The assertions of statements, and their model nodes
 pub mod AssertedSpots
 pub mod NewAssertions
 pub mod MemberAssertions
 pub mod HeaderFronts
 pub mod KeyPlaces
 pub mod Arrays
--- The walk over marks
+-- The walk over tokens
 pub mod KeyWalks
 pub mod KeySpans
 pub mod NumberTokens
@@ -30,7 +30,7 @@ pub mod ValueRanges
 pub mod LocatedEdits
 pub mod SortedRewrites
 pub mod ReplacementLaws
--- Places that one statement alone names
+-- Places that exactly one statement names
 pub mod NodeStatements
 pub mod NodeAnswers
 pub mod AloneTurns
@@ -54,5 +54,5 @@ pub mod EditFacts
 pub mod EntryFacts
 pub mod InsertFacts
 pub mod RemoveFacts
--- What is left when an item is removed
+-- The tables and arrays that stay when an item is removed
 pub mod KeptNodes

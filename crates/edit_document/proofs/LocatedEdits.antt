@@ -1,5 +1,4 @@
--- The ranges of edits at distinct places, found one by one and then sorted, are cut out of the text in their
--- order.
+-- The ranges of edits at distinct places, found one by one and then sorted, are in the order of the text.
 use Rattle.std.proofs.Common.{◌≡◌, ℕ, ◌<◌, ◌≤◌, Bool, false, ◌==◌, cond, List, [], ◌∷◌, length, Some, refl, sym, ap, ◌∙◌, subst, inl, inr, true≢false, arith}
 use Rattle.std.proofs.lemmas.Bool.{eqb-true}
 use Rattle.std.proofs.lemmas.Bool.Decides.{nat_tests}

@@ -1,4 +1,4 @@
--- What asserting a member or an element makes of the spots that stand for the assertions so far.
+-- How defining a member or an element changes the model nodes of the assertions so far.
 use Rattle.std.proofs.Common.{◌≡◌, ℕ, suc, ◌+◌, ◌≤◌, Bool, true, false, cond, List, [], ◌∷◌, ◌++◌, length, Option, Some, None, refl, sym, ap, subst, ◌∙◌, ◌⊎◌, inl, inr, arith}
 use Rattle.std.specs.Prelude.{slice_get, slice_set, map}
 use Rattle.std.specs.Map.{lookup}

@@ -1,4 +1,4 @@
--- What the members of a node show, and the walk along a place.
+-- The views of a node's members, and the walk along a place.
 use Rattle.std.proofs.Common.{◌≡◌, ℕ, ◌+◌, ◌<◌, ◌≤◌, Bool, List, [], ◌∷◌, ◌++◌, length, get_or, take, drop, Option, Some, None, refl, sym, ap, subst, ◌∙◌, ◌⊎◌, inl, inr, arith, append_assoc, append-nil}
 use Rattle.std.specs.Prelude.{map, slice_get, MatchOption, IfSome}
 use Rattle.std.specs.Option.{option_copied}

@@ -1,4 +1,4 @@
--- What the answers of a document's nodes say of the statements that name their places.
+-- What the nodes of a document decide about the statements that name their places.
 use Rattle.std.proofs.Common.{◌≡◌, ℕ, true, false, List, [], ◌∷◌, length, Option, Some, None, refl, sym, ap, subst, ◌∙◌, arith}
 use Rattle.std.specs.Prelude.{map, slice_get, IsUtf8, string_bytes}
 use Rattle.std.proofs.lemmas.Option.{same_Some}

@@ -1,4 +1,5 @@
--- Items removed: members and elements with their commas, statements with the lines before them, whole tables.
+-- Examples of removed items: members and elements with their commas, statements with the lines before them,
+-- whole tables.
 use Rattle.std.proofs.Common.{[], ◌∷◌, refl}
 use Rattle.std.specs.Prelude.{codes}
 use Rattle.edit_tree.specs.Assertions.{key, index}

@@ -1,5 +1,4 @@
--- What a replacement promises: the bytes are a document again, only the literals differ, and the tree is the
--- one that is meant.
+-- After a replacement the bytes are a document, only the literals differ, and the tree is the intended one.
 use Rattle.std.proofs.Common.{◌≡◌, ℕ, zero, suc, arith, String, Global, ◌+◌, ◌<◌, ◌≤◌, true, List, [], ◌∷◌, ◌++◌, map, length, get_or, take, take_all, Option, None, Some, refl, sym, ap, ap₂, ◌∙◌, subst, inl, ⊎_elim}
 use Rattle.std.specs.Global.{Vec}
 use Rattle.std.specs.Prelude.{string_bytes, is_some}

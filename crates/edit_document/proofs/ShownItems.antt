@@ -1,4 +1,4 @@
--- What the names and the parts of a node tell of a new entry that it shows.
+-- A node has the tree of a new entry where its names and children match.
 use Rattle.std.proofs.Common.{◌≡◌, ℕ, zero, suc, Bool, true, false, cond, not, ◌||◌, List, [], ◌∷◌, ◌++◌, length, map, Option, Some, None, refl, sym, ap, ◌∙◌, append-nil, arith}
 use Rattle.std.specs.Bool.{Decides}
 use Rattle.std.specs.Prelude.{slice_get, option_map, option_and_then, find}

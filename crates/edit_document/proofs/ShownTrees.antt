@@ -1,4 +1,4 @@
--- The spots that stand for the assertions of a text show its tree.
+-- The model nodes of the assertions of a text have its tree.
 use Rattle.std.proofs.Common.{◌≡◌, ℕ, ◌<◌, Bool, true, false, cond, not, List, [], ◌∷◌, length, Option, Some, None, is_some, refl, sym, ap, subst, ◌∙◌}
 use Rattle.std.specs.Prelude.{map, option_map, slice_get}
 use Rattle.std.specs.List.{AllByRecursion, filter}

@@ -1,4 +1,4 @@
--- What the kind, the words and the parts of a node tell of a new value that it shows.
+-- A node has the tree of a new value where its kind, text and children match.
 use Rattle.std.proofs.Common.{◌≡◌, ℕ, ◌<◌, Bool, true, false, eqb, List, [], ◌∷◌, ◌++◌, length, Option, Some, None, refl, sym, ap, subst, ◌∙◌, eq-eqb, append-nil}
 use Rattle.std.specs.Bool.{Decides}
 use Rattle.std.specs.Prelude.{slice_get, option_map}

@@ -1,4 +1,4 @@
--- The ranges of edited values in any order, once sorted, are those of the edited values of the text.
+-- The ranges of edited values, once sorted, are those of the values in the order of the text.
 use Rattle.std.proofs.Common.{◌≡◌, ℕ, ◌<◌, ◌≤◌, cond, List, [], ◌∷◌, length, Option, None, Some, option_map, refl, sym, ap, ap₂, ◌∙◌, subst, inl, inr, ⊎_elim, arith}
 use Rattle.std.specs.Str.{IsUtf8}
 use Rattle.std.specs.List.{AllByRecursion, filter_map, cons_option}

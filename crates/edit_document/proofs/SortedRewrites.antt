@@ -1,4 +1,4 @@
--- Rewrites that are sorted by their starts ascend.
+-- Rewrites that are sorted by their starts are in ascending order.
 use Rattle.std.proofs.Common.{ℕ, suc, ◌<◌, ◌≤◌, List, [], ◌∷◌, map, length, get_or, arith}
 use Rattle.std.specs.List.{AllByRecursion}
 use Rattle.std.specs.List.Sorted.{IsNonDecreasingBy}

@@ -1,6 +1,5 @@
--- Inline tables as TOML 1.1.0 has them ("Inline Table"): over several lines, with comments, and with a comma
--- after
--- the last pair. What is a document shows what stands at a place of it.
+-- Examples of inline tables of TOML 1.1.0 ("Inline Table") with their trees: over several lines, with
+-- comments, and with a trailing comma.
 use Rattle.std.proofs.Common.{[], ◌∷◌, refl}
 use Rattle.std.specs.Prelude.{codes}
 use Rattle.edit_tree.specs.Assertions.{key, index}

@@ -1,5 +1,4 @@
--- Examples of TOML 1.0.0: tables, inline tables and arrays of tables. What is a document shows what stands at
--- a place of it.
+-- Examples of TOML 1.0.0 with their trees: tables, inline tables and arrays of tables.
 use Rattle.std.proofs.Common.{[], ◌∷◌, ◌++◌, true, refl}
 use Rattle.std.specs.Prelude.{codes}
 use Rattle.edit_tree.specs.Assertions.{key, index}

@@ -1,5 +1,4 @@
--- Examples of TOML 1.0.0: numbers, truth values, dates and arrays. What is a document shows what stands at a
--- place of it.
+-- Examples of TOML 1.0.0 with their trees: numbers, booleans, dates and arrays.
 use Rattle.std.proofs.Common.{[], ◌∷◌, false, refl}
 use Rattle.std.specs.Prelude.{codes}
 use Rattle.edit_tree.specs.Assertions.{key, index}

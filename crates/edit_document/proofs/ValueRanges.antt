@@ -1,4 +1,4 @@
--- The span of a node tells where the value of its place is written.
+-- The span of a node is the range of the value at its place.
 use Rattle.std.proofs.Common.{◌≡◌, ℕ, ◌-◌, ◌<◌, Bool, true, false, cond, List, [], ◌∷◌, map, length, get_or, Option, None, Some, option_map, refl, sym, ap, subst, ◌∙◌, inl, inr}
 use Rattle.std.specs.Prelude.{string_bytes}
 use Rattle.edit_tree.specs.declared.nodes.Node.{Node}

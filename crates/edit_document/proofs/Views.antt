@@ -1,4 +1,4 @@
--- What the table of nodes tells of a document.
+-- What the table of nodes determines about a document.
 use Rattle.std.proofs.Common.{◌≡◌, ℕ, zero, suc, ◌<◌, Bool, true, false, List, [], ◌∷◌, length, get_or, Option, Some, None, refl, sym, ap, subst, ◌∙◌, arith}
 use Rattle.std.specs.Prelude.{map, slice_get, option_map, unwrap_or, string_bytes}
 use Rattle.std.proofs.lemmas.Option.{slice_get-map, slice_get_read, same_Some}

@@ -1,4 +1,5 @@
--- The walk over the marks of one value: tokens, and the first and the last mark of what holds others.
+-- The walk over the tokens of one value: single tokens, and the first and last token of arrays and inline
+-- tables.
 use Rattle.std.proofs.Common.{◌≡◌, ℕ, ◌+◌, true, false, List, [], ◌∷◌, ◌++◌, length, map, Option, Some, None, refl, sym, ap, subst, ◌∙◌, append_assoc, length-append, arith}
 use Rattle.std.specs.Prelude.{IsUtf8}
 use Rattle.std.proofs.lemmas.Bool.Decides.{nat_tests}

@@ -1,4 +1,4 @@
--- The walk over the marks of statements, lines and texts.
+-- The walk over the tokens of statements, lines and texts.
 use Rattle.std.proofs.Common.{◌≡◌, ℕ, false, List, [], ◌∷◌, ◌++◌, map, Option, Some, None, refl, sym, ap, subst, ◌∙◌, append_assoc}
 use Rattle.std.specs.Prelude.{IsUtf8}
 use Rattle.std.proofs.lemmas.List.{append-nil, map-append}

@@ -1,4 +1,4 @@
--- What stands below a spot is numbered, and what a document tells of a node.
+-- The children of a node have indices, and what a document determines about a node.
 use Rattle.std.proofs.Common.{◌≡◌, ℕ, ◌≤◌, true, false, List, [], ◌∷◌, length, map, Some, None, refl, sym, ap, subst, ◌∙◌, ◌⊎◌, inl, inr, arith}
 use Rattle.std.specs.Prelude.{slice_get, option_map, IsUtf8, string_bytes}
 use Rattle.std.proofs.lemmas.Option.{slice_get-map, slice_get_within, same_Some}

@@ -1,4 +1,4 @@
--- What stands below a node: its members and its elements, and nothing else.
+-- What is below a node: its members and its elements, and nothing else.
 use Rattle.std.proofs.Common.{◌≡◌, ℕ, zero, suc, ◌<◌, Bool, true, false, nat_lt, cond, List, [], ◌∷◌, length, map, Option, Some, None, refl, sym, ap, subst, ◌∙◌, ◌⊎◌, inl, inr}
 use Rattle.std.specs.Prelude.{slice_get, option_map, IsUtf8, string_bytes}
 use Rattle.std.specs.Map.{lookup}

@@ -11,7 +11,7 @@ use crate::document::Document;
 use crate::place::Step;
 use edit_tree::nodes::Taken;
 
-/// How many statements name the place of a node, as far as the node itself tells.
+/// The number of statements that name the place of a node, as far as the node alone determines it.
 #[derive(Clone, Copy)]
 pub(crate) enum Statements {
     /// Exactly one pair, and no header.

@@ -1,4 +1,4 @@
--- Where the innermost value around a place stands in the text, and what the text is with other bytes there.
+-- The position of the innermost value around a place, and the text with that value replaced.
 use Rattle.std.proofs.Common.{◌≡◌, ℕ, zero, suc, ◌-◌, ◌<◌, ◌≤◌, Bool, true, false, ◌||◌, eqb, List, [], ◌∷◌, ◌++◌, length, take, drop, Option, Some, None, refl, sym, ap, ap₂, subst, ◌∙◌, true≢false, append_assoc, length-append, arith}
 use Rattle.std.specs.Prelude.{IsUtf8, Result, Ok, Err, IfOk}
 use Rattle.std.specs.Bool.{Decides}

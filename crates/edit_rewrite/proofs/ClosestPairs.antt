@@ -1,4 +1,4 @@
--- Pairs of inline tables whose keys go on behind a place: all stand in the closest inline table above it.
+-- Pairs of inline tables whose keys pass through a place: all are in the innermost inline table around it.
 use Rattle.std.proofs.Common.{◌≡◌, ℕ, zero, suc, ◌+◌, ◌-◌, ◌<◌, ◌≤◌, Bool, true, false, cond, ltb, List, [], ◌∷◌, ◌++◌, map, length, take, Option, None, Some, option_map, refl, sym, subst, ap, ap₂, ◌∙◌, ◌⊎◌, inl, inr, true≢false, append_assoc, length-append, arith}
 use Rattle.std.proofs.Math.Seq.{take-append_seam}
 use Rattle.std.proofs.lemmas.Bool.{ltb-true, ltb-false}

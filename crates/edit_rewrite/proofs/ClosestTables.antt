@@ -1,4 +1,4 @@
--- The closest inline table above a place, as a loop comes to the places above it.
+-- The innermost inline table around a place, found by a loop over the places above it.
 use Rattle.std.proofs.Common.{◌≡◌, ℕ, zero, suc, ◌+◌, ◌<◌, ◌≤◌, List, [], ◌∷◌, length, take, Option, None, Some, sym, subst, ap, ◌∙◌, arith, ltb}
 use Rattle.std.specs.Prelude.{MatchOption}
 use Rattle.std.proofs.lemmas.Bool.{ltb-true, ltb-false}

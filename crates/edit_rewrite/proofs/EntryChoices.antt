@@ -1,4 +1,4 @@
--- Entries that are chosen, as a loop comes to each of them.
+-- Selecting entries in a loop.
 use Rattle.std.proofs.Common.{◌≡◌, ℕ, ◌+◌, ◌<◌, Bool, true, false, cond, List, length, take, get_or, Some, None, ap}
 use Rattle.std.specs.Prelude.{not, ◌&&◌, is_some}
 use Rattle.edit_rewrite.specs.declared.locate.Entry.{Entry}

@@ -1,5 +1,5 @@
--- Where the pairs of a text stand, and that the text may be cut where the part of a key ends and behind a
--- value.
+-- The positions of the pairs of a text, behind a part of the key and behind the value, are character
+-- boundaries.
 use Rattle.std.proofs.Common.{◌≡◌, ℕ, ◌≤◌, Bool, true, false, cond, List, [], ◌∷◌, ◌++◌, Option, Some, None, refl, sym, subst, inl, inr, ⊎_elim, arith}
 use Rattle.std.specs.Prelude.{IsUtf8}
 use Rattle.std.specs.List.{AllByRecursion}

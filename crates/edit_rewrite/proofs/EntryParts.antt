@@ -1,4 +1,4 @@
--- The part of a key that names a place, by the way along the key and by its marks.
+-- The part of a key that names a place, by following the key and by its tokens.
 use Rattle.std.proofs.Common.{◌≡◌, ℕ, Bool, true, false, ◌&&◌, cond, List, [], ◌∷◌, length, Option, Some, None, option_map, refl, sym, ap, ◌∙◌, true≢false}
 use Rattle.std.specs.Prelude.{unwrap_or}
 use Rattle.std.proofs.lemmas.Bool.{and_parts, and_from}

@@ -1,4 +1,4 @@
--- Which splice writes a member more into an inline table, by what stands between its braces.
+-- How a member is inserted into an inline table, by what is between its braces.
 use Rattle.std.proofs.Common.{◌≡◌, ℕ, Bool, true, false, eqb, List, [], ◌∷◌, ◌++◌, Option, Some, drop, refl, sym, true≢false, ap, ◌∙◌}
 use Rattle.std.specs.Prelude.{unwrap_or, codes}
 use Rattle.edit_syntax.specs.Characters.{right_brace}

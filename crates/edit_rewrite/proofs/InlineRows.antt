@@ -1,4 +1,4 @@
--- The row of inserting a member into an inline table.
+-- The rule for inserting a member into an inline table.
 use Rattle.std.proofs.Common.{◌≡◌, ℕ, Bool, true, false, cond, List, [], ◌∷◌, ◌++◌, length, drop, Option, Some, None, option_map, refl, sym, ap, ◌∙◌, true≢false}
 use Rattle.std.specs.Prelude.{IsUtf8, unwrap_or, codes}
 use Rattle.edit_syntax.specs.Characters.{right_brace}

@@ -1,4 +1,4 @@
--- The row of inserting a member into a table that dotted keys make inside an inline table.
+-- The rule for inserting a member into a table that dotted keys make inside an inline table.
 use Rattle.std.proofs.Common.{◌≡◌, ℕ, List, [], ◌∷◌, ◌++◌, map, length, Option, Some, None, option_map, refl, sym, subst, ap, ◌∙◌, inl, inr, arith}
 use Rattle.std.specs.Prelude.{IsUtf8, codes}
 use Rattle.edit_syntax.specs.Characters.{comma, equals, left_brace, right_brace}

@@ -1,4 +1,4 @@
--- The loop over the members of an inline table to the last one whose key goes on behind a place.
+-- The loop over the members of an inline table up to the last one whose key passes through a place.
 use Rattle.std.proofs.Common.{◌≡◌, ℕ, List, [], ◌∷◌, length, Option, None, Some, option_map, refl, ap, ap₂, ◌∙◌}
 use Rattle.std.specs.Option.{option_or}
 use Rattle.edit_syntax.specs.Characters.{comma}

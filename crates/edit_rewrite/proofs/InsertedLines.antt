@@ -1,4 +1,4 @@
--- What inserting a member writes where its table is written as no value.
+-- The insertion of a member into a table that is not written as a value.
 use Rattle.std.proofs.Common.{◌≡◌, ℕ, Bool, true, false, cond, List, [], ◌∷◌, ◌++◌, map, length, Option, Some, None, option_map, refl, sym, ap, ap₂, ◌∙◌}
 use Rattle.std.specs.Prelude.{Result, Ok, Err, IfOk, not, ◌&&◌, is_some, unwrap_or, codes}
 use Rattle.edit_syntax.specs.Grammar.{Statement, pair, header, element_header, Text}

@@ -1,5 +1,4 @@
--- The texts with a member more in a table that is written as no value: what each call gives is what its row
--- says.
+-- The texts with a member inserted into a table that is not written as a value: each call follows its rule.
 use Rattle.std.proofs.Common.{◌≡◌, ℕ, List, [], ◌++◌, map, length, Option, Some, None, String, Global, string_bytes, sym, ap, ap₂, ◌∙◌}
 use Rattle.std.specs.Prelude.{IsUtf8, Result, Ok, Err, IfOk, codes}
 use Rattle.edit_syntax.specs.Grammar.{Text, text}

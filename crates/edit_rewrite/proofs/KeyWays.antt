@@ -1,4 +1,4 @@
--- The way along the marks of a key.
+-- Following the tokens of a key.
 use Rattle.std.proofs.Common.{◌≡◌, ℕ, suc, ◌+◌, ◌-◌, Bool, true, false, cond, List, [], ◌∷◌, ◌++◌, length, take, drop, get_or, Option, Some, None, refl, sym, ap, subst, ◌∙◌, append_assoc, true≢false, arith}
 use Rattle.std.specs.Prelude.{map, option_map, slice_get, IsUtf8}
 use Rattle.std.proofs.Math.Seq.{take-length}

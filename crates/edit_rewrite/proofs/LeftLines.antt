@@ -1,4 +1,4 @@
--- What is left of the lines of a text where some of its statements go, as a loop comes to each statement.
+-- What is left of the lines of a text where some statements are removed, statement by statement.
 use Rattle.std.proofs.Common.{◌≡◌, ℕ, ◌-◌, Bool, true, false, if◌then◌else◌, List, [], ◌∷◌, ◌++◌, map, length, refl, sym, ap, ◌∙◌, append_assoc, append-nil}
 use Rattle.std.specs.Prelude.{IsUtf8}
 use Rattle.edit_syntax.specs.Spans.{cut_from}

@@ -1,16 +1,16 @@
--- What statements assert, and the spots that stand for it
+-- The assertions of statements, and their model nodes
 pub mod MemberTurns
 -- A value set at a place
 pub mod SetBytes
 -- Two documents compared
 pub mod GrownInline
--- Where statements stand
+-- The positions of statements
 pub mod Ways
 pub mod KeyWays
 pub mod WayCounts
 pub mod TakenStatements
 pub mod StatedLines
--- A member more in lines
+-- A member inserted on a line of its own
 pub mod SpotTexts
 pub mod StatementSpots
 pub mod InsertedLines

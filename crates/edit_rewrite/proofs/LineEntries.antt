@@ -1,4 +1,4 @@
--- The pair that is a statement and names a place: its entry, its marks and its spots.
+-- The pair that is a statement and names a place: its entry, its tokens and its offsets.
 use Rattle.std.proofs.Common.{◌≡◌, ℕ, ◌+◌, ◌<◌, Bool, true, false, ◌&&◌, cond, List, [], ◌∷◌, ◌++◌, map, length, take, get_or, Option, Some, None, option_map, refl, sym, ap, ap₂, subst, ◌∙◌, inl, inr, true≢false}
 use Rattle.std.specs.Prelude.{not, unwrap_or, IsUtf8}
 use Rattle.std.specs.List.{flat_map, Contains}

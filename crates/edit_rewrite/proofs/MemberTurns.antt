@@ -1,5 +1,4 @@
--- The loop over the members of an inline table: where it stands, and what is made of one member after the
--- other.
+-- The loop over the members of an inline table: its positions, and its result member by member.
 use Rattle.std.proofs.Common.{◌≡◌, ℕ, ◌+◌, ◌≤◌, true, false, eqb, List, [], ◌∷◌, ◌++◌, length, drop, refl, sym, true≢false, ap, ◌∙◌, append_assoc, arith}
 use Rattle.std.proofs.lemmas.List.{length-append}
 use Rattle.edit_syntax.specs.Characters.{comma, left_brace, right_brace}

@@ -1,4 +1,4 @@
--- Slots at the start and at the end of the walk over the marks of a value.
+-- Items at the start and at the end of the walk over the tokens of a value.
 use Rattle.std.proofs.Common.{◌≡◌, ℕ, ◌+◌, ◌≤◌, Bool, true, false, eqb, if◌then◌else◌, List, [], ◌∷◌, ◌++◌, length, drop, refl, sym, true≢false, ap, ◌∙◌, append_assoc, arith}
 use Rattle.std.proofs.lemmas.List.{length-append}
 use Rattle.edit_syntax.specs.Characters.{comma, is_blank}

@@ -1,4 +1,4 @@
--- What the parts of a member's key say, and which elements and members a place goes through.
+-- The decoded parts of a member's key, and the elements and members that a place passes through.
 use Rattle.std.proofs.Common.{◌≡◌, ℕ, suc, ◌≤◌, Bool, true, false, List, [], ◌∷◌, ◌++◌, length, map, refl, sym, true≢false, ap, ◌∙◌, arith}
 use Rattle.std.specs.List.{AllByRecursion}
 use Rattle.edit_syntax.specs.Characters.{quote, right_bracket, right_brace, is_blank, All}

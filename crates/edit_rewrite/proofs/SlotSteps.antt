@@ -1,4 +1,4 @@
--- An element or a member at the front, as the steps over values and keys ask for it.
+-- An element or a member at the front meets the preconditions of the steps over values and keys.
 use Rattle.std.proofs.Common.{◌≡◌, ℕ, Bool, true, false, List, [], ◌∷◌, ◌++◌, refl, sym, true≢false, ap, ◌∙◌}
 use Rattle.std.proofs.Common.{◌≤◌, ◌&&◌, length, map, ◌-◌, take, drop, get_or, subst, Result, Err, MatchResult, arith}
 use Rattle.std.proofs.Math.Seq.{take-length}

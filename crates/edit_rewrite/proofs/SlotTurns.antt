@@ -1,4 +1,4 @@
--- One turn over the elements or the members: where the loop stands, and what each of its ways leaves.
+-- One turn of the loop over elements or members: its position, and the result of each branch.
 use Rattle.std.proofs.Common.{◌≡◌, ℕ, suc, ◌+◌, ◌≤◌, Bool, true, false, eqb, if◌then◌else◌, List, [], ◌∷◌, ◌++◌, length, drop, refl, sym, true≢false, ap, ◌∙◌, append_assoc, arith}
 use Rattle.edit_syntax.specs.Characters.{comma, left_brace}
 use Rattle.edit_syntax.specs.Grammar.{Between, gap, IsGap}

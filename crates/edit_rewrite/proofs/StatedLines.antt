@@ -1,4 +1,4 @@
--- The statements of lines, one line after the other, as they stand to a place.
+-- The statements of lines, one line after the other, related to a place.
 use Rattle.std.proofs.Common.{◌≡◌, ℕ, ◌≤◌, true, false, cond, List, [], ◌∷◌, ◌++◌, length, Some, refl, sym, ap, subst, ◌∙◌, append_assoc, arith}
 use Rattle.std.specs.Prelude.{map, IsUtf8}
 use Rattle.std.proofs.lemmas.List.{append-nil}

@@ -1,4 +1,4 @@
--- Where the statements of a text stand, and where it may be cut.
+-- The positions of the statements of a text are at character boundaries.
 use Rattle.std.proofs.Common.{◌≡◌, ℕ, ◌-◌, ◌<◌, Bool, true, false, cond, List, [], ◌∷◌, ◌++◌, length, get_or, Some, None, refl, sym, ap, ◌∙◌, subst, inl, inr, append_assoc, length-append, arith}
 use Rattle.std.specs.Prelude.{IsUtf8}
 use Rattle.std.specs.List.{AllByRecursion}

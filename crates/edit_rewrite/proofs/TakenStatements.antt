@@ -1,4 +1,4 @@
--- How a statement stands to a place, by the way along its key.
+-- The relation of a statement to a place, by following its key.
 use Rattle.std.proofs.Common.{◌≡◌, ℕ, Bool, true, false, List, [], ◌++◌, length, Option, refl, sym, ap, ◌∙◌}
 use Rattle.std.specs.Prelude.{slice_index}
 use Rattle.std.proofs.lemmas.List.{length-set}

@@ -1,4 +1,4 @@
--- What is told of the pairs that may name a place, and of the spots around one of them.
+-- The pairs that may name a place, and the offsets in one of them.
 use Rattle.std.proofs.Common.{◌≡◌, ℕ, List, ◌∷◌, length, Option, Some, None, option_map, refl, ap, ◌∙◌, inl, inr}
 use Rattle.edit_syntax.proofs.Members.{Among, among_contained, contained_among}
 use Rattle.edit_tree.specs.Assertions.{Place}

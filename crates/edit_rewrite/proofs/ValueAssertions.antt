@@ -1,4 +1,4 @@
--- What the values of a text assert is among what the text asserts.
+-- The assertions of the values of a text are among those of the text.
 use Rattle.std.proofs.Common.{◌≡◌, ℕ, suc, Bool, true, false, List, [], ◌∷◌, ◌++◌, map, Option, None, Some, option_map, refl, sym, ap, ◌∙◌, subst, inl, inr, ⊎_elim, true≢false, append_assoc}
 use Rattle.edit_syntax.specs.Characters.{comma, right_bracket, right_brace}
 use Rattle.edit_syntax.specs.Strings.{Key, name, line_end}

@@ -1,4 +1,4 @@
--- Where the values of a text stand, and how deep they are.
+-- The positions of the values of a text, and their depths.
 use Rattle.std.proofs.Common.{ℕ, suc, ◌≤◌, List, [], ◌∷◌, ◌++◌, arith}
 use Rattle.std.specs.Prelude.{IsUtf8}
 use Rattle.std.specs.List.{AllByRecursion}

@@ -1,4 +1,4 @@
--- The way of a place with a step more, and what it tells of the place.
+-- The relation of a place to the target after one more step.
 use Rattle.std.proofs.Common.{◌≡◌, ℕ, suc, ◌+◌, ◌-◌, ◌≤◌, ◌<◌, Bool, true, false, cond, ◌&&◌, get_or, List, [], ◌∷◌, ◌++◌, length, take, Option, refl, sym, ap, subst, ◌∙◌, arith, eq-eqb, true≢false, String, Global}
 use Rattle.std.specs.Prelude.{slice_get, nat_lt, option_map, string_bytes}
 use Rattle.std.proofs.lemmas.Bool.{ne_eqb}

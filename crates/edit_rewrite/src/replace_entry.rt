@@ -98,8 +98,8 @@ fn swapped(alloc: Global, text: &str, from: usize, to: usize, now: &str) -> Carg
     Ok(out)
 }
 
-/// The offsets of the pair that names the place, in the inline table at the first `end` steps of the place, if
-/// there is one.
+/// The offsets of the pair that names the place, in the inline table at the first `end` steps of the place,
+/// if there is one.
 fn spots_in(
     document: &Document,
     alloc: Global,

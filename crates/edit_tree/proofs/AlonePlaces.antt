@@ -1,4 +1,4 @@
--- What may still be asserted of a place tells which assertions stand there, and how often pairs name it.
+-- How a place counts as defined decides which assertions it has and how often pairs name it.
 use Rattle.std.proofs.Common.{◌≡◌, suc, Bool, true, false, not, ◌&&◌, ◌||◌, cond, List, [], ◌∷◌, Some, None, refl, sym, ap, ◌∙◌, true≢false}
 use Rattle.std.proofs.lemmas.Bool.{and_parts}
 use Rattle.std.specs.List.{AllByRecursion}

@@ -1,4 +1,4 @@
--- What each assertion of a document tells of the place that its statement names.
+-- How each assertion of a document relates to the place that its statement names.
 use Rattle.std.proofs.Common.{◌≡◌, ℕ, suc, ◌+◌, ◌-◌, ◌<◌, Bool, true, false, ◌&&◌, nat_lt, cond, List, [], ◌∷◌, ◌++◌, refl, sym, ap, subst, ◌∙◌, inl, inr, true≢false, arith}
 use Rattle.std.proofs.lemmas.Bool.{ltb-true}
 use Rattle.edit_syntax.specs.Grammar.{Statement, pair, header, element_header}

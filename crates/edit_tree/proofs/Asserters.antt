@@ -1,5 +1,4 @@
--- By whom places are asserted: each place on the way to the place that a statement names is asserted on that
--- way.
+-- What defines a place: each place on the path to one that a statement names is defined on that path.
 use Rattle.std.proofs.Common.{◌≡◌, ℕ, Bool, true, false, not, List, [], ◌∷◌, ◌++◌, map, refl, sym, ap, subst, ◌∙◌, inl, inr, true≢false, append_assoc}
 use Rattle.std.specs.List.{AllByRecursion}
 use Rattle.edit_syntax.specs.Grammar.{Value}

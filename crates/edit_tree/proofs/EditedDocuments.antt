@@ -1,4 +1,4 @@
--- When the text of an edit reads otherwise than the edit means it.
+-- When the text after an edit has another tree than the intended one.
 use Rattle.std.proofs.Common.{◌≡◌, ℕ, List, Option, sym, ap, subst, ◌∙◌}
 use Rattle.edit_syntax.specs.Grammar.{Text}
 use Rattle.edit_tree.specs.Assertions.{IsDocument, Place, key}

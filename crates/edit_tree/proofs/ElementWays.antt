@@ -1,5 +1,4 @@
--- Where each statement asserts something, the elements of arrays and all lines have an asserter for each
--- place above.
+-- Assertions of elements of arrays and of lines have an assertion for each place above them.
 use Rattle.std.proofs.Common.{◌≡◌, ◌+◌, true, false, cond, List, [], ◌∷◌, ◌++◌, refl, sym, ap, subst, ◌∙◌, inl, inr, arith}
 use Rattle.std.proofs.lemmas.Bool.{cases_lt}
 use Rattle.edit_syntax.specs.Grammar.{Statement, pair, header, element_header, empty_line, full_line, Lines, one_line, more_lines, Text}

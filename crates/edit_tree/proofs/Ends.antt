@@ -1,4 +1,4 @@
--- What stands at the end of a text, and what its tokens say.
+-- Suffixes of a text, and the decoded values of the tokens there.
 use Rattle.std.proofs.Common.{◌≡◌, ℕ, zero, suc, ◌+◌, ◌-◌, ◌<◌, Bool, true, List, [], ◌∷◌, ◌++◌, length, take, drop, get_or, refl, sym, ap, subst, ◌∙◌, append_assoc, length-append, lit<, arith}
 use Rattle.std.specs.Prelude.{encode_utf8, IsUtf8}
 use Rattle.std.specs.List.{AllByRecursion}

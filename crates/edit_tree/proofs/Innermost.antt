@@ -1,4 +1,4 @@
--- The innermost value around a place: the last one, in the order of the text, that stands above the place.
+-- The innermost value around a place: the last one, in the order of the text, that is above the place.
 use Rattle.std.proofs.Common.{◌≡◌, Bool, true, false, not, ◌&&◌, if◌then◌else◌, List, [], ◌∷◌, Option, None, Some, refl, sym, ap, ◌∙◌, inl, inr, true≢false}
 use Rattle.edit_syntax.specs.Grammar.{Text}
 use Rattle.edit_syntax.proofs.Cases.{by_test}

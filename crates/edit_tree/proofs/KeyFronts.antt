@@ -1,4 +1,4 @@
--- Members that are asserted, and the front parts of a key, as the code takes them.
+-- Defining members and the front parts of a key, as the code does it.
 use Rattle.std.proofs.Common.{◌≡◌, ℕ, ◌+◌, ◌<◌, true, List, [], ◌∷◌, length, drop, get_or, Option, Some, None, refl, sym, ap, subst, ◌∙◌}
 use Rattle.std.specs.Prelude.{map}
 use Rattle.std.proofs.lemmas.Option.{slice_get_read}

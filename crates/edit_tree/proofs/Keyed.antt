@@ -1,5 +1,4 @@
--- Names stand below tables alone: each asserted place that ends with a name lies below the root or below a
--- table.
+-- Keys are below tables only: each defined place that ends with a key is below the root or a table.
 use Rattle.std.proofs.Common.{◌≡◌, ℕ, suc, Bool, true, false, nat_lt, ◌-◌, cond, List, [], ◌∷◌, ◌++◌, Some, refl, sym, ap, ◌∙◌, subst, ◌⊎◌, inl, inr, append_assoc}
 use Rattle.std.specs.List.{AllByRecursion}
 use Rattle.std.specs.Prelude.{map}

@@ -1,4 +1,4 @@
--- What stands in a tree when an item is removed, and what new entries show.
+-- Examples: the trees after an item is removed, and the trees of new entries.
 use Rattle.std.proofs.Common.{◌≡◌, ℕ, true, false, List, [], ◌∷◌, Option, None, Some, refl}
 use Rattle.std.specs.Prelude.{codes, option_and_then}
 use Rattle.edit_syntax.specs.FormOf.{form_of}

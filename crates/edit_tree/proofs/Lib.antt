@@ -1,7 +1,7 @@
 -- The table of nodes
 pub mod NameLists
 pub mod ShapedStrings
--- What statements assert, and the spots that stand for it
+-- The assertions of statements, and their model nodes
 pub mod SamePlace
 pub mod SamePlaces
 pub mod Below
@@ -13,7 +13,7 @@ pub mod MoreMembers
 pub mod TakenPairs
 pub mod ArrayCounts
 pub mod Parts
--- The walk over marks
+-- The walk over tokens
 pub mod Ends
 pub mod Walks
 pub mod WalkSteps
@@ -42,7 +42,7 @@ pub mod ReplacedDocuments
 pub mod WidenedForms
 pub mod WidenedLists
 pub mod WidenedViews
--- Places that one statement alone names
+-- Places that exactly one statement names
 pub mod NamedPairs
 pub mod NamedHeads
 pub mod HeadedPlaces
@@ -53,7 +53,7 @@ pub mod OneStatements
 -- Two documents compared
 pub mod Keyed
 pub mod EditedDocuments
--- A member more in lines
+-- A member inserted on a line of its own
 pub mod Choices
 -- An entry replaced
 pub mod LonePairs
@@ -66,7 +66,7 @@ pub mod ReplaceFacts
 pub mod OnTexts
 pub mod OverLinesFacts
 pub mod LeftFacts
--- What is left when an item is removed
+-- The tables and arrays that stay when an item is removed
 pub mod Asserters
 pub mod ValueAsserters
 pub mod AssertedWays

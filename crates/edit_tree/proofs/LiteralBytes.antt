@@ -1,4 +1,4 @@
--- The bytes of a literal, one after the other.
+-- The bytes of a literal, character by character.
 use Rattle.std.proofs.Common.{◌≡◌, ℕ, ◌+◌, ◌-◌, ◌<◌, ◌≤◌, true, false, ◌==◌, nat_lt, List, [], ◌∷◌, ◌++◌, map, length, get_or, take, drop, length-drop, get_or-drop, append_assoc, append-nil, take_all, refl, ap, ◌∙◌, lit<, arith}
 use Rattle.std.proofs.lemmas.Bool.Decides.{nat_tests}
 use Rattle.std.proofs.lemmas.List.{drop_more, take_more, drop_all}

@@ -1,4 +1,4 @@
--- The string literal of a text is well formed and says the text, whatever the bytes of the text are.
+-- The string literal of a text is well formed and has the text as its decoded value, for any bytes.
 use Rattle.std.proofs.Common.{◌≡◌, ℕ, zero, suc, ◌<◌, ◌≤◌, Bool, true, false, ◌&&◌, ◌==◌, nat_lt, nat_le, List, [], ◌∷◌, ◌++◌, map, length, refl, sym, ap, ◌∙◌, subst, lit<, ◌⊎◌, inl, inr, ⊎_elim, true≢false, arith}
 use Rattle.std.proofs.lemmas.Bool.{and_parts, cases_lt, eqb-true}
 use Rattle.std.specs.List.{AllByRecursion, list_all}

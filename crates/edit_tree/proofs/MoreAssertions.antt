@@ -1,4 +1,4 @@
--- One assertion more: what then stands at a place, what its members are, and which assertions may follow.
+-- One more assertion: the view at each place, the members, and what may follow.
 use Rattle.std.proofs.Common.{◌≡◌, ◌≤◌, Bool, true, false, cond, ◌&&◌, List, [], ◌∷◌, ◌++◌, length, Option, Some, None, refl, sym, ap, ◌∙◌, ◌⊎◌, inl, inr}
 use Rattle.edit_tree.specs.Assertions.{Place, same_place, Kind, header_kind, Assertion, together, NoClash, AreShort}
 use Rattle.edit_tree.specs.Tree.{kind_at}

@@ -1,4 +1,4 @@
--- The headers that name a place, told by the assertions of a text; and the places that one pair alone names.
+-- The headers that name a place, by the assertions of a text; places that exactly one pair names.
 use Rattle.std.proofs.Common.{◌≡◌, ℕ, suc, ◌==◌, Bool, true, false, not, ◌&&◌, ◌||◌, List, [], ◌∷◌, ◌++◌, refl, sym, ap, ap₂, ◌∙◌, true≢false}
 use Rattle.std.specs.List.{AllByRecursion, list_any}
 use Rattle.edit_syntax.specs.Strings.{◌·◌, Key, line_end}

@@ -1,4 +1,4 @@
--- The pairs and headers that name a place, told by the assertions of a text.
+-- The pairs and headers that name a place, by the assertions of a text.
 use Rattle.std.proofs.Common.{◌≡◌, ℕ, suc, ◌+◌, Bool, true, false, ◌&&◌, cond, List, [], ◌∷◌, ◌++◌, map, length, Some, None, is_some, refl, sym, ap, ◌∙◌, true≢false, arith}
 use Rattle.std.specs.List.{AllByRecursion, filter, flat_map}
 use Rattle.edit_syntax.specs.Characters.{comma, right_bracket, right_brace}

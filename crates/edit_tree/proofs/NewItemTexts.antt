@@ -1,4 +1,4 @@
--- The texts of lists and of tables of new values, part by part.
+-- The texts of new lists and tables, part by part.
 use Rattle.std.proofs.Common.{◌≡◌, ◌<◌, ◌≤◌, ◌+◌, ◌-◌, ◌++◌, ◌∷◌, [], List, ℕ, length, take, drop, take_all, get_or, map, refl, ap, ◌∙◌, sym, append_assoc, append-nil, codes, arith}
 use Rattle.std.specs.Prelude.{OnOk, Result, Ok, Err, is_ok, if◌then◌else◌}
 use Rattle.std.proofs.lemmas.List.{take_more}

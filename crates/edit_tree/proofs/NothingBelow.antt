@@ -1,6 +1,5 @@
--- Each asserted place lies directly below the root or below a place that an earlier assertion opens; so
--- nothing is
--- asserted below a place that has a plain value.
+-- Each defined place is below the root or a place that an earlier assertion opens; so nothing is defined
+-- below a plain value.
 use Rattle.std.proofs.Common.{◌≡◌, ℕ, suc, Bool, true, false, ◌-◌, nat_lt, if◌then◌else◌, cond, List, [], ◌∷◌, ◌++◌, map, refl, sym, ap, ◌∙◌, subst, ◌⊎◌, inl, inr, append_assoc}
 use Rattle.std.proofs.lemmas.Bool.{and_parts}
 use Rattle.edit_syntax.specs.Strings.{Key, name}

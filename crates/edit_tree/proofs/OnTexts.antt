@@ -1,4 +1,4 @@
--- What a fact unfolds to compute the reader and the walk on a text.
+-- The definitions that worked examples unfold to compute the parser and the walk on a text.
 use Rattle.std.specs.Prelude.{⊤}
 use Rattle.std.specs.Str.{is_utf8, chars}
 use Rattle.edit_syntax.specs.Reading.{read_text, lines_at, line_end_at, line_at, statement_at, value_at, elements_at, gap_at, between_at, members_at, pair_at, scalar_at, header_at, element_header_at, key_at, dotted_at, part_at, multi_at, body_at, line_piece_at, spot_at, raw_at, feed_at, fold_at, spaces_at, space_at, escape_at, coded_at, basic_at, literal_at, pieces_at, piece_at}

@@ -1,4 +1,5 @@
--- A place that only dotted keys and headers go through, with one member: the same statements name the member.
+-- A place that only dotted keys and headers pass through and that has one member: the same statements name
+-- both.
 use Rattle.std.proofs.Common.{◌≡◌, ℕ, Bool, true, false, ◌&&◌, ◌||◌, cond, List, [], ◌∷◌, suc, Option, Some, None, refl, sym, ap, ap₂, ◌∙◌, true≢false}
 use Rattle.std.proofs.lemmas.Bool.{and_parts, and_from, or_left, or_right}
 use Rattle.std.specs.List.{AllByRecursion}

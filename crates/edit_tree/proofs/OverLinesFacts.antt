@@ -1,4 +1,5 @@
--- Edits of inline tables with newlines, comments and a last comma (TOML 1.1, "Inline Table").
+-- Examples of edits of inline tables with newlines, comments and a trailing comma (TOML 1.1.0, "Inline
+-- Table").
 use Rattle.std.proofs.Common.{◌≡◌, ℕ, List, [], ◌∷◌, true, false, None, refl}
 use Rattle.std.specs.Prelude.{codes}
 use Rattle.edit_syntax.specs.Strings.{Key, bare, lf, crlf}

@@ -1,5 +1,4 @@
--- Literals and replacements that are worked out: one literal, two literals in any order, and places where
--- nothing is written.
+-- Examples of literals and replacements: one, two in any order, and places where nothing is written.
 use Rattle.std.proofs.Common.{◌≡◌, ℕ, List, [], ◌∷◌, Some, None, refl, false, true≢false}
 use Rattle.std.specs.Prelude.{codes}
 use Rattle.edit_syntax.specs.Strings.{Key, bare, lf, plain}

@@ -1,4 +1,4 @@
--- What is read again of a text with literals written into it.
+-- Parsing a text with values replaced by literals.
 use Rattle.std.proofs.Common.{◌≡◌, ℕ, List, [], ◌∷◌, cond, Option, None, sym, ap, ◌∙◌, subst}
 use Rattle.edit_syntax.specs.Grammar.{Text, text}
 use Rattle.edit_tree.specs.Assertions.{IsDocument, Place}

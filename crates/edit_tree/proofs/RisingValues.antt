@@ -1,5 +1,4 @@
--- In a document each value comes before the values inside it: where a value stands, no later one stands there
--- or above.
+-- In a document each value comes before the values inside it: no later value is at or above its place.
 use Rattle.std.proofs.Common.{◌≡◌, Bool, true, false, if◌then◌else◌, List, [], ◌∷◌, None, Some, refl, sym, ap, ◌∙◌, subst, inl, inr, ⊎_elim, true≢false}
 use Rattle.std.specs.List.{AllByRecursion, cons_option}
 use Rattle.edit_syntax.specs.Grammar.{Text}

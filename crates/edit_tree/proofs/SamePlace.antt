@@ -1,4 +1,4 @@
--- Places are the same where their steps are.
+-- Two places are equal where their steps are.
 use Rattle.std.proofs.Common.{◌≡◌, ℕ, Bool, true, false, eqb, List, [], ◌∷◌, refl, ap, ◌∙◌, ◌⊎◌, inl, inr, eq-eqb}
 use Rattle.std.proofs.lemmas.Bool.{eqb-true, and_parts}
 use Rattle.edit_tree.specs.Assertions.{Step, key, index, Place, at, same_bytes, same_step, same_place}

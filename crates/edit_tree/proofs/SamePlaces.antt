@@ -1,4 +1,4 @@
--- Tests of equal bytes, steps and places, and of a place below another.
+-- Equality tests of bytes, steps and places, and the test of a place below another.
 use Rattle.std.proofs.Common.{◌≡◌, ℕ, true, false, ◌&&◌, List, [], ◌∷◌, ◌++◌, map, refl, sym, ap₂, ◌∙◌, ◌⊎◌, inl, inr, ⊎_elim, true≢false}
 use Rattle.std.proofs.lemmas.Bool.{and_parts, and_from}
 use Rattle.edit_tree.specs.Assertions.{Place, Step, key, at, same_step, named}

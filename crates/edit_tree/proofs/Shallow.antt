@@ -1,5 +1,5 @@
--- In a document arrays and inline tables stand at most 80 deep in one another, since places are short; so a
--- document has one form.
+-- In a document arrays and inline tables nest at most 80 deep, since places have at most 80 steps; so a
+-- document has exactly one syntax tree.
 use Rattle.std.proofs.Common.{◌≡◌, ℕ, suc, ◌+◌, ◌≤◌, Bool, true, false, List, [], ◌∷◌, ◌++◌, map, length, Some, refl, ap, ◌∙◌, arith, length-append, sym}
 use Rattle.edit_syntax.specs.Grammar.{Value, basic, literal, multi_basic, multi_literal, boolean, integer, float, datetime, array, inline, Elements, no_elements, last_element, element, Members, no_members, last_member, member, Statement, pair, header, element_header, empty_line, full_line, Lines, one_line, more_lines, Text}
 use Rattle.edit_tree.specs.Assertions.{Place, key, index, at, names, named, Assertion, of_key, of_value, of_elements, of_members, of_statement, prefix_after, of_lines, AreShort, IsDocument}

@@ -1,4 +1,4 @@
--- What is no number, no date and no time shows a string.
+-- The shape of a token that is no number, date or time is a string.
 use Rattle.std.proofs.Common.{◌≡◌, List, ℕ, refl}
 use Rattle.edit_syntax.specs.declared.read.marks.MarkKind.{MarkKind}
 use Rattle.edit_syntax.specs.declared.read.marks.MarkKind.TheVariants.{Integer, Float, DateTime}

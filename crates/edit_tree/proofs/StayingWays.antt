@@ -1,4 +1,4 @@
--- Which assertions stay when an item is removed: what stays at a place stays at each place on the way to it.
+-- Assertions that stay when an item is removed: what stays at a place stays at each place above it.
 use Rattle.std.proofs.Common.{◌≡◌, ℕ, Bool, true, false, not, cond, ◌&&◌, List, [], ◌∷◌, Option, Some, None, refl, sym, ap, subst, ◌∙◌, ◌⊎◌, inl, inr, true≢false}
 use Rattle.std.proofs.lemmas.Bool.{and_parts, and_from}
 use Rattle.std.proofs.lemmas.Option.{same_Some}

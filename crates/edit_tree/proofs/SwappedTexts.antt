@@ -1,4 +1,4 @@
--- The bytes of a replaced form: each edited value gives way to its literal, and every other byte is kept.
+-- The text of a syntax tree with replaced values: only the replaced values differ.
 use Rattle.std.proofs.Common.{◌≡◌, ℕ, suc, true, List, [], ◌∷◌, ◌++◌, Option, None, Some, option_map, refl, sym, ap, ◌∙◌, subst, true≢false, append_assoc, append-nil}
 use Rattle.std.proofs.lemmas.Bool.{and_parts, and_from}
 use Rattle.std.proofs.lemmas.List.Elements.{filter_map-append}

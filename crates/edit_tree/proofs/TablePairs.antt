@@ -1,4 +1,4 @@
--- The pairs of inline tables: each begins in the table of the value that it stands in.
+-- The pairs of inline tables: the key of each starts from the table that it is written in.
 use Rattle.std.proofs.Common.{◌≡◌, ℕ, List, [], ◌∷◌, ap, inl, inr, ⊎_elim, refl}
 use Rattle.std.specs.List.{flat_map}
 use Rattle.edit_syntax.specs.Characters.{right_brace}

@@ -1,4 +1,4 @@
--- By what places are taken, against the pairs of kinds that may stand together.
+-- How places count as defined, against the pairs of kinds that are compatible.
 use Rattle.std.proofs.Common.{◌≡◌, true, ◌&&◌, refl}
 use Rattle.edit_tree.specs.declared.nodes.Taken.{Taken}
 use Rattle.edit_tree.specs.declared.nodes.Taken.TheVariants.{Dotted, Value, Super, Header, Array, Element}

@@ -1,4 +1,4 @@
--- Assertions of which some leaves have other values, and from which what stood below these is gone.
+-- Assertions after some leaves get other values and what was below these is removed.
 use Rattle.std.proofs.Common.{◌≡◌, ℕ, suc, Bool, true, false, cond, List, [], ◌∷◌, ◌++◌, map, Option, None, Some, refl, sym, ap, ◌∙◌, subst, append_assoc}
 use Rattle.std.proofs.lemmas.Bool.{or_left, or_right}
 use Rattle.std.specs.List.{AllByRecursion}

@@ -1,4 +1,4 @@
--- The assertions of replaced lines are the thinned ones, which are short and do not clash.
+-- The assertions of lines with replaced values are short and compatible.
 use Rattle.std.proofs.Common.{◌≡◌, ℕ, suc, true, false, ◌&&◌, ◌-◌, nat_lt, if◌then◌else◌, cond, List, [], ◌∷◌, ◌++◌, refl, sym, ap, ◌∙◌, subst}
 use Rattle.std.specs.List.{AllByRecursion}
 use Rattle.edit_syntax.specs.Grammar.{Value, Statement, pair, header, element_header, empty_line, full_line, Lines, one_line, more_lines}

@@ -1,5 +1,4 @@
--- The tree of thinned assertions: the same where nothing is written at or above a place, and the new string
--- where one is.
+-- The tree after values are replaced: unchanged except at and below the replaced places.
 use Rattle.std.proofs.Common.{◌≡◌, ℕ, Bool, true, false, ◌&&◌, ◌||◌, if◌then◌else◌, cond, List, [], ◌∷◌, Option, None, Some, option_map, refl, sym, ap, ◌∙◌, subst, ◌⊎◌, inl, inr, ⊎_elim, true≢false}
 use Rattle.std.proofs.lemmas.Bool.{and_parts}
 use Rattle.std.specs.List.{filter_map, cons_option}

@@ -1,4 +1,4 @@
--- How the walk over marks ends an array or an inline table, takes one mark, and takes them all.
+-- The walk over tokens: closing an array or inline table, one token, and all tokens.
 use Rattle.std.proofs.Common.{◌≡◌, ℕ, ◌+◌, ◌-◌, ◌<◌, Bool, true, false, List, [], ◌∷◌, ◌++◌, length, take, drop, get_or, Option, Some, None, refl, sym, ap, subst, ◌∙◌, ◌⊎◌, inl, inr, length-append, arith}
 use Rattle.std.specs.Prelude.{option_map, map, slice_get, slice_set}
 use Rattle.std.specs.List.{AllByRecursion}

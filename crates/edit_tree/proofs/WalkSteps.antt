@@ -1,4 +1,4 @@
--- The steps of the walk over marks, as the code takes them.
+-- The steps of the walk over tokens, as the code takes them.
 use Rattle.std.proofs.Common.{◌≡◌, ℕ, Bool, true, List, [], ◌∷◌, ◌++◌, length, Option, Some, None, is_some, Result, Ok, Err, refl, sym, ap, ap₂, subst, ◌∙◌}
 use Rattle.std.specs.Prelude.{IfOk, option_map, option_to_list, map}
 use Rattle.std.proofs.lemmas.List.{map-append}

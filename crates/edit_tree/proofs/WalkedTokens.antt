@@ -1,4 +1,4 @@
--- What tokens say, and the walk over the marks of a key.
+-- Decoded values of tokens, and the walk over the tokens of a key.
 use Rattle.std.proofs.Common.{◌≡◌, ℕ, ◌+◌, ◌-◌, ◌<◌, List, [], ◌∷◌, ◌++◌, length, take, drop, Option, Some, refl, sym, ap, subst, ◌∙◌, append_assoc, length-append, lit<, arith}
 use Rattle.std.specs.Prelude.{map, option_map, IsUtf8}
 use Rattle.std.specs.List.{AllByRecursion}

@@ -1,4 +1,4 @@
--- The walk over marks, one after the other.
+-- The walk over tokens, one after the other.
 use Rattle.std.proofs.Common.{◌≡◌, ℕ, ◌+◌, ◌-◌, List, [], ◌∷◌, ◌++◌, length, Option, Some, None, refl, ap, ◌∙◌, length-append, arith}
 use Rattle.std.specs.Prelude.{slice_get}
 use Rattle.edit_syntax.specs.declared.read.marks.Mark.{Mark}

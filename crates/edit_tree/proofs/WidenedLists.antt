@@ -1,4 +1,4 @@
--- Lists of assertions that one assertion widens: they are short and apart as before.
+-- Lists of assertions with more below one of them: they stay short and compatible.
 use Rattle.std.proofs.Common.{◌≡◌, ◌≤◌, Bool, true, false, cond, List, [], ◌∷◌, ◌++◌, length, None, Some, refl, sym, ap, ◌∙◌, true≢false}
 use Rattle.std.specs.List.{AllByRecursion}
 use Rattle.edit_syntax.specs.Grammar.{Value}

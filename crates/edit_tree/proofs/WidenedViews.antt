@@ -1,4 +1,4 @@
--- What assertions show in which the empty literal at one place gives way to another value.
+-- Views after an empty literal is replaced by another value.
 use Rattle.std.proofs.Common.{◌≡◌, Bool, true, false, cond, List, [], ◌∷◌, ◌++◌, None, Some, option_map, refl, sym, ap, ◌∙◌, subst, true≢false}
 use Rattle.std.specs.List.{filter_map, cons_option}
 use Rattle.edit_syntax.specs.Grammar.{Value}

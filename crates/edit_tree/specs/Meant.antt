@@ -168,7 +168,7 @@ InsertFails place name v old =
     (form : Text) → IsDocument old form
     → ReadsOtherwise (inserted_text place name v form) (Inserted place name v (view_at form))
 
--- the old text without the item is no document, or shows another tree than meant
+-- the text without the item is no document, or has another tree than the intended one
 abbrev pub RemoveFails : Place → List ℕ → Type 0
 RemoveFails gone old =
     (form : Text) → IsDocument old form
