@@ -1,4 +1,4 @@
--- Files of a cache that go and that stay.
+-- Files of a cache that are removed and that stay.
 use Rattle.std.proofs.Common.{◌≡◌, ◌<◌, ◌≤◌, ◌+◌, ℕ, inl, inr, ⊎_elim, arith, List, [], ◌∷◌, ◌++◌, Bool, true, false, cond, not, refl, sym, ap, subst, ◌∙◌, length, get_or, map, take, append_assoc}
 use Rattle.std.specs.Prelude.{◌-◌, ◌&&◌, ◌||◌, All, Ok, Result, codes, filter, nat_eq}
 use Rattle.edit_base.specs.declared.errors.Error.{Error}
@@ -194,7 +194,7 @@ module _ (all : List AgedText) (i : ℕ) (t : AgedText) (within : i < length all
       (λ x. one-stays (is_used all (owner_of x)) (list_any (λ u. is_same u x) (take i all)) (is_same t x)
       (of-same true used x) ∙ sym (more x)) all
 
-  -- the files that are to stay do so where another one goes
+  -- the files that have to stay do so when another one is removed
   pub stays-more : (now new : List AgedText) → is_used all (owner_of t) ≡ false
       → new ≡ filter (λ b. not (is_same t b)) now → staying all new ≡ staying all now
   stays-more now new unused removed =
@@ -203,7 +203,7 @@ module _ (all : List AgedText) (i : ℕ) (t : AgedText) (within : i < length all
       ∙ filter-same (λ x. not (is_same t x) && is_used all (owner_of x)) (λ a. is_used all (owner_of a))
       (λ x. keeps-used (is_used all (owner_of x)) (is_same t x) (of-same false unused x)) now
 
--- a failure that was counted stays so
+-- a failure that was counted stays counted
 pub raised-on : (a b c : ℕ) → b ≤ c → raised a b → raised a c
 raised-on a b c le (inl lt) = inl (omega arith)
 raised-on a b c le (inr end) = grind (arith)

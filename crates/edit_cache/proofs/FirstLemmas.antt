@@ -1,4 +1,4 @@
--- The first rank that passes a test is that of the greatest kept entry.
+-- The first rank that passes a test is that of the greatest admissible entry.
 use Rattle.std.proofs.Common.{◌≡◌, ℕ, ◌+◌, ◌<◌, List, [], ◌∷◌, map, Option, Some, None, Bool, true, false, ◌==◌, IsSome, subst, sym, ap, ◌∙◌, refl, arith, suc, get_or, take, drop, inl, inr, ◌⊎◌}
 use Rattle.std.specs.Prelude.{All, option_map, slice_get, option_and_then}
 use Rattle.std.specs.List.{find}

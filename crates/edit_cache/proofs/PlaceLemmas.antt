@@ -1,4 +1,4 @@
--- Places of the first elements that pass a test, and the versions that stand there.
+-- The indices of the first elements that pass a test, and the versions at them.
 use Rattle.std.proofs.Common.{◌≡◌, ℕ, ◌+◌, List, [], ◌∷◌, ◌++◌, length, map, Option, Some, None, Bool, true, false, ◌&&◌, not, cond, inl, inr, subst, sym, ap, ◌∙◌, refl, append_assoc, length-append}
 use Rattle.std.specs.Prelude.{Result, Ok, Err, option_and_then, option_map, slice_get}
 use Rattle.std.specs.Result.{result_ok}

@@ -1,4 +1,4 @@
--- What the ranks of entries say, and what of that holds after sorting.
+-- The ranks of entries, and what holds for them after sorting.
 use Rattle.std.proofs.Common.{◌≡◌, ℕ, ◌+◌, ◌<◌, List, [], ◌∷◌, ◌++◌, length, map, Option, Some, None, Bool, true, false, ◌==◌, ◌||◌, ◌≤◌, IsSome, cond, inl, inr, subst, sym, ap, ◌∙◌, refl, append_assoc, arith, zero, suc, eq-eqb, length-append, append-nil, take, get_or}
 use Rattle.std.specs.Prelude.{All, slice_get, option_and_then, option_map, option_to_list}
 use Rattle.std.specs.List.{list_any, sum_by}

@@ -1,4 +1,4 @@
--- Searches in lists, and what the ranks of a ranking tell of the entries.
+-- Searches in lists, and the entries of the ranks of a ranking.
 use Rattle.std.proofs.Common.{◌≡◌, ℕ, ◌+◌, ◌<◌, ◌≤◌, List, [], ◌∷◌, ◌++◌, length, Option, Some, None, Bool, true, false, ◌==◌, ◌&&◌, not, IsSome, sym, ap, ◌∙◌, refl, arith, zero, suc, get_or, take, drop, inl, inr, ◌⊎◌}
 use Rattle.std.specs.Prelude.{All, nat_le, if◌then◌else◌, option_map, slice_get, is_some, option_and_then, unwrap_or}
 use Rattle.std.specs.List.{find, list_any}

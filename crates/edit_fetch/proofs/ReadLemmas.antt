@@ -1,4 +1,4 @@
--- What curl reads from the lines of options.
+-- The options that curl reads from lines of a configuration file.
 use Rattle.std.proofs.Common.{◌≡◌, ℕ, ◌≤◌, List, [], ◌∷◌, ◌++◌, Bool, true, false, cond, eqb, leb, Option, Some, None, option_map, map, refl, ap, sym, ◌∙◌, subst, ⊎_elim, arith}
 use Rattle.std.specs.Prelude.{◌&&◌, ◌||◌, not, All}
 use Rattle.std.specs.List.{cons_option, filter, filter_map, flat_map, list_all}

@@ -1,4 +1,4 @@
--- Where a text is cut at a byte for the first time.
+-- A text is split at the first occurrence of a byte.
 use Rattle.std.proofs.Common.{◌≡◌, ◌≢◌, ℕ, zero, suc, ◌<◌, List, [], ◌∷◌, ◌++◌, take, refl, ap, ◌∙◌, subst, sym, arith, length-append, eqb}
 use Rattle.std.proofs.lemmas.List.{take-append-drop, get_or_append_left}
 use Rattle.std.proofs.lemmas.Str.Pattern.{NoCharPasses-char, drop_at_char}

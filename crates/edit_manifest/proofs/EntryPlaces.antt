@@ -1,4 +1,4 @@
--- The places of entries: each is the front of every place at or below it, so that no entry stands in another.
+-- The places of entries: each is a prefix of every place at or below it, so that no entry contains another.
 use Rattle.std.proofs.Common.{◌≡◌, ℕ, List, [], ◌∷◌, ◌++◌, Bool, true, false, refl, ap, sym, ◌∙◌, inl, inr, ◌⊎◌, take, append-nil}
 use Rattle.std.specs.Prelude.{◌||◌, codes}
 use Rattle.std.specs.List.{AllByRecursion, flat_map}

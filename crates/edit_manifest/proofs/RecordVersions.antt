@@ -1,4 +1,4 @@
--- What a table says where another version stands in it, and where the version of a record stands.
+-- A table after its version is replaced, and the place of the version requirement of a dependency.
 use Rattle.std.proofs.Common.{◌≡◌, ℕ, List, [], ◌∷◌, Option, Some, None, Result, Ok, Err, true, false, refl, ap, sym, ◌∙◌}
 use Rattle.std.specs.Prelude.{codes, if◌then◌else◌, option_and_then, option_map}
 use Rattle.std.specs.Result.{result_ok}

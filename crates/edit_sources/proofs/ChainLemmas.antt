@@ -1,4 +1,4 @@
--- Chains of sources that have an end: they use no key twice, and lead to one address.
+-- Chains of sources that end: they use no key twice, and lead to a single URL.
 use Rattle.std.proofs.Common.{◌≡◌, ◌<◌, ℕ, zero, suc, List, [], ◌∷◌, ◌++◌, Bool, true, false, cond, Option, Some, None, inl, inr, ⊎_elim, refl, ap, sym, ◌∙◌, subst, arith}
 use Rattle.std.specs.Prelude.{◌||◌, ◌⊎◌, unwrap_or}
 use Rattle.std.specs.Str.{bytes_eq}

@@ -1,4 +1,5 @@
--- What definitions keep while chains are followed: a walk passes keys that are left, and leads on to an end.
+-- Invariants of the definitions while chains are followed: only keys that are left are passed, and they lead
+-- to the end.
 use Rattle.std.proofs.Common.{◌≡◌, ℕ, suc, List, [], ◌∷◌, ◌++◌, Bool, true, false, cond, Option, Some, None, option_map, String, Global, string_bytes, inl, inr, ⊎_elim, refl, ap, sym, ◌∙◌, subst}
 use Rattle.std.specs.Prelude.{◌||◌, ◌⊎◌}
 use Rattle.std.specs.Str.{bytes_eq}

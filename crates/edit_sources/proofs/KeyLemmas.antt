@@ -1,4 +1,4 @@
--- The maps of definitions at the texts of keys: what is left, and the addresses at the ends of chains.
+-- The maps of definitions by keys: the definitions that are left, and the URLs at the ends of chains.
 use Rattle.std.proofs.Common.{◌≡◌, ◌<◌, ◌+◌, ℕ, length, take, get_or, List, [], ◌∷◌, ◌++◌, Bool, true, false, cond, Option, Some, None, option_map, BTreeMap, Bor, refl, ap, sym, ◌∙◌}
 use Rattle.std.specs.Prelude.{◌||◌}
 use Rattle.std.specs.Str.{bytes_eq}

@@ -1,4 +1,4 @@
--- The first name that leads to no table, name by name; and tables without members.
+-- The first key that leads to no table, key by key; and empty tables.
 use Rattle.std.proofs.Common.{◌≡◌, ℕ, suc, length, arith, true, false, ◌&&◌, ◌==◌, cond, List, [], ◌∷◌, Some, refl, ap, ◌∙◌}
 use Rattle.edit_tree.specs.Assertions.{Place, at, key}
 use Rattle.edit_document.specs.Items.{count_in, is_tabular}
@@ -26,7 +26,7 @@ missing_here t place names name rest e is =
 pub more_than_none : (n : ℕ) → (suc n == 0) ≡ false
 more_than_none n = grind arith
 
--- a table is bare where it counts no members
+-- a table is empty exactly if it counts no keys
 pub bare_count : (v : View) → (is_tabular v && (count_in v == 0)) ≡ is_bare (Some v)
 bare_count (string s) = refl
 bare_count (truth b) = refl

@@ -1,4 +1,5 @@
--- The strings of an array that go, from its last element on; and whether some table passes a test.
+-- The elements of an array that refer to a removed dependency, from the last one on; and whether some table
+-- passes a test.
 use Rattle.std.proofs.Common.{◌≡◌, ℕ, suc, Bool, true, false, ◌||◌, cond, List, [], ◌∷◌, ◌++◌, Option, Some, refl, sym, ap, ◌∙◌, append_assoc}
 use Rattle.std.specs.List.{filter, list_any, starts_with}
 use Rattle.std.specs.Option.{option_map_or}

@@ -1,4 +1,4 @@
--- Edits of members one after the other, where they stop, and what an entry becomes.
+-- Sequences of edits of keys, where they stop, and the updated entry.
 use Rattle.std.proofs.Common.{◌≡◌, ℕ, ◌+◌, ◌<◌, suc, Bool, true, false, ◌&&◌, List, [], ◌∷◌, ◌++◌, Option, Some, None, length, map, get_or, take, drop, drop-cons, refl, sym, ap, ◌∙◌, subst, append_assoc, append-nil, ◌⊎◌, inl, inr}
 use Rattle.std.specs.List.{cons_option, filter_map}
 use Rattle.std.specs.Prelude.{is_some, option_map, MatchBool}
@@ -136,7 +136,7 @@ stops_behind entry cs ds old mid done h = record {
   fails = h.fails;
 }
 
--- ---- one step of a loop over the ends of members
+-- ---- one iteration of a loop over the final values of keys
 
 module _ (f : End → Option Change) (entry : Place) (xs : List WrittenEnd) (i : ℕ) (x : WrittenEnd)
     (within : i < length xs) (here : x ≡ get_or xs i x) where
@@ -209,7 +209,7 @@ pub is_kept : (name : List ℕ) (o : Option WrittenValue) → is_some o ≡ true
 is_kept name None is = absurd cc
 is_kept name (Some v) is = refl
 
--- ---- what an entry becomes
+-- ---- the updated entry
 
 -- a new entry can be written
 entry_by : (root : List ℕ) (r : EntryRecord) (o : Option Origin) (b : Bool) → IsEntry (item_by root r o b)

@@ -1,4 +1,4 @@
--- Items removed one after the other: one more, and the one that cannot be.
+-- Items removed one after the other: one more, and the one that cannot be removed.
 use Rattle.std.proofs.Common.{◌≡◌, ℕ, List, [], ◌∷◌, ◌++◌, Some, refl, sym, subst, ◌∙◌}
 use Rattle.std.specs.List.{AllByRecursion}
 use Rattle.edit_tree.specs.Assertions.{Place}
