@@ -12,8 +12,8 @@ use Rattle.edit_cache.specs.declared.choices.Choice.{Choice}
 use Rattle.std.specs.declared.alloc.Global.{Global}
 use Rattle.std.specs.declared.string.String.{String}
 
--- the indices of the first rank that a requirement admits and of the first latest one, of those that support
--- a Rust version (own)
+-- the indices of the greatest version that a requirement admits and of the latest version, among the ranks
+-- that support a Rust version (own)
 pub record IsChoice (ranks : List Ranking) (text : List ℕ) (c : Choice) : Type 0 where
   pub compatible : c.compatible ≡ position_from (passes (numbers_in c.rust_version) (is_admitted text)) 0 ranks
   pub latest : c.latest ≡ position_from (passes (numbers_in c.rust_version) (is_offered text)) 0 ranks

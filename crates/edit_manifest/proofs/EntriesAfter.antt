@@ -40,7 +40,8 @@ patch b u h = λ i rest. at-rest rest i
     at-rest : (rest : Place) → u rest ≡ patched b (u []) (u (key (codes "version") ∷ [])) rest
     at-rest rest = by-root rest (same_place [] rest) refl
 
--- an edit below an entry is at the entry itself or at its key `version`
+-- strings written at version literals change nothing below an entry except the entry itself and its key
+-- `version`
 below-same : (ws : Edits) (t : Tree) (base : Place) (name : List ℕ) (rest : Place)
     → AllByRecursion (λ w. IsLiteral w.0) ws → IsTable base → IsOther rest
     → below (written ws t) (at base (key name)) rest ≡ below t (at base (key name)) rest
@@ -112,7 +113,7 @@ nothing-after : (o : Option (List ℕ)) → said_after o None ≡ None
 nothing-after None = refl
 nothing-after (Some text) = refl
 
--- an item that is neither a string nor a table is unsupported
+-- an item that is neither a string nor a table is unsupported, also after strings were written
 unsaid : (ws : Edits) (t : Tree) (root : List ℕ) (base : Place) (name : List ℕ) → AreStrings ws t
     → (v : Option View) → t (at base (key name)) ≡ v
     → is_string v ≡ false → ((u : Tree) → result_ok
@@ -129,7 +130,7 @@ unsaid ws t root base name strings v e fails none =
     ∙ sym (ap (said_after o)
     (ap (λ (x : Option View). result_ok (entry_record (below t entry) root name x)) e ∙ none t))
 
--- the result of reading an entry, given its item
+-- the result of reading any entry after strings were written at version literals
 said-by : (ws : Edits) (t : Tree) (root : List ℕ) (base : Place) (name : List ℕ) → AreStrings ws t
     → AllByRecursion (λ w. IsLiteral w.0) ws → IsTable base
     → (v : Option View) → t (at base (key name)) ≡ v

@@ -25,7 +25,7 @@ written-by (w ∷ ws) t q = elim (cases_Bool (same_place w.0 q)) [
   | inr other ↦ rw other (written-by ws t q)
 ]
 
--- a string is only replaced by strings
+-- strings are only written over strings
 pub string-only : (ws : Edits) (t : Tree) (q : Place) → AreStrings ws t → is_string (t q) ≡ false
     → new_text ws q ≡ None
 string-only [] t q h fails = refl

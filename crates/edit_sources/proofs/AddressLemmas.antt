@@ -53,7 +53,7 @@ from_head ds registry used t (next before s t' key reaches names unused is) =
       follows = further ds h.keys h.begin s t' key h.follows names is;
     }
 
--- a chain without a last source has a single next source
+-- two chains from one source that both reach a last source reach the same one
 one_last : (ds : List Definition) (ks ls : List (List ℕ)) (h s t : Source)
     → Follows ds ks h s → Follows ds ls h t → s.replace_with ≡ None → t.replace_with ≡ None → s ≡ t
 one_last ds [] [] h s t a b last end = sym a ∙ b

@@ -60,7 +60,7 @@ zip_more (Some file) (Some config) files configs all h =
 zip_more None (Some config) files configs all h = absurd h
 zip_more (Some file) None files configs all h = absurd h
 
--- one place more
+-- one folder more
 pub files_more : (files : Files) (places : List (String Global)) (i : ℕ) (place : String Global)
     (found : Option Config) (old new : List Config)
     → i < length places → place ≡ get_or places i place

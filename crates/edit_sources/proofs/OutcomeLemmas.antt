@@ -29,7 +29,7 @@ entry_by (Some n) (Some v) (Some y) (Some r) =
     Some (record { name = n; version = v; yanked = y; rust_version = r })
 entry_by _ _ _ _ = None
 
--- the entry of a value is unique
+-- the entry of a JSON value, as a function
 abbrev entry_in : Data → Option IndexEntry
 entry_in d = entry_by (option_and_then as_str (get (codes "name") d))
     (option_and_then as_str (get (codes "vers") d)) (yanked_of (get (codes "yanked") d))
@@ -38,7 +38,7 @@ entry_in d = entry_by (option_and_then as_str (get (codes "name") d))
 entry_is : (d : Data) (e : IndexEntry) → SaysEntry d e → entry_in d ≡ Some e
 entry_is d e h = λ i. entry_by (h.name i) (h.version i) (h.yanked i) (h.rust_version i)
 
--- the entry of a line is unique
+-- the entries of a line, as a function: none if it is blank
 abbrev said : List ℕ → List IndexEntry
 said line = cond (is_blank line) [] (option_to_list (option_and_then entry_in (read line)))
 
@@ -52,7 +52,7 @@ said-entry line e is h =
     entry_is h.value e h.says in
     λ i. cond (is i) [] (option_to_list (reads i)) ++ []
 
--- the entries of lines are unique
+-- lines have the entries of each of them, in order
 all_said : (lines : List (List ℕ)) (entries : List IndexEntry) → LinesSay lines entries
     → flat_map said lines ≡ entries
 all_said lines entries none = refl
@@ -128,7 +128,7 @@ one_path address name p q a b =
     let folder : a.folder ≡ b.folder = a.folder_of.path ∙ sym b.folder_of.path in
     a.is ∙ ap (λ f. below f (layout name)) folder ∙ sym b.is
 
--- the error of a path is unique
+-- a crate's file does not have both a path and an error
 no_path : (address : Parts) (name p : List ℕ) (n : LookupError) → IsIndexPath address name p
     → HasNoIndexPath address name n → ⊥
 no_path address name p n a (inl h) = h.1 a.scheme

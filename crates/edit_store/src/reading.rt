@@ -30,7 +30,7 @@ impl Fingerprint {
 }
 
 /// Returns the bytes of a regular file. A character device is read only if it is empty, as `/dev/null` is;
-/// any other path is an error.
+/// any other kind of file is an error.
 pub(crate) fn read_regular<R: Files<File = File>>(
     rt: &R,
     alloc: Global,

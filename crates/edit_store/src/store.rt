@@ -132,7 +132,7 @@ pub trait Store {
     fn faults(&self) -> u64
         ensures { result ≡ (view self.now).faults };
 
-    /// The system's message for the last fault, if there is one.
+    /// The reason for the last fault as a message, if it is known.
     fn reason(&self, _alloc: Global) -> Option<String> {
         None
     }

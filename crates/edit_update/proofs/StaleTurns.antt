@@ -201,7 +201,7 @@ module _ (t : Tree) (held : Bool) (name : List ℕ) where
       (all_weaker (IsOf n) (λ x. AllByRecursion (Outlives x) (of_names ns)) (λ q b. behind n q b ns d.0)
       (stale_in t held name (of_feature n)) (stale_own n))
 
-  -- what goes is a string
+  -- what is removed is a string
   string_goes : (o : Option View) → goes held name o ≡ true → (text : List ℕ) × (o ≡ Some (string text))
   string_goes None e = absurd cc
   string_goes (Some (string s)) e = (s, refl)
