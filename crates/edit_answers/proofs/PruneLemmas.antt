@@ -133,7 +133,7 @@ mapped-more f xs i x within is =
     ap (map f) (take_more xs i x within ∙ ap (λ y. take i xs ++ y ∷ []) (sym is))
     ∙ map-append f (take i xs) (x ∷ [])
 
--- a file that is listed stands at its place
+-- a listed file is at its index
 pub at-place : (items : List Aged) (files : List AgedText) (i : ℕ) (a : Aged) → map aged_text items ≡ files
     → i < length items → a ≡ get_or items i a
     → (i < length files) × (aged_text a ≡ get_or files i (aged_text a))
@@ -146,7 +146,7 @@ at-place items files i a listed within is = (
 abbrev pub stays_at : List AgedText → ℕ → AgedText → Bool
 stays_at all i x = is_used all (owner_of x) || not (list_any (λ t. is_same t x) (take i all))
 
--- at first each file stands
+-- at first every file is there
 pub none-gone : (all : List AgedText) → all ≡ filter (stays_at all 0) all
 none-gone all = sym (all-pass (stays_at all 0) all (λ x. or-true (is_used all (owner_of x))))
 

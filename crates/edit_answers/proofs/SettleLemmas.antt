@@ -131,7 +131,7 @@ lookup-at f xs n i d e w =
     ap (slice_get (map f xs)) e
     ∙ (slice_get-get_or (map f xs) i (f d) (omega (arith, length-map xs f)) ∙ ap Some (get_or-map f xs i d))
 
--- memory runs out behind a lookup, as a call says it
+-- memory runs out after a lookup, as the error of a call
 pub settled-refused : {T : Type 0} (P : T → List ℕ → List ℕ → Type 0) (p : Places) (ls : List LookupText)
     (os : List Outcome) (o : Outcome) (l : LookupText) (a b c : StoreView) (r : Result T Error)
     → IsErrAnd r (λ e. e ≡ Memory) → slice_get ls (length os) ≡ Some l
@@ -141,7 +141,7 @@ settled-refused P p ls os o l a b c (Ok v) memory is so step = absurd memory
 settled-refused P p ls os o l a b c (Err e) memory is so step =
     settled-memory p ls P os o l a b c e (ap number_of memory) is so step
 
--- the outcomes of all lookups, as an answer that says no outcomes
+-- the writes of all lookups, without their results
 pub settled-all : (p : Places) (ls : List LookupText) (os : List Outcome) (path bytes : List ℕ)
     → PutsOne p ls os path bytes → PutsSome p ls path bytes
 settled-all p ls os path bytes h = some-one p ls os path bytes h

@@ -8,12 +8,12 @@ use Rattle.edit_answers.specs.Answers.IsFirst.{at_head, behind}
 use Rattle.edit_answers.specs.declared.answers.Answer.{Answer}
 use Rattle.edit_answers.proofs.LineLemmas.{line-cases, no-line}
 
--- what a line says is found
+-- the outcome of a line is found
 abbrev pub IsFound : List ℕ → List (Option Answer) → Type 0
 IsFound line table = (k : ℕ) (a : Answer) → k < length table → SaysAnswer line (k + 1) a → HasOne table k
 
--- where a place is free, the first answer in a rest is the first in the text, and what the lines of the text
--- in front of the rest say is found
+-- each empty slot has its first outcome in the rest as the first in the text, and the outcomes in front of
+-- the rest are found
 pub record IsRest (text rest : List ℕ) (table : List (Option Answer)) : Type 0 where
   pub firsts : (k : ℕ) (a : Answer) → slice_get table k ≡ Some None → IsFirst (k + 1) a rest
       → IsFirst (k + 1) a text

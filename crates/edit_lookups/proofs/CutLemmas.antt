@@ -6,7 +6,7 @@ use Rattle.std.specs.Str.{NoCharPasses}
 use Rattle.std.specs.Str.Pattern.{SplitsAroundMatch, FindsChar}
 use Rattle.edit_lookups.specs.Lookups.{HasNo}
 
--- a byte stands in a text where it was written
+-- a byte occurs in a text where it was written
 pub HasNo-at : (c : ℕ) (xs ys : List ℕ) → HasNo c (xs ++ c ∷ ys) → ⊥
 HasNo-at c [] ys h = h 0 (omega arith) refl
 HasNo-at c (x ∷ xs) ys h = HasNo-at c xs ys (λ i w. h (suc i) (omega arith))

@@ -36,7 +36,7 @@ module _ (t : Tree) (held : Bool) (name : List ℕ) (array : Place) where
       ∙ ap (λ b. cond b (at array (index m) ∷ stale_back t held name array m)
       (stale_back t held name array m)) h
 
-  -- one that goes is told, and then those before it
+  -- an element that is removed is listed, and then those before it
   pub told_goes : (n m : ℕ) (xs new : List (Vec WrittenStep)) (x : Vec WrittenStep) (all : List Place)
       → n ≡ suc m
       → goes held name (t (at array (index m))) ≡ true → new ≡ xs ++ x ∷ []
@@ -51,7 +51,7 @@ module _ (t : Tree) (held : Bool) (name : List ℕ) (array : Place) where
       ∙ ap (λ q. places_seen xs ++ q ∷ before) is
       ∙ sym (ap (λ l. places_seen xs ++ l) (back_goes n m e h)) ∙ told
 
-  -- one that stays is not
+  -- an element that stays is not listed
   pub told_stays : (n m : ℕ) (xs : List (Vec WrittenStep)) (all : List Place) → n ≡ suc m
       → goes held name (t (at array (index m))) ≡ false
       → places_seen xs ++ stale_back t held name array n ≡ all

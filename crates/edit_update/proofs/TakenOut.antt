@@ -49,7 +49,7 @@ inner_gone (m ∷ ms) p n form old new e inner removed =
     removed.nothing_there (ap is_member e ∙ member_keyed m ms) (at p (key n))
     (inside_more p p (key n ∷ []) (inside_self p))
 
--- whether a place is the root is told by its steps
+-- whether a place is the root depends on its steps
 pub root_is : (steps : List WrittenStep) → (length steps == 0) ≡ true → place_seen steps ≡ []
 root_is [] e = refl
 root_is (s ∷ ss) e = absurd (true≢false (sym e ∙ more_than_none (length ss)))
@@ -58,7 +58,7 @@ pub root_not : (steps : List WrittenStep) → (length steps == 0) ≡ false → 
 root_not [] e f = true≢false e
 root_not (s ∷ ss) e f = cc
 
--- what is found stands there
+-- the item that was found is at its place
 pub found_stands : (d : Shown) (p : Place) (r : Option Item) → Finds d p r → is_some r ≡ true
     → tree_of d p ≡ None → ⊥
 found_stands d p None found e absent = true≢false (sym e)

@@ -159,7 +159,7 @@ module _ (f : End → Option Change) (entry : Place) (xs : List WrittenEnd) (i :
       ∙ ap (filter_map f) (map-append end_seen (take i xs) (x ∷ drop (suc i) xs))
       ∙ filter_map-append f (map end_seen (take i xs)) (map end_seen (x ∷ drop (suc i) xs))
 
-  -- an end that asks for no edit
+  -- a final value without an edit
   pub none_asked : (old mid : List ℕ) → f (end_seen x) ≡ None
       → Changed entry (filter_map f (ends_seen (take i xs))) old mid
       → Changed entry (filter_map f (ends_seen (take (i + 1) xs))) old mid
@@ -169,7 +169,7 @@ module _ (f : End → Option Change) (entry : Place) (xs : List WrittenEnd) (i :
       ∙ append-nil (filter_map f (ends_seen (take i xs))) in
       subst (λ cs. Changed entry cs old mid) (sym same) h
 
-  -- an end that asks for one, which was made
+  -- a final value with an edit that succeeded
   pub one_made : (c : Change) (old mid new : List ℕ) → f (end_seen x) ≡ Some c
       → Changed entry (filter_map f (ends_seen (take i xs))) old mid
       → ((form : Text) × IsManifest mid form)
@@ -182,7 +182,7 @@ module _ (f : End → Option Change) (entry : Place) (xs : List WrittenEnd) (i :
       subst (λ cs. Changed entry cs old new) (sym same)
       (one_more entry (filter_map f (ends_seen (take i xs))) c old mid new h reads by tree)
 
-  -- an end that asks for one, which was refused
+  -- a final value with an edit that failed
   pub one_refused : (c : Change) (old mid : List ℕ) (e : Error) → f (end_seen x) ≡ Some c
       → Changed entry (filter_map f (ends_seen (take i xs))) old mid
       → IsMemory e ⊎ ((e ≡ EditRefused) × ChangeFails entry c mid)
@@ -246,7 +246,7 @@ is_changed d form place root r es shows is same =
     ∙ rw (ap (λ p. is_one_statement form place && is_slight (tree_of d p)) (append-nil place) ∙ is) refl
     ∙ ap (λ l. changed_by (changes l)) (sym same)
 
--- the ends of the members that an item's tree asks for are those of the entry's place
+-- the final values for an item's tree are those for the entry's place
 entry_ends : (i : Item) (d : Shown) (place : Place) (root : List ℕ) (r : EntryRecord) (es : List End)
     → document_of i ≡ d → place_of i ≡ place → es ≡ ends (shown_at i) root r
     → es ≡ ends (below (tree_of d) place) root r

@@ -51,7 +51,7 @@ first_stays place more old fails = record {
   fails = fails;
 }
 
--- the strings that are left stand where they stood
+-- the strings that are left are at the same places
 pub strings_left : (form : Text) (gone : Place) (places : List Place) (old new : Tree)
     → Removed form gone old new → AllByRecursion (Outlives gone) places
     → AreStrings old places → AreStrings new places
