@@ -1,4 +1,4 @@
--- Which bodies are whole index files.
+-- Valid index files.
 use Rattle.std.proofs.Common.{◌≡◌, ℕ, List, Bool, false, map, sym, ◌∙◌, subst, arith}
 use Rattle.std.specs.Prelude.{All, IsTrue, ◌↔◌}
 use Rattle.std.proofs.lemmas.Bool.{false≢true}
@@ -17,13 +17,13 @@ pub All-unmap : {X Y : Type 0} (P : Y → Type 0) (f : X → Y) (xs : List X) �
 All-unmap P f xs h k d w =
     subst P (get_or-map f xs k d) (h k (f d) (omega (arith, length-map xs f)))
 
--- a damaged file is not whole
+-- a damaged file is not complete
 pub damaged-not-whole : (name body : List ℕ) (damage : Damage) → IsDamaged name body damage
     → IsWholeIndex name body → ⊥
 damaged-not-whole name body damage (bad_line n bad) w = none_said (lines_of body) w.entries n w.say bad
 damaged-not-whole name body damage (not_whole entries say none) w = none w
 
--- a file that does not end with a line end is not whole
+-- a file that does not end with a line feed is not complete
 pub not-ended : (b : Bool) (name body : List ℕ) → (IsTrue b ↔ EndsLine body) → b ≡ false
     → IsWholeIndex name body → ⊥
 not-ended b name body ends is w = false≢true (sym is ∙ ends.1 w.ended)
@@ -32,7 +32,7 @@ not-ended b name body ends is w = false≢true (sym is ∙ ends.1 w.ended)
 pub one-line : (m n : ℕ) → IndexLine m ≡ IndexLine n → m ≡ n
 one-line m n e = cc
 
--- a file whose entries do not all have the name is not whole
+-- a file whose entries do not all have the name is not complete
 pub not-named : (b : Bool) (name body : List ℕ) (entries : List IndexEntry) → LinesSay (lines_of body) entries
     → (IsTrue b ↔ AreNamed entries name) → b ≡ false → IsWholeIndex name body → ⊥
 not-named b name body entries say named is w =

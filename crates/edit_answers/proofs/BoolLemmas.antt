@@ -1,4 +1,4 @@
--- Tests that agree, and lists that they leave.
+-- Tests that agree, and the lists that they filter.
 use Rattle.std.proofs.Common.{◌≡◌, List, [], ◌∷◌, Bool, true, false, cond, refl, sym, ap, ◌∙◌}
 use Rattle.std.specs.Prelude.{◌&&◌, All, filter}
 use Rattle.std.proofs.lemmas.List.Elements.{All-head, All-tail}

@@ -1,4 +1,4 @@
--- What lookups come to by their entries in the cache.
+-- The results of lookups, given their cached entries.
 use Rattle.std.proofs.Common.{◌≡◌, ℕ, List, Option, Some, None, sym, subst}
 use Rattle.edit_answers.specs.Outcomes.{FromCache, HasDamage, by_cached}
 use Rattle.edit_answers.specs.Outcomes.FromCache.{none, whole, damaged}

@@ -1,4 +1,4 @@
--- How changes of files follow one another.
+-- Sequences of changes of files.
 use Rattle.std.proofs.Common.{◌≡◌, ◌≢◌, ℕ, ◌≤◌, List, [], Vec, Global, ap, option_map, Bool, true, false, Option, Some, None, refl, sym, ◌∙◌, subst, inl, inr, ⊎_elim, arith, Decides}
 use Rattle.std.specs.Prelude.{◌⊎◌, Result, Ok, Err, OnOk, IfOk, IsErrAnd}
 use Rattle.std.specs.Str.{bytes_eq}
@@ -15,7 +15,7 @@ by_test : (t : Bool) (P : Type 0) → Decides t P → P ⊎ (P → ⊥)
 by_test true P d = inl (d.0 refl)
 by_test false P d = inr (λ h. false≢true (d.1 h))
 
--- two paths are one, or not
+-- two paths are equal, or not
 apart : (a b : List ℕ) → (a ≡ b) ⊎ (a ≢ b)
 apart a b = by_test (bytes_eq a b) (a ≡ b) (bytes_eq-Decides a b)
 
@@ -45,7 +45,7 @@ module _ (P : List ℕ → List ℕ → Type 0) where
         (λ new. inr new) (second.1 path n),
   )
 
-  -- one path changes, where anything may stand
+  -- one path changes, where any bytes are allowed
   pub keeps-at : (a b : Files) (at : List ℕ) → SameBut at a b → (b at ≡ None → b at ≡ a at)
       → ((bytes : List ℕ) → P at bytes) → Keeps P a b
   keeps-at a b at same gone may path =
@@ -68,7 +68,7 @@ module _ (P Q : List ℕ → List ℕ → Type 0) (weaker : (path bytes : List �
         (λ new. inr (new.0, new.1, weaker path new.0 new.2)) (h.1 path n),
   )
 
--- a failure that is counted from earlier on
+-- a failure counts from an earlier state on
 pub raised-later : (a b c : ℕ) → a ≤ b → raised b c → raised a c
 raised-later a b c le (inl lt) = inl (omega arith)
 raised-later a b c le (inr end) = grind (arith)
@@ -134,7 +134,7 @@ nothing P Q a v = record {
   refused = tt;
 }
 
--- a call whose answer is another one
+-- a call with another result
 pub as-ok : {T U : Type 0} (P : T → List ℕ → List ℕ → Type 0) (R : U → List ℕ → List ℕ → Type 0)
     (Q Q' : List ℕ → List ℕ → Type 0) (a b : StoreView) (v : T) (u : U)
     → (a.tells ≡ true → (path bytes : List ℕ) → P v path bytes → R u path bytes) → Changes P Q a b (Ok v)
@@ -195,7 +195,7 @@ write-changes P Q call a b at bytes (Err e) tells written others cause keeps = r
   refused = fails-call call a b e cause.refused;
 }
 
--- a file that is written anew with its bytes
+-- a file that is rewritten with the same bytes
 pub keeps-anew : (P : List ℕ → List ℕ → Type 0) (a b : Files) (at bytes : List ℕ) → SameBut at a b
     → b at ≡ Some bytes → a at ≡ Some bytes → Keeps P a b
 keeps-anew P a b at bytes same is was path =
@@ -223,7 +223,7 @@ reads-fails P Q a b e reads fails = record {
   refused = fails;
 }
 
--- what was read stands there after the reading
+-- the bytes that were read are unchanged after the call
 pub read-stands : (old mid : Files) (p q : List ℕ) (o : Option (Vec ℕ Global)) (v : Vec ℕ Global)
     (bytes : List ℕ)
     → SameFiles old mid → option_map (λ (x : Vec ℕ Global). x.items) o ≡ old p → o ≡ Some v → bytes
@@ -247,7 +247,7 @@ pub on-done : {T : Type 0} (A B : Type 0) (r : Result T Error) → (A → B) →
 on-done A B (Ok v) f h = f h
 on-done A B (Err e) f h = tt
 
--- the same with what is known where files are told
+-- two calls, with a fact that holds if the contents of the files are known
 pub weakened-told : {T : Type 0} (P P' : T → List ℕ → List ℕ → Type 0) (Q Q' : List ℕ → List ℕ → Type 0)
     (a b : StoreView) (r : Result T Error)
     → (a.tells ≡ true → (v : T) (path bytes : List ℕ) → P v path bytes → P' v path bytes)
@@ -268,7 +268,7 @@ weakened-told P P' Q Q' a b (Err e) wp wq step = record {
   refused = step.refused;
 }
 
--- memory runs out behind a call
+-- memory runs out after a call
 pub ok-refused : {U T : Type 0} (P : U → List ℕ → List ℕ → Type 0) (R : T → List ℕ → List ℕ → Type 0)
     (Q : List ℕ → List ℕ → Type 0) (a b : StoreView) (u : U) (r : Result T Error)
     → ((path bytes : List ℕ) → P u path bytes → Q path bytes) → IsErrAnd r (λ e. e ≡ Memory)

@@ -1,4 +1,4 @@
--- Outcomes that follow from answers, one after another.
+-- Results of lookups that follow from the outcomes of transfers, one after another.
 use Rattle.std.proofs.Common.{◌≡◌, ℕ, zero, suc, ◌+◌, List, [], ◌∷◌, ◌++◌, length, Bool, Option, Some, ap, sym, ◌∙◌, subst, ⊎_elim, inl, inr, refl}
 use Rattle.std.specs.Prelude.{◌⊎◌, slice_get}
 use Rattle.edit_store.specs.Store.{Files}
@@ -24,7 +24,7 @@ get-cases (z ∷ xs) y x (suc k) e =
 one-of : {X : Type 0} (o : Option X) (x y : X) → o ≡ Some x → o ≡ Some y → x ≡ y
 one-of o x y a b = cc
 
--- an outcome more
+-- one result more
 pub follows-more : (p : Places) (ls : List LookupText) (is_offline : Bool) (answers : List (Option Answer))
     (os all : List Outcome) (o : Outcome) (l : LookupText) (old files : Files) (i : ℕ) (a : Option Answer)
     → length os ≡ i → a ≡ answer_at answers i → all ≡ os ++ o ∷ [] → slice_get ls (length os) ≡ Some l

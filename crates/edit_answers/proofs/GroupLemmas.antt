@@ -1,4 +1,4 @@
--- The first lookups of registries, one lookup after the other.
+-- The first lookups of registries, one lookup after another.
 use Rattle.std.proofs.Common.{◌≡◌, ◌<◌, ◌+◌, ℕ, List, [], ◌∷◌, ◌++◌, Bool, true, false, cond, not, refl, sym, ap, subst, ◌∙◌, map, take, length, get_or, append-nil}
 use Rattle.std.specs.Prelude.{◌||◌, Option, Some, None, filter, option_map}
 use Rattle.std.specs.List.{cons_option}
@@ -84,14 +84,14 @@ module _ (s : Standing) (offline : Bool) (pairs : List (Lookup × Outcome)) (i :
       (get_or pairs i d ∷ []))
       ∙ ap (missed s offline) (sym (take_more pairs i d within))
 
-  -- a lookup that has another standing
+  -- a lookup with another consequence
   pub missed-same : (found : List (Lookup × Failure)) (r : Option Failure)
       → r ≡ failure_with s offline (get_or pairs i d).1 → r ≡ None → found ≡ missed s offline (take i pairs)
       → found ≡ missed s offline (take (i + 1) pairs)
   missed-same found r is none e =
       e ∙ sym (append-nil (missed s offline (take i pairs))) ∙ missed-taken None (sym none ∙ is)
 
-  -- a lookup that has this standing
+  -- a lookup with this consequence
   pub missed-more : (old new : List (Lookup × Failure)) (r : Option Failure) (f : Failure)
       → r ≡ failure_with s offline (get_or pairs i d).1 → r ≡ Some f
       → new ≡ old ++ ((get_or pairs i d).0, f) ∷ [] → old ≡ missed s offline (take i pairs)

@@ -1,4 +1,4 @@
--- Lines that say no answer.
+-- Lines that hold no outcome.
 use Rattle.std.proofs.Common.{◌≡◌, ℕ, ◌<◌, ◌^◌, List, ◌∷◌, ◌++◌, refl, sym, ◌∙◌, ap, subst, inl, inr}
 use Rattle.std.specs.Prelude.{◌⊎◌, Ok}
 use Rattle.std.specs.Str.Parse.{IsNumeral, ParsesUnsigned, digits_value, without_leading_plus}
@@ -61,12 +61,12 @@ line-cases line l0 after none h = by-cut (l0 ++ 10 ∷ after) refl h
     by-cut text e (later other rest lacks h) =
         inr (subst (HasLine line) (first-cut 10 other rest l0 after lacks none e).1 h)
 
--- a text without a line end has no whole line
+-- a text without a line feed has no complete line
 pub no-line : (line text : List ℕ) → HasNo 10 text → HasLine line text → ⊥
 no-line line text lacks (first after _) = HasNo-at 10 line after lacks
 no-line line text lacks (later other after _ _) = HasNo-at 10 other after lacks
 
--- a line says one number
+-- a line holds a single number
 pub one-number : (line : List ℕ) (n m : ℕ) (a b : Answer) → SaysAnswer line n a → SaysAnswer line m b → n ≡ m
 one-number line n m a b x y =
     let cut = first-cut 9 x.digits _ y.digits _ x.no_tab_number y.no_tab_number (sym x.is ∙ y.is) in

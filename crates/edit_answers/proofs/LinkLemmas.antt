@@ -1,4 +1,4 @@
--- What a link comes to.
+-- The result of a link.
 use Rattle.std.proofs.Common.{◌≡◌, ℕ, List, Bool, true, false, Option, Some, None, refl, sym, ◌∙◌, ap}
 use Rattle.std.specs.Prelude.{IsSome, Ok, Err}
 use Rattle.std.proofs.lemmas.Bool.{false≢true}
@@ -29,7 +29,7 @@ pub linked-gone : (from to : List ℕ) (old new : Files) (b : Bool) → IsLinked
 linked-gone from to old new true is gone = absurd (not-none (old from) is.0 (sym is.1 ∙ gone))
 linked-gone from to old new false is gone = is.1
 
--- a file that stands is put at the other path
+-- a file that exists is linked to the other path
 pub linked-stands : (from to at path : List ℕ) (old new : Files) (b : Bool) (bytes : List ℕ) → from ≡ at
     → to ≡ path → IsLinked from to old new b → old at ≡ Some bytes → new path ≡ Some bytes
 linked-stands from to at path old new true bytes e f is stands =
@@ -41,7 +41,7 @@ linked-stands from to at path old new false bytes e f is stands =
     none-some o bytes a b = cc
 
 module _ {T : Type 0} (P : T → List ℕ → List ℕ → Type 0) (Q : List ℕ → List ℕ → Type 0) where
-  -- a link, where anything may stand at its path
+  -- a link, where any bytes are allowed at its path
   pub links-changes : (from to : List ℕ) (a b : StoreView) (had : Bool) (v : T) → Links from to a b (Ok had)
       → ((bytes : List ℕ) → P v to bytes) → Changes P Q a b (Ok v)
   links-changes from to a b had v link may = record {
@@ -63,7 +63,7 @@ module _ {T : Type 0} (P : T → List ℕ → List ℕ → Type 0) (Q : List ℕ
     refused = link.refused;
   }
 
--- what the link comes to
+-- the result of the link
 pub links-told : (from to path : List ℕ) (a b : StoreView) (linked : Bool) (had r : Outcome) (lost : Failure)
     → Links from to a b (Ok linked) → from ≡ path → r ≡ by_link linked had lost → a.tells ≡ true
     → r ≡ by_cached (a.file_at path) had lost

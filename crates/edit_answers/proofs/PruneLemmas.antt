@@ -1,4 +1,4 @@
--- Files of a cache that go and that stay.
+-- Files of a cache that are removed and that stay.
 use Rattle.std.proofs.Common.{◌≡◌, ◌<◌, ◌≤◌, ◌+◌, ℕ, inl, inr, ⊎_elim, arith, List, [], ◌∷◌, ◌++◌, Bool, true, false, cond, not, refl, sym, ap, subst, ◌∙◌, length, get_or, map, take, append_assoc}
 use Rattle.std.specs.Prelude.{◌-◌, ◌&&◌, ◌||◌, All, Ok, Result, codes, filter, nat_eq}
 use Rattle.edit_base.specs.declared.errors.Error.{Error}
@@ -133,7 +133,7 @@ mapped-more f xs i x within is =
     ap (map f) (take_more xs i x within ∙ ap (λ y. take i xs ++ y ∷ []) (sym is))
     ∙ map-append f (take i xs) (x ∷ [])
 
--- a file that is listed stands at its place
+-- a listed file is at its index
 pub at-place : (items : List Aged) (files : List AgedText) (i : ℕ) (a : Aged) → map aged_text items ≡ files
     → i < length items → a ≡ get_or items i a
     → (i < length files) × (aged_text a ≡ get_or files i (aged_text a))
@@ -146,7 +146,7 @@ at-place items files i a listed within is = (
 abbrev pub stays_at : List AgedText → ℕ → AgedText → Bool
 stays_at all i x = is_used all (owner_of x) || not (list_any (λ t. is_same t x) (take i all))
 
--- at first each file stands
+-- at first every file is there
 pub none-gone : (all : List AgedText) → all ≡ filter (stays_at all 0) all
 none-gone all = sym (all-pass (stays_at all 0) all (λ x. or-true (is_used all (owner_of x))))
 
@@ -194,7 +194,7 @@ module _ (all : List AgedText) (i : ℕ) (t : AgedText) (within : i < length all
       (λ x. one-stays (is_used all (owner_of x)) (list_any (λ u. is_same u x) (take i all)) (is_same t x)
       (of-same true used x) ∙ sym (more x)) all
 
-  -- the files that are to stay do so where another one goes
+  -- the files that have to stay do so when another one is removed
   pub stays-more : (now new : List AgedText) → is_used all (owner_of t) ≡ false
       → new ≡ filter (λ b. not (is_same t b)) now → staying all new ≡ staying all now
   stays-more now new unused removed =
@@ -203,7 +203,7 @@ module _ (all : List AgedText) (i : ℕ) (t : AgedText) (within : i < length all
       ∙ filter-same (λ x. not (is_same t x) && is_used all (owner_of x)) (λ a. is_used all (owner_of a))
       (λ x. keeps-used (is_used all (owner_of x)) (is_same t x) (of-same false unused x)) now
 
--- a failure that was counted stays so
+-- a failure that was counted stays counted
 pub raised-on : (a b c : ℕ) → b ≤ c → raised a b → raised a c
 raised-on a b c le (inl lt) = inl (omega arith)
 raised-on a b c le (inr end) = grind (arith)

@@ -1,4 +1,4 @@
--- What steps may write for a lookup.
+-- The writes that a lookup allows.
 use Rattle.std.proofs.Common.{◌≡◌, Bool, true, false, inl, inr, ℕ, List, refl, ap, ◌∙◌, sym, subst}
 use Rattle.edit_lookups.specs.Cached.{cached_path, validator_path}
 use Rattle.edit_lookups.specs.Lookups.{LookupText}

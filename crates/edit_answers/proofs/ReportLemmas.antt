@@ -1,4 +1,4 @@
--- What is said of a run, over files that are the same.
+-- The report of a run depends only on the contents of the files.
 use Rattle.std.proofs.Common.{◌≡◌, List, Bool, Option, ◌∷◌, ◌++◌, ap, subst}
 use Rattle.std.specs.Prelude.{codes}
 use Rattle.edit_store.specs.Store.{Files, SameFiles}
@@ -15,7 +15,7 @@ use Rattle.edit_answers.specs.declared.messages.StoreOptions.{StoreOptions}
 use Rattle.edit_answers.specs.declared.places.Places.{Places}
 use Rattle.edit_answers.proofs.ChangeLemmas.{keeps-same, keeps-then}
 
--- outcomes that follow over some files follow over the same ones
+-- results that follow with some files follow with the same files
 pub follow-same : (p : Places) (ls : List LookupText) (is_offline : Bool) (answers : List (Option Answer))
     (old mid : Files) (os : List Outcome) → SameFiles old mid → AllFollow p ls is_offline answers mid os
     → AllFollow p ls is_offline answers old os
@@ -28,7 +28,7 @@ follow-same p ls is_offline answers old mid os same h k l o is was =
       follows = it.follows;
     }
 
--- the same of what is said
+-- a report with some files is one with the same files
 pub report-same : (p : Places) (options : StoreOptions) (old mid : Files) (ls : List Lookup) (r : Report)
     → SameFiles old mid → ReportsOn p options mid ls r → ReportsOn p options old ls r
 report-same p options old mid ls r same it =

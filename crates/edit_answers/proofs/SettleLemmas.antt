@@ -1,4 +1,4 @@
--- What is written for lookups, one after another.
+-- The writes for lookups, one after another.
 use Rattle.std.proofs.lemmas.List.{length-map}
 use Rattle.std.proofs.lemmas.Option.{slice_get-get_or}
 use Rattle.std.proofs.Math.ListN.{get_or-map}
@@ -17,7 +17,7 @@ use Rattle.edit_answers.specs.declared.meaning.Outcome.TheVariants.{Fetched}
 use Rattle.edit_answers.specs.declared.places.Places.{Places}
 use Rattle.edit_answers.proofs.ChangeLemmas.{but-weaker, fails-later, keeps-then, keeps-then-but, keeps-weaker}
 
--- whatever may be written for a lookup may be written for one that was fetched
+-- a write that a lookup allows is allowed if its entry was fetched
 puts-fetched : (p : Places) (l : LookupText) (o : Outcome) (path bytes : List ℕ) → Puts p l o path bytes
     → Puts p l Fetched path bytes
 puts-fetched p l o path bytes (entry bs is whole) = entry bs (inl refl) whole
@@ -69,7 +69,7 @@ module _ (p : Places) (ls : List LookupText) where
       → Puts p l Fetched path bytes → PutsSome p ls path bytes
   some-last os l path bytes is h = record { number = length os; lookup = l; is = is; puts = h }
 
-  -- a lookup more
+  -- one lookup more
   pub settled-more : (os all : List Outcome) (o : Outcome) (l : LookupText) (a b c : StoreView)
       → all ≡ os ++ o ∷ [] → slice_get ls (length os) ≡ Some l
       → Changes (PutsOne p ls) (PutsSome p ls) a b (Ok os) → Changes (Puts p l) (Puts p l Fetched) b c (Ok o)
@@ -105,7 +105,7 @@ module _ (p : Places) (ls : List LookupText) where
     refused = fails-later a.faults b.faults c.faults e so.later step.refused;
   }
 
-  -- memory runs out behind a lookup
+  -- memory runs out after a lookup
   pub settled-memory : {T : Type 0} (P : T → List ℕ → List ℕ → Type 0) (os : List Outcome) (o : Outcome)
       (l : LookupText) (a b c : StoreView) (e : Error)
       → IsMemory e → slice_get ls (length os) ≡ Some l → Changes (PutsOne p ls) (PutsSome p ls) a b (Ok os)
@@ -124,14 +124,14 @@ module _ (p : Places) (ls : List LookupText) where
         refused = inl memory;
       }
 
--- the lookup at a place
+-- the lookup at an index
 pub lookup-at : {X : Type 0} (f : X → LookupText) (xs : List X) (n i : ℕ) (d : X) → n ≡ i → i < length xs
     → slice_get (map f xs) n ≡ Some (f (get_or xs i d))
 lookup-at f xs n i d e w =
     ap (slice_get (map f xs)) e
     ∙ (slice_get-get_or (map f xs) i (f d) (omega (arith, length-map xs f)) ∙ ap Some (get_or-map f xs i d))
 
--- memory runs out behind a lookup, as a call says it
+-- memory runs out after a lookup, as the error of a call
 pub settled-refused : {T : Type 0} (P : T → List ℕ → List ℕ → Type 0) (p : Places) (ls : List LookupText)
     (os : List Outcome) (o : Outcome) (l : LookupText) (a b c : StoreView) (r : Result T Error)
     → IsErrAnd r (λ e. e ≡ Memory) → slice_get ls (length os) ≡ Some l
@@ -141,7 +141,7 @@ settled-refused P p ls os o l a b c (Ok v) memory is so step = absurd memory
 settled-refused P p ls os o l a b c (Err e) memory is so step =
     settled-memory p ls P os o l a b c e (ap number_of memory) is so step
 
--- the outcomes of all lookups, as an answer that says no outcomes
+-- the writes of all lookups, without their results
 pub settled-all : (p : Places) (ls : List LookupText) (os : List Outcome) (path bytes : List ℕ)
     → PutsOne p ls os path bytes → PutsSome p ls path bytes
 settled-all p ls os path bytes h = some-one p ls os path bytes h

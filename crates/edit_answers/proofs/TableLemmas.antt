@@ -1,4 +1,4 @@
--- The table of answers.
+-- The table of outcomes.
 use Rattle.std.proofs.Common.{◌≡◌, ℕ, zero, suc, ◌+◌, ◌-◌, ◌<◌, true, arith, get_or, List, [], ◌∷◌, ◌++◌, length, Option, Some, None, replicate, refl, sym, subst, ⊎_elim, inl, inr}
 use Rattle.std.specs.Prelude.{◌⊎◌, slice_get, slice_set}
 use Rattle.std.specs.Option.{is_some}
@@ -8,12 +8,12 @@ use Rattle.edit_answers.specs.Answers.IsFirst.{at_head, behind}
 use Rattle.edit_answers.specs.declared.answers.Answer.{Answer}
 use Rattle.edit_answers.proofs.LineLemmas.{line-cases, no-line}
 
--- what a line says is found
+-- the outcome of a line is found
 abbrev pub IsFound : List ℕ → List (Option Answer) → Type 0
 IsFound line table = (k : ℕ) (a : Answer) → k < length table → SaysAnswer line (k + 1) a → HasOne table k
 
--- where a place is free, the first answer in a rest is the first in the text, and what the lines of the text
--- in front of the rest say is found
+-- each empty slot has its first outcome in the rest as the first in the text, and the outcomes in front of
+-- the rest are found
 pub record IsRest (text rest : List ℕ) (table : List (Option Answer)) : Type 0 where
   pub firsts : (k : ℕ) (a : Answer) → slice_get table k ≡ Some None → IsFirst (k + 1) a rest
       → IsFirst (k + 1) a text
@@ -22,7 +22,7 @@ pub record IsRest (text rest : List ℕ) (table : List (Option Answer)) : Type 0
 pub rest-begins : (text : List ℕ) (table : List (Option Answer)) → IsRest text text table
 rest-begins text table = record { firsts = λ k a free h. h; found = λ line h. inl h }
 
--- a table without answers has none
+-- a table without outcomes has none
 pub none-said : (text : List ℕ) (n : ℕ) → AreFirst text (replicate n None)
 none-said text n k a e = absurd (never n k e)
   where
@@ -59,7 +59,7 @@ free-before old new k count kept free = cases (slice_get old k) refl
     cases (Some None) is = is
     cases (Some (Some a)) is = absurd (taken-free (slice_get new k) a (kept k a is) free)
 
--- an answer more
+-- one outcome more
 pub one-first : (text rest line after : List ℕ) (old new : List (Option Answer)) (number : ℕ)
     (answer : Answer)
     → IsRest text rest old → rest ≡ line ++ 10 ∷ after → HasNo 10 line → SaysAnswer line number answer
@@ -101,12 +101,12 @@ line-on text rest line after old new so cut none count kept is = record {
       (so.found l h);
 }
 
--- a line that says no answer
+-- a line that holds no outcome
 pub says-none : (line : List ℕ) (table : List (Option Answer))
     → ((number : ℕ) (a : Answer) → SaysAnswer line number a → ⊥) → IsFound line table
 says-none line table never k a w says = absurd (never (k + 1) a says)
 
--- a line says one number
+-- a line holds a single number
 pub says-one : (line : List ℕ) (old new : List (Option Answer)) (number : ℕ) (answer : Answer)
     → SaysAnswer line number answer
     → ((n m : ℕ) (a b : Answer) → SaysAnswer line n a → SaysAnswer line m b → n ≡ m)
@@ -114,7 +114,7 @@ pub says-one : (line : List ℕ) (old new : List (Option Answer)) (number : ℕ)
 says-one line old new number answer says one count has k a w other =
     has k (one (k + 1) number a answer other says) (subst (λ n. k < n) count w)
 
--- all is found where no line is left
+-- every outcome is found if no line is left
 pub all-found : (text rest : List ℕ) (table : List (Option Answer)) → IsRest text rest table → HasNo 10 rest
     → AreFound text table
 all-found text rest table so none k a w answer =
@@ -127,7 +127,7 @@ get-set [] k y w = absurd (omega arith)
 get-set (x ∷ xs) zero y w = refl
 get-set (x ∷ xs) (suc k) y w = get-set xs k y (omega arith)
 
--- an answer that was put is there
+-- an outcome that was put is there
 pub has-set : (xs : List (Option Answer)) (number : ℕ) (a : Answer) (k : ℕ) → k + 1 ≡ number → k < length xs
     → HasOne (slice_set xs (number - 1) (Some a)) k
 has-set xs number a k e w =

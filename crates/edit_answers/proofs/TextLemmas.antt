@@ -12,7 +12,7 @@ eq-yes r a b is holds = (bytes_eq-Decides a b).0 (sym is ∙ holds)
 pub eq-no : (r : Bool) (a b : List ℕ) → r ≡ bytes_eq a b → r ≡ false → a ≢ b
 eq-no r a b is fails same = false≢true (sym fails ∙ (is ∙ (bytes_eq-Decides a b).1 same))
 
--- what stands before a byte of ASCII is text
+-- the text before an ASCII byte is UTF-8
 pub front-utf8 : (s before after : List ℕ) → IsUtf8 s → s ≡ before ++ 10 ∷ after → IsUtf8 before
 front-utf8 s before after u e =
     let within : length before < length s = omega (arith, ap length e, length-append before (10 ∷ after)) in

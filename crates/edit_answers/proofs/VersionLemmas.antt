@@ -67,7 +67,7 @@ module _ (text : List ℕ) (major minor : ℕ) (says : SaysVersion text major mi
       fails (subst (λ d. ParsesUnsigned {E = Unit {0}} 32 10 d (Ok minor))
       (sym (both-are name a b rest is none none_a none_b).1) says.minor_is).0
 
--- a text says one version
+-- a text has a single version
 pub one-version : (text : List ℕ) (a b c d : ℕ) → SaysVersion text a b → SaysVersion text c d → (a ≡ c)
     × (b ≡ d)
 one-version text a b c d x y =

@@ -1,4 +1,4 @@
--- Caches that say when their files were last written (own).
+-- Caches that know the age of their files (own).
 use Rattle.std.specs.Prelude.{◌≡◌, ◌≤◌, ℕ, ◌-◌, List, [], ◌++◌, Bool, true, false, ◌&&◌, ◌⊎◌, Result, IfErr, IfOk, OnErr, OnOk, codes, filter, length, map, nat_eq, nat_lt, not, string_bytes, take, if◌then◌else◌}
 use Rattle.std.specs.List.{ends_with, list_any}
 use Rattle.std.specs.Str.{bytes_eq}
@@ -14,27 +14,27 @@ use Rattle.edit_answers.specs.declared.aging_store.Aged.{Aged}
 use Rattle.edit_answers.specs.declared.aging_store.MemoryCache.{MemoryCache}
 use Rattle.edit_answers.specs.declared.cache_folder.CacheFolder.{CacheFolder}
 
--- a file of a cache, or the folder of a run, and for how many whole days nothing was written to it
+-- a file of a cache, or the working folder of a run, and the number of whole days since it was last modified
 pub record AgedText : Type 0 where
   pub path : List ℕ
   pub is_run : Bool
   pub days : ℕ
 
--- a file with its path as a text
+-- the model of a file of a cache
 abbrev pub aged_text : Aged → AgedText
 aged_text a = record { path = string_bytes a.path; is_run = a.is_run; days = a.days }
 
--- what contracts see of a cache: whether it tells its files, these files, and how often the device has failed
+-- the model of a cache: whether its files are known, these files, and how often the device has failed
 pub record AgingView : Type 0 where
   pub tells : Bool
   pub files : List AgedText
   pub faults : ℕ
 
--- a file is this one, by its path and its kind
+-- two files are the same, by path and kind
 abbrev pub is_same : AgedText → AgedText → Bool
 is_same a b = bytes_eq a.path b.path && (if a.is_run then b.is_run else not b.is_run)
 
--- the files of a cache are listed, and nothing changes
+-- the files of the cache are listed, and nothing changes
 pub record Lists (old new : AgingView) (result : Result (Vec Aged Global) Error) : Type 0 where
   pub tells : new.tells ≡ old.tells
   pub later : old.faults ≤ new.faults
@@ -42,7 +42,7 @@ pub record Lists (old new : AgingView) (result : Result (Vec Aged Global) Error)
   pub listed : IfOk result (λ v. old.tells ≡ true → map aged_text v.items ≡ old.files)
   pub refused : IfErr result (Fails old.faults new.faults)
 
--- a file is removed, and no other one changes; where that fails, nothing changes
+-- the file is removed, and no other one changes; on an error nothing changes
 pub record Removes (a : AgedText) (old new : AgingView) (result : Result Unit Error) : Type 0 where
   pub tells : new.tells ≡ old.tells
   pub later : old.faults ≤ new.faults
@@ -50,33 +50,33 @@ pub record Removes (a : AgedText) (old new : AgingView) (result : Result Unit Er
   pub left : OnErr result (old.tells ≡ true → new.files ≡ old.files)
   pub refused : IfErr result (Fails old.faults new.faults)
 
--- the file of an entry, by its path or that of its validator
+-- the path of an entry, given its own path or that of its validator
 abbrev pub entry_of : List ℕ → List ℕ
 entry_of path =
     if ends_with nat_eq path (codes ".etag") then take (length path - 5) path else path
 
--- what a file belongs to: its entry, or the folder of a run
+-- the path of what a file belongs to: its entry, or the working folder of a run
 abbrev pub owner_of : AgedText → List ℕ
 owner_of a = if a.is_run then a.path ++ codes "/" else entry_of a.path
 
--- for how many days a file stays to which nothing is written
+-- the number of days after which an unmodified file is removed
 abbrev pub days_left : Bool → ℕ
 days_left is_run = if is_run then 1 else 90
 
--- a file was written not long ago
+-- a file was modified recently enough to stay
 abbrev pub is_recent : AgedText → Bool
 is_recent a = nat_lt a.days (days_left a.is_run)
 
--- an owner has a file that was written not long ago
+-- an owner has a file that was modified recently
 abbrev pub is_used : List AgedText → List ℕ → Bool
 is_used files owner = list_any (λ a. is_recent a && bytes_eq (owner_of a) owner) files
 
--- the files that stay: an entry and its validator where one of them was written within 90 days, and the
--- folders of runs that were written within a day
+-- the files that stay: an entry and its validator if one of them was modified within 90 days, and the
+-- working folders of runs that were modified within a day
 abbrev pub staying : List AgedText → List AgedText → List AgedText
 staying all files = filter (λ a. is_used all (owner_of a)) files
 
--- a file goes unless it is used; where the device fails, it may stay
+-- the file is removed unless it is used; where the device fails, it may stay
 pub record RemovesUnused (is_used : Bool) (a : AgedText) (old new : AgingView) (result : Result Unit Error)
     : Type 0 where
   pub tells : new.tells ≡ old.tells
@@ -88,15 +88,14 @@ pub record RemovesUnused (is_used : Bool) (a : AgedText) (old new : AgingView) (
       → new.files ≡ filter (λ b. not (is_same a b)) old.files)
   pub refused : IfErr result IsMemory
 
--- a cache is not pruned: for want of memory, or because the machine does not list its files, of which then
--- none has gone
+-- the errors of pruning: lack of memory, or the files cannot be listed, and then none is removed
 abbrev pub FailsToPrune : AgingView → AgingView → Error → Type 0
 FailsToPrune old new e =
     IsMemory e ⊎ ((call : DeviceCall) × (e ≡ Device call) × raised old.faults new.faults
     × (old.tells ≡ true → new.files ≡ old.files))
 
--- how a cache is pruned: whatever fails, each file that is to stay stays; where the device did not fail, no
--- other one is left
+-- pruning a cache: even on an error, no file is removed that has to stay; if the device does not fail, no
+-- other file is left
 pub record Prunes (old new : AgingView) (result : Result Unit Error) : Type 0 where
   pub tells : new.tells ≡ old.tells
   pub later : old.faults ≤ new.faults
@@ -105,7 +104,7 @@ pub record Prunes (old new : AgingView) (result : Result Unit Error) : Type 0 wh
       → new.files ≡ staying old.files old.files)
   pub refused : IfErr result (FailsToPrune old new)
 
--- what contracts see of a cache in memory
+-- the model of a cache in memory
 abbrev pub memory_aging : MemoryCache → AgingView
 memory_aging cache = record { tells = true; files = map aged_text cache.files.items; faults = 0 }
 
@@ -113,6 +112,6 @@ memory_aging cache = record { tells = true; files = map aged_text cache.files.it
 abbrev pub folder_faults : {R : Type 0} → CacheFolder R → ℕ
 folder_faults cache = cache.failed
 
--- what contracts see of a cache on this machine: nothing of its files
+-- the model of a cache on this machine: its files are not modelled
 abbrev pub folder_aging : {R : Type 0} → CacheFolder R → AgingView
 folder_aging cache = record { tells = false; files = []; faults = folder_faults cache }

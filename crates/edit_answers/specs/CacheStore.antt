@@ -1,4 +1,4 @@
--- What a store below a cache counts.
+-- The model of the store of the files of a cache.
 use Rattle.std.specs.Prelude.{ℕ, List, None, false, map, string_bytes}
 use Rattle.edit_store.specs.Store.{StoreView}
 use Rattle.edit_answers.specs.declared.cache_store.CacheStore.{CacheStore}
@@ -11,7 +11,7 @@ cache_faults store = store.failed
 abbrev pub cache_writes : {R : Type 0} → CacheStore R → List (List ℕ)
 cache_writes store = map string_bytes store.writes.items
 
--- the machine's files are not told, but which of them were written
+-- the contents of the machine's files are not modelled, only which of them were written
 abbrev pub cache_view : {R : Type 0} → CacheStore R → StoreView
 cache_view store = record {
   tells = false;

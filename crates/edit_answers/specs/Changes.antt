@@ -1,4 +1,4 @@
--- How calls change the files of a store.
+-- Changes of the files of a store.
 use Rattle.std.specs.Prelude.{◌≡◌, ◌≢◌, ◌⊎◌, ◌≤◌, ℕ, List, Some, Result, IfOk, IfErr, OnErr, true}
 use Rattle.edit_base.specs.declared.errors.DeviceCall.{DeviceCall}
 use Rattle.edit_base.specs.declared.errors.Error.{Error}
@@ -6,24 +6,25 @@ use Rattle.edit_base.specs.declared.errors.Error.TheVariants.{Device}
 use Rattle.edit_base.specs.Errors.{IsMemory}
 use Rattle.edit_store.specs.Store.{Files, StoreView, raised}
 
--- a path has what it had, or bytes that may stand there
+-- the path has the same bytes as before, or new bytes that are allowed there
 abbrev pub IsKeptAt : (List ℕ → List ℕ → Type 0) → Files → Files → List ℕ → Type 0
 IsKeptAt P old new path = (new path ≡ old path) ⊎ ((bytes : List ℕ) × (new path ≡ Some bytes) × P path bytes)
 
--- each path has what it had, or bytes that may stand there
+-- every path has the same bytes as before, or new bytes that are allowed there
 abbrev pub Keeps : (List ℕ → List ℕ → Type 0) → Files → Files → Type 0
 Keeps P old new = (path : List ℕ) → IsKeptAt P old new path
 
--- the same of each path but one, whose write failed
+-- every path except one, whose write failed, has the same bytes as before, or new bytes that are allowed
+-- there
 abbrev pub KeepsBut : (List ℕ → List ℕ → Type 0) → Files → Files → Type 0
 KeepsBut P old new = (torn : List ℕ) × ((path : List ℕ) → path ≢ torn → IsKeptAt P old new path)
 
--- a call fails for want of memory, or with the device, which was counted
+-- a call fails for lack of memory, or with the device, which was counted
 abbrev pub Fails : ℕ → ℕ → Error → Type 0
 Fails before now e = IsMemory e ⊎ ((call : DeviceCall) × (e ≡ Device call) × raised before now)
 
--- how a call changes a store: by its answer, what may newly stand in the files; where it fails, one file may
--- hold anything, and each other one is as it was or has what may stand there
+-- the effect of a call on a store: its result determines which bytes are allowed in which files; on an error
+-- one file may hold anything, and every other one is unchanged or has bytes that are allowed there
 pub record Changes {T : Type 0} (P : T → List ℕ → List ℕ → Type 0) (Q : List ℕ → List ℕ → Type 0)
     (old new : StoreView) (result : Result T Error) : Type 0 where
   pub tells : new.tells ≡ old.tells

@@ -1,14 +1,14 @@
--- Which curl can fetch index entries (curl's manual: `%{exitcode}` and `%{errormsg}` of `--write-out` are
--- there from 7.75 on).
+-- Versions of curl that can fetch index entries (curl's manual: `%{exitcode}` and `%{errormsg}` of
+-- `--write-out` exist since 7.75).
 use Rattle.std.specs.Prelude.{◌≡◌, ◌⊎◌, ℕ, ◌<◌, ◌≤◌, List, ◌∷◌, ◌++◌, Ok, codes}
 use Rattle.std.specs.Str.Parse.{ParsesUnsigned}
 use Rattle.edit_lookups.specs.Lookups.{HasNo}
 
--- a version from 7.75 on
+-- version 7.75 or later
 abbrev pub HasVariables : ℕ → ℕ → Type 0
 HasVariables major minor = (7 < major) ⊎ ((major ≡ 7) × (75 ≤ minor))
 
--- a text begins with a version of curl: `curl MAJOR.MINOR.`
+-- the text begins with `curl MAJOR.MINOR.`
 pub record SaysVersion (text : List ℕ) (major minor : ℕ) : Type 0 where
   pub major_digits : List ℕ
   pub minor_digits : List ℕ
@@ -19,7 +19,7 @@ pub record SaysVersion (text : List ℕ) (major minor : ℕ) : Type 0 where
   pub major_is : ParsesUnsigned {E = Unit {0}} 32 10 major_digits (Ok major)
   pub minor_is : ParsesUnsigned {E = Unit {0}} 32 10 minor_digits (Ok minor)
 
--- a text begins with such a version from 7.75 on
+-- the text begins with the version of curl, which is 7.75 or later
 pub record IsNewEnough (text : List ℕ) : Type 0 where
   pub major : ℕ
   pub minor : ℕ

@@ -1,4 +1,4 @@
--- How the outcomes of lookups follow from the answers to them.
+-- The results of lookups, given the outcomes of their transfers.
 use Rattle.std.specs.Prelude.{◌≡◌, ℕ, ◌+◌, List, Option, Some, None, Bool, true, false, ◌||◌, nat_eq, codes, slice_get}
 use Rattle.std.specs.List.{starts_with}
 use Rattle.edit_store.specs.Store.{Files}
@@ -14,24 +14,25 @@ use Rattle.edit_answers.specs.declared.meaning.Meaning.TheVariants.{Failed}
 use Rattle.edit_answers.specs.declared.meaning.Outcome.{Outcome}
 use Rattle.edit_answers.specs.declared.places.Places.{Places}
 
--- an address is that of a sparse registry
+-- the address is that of a registry with the sparse protocol
 abbrev pub is_sparse : List ℕ → Bool
 is_sparse address =
     starts_with nat_eq address (codes "sparse+http://") || starts_with nat_eq address
     (codes "sparse+https://")
 
--- an address is that of a registry on this machine
+-- the address is that of a registry on this machine
 abbrev pub is_local : List ℕ → Bool
 is_local address = starts_with nat_eq address (codes "file:")
 
--- what an answer means for an entry of a registry: nothing where its kind is not fetched, or nothing is
+-- the meaning of a transfer for an entry of a registry: a failure where the registry is not sparse, or the
+-- run is offline
 pub data MeansFor (address : List ℕ) (is_offline : Bool) (answer : Option Answer) : Meaning → Type 0 where
   not_fetchable : is_sparse address ≡ false → MeansFor address is_offline answer (Failed NotFetchable)
   offline : is_sparse address ≡ true → is_offline ≡ true → MeansFor address is_offline answer (Failed Offline)
   online : (m : Meaning) → is_sparse address ≡ true → is_offline ≡ false → Means answer m
       → MeansFor address is_offline answer m
 
--- what becomes of a lookup by the kind of its registry and the answer to it
+-- the result of a lookup, given the kind of its registry and the outcome of its transfer
 pub data Follows (p : Places) (l : LookupText) (number : ℕ) (is_offline : Bool) (answer : Option Answer)
     (files : Files)
     : Outcome → Type 0 where
@@ -40,17 +41,17 @@ pub data Follows (p : Places) (l : LookupText) (number : ℕ) (is_offline : Bool
   answered : (m : Meaning) (o : Outcome) → is_local l.address ≡ false → MeansFor l.address is_offline answer m
       → Settles p l number files m o → Follows p l number is_offline answer files o
 
--- an answer that a table may have at a place
+-- the outcome in a slot of a table, if the slot exists
 abbrev pub the_answer : Option (Option Answer) → Option Answer
 the_answer None = None
 the_answer (Some answer) = answer
 
--- the answer at a place of a table; none after its end
+-- the outcome at an index of a table; none past its end
 abbrev pub answer_at : List (Option Answer) → ℕ → Option Answer
 answer_at answers k = the_answer (slice_get answers k)
 
--- an outcome follows from the answer at its place, over files that differ from the old ones only by what
--- lookups may put
+-- the result of a lookup follows from the outcome at its index, with files that differ from the old ones
+-- only by what lookups may write
 pub record HasFollowed (p : Places) (ls : List LookupText) (is_offline : Bool)
     (answers : List (Option Answer))
     (old : Files) (k : ℕ) (l : LookupText) (o : Outcome) : Type 0 where
@@ -58,7 +59,7 @@ pub record HasFollowed (p : Places) (ls : List LookupText) (is_offline : Bool)
   pub from_old : Keeps (PutsSome p ls) old files
   pub follows : Follows p l (k + 1) is_offline (answer_at answers k) files o
 
--- each outcome follows from the answer at its place
+-- each result follows from the outcome at its index
 abbrev pub AllFollow : Places → List LookupText → Bool → List (Option Answer) → Files → List Outcome → Type 0
 AllFollow p ls is_offline answers old outcomes =
     (k : ℕ) (l : LookupText) (o : Outcome) → slice_get ls k ≡ Some l → slice_get outcomes k ≡ Some o

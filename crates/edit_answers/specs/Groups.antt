@@ -1,4 +1,4 @@
--- The lookups that were not had, by registry (own).
+-- The lookups without a fetched entry, grouped by registry (own).
 use Rattle.std.specs.Prelude.{◌≡◌, ℕ, List, [], ◌∷◌, ◌++◌, Option, Some, None, Bool, true, false, filter, map, not, option_and_then, option_map, string_bytes, if◌then◌else◌}
 use Rattle.std.specs.Borrow.{Bor}
 use Rattle.std.specs.List.{filter_map, list_any, zip}
@@ -14,38 +14,39 @@ use Rattle.edit_answers.specs.declared.meaning.Failure.TheVariants.{BadLine, NoF
 use Rattle.edit_answers.specs.declared.meaning.Outcome.{Outcome}
 use Rattle.edit_answers.specs.declared.meaning.Outcome.TheVariants.{Cached, Damaged, Missing}
 
--- a name is among those of crates that are not upgraded
+-- whether a crate is excluded from the upgrade
 abbrev pub is_excluded : List (Bor (List ℕ)) → List ℕ → Bool
 is_excluded excluded name = list_any (λ other. bytes_eq other.now name) excluded
 
--- the lookups of crates that are upgraded, with their outcomes
+-- the lookups of crates that are not excluded, with their outcomes
 abbrev pub upgraded : List (Bor (List ℕ)) → List Lookup → List Outcome → List (Lookup × Outcome)
 upgraded excluded lookups outcomes =
     filter (λ p. not (is_excluded excluded p.0.name.now)) (zip lookups outcomes)
 
--- nothing is fetched offline
+-- whether the failure is that nothing is fetched offline
 abbrev pub is_offline : Failure → Bool
 is_offline Offline = true
 is_offline _ = false
 
--- why an entry was not fetched whose cached one serves; offline nothing is said of that
+-- why an entry was not fetched whose cached version is used; none offline, where it is not reported
 abbrev pub served : Outcome → Option Failure
 served (Cached failure) = if is_offline failure then None else Some failure
 served _ = None
 
--- why an entry was not had that no cached one stands for
+-- why an entry is not available, neither fetched nor cached
 abbrev pub lost : Outcome → Option Failure
 lost (Missing failure) = Some failure
 lost (Damaged damage failure) = Some failure
 lost _ = None
 
--- an upgrade cannot go on without an entry: offline it can, unless a registry on this machine is wrong
+-- whether an upgrade cannot proceed without an entry: offline it can, unless a registry on this machine is
+-- broken
 abbrev pub is_fatal : Bool → Failure → Bool
 is_fatal offline NoFolder = true
 is_fatal offline (BadLine line) = true
 is_fatal offline _ = not offline
 
--- why an entry was not had, where its lookup has a standing
+-- why an entry was not fetched, if that has this consequence for its lookup
 abbrev pub failure_with : Standing → Bool → Outcome → Option Failure
 failure_with standing.Cached offline outcome = served outcome
 failure_with standing.Left offline outcome =
@@ -53,16 +54,16 @@ failure_with standing.Left offline outcome =
 failure_with standing.Missing offline outcome =
     option_and_then (λ f. if is_fatal offline f then Some f else None) (lost outcome)
 
--- the lookups that have a standing, each with why its entry was not had
+-- the lookups with this consequence, each with its failure
 abbrev pub missed : Standing → Bool → List (Lookup × Outcome) → List (Lookup × Failure)
 missed standing offline pairs =
     filter_map (λ p. option_map (λ f. (p.0, f)) (failure_with standing offline p.1)) pairs
 
--- a lookup is in a registry
+-- whether a lookup is in a registry
 abbrev pub is_in : List ℕ → Lookup × Failure → Bool
 is_in address it = bytes_eq it.0.address.now address
 
--- one of these lookups is in a registry
+-- whether one of these lookups is in a registry
 abbrev pub is_listed : List (Lookup × Failure) → List ℕ → Bool
 is_listed found address = list_any (is_in address) found
 
@@ -75,13 +76,13 @@ abbrev pub firsts : List (Lookup × Failure) → List (Lookup × Failure)
 firsts [] = []
 firsts (it ∷ rest) = it ∷ filter (λ other. not (is_in it.0.address.now other)) (firsts rest)
 
--- a group as texts
+-- the model of a group
 pub record GroupText : Type 0 where
   pub address : List ℕ
   pub reason : List ℕ
   pub names : List (List ℕ)
 
--- the texts of a group
+-- the model of a group
 abbrev pub group_text : Group → GroupText
 group_text g = record {
   address = g.address.now;
@@ -89,13 +90,13 @@ group_text g = record {
   names = map (λ n. n.now) g.names.items;
 }
 
--- the group of the registry of a lookup, which is its first one
+-- the group of the registry whose first lookup this is
 pub record IsGroup (found : List (Lookup × Failure)) (first : Lookup × Failure) (g : GroupText) : Type 0 where
   pub address : g.address ≡ first.0.address.now
   pub reason : IsReason (lookup_text first.0) first.1 g.reason
   pub names : g.names ≡ names_at found first.0.address.now
 
--- groups of lookups, one for each of these first ones, in their order
+-- the groups for these first lookups, in their order
 pub data AreGroupsOf (found : List (Lookup × Failure)) : List (Lookup × Failure) → List GroupText
     → Type 0 where
   none : AreGroupsOf found [] []
@@ -104,6 +105,6 @@ pub data AreGroupsOf (found : List (Lookup × Failure)) : List (Lookup × Failur
       → AreGroupsOf found firsts groups → IsGroup found first g
       → AreGroupsOf found (firsts ++ first ∷ []) (groups ++ g ∷ [])
 
--- the groups of lookups by their registries, in the order of the first lookup of each
+-- lookups grouped by registry, in the order of the first lookup of each
 abbrev pub AreGroups : List (Lookup × Failure) → List GroupText → Type 0
 AreGroups found groups = AreGroupsOf found (firsts found) groups

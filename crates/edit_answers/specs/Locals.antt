@@ -16,22 +16,22 @@ use Rattle.edit_answers.specs.declared.meaning.Failure.TheVariants.{BadLine, NoF
 use Rattle.edit_answers.specs.declared.meaning.Outcome.{Outcome}
 use Rattle.edit_answers.specs.declared.meaning.Outcome.TheVariants.{Absent, Local, Missing}
 
--- a path without the slash at its end, the root aside
+-- a path without the slash at its end; the root stays `/`
 abbrev pub without_slash : List ℕ → List ℕ
 without_slash path =
     if ends_with nat_eq path (codes "/") && not (bytes_eq path (codes "/")) then take
     (length path - 1) path else path
 
--- the folder that the path of a URL names, its escapes read
+-- the folder of a URL's path, percent-decoded
 abbrev pub folder_of : List ℕ → List ℕ
 folder_of path = without_slash (percent_decode path)
 
--- bytes that a path of this machine can have
+-- bytes that can be a path on this machine
 pub record IsPathText (bytes : List ℕ) : Type 0 where
   pub utf8 : IsUtf8 bytes
   pub no_nul : HasNo 0 bytes
 
--- an address names a folder: that of a URL of the scheme `file` without a host
+-- the address names a folder: it is a `file` URL without a host
 pub record IsLocalFolder (address folder : List ℕ) : Type 0 where
   pub url : Parts
   pub reads : parse_url None address ≡ Ok url
@@ -40,23 +40,23 @@ pub record IsLocalFolder (address folder : List ℕ) : Type 0 where
   pub is : folder ≡ folder_of url.path
   pub text : IsPathText folder
 
--- the folder of an address stands
+-- the folder of the address exists
 pub record IsStanding (address : List ℕ) (files : Files) (folder : List ℕ) : Type 0 where
   pub names : IsLocalFolder address folder
   pub stands : StandsAt files folder Folder
 
--- an address names no folder, or something else stands at it
+-- the address names no folder, or no folder exists there
 pub data HasNoFolder (address : List ℕ) (files : Files) : Type 0 where
   unnamed : ((folder : List ℕ) → IsLocalFolder address folder → ⊥) → HasNoFolder address files
   other : (folder : List ℕ) (kind : Kind) → IsLocalFolder address folder → StandsAt files folder kind
       → kind ≢ Folder → HasNoFolder address files
 
--- what becomes of a lookup by the bytes of its file in a registry on this machine
+-- the result of a lookup, given the bytes of its file in a registry on this machine
 pub data IsLocalFile (bytes : List ℕ) : Outcome → Type 0 where
   bad_line : (number : ℕ) → IsBadLine (lines_of bytes) number → IsLocalFile bytes (Missing (BadLine number))
   lines : (entries : List IndexEntry) → LinesSay (lines_of bytes) entries → IsLocalFile bytes Local
 
--- what becomes of a lookup in a registry on this machine
+-- the result of a lookup in a registry on this machine
 pub data SettlesLocal (l : LookupText) (files : Files) : Outcome → Type 0 where
   no_folder : HasNoFolder l.address files → SettlesLocal l files (Missing NoFolder)
   absent : (folder : List ℕ) → IsStanding l.address files folder → files (local_path folder l.path) ≡ None

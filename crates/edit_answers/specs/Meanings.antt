@@ -1,4 +1,4 @@
--- What answers mean for entries.
+-- The meanings of transfers.
 use Rattle.std.specs.Prelude.{◌≡◌, ◌≢◌, ◌⊎◌, ℕ, List, Option, Some, None, Bool, true, false, codes}
 use Rattle.std.specs.Borrow.{Bor}
 use Rattle.std.specs.Str.{bytes_eq}
@@ -7,16 +7,17 @@ use Rattle.edit_answers.specs.declared.meaning.Failure.TheVariants.{Curl, Status
 use Rattle.edit_answers.specs.declared.meaning.Meaning.{Meaning}
 use Rattle.edit_answers.specs.declared.meaning.Meaning.TheVariants.{Absent, Failed, Moved, New, NotModified}
 
--- the statuses that say that there is no such crate (Cargo reference, "Registries", nonexistent crates)
+-- the HTTP statuses for a crate that does not exist (Cargo reference, "Registries", nonexistent crates)
 abbrev pub IsAbsence : List ℕ → Type 0
 IsAbsence code = (code ≡ codes "404") ⊎ ((code ≡ codes "410") ⊎ (code ≡ codes "451"))
 
--- what a new body means, by whether no redirect was followed
+-- the meaning of a new body, given whether no redirect was followed
 abbrev pub new_meaning : Bool → Meaning
 new_meaning true = New
 new_meaning false = Moved
 
--- what the status of a transfer that did not fail means; a body behind a redirect has a meaning of its own
+-- the meaning of a transfer that did not fail, by its HTTP status; that of a body depends on the redirects
+-- too
 pub data MeansBy (code : Bor (List ℕ)) (redirects : List ℕ) : Meaning → Type 0 where
   new : code.now ≡ codes "200" → MeansBy code redirects (new_meaning (bytes_eq redirects (codes "0")))
   not_modified : code.now ≡ codes "304" → MeansBy code redirects NotModified
@@ -24,7 +25,7 @@ pub data MeansBy (code : Bor (List ℕ)) (redirects : List ℕ) : Meaning → Ty
   other : code.now ≢ codes "200" → code.now ≢ codes "304" → (IsAbsence code.now → ⊥)
       → MeansBy code redirects (Failed (Status code))
 
--- what curl's answer to a transfer means; a failed transfer means nothing by its status
+-- the meaning of a transfer; the HTTP status of a failed one is ignored
 pub data Means : Option Answer → Meaning → Type 0 where
   unanswered : Means None (Failed Unanswered)
   failed : (a : Answer) → a.exit.now ≢ codes "0" → Means (Some a) (Failed (Curl a.exit a.message))

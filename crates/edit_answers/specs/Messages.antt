@@ -1,4 +1,4 @@
--- What is said of entries that were not had (own).
+-- The messages about entries that could not be fetched (own).
 use Rattle.std.specs.Prelude.{◌≡◌, ℕ, List, [], ◌∷◌, ◌++◌, Option, Some, None, Bool, codes, length, option_map, string_bytes}
 use Rattle.std.specs.Fmt.{decimal}
 use Rattle.std.specs.List.{flat_map}
@@ -16,54 +16,54 @@ use Rattle.edit_answers.specs.declared.meaning.Outcome.{Outcome}
 use Rattle.edit_answers.specs.declared.meaning.Outcome.TheVariants.{Damaged}
 use Rattle.edit_answers.specs.declared.messages.Report.{Report}
 
--- the address of a registry as messages show it
+-- the address of a registry in messages
 abbrev pub shown_text : List ℕ → List ℕ
 shown_text address = escaped (shown_address address)
 
--- names, parted by commas
+-- names joined by commas
 abbrev pub names_text : List (List ℕ) → List ℕ
 names_text [] = []
 names_text (name ∷ rest) = escaped name ++ flat_map (λ n. codes ", " ++ escaped n) rest
 
--- which index entries of a registry could not be fetched, and why
+-- how many index entries of a registry could not be fetched, and why
 unfoldable pub unfetched_text : List ℕ → List ℕ → List ℕ → List ℕ
 unfetched_text count shown reason =
     count ++ (codes " index entries of " ++ (shown ++ (codes " could not be fetched ("
     ++ (reason ++ codes ")"))))
 
--- what a warning says of a group whose cached entries serve
+-- the first part of the warning about a group whose cached entries are used
 unfoldable pub cached_text : GroupText → List ℕ
 cached_text g = unfetched_text (decimal (length g.names)) (shown_text g.address) g.reason
 
--- the warning of a group whose cached entries serve
+-- the warning about a group whose cached entries are used
 abbrev pub cached_line : GroupText → List ℕ
 cached_line g =
     codes "warning: " ++ (cached_text g ++ (codes ": the cached ones are used ("
     ++ (names_text g.names ++ codes ")\n")))
 
--- what a warning says of a group whose crates stay as they are
+-- the first part of the warning about a group whose crates are not upgraded
 abbrev pub left_text : GroupText → List ℕ
 left_text g =
     codes "no index entries of " ++ (shown_text g.address ++ (codes " are cached for "
     ++ (names_text g.names ++ (codes " (" ++ (g.reason ++ codes ")")))))
 
--- the warning of a group whose crates stay as they are
+-- the warning about a group whose crates are not upgraded
 abbrev pub left_line : GroupText → List ℕ
 left_line g = codes "warning: " ++ (left_text g ++ codes ": these crates stay as they are\n")
 
--- the line of a group without which an upgrade cannot go on
+-- the line of the error for a group that the upgrade cannot proceed without
 abbrev pub missing_line : GroupText → List ℕ
 missing_line g =
     codes "\n  " ++ (shown_text g.address ++ (codes ": " ++ (names_text g.names
     ++ (codes " (" ++ (g.reason ++ codes ")")))))
 
--- the line of a group whose lookups have a standing
+-- the line for a group of lookups with this consequence
 abbrev pub line_of : Standing → GroupText → List ℕ
 line_of Cached g = cached_line g
 line_of Left g = left_line g
 line_of Missing g = missing_line g
 
--- the warning of a damaged file in the cache
+-- the warning about a damaged file in the cache
 abbrev pub damage_text : List ℕ → Damage → List ℕ
 damage_text path (BadLine line) =
     let place = escaped path ++ (codes ":" ++ decimal line) in
@@ -73,12 +73,12 @@ damage_text path NotWhole =
     codes "warning: the cached index entry "
     ++ (escaped path ++ codes " is not whole, so the file is not used: remove it\n")
 
--- the warning of an outcome whose cached entry, at a path, is damaged; empty for any other
+-- the warning about the damaged cached entry at a path; empty for any other result
 abbrev pub damage_by : List ℕ → Outcome → List ℕ
 damage_by path (Damaged damage failure) = damage_text path damage
 damage_by path _ = []
 
--- the warning of a lookup whose cached entry is damaged; empty for any other
+-- the warning about a lookup whose cached entry is damaged; empty for any other lookup
 abbrev pub damage_line : List ℕ → Lookup × Outcome → List ℕ
 damage_line cache p = damage_by (cached_path cache (lookup_text p.0)) p.1
 
@@ -88,17 +88,17 @@ error_head =
     codes "index entries are neither had nor cached; leave the crates out by `--exclude`, "
     ++ codes "or as they are by `--offline`:"
 
--- the error of the groups without which an upgrade cannot go on; none where there are none
+-- the error about the groups that the upgrade cannot proceed without; none if there are none
 abbrev pub error_text : List GroupText → Option (List ℕ)
 error_text [] = None
 error_text (g ∷ rest) = Some (error_head ++ flat_map (line_of Missing) (g ∷ rest))
 
--- what is said of a run whose lookups are malformed
+-- the report of a run whose file of lookups is malformed
 pub record IsUnreadable (r : Report) : Type 0 where
   pub warnings : string_bytes r.warnings ≡ []
   pub error : option_map string_bytes r.error ≡ Some (codes "the lookups of this run are malformed")
 
--- what is said of lookups with these outcomes
+-- the report of lookups with these results
 pub record IsReport (cache : List ℕ) (is_offline : Bool) (pairs : List (Lookup × Outcome)) (r : Report)
     : Type 0 where
   pub cached : List GroupText

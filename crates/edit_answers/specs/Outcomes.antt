@@ -1,4 +1,4 @@
--- What becomes of lookups.
+-- The results of lookups.
 use Rattle.std.specs.Prelude.{◌≡◌, ◌⊎◌, ℕ, List, Option, Some, None, Bool, true, false, MatchOption, slice_get}
 use Rattle.edit_store.specs.Store.{Files}
 use Rattle.edit_lookups.specs.Cached.{cached_path, validator_path}
@@ -17,12 +17,12 @@ use Rattle.edit_answers.specs.declared.meaning.Outcome.{Outcome}
 use Rattle.edit_answers.specs.declared.meaning.Outcome.TheVariants.{Absent, Cached, Current, Damaged, Fetched, Missing, Moved}
 use Rattle.edit_answers.specs.declared.places.Places.{Places}
 
--- the entry was fetched, as the answer to the request or behind a redirect
+-- the entry was fetched, with or without a redirect
 abbrev pub IsStored : Outcome → Type 0
 IsStored o = (o ≡ Fetched) ⊎ (o ≡ Moved)
 
--- what a step may write for a lookup: where it was fetched, its entry, a whole index file of its crate; where
--- no redirect was followed, the validator of such a body; and the file where an upgrade reads it
+-- the writes that a lookup allows: if its entry was fetched, that entry, a complete index file of its crate;
+-- without a redirect also the validator of such a body; and the file that the upgrade reads
 pub data Puts (p : Places) (l : LookupText) (o : Outcome) : List ℕ → List ℕ → Type 0 where
   entry : (bytes : List ℕ) → IsStored o → IsWholeIndex l.name bytes
       → Puts p l o (cached_path p.cache.now l) bytes
@@ -31,41 +31,40 @@ pub data Puts (p : Places) (l : LookupText) (o : Outcome) : List ℕ → List �
       → Puts p l o (validator_path (cached_path p.cache.now l)) bytes
   indexed : (bytes : List ℕ) → Puts p l o (index_path p.room.now l) bytes
 
--- what a lookup comes to by whether there is a cached entry
+-- the result of a lookup, given whether there is a cached entry
 abbrev pub by_link : Bool → Outcome → Failure → Outcome
 by_link true had lost = had
 by_link false had lost = Missing lost
 
--- what a lookup comes to by the file of its entry in the cache, whatever that holds
+-- the result of a lookup, given its file in the cache, whatever the file holds
 abbrev pub by_cached : Option (List ℕ) → Outcome → Failure → Outcome
 by_cached None had lost = Missing lost
 by_cached (Some bytes) had lost = had
 
--- what is wrong with a file in the cache, which need not be there: nothing where it is the whole index file
--- of the crate
+-- the damage of a file in the cache, if it exists: none where it is a complete index file of the crate
 abbrev pub HasDamage : List ℕ → Option (List ℕ) → Option Damage → Type 0
 HasDamage name None damage = damage ≡ None
 HasDamage name (Some bytes) damage = MatchOption damage (IsWholeIndex name bytes) (IsDamaged name bytes)
 
--- what a lookup comes to by its entry in the cache: a damaged one serves no more than none
+-- the result of a lookup, given its file in the cache: a damaged file is not used
 pub data FromCache (name : List ℕ) (had : Outcome) (lost : Failure) : Option (List ℕ) → Outcome → Type 0 where
   none : FromCache name had lost None (Missing lost)
   whole : (bytes : List ℕ) → IsWholeIndex name bytes → FromCache name had lost (Some bytes) had
   damaged : (bytes : List ℕ) (damage : Damage) → IsDamaged name bytes damage
       → FromCache name had lost (Some bytes) (Damaged damage lost)
 
--- the file of the transfer's body is a whole index file of the crate
+-- the body of the transfer is a complete index file of the crate
 abbrev pub HasBody : Places → LookupText → ℕ → Files → Type 0
 HasBody p l number files =
     (body : List ℕ) × (files (body_path p.room.now number) ≡ Some body) × IsWholeIndex l.name body
 
--- what becomes of a lookup whose new body is stored, by whether no redirect was followed
+-- the result of a lookup whose new body is stored, given whether no redirect was followed
 abbrev pub stored : Bool → Outcome
 stored true = Fetched
 stored false = Moved
 
--- what becomes of a lookup by what its answer means, over these files: a new body counts only as a whole
--- index file; where nothing was had, the cached entry serves
+-- the result of a lookup, given the meaning of its transfer and these files: a new body counts only if it is
+-- a complete index file; without one, the cached entry is used
 pub data Settles (p : Places) (l : LookupText) (number : ℕ) (files : Files) : Meaning → Outcome → Type 0 where
   fetched : (is_direct : Bool) → HasBody p l number files
       → Settles p l number files (new_meaning is_direct) (stored is_direct)
@@ -80,20 +79,20 @@ pub data Settles (p : Places) (l : LookupText) (number : ℕ) (files : Files) : 
       → FromCache l.name (Cached f) f (files (cached_path p.cache.now l)) o
       → Settles p l number files (Failed f) o
 
--- the validator of a body beside its entry
+-- the write of the validator of a body, beside its entry
 abbrev pub PutsValidator : List ℕ → List ℕ → List ℕ → List ℕ → Type 0
 PutsValidator at body path bytes =
     (path ≡ validator_path at) × ((etag : List ℕ) × IsValidatorOf body bytes etag)
 
--- the same, and nothing where a redirect was followed
+-- the write of the validator of a body, if no redirect was followed
 abbrev pub PutsDirect : Bool → List ℕ → List ℕ → List ℕ → List ℕ → Type 0
 PutsDirect is_direct at body path bytes = (is_direct ≡ true) × PutsValidator at body path bytes
 
--- the file where an upgrade reads an entry, alone
+-- the write of the file that the upgrade reads, and of no other
 abbrev pub PutsIndexed : Places → LookupText → List ℕ → List ℕ → Type 0
 PutsIndexed p l path bytes = path ≡ index_path p.room.now l
 
--- what may be written for some of these lookups, by what becomes of it
+-- the writes that one of these lookups allows, given its result
 pub record PutsOne (p : Places) (ls : List LookupText) (outcomes : List Outcome) (path bytes : List ℕ)
     : Type 0 where
   pub number : ℕ
@@ -103,7 +102,7 @@ pub record PutsOne (p : Places) (ls : List LookupText) (outcomes : List Outcome)
   pub becomes : slice_get outcomes number ≡ Some outcome
   pub puts : Puts p lookup outcome path bytes
 
--- what may be written for some of these lookups
+-- the writes that one of these lookups allows, whatever its result
 pub record PutsSome (p : Places) (ls : List LookupText) (path bytes : List ℕ) : Type 0 where
   pub number : ℕ
   pub lookup : LookupText

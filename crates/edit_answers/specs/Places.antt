@@ -1,18 +1,18 @@
--- Where a fetch has its files.
+-- The paths of the files of a fetch.
 use Rattle.std.specs.Prelude.{ℕ, List, ◌∷◌, ◌++◌, if◌then◌else◌, codes}
 use Rattle.std.specs.Str.{bytes_eq}
 use Rattle.std.specs.Fmt.{decimal}
 use Rattle.edit_sources.specs.Folders.{registry_folder}
 use Rattle.edit_lookups.specs.Lookups.{LookupText}
 
--- the file of the body that a transfer wrote
+-- the path of the body that a transfer wrote
 abbrev pub body_path : List ℕ → ℕ → List ℕ
 body_path room number = room ++ 47 ∷ decimal number
 
--- the file where an upgrade reads an entry: in the folder of its registry below `index`
+-- the path at which the upgrade reads an entry: in the folder of its registry below `index`
 abbrev pub index_path : List ℕ → LookupText → List ℕ
 index_path room l = room ++ (codes "/index/" ++ (registry_folder l.address ++ 47 ∷ l.path))
 
--- the file of an entry below the folder of a registry on this machine
+-- the path of an entry below the folder of a registry on this machine
 abbrev pub local_path : List ℕ → List ℕ → List ℕ
 local_path folder path = if bytes_eq folder (codes "/") then 47 ∷ path else folder ++ 47 ∷ path

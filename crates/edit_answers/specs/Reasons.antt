@@ -1,4 +1,4 @@
--- Why entries were not had, as messages say it (own).
+-- The reasons in messages why entries could not be fetched (own).
 use Rattle.std.specs.Prelude.{◌≡◌, ℕ, List, [], ◌++◌, ◌==◌, ◌||◌, codes, length, if◌then◌else◌}
 use Rattle.std.specs.Fmt.{decimal}
 use Rattle.std.specs.Str.{bytes_eq}
@@ -9,30 +9,30 @@ use Rattle.edit_answers.specs.Places.{local_path}
 use Rattle.edit_answers.specs.declared.meaning.Failure.{Failure}
 use Rattle.edit_answers.specs.declared.meaning.Failure.TheVariants.{BadLine, Curl, NoFolder, NotAnIndex, NotFetchable, Offline, Status, Unanswered}
 
--- the file of an entry in a registry on this machine; empty where the address names no folder
+-- the path of an entry in a registry on this machine; empty where the address names no folder
 pub data IsFileOf (l : LookupText) : List ℕ → Type 0 where
   named : (folder : List ℕ) → IsLocalFolder l.address folder → IsFileOf l (local_path folder l.path)
   unnamed : ((folder : List ℕ) → IsLocalFolder l.address folder → ⊥) → IsFileOf l []
 
--- what is said of a transfer that failed: curl's message, and its exit code
+-- the reason for a failed transfer: curl's message, and its exit code
 abbrev pub curl_text : List ℕ → List ℕ → List ℕ
 curl_text exit message =
     escaped (if length message == 0 then codes "curl failed" else message) ++
     (codes ", curl: " ++ escaped exit)
 
--- what is said of an answer with a status
+-- the reason for an HTTP status
 abbrev pub status_text : List ℕ → List ℕ
 status_text code =
     if bytes_eq code (codes "401") || bytes_eq code (codes "403")
     then codes "status " ++ (code ++ codes ": it wants a token, `CARGO_REGISTRIES_<NAME>_TOKEN`")
     else codes "status " ++ escaped code
 
--- what is said of a line that is no line of an index
+-- the reason for a malformed line of an index
 abbrev pub bad_line_text : ℕ → List ℕ → List ℕ
 bad_line_text line path =
     codes "invalid index line " ++ (decimal line ++ (codes " of " ++ escaped path))
 
--- why the entry of a lookup was not had
+-- why the entry of a lookup could not be fetched
 abbrev pub IsReason : LookupText → Failure → List ℕ → Type 0
 IsReason l Offline reason = reason ≡ codes "nothing is fetched offline"
 IsReason l NotFetchable reason = reason ≡ codes "only sparse registries and folders can be read"

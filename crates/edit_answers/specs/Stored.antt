@@ -1,4 +1,4 @@
--- What a run may write, and what it says.
+-- The writes and the report of a run.
 use Rattle.std.specs.Prelude.{◌≡◌, ℕ, List, [], ◌∷◌, ◌++◌, Option, Some, None, codes, length, map}
 use Rattle.std.specs.Str.Lossy.{utf8_lossy}
 use Rattle.edit_store.specs.Store.{Files}
@@ -15,26 +15,26 @@ use Rattle.edit_answers.specs.declared.messages.Report.{Report}
 use Rattle.edit_answers.specs.declared.messages.StoreOptions.{StoreOptions}
 use Rattle.edit_answers.specs.declared.places.Places.{Places}
 
--- the text of a file; empty where no file stands
+-- the text of a file, lossily decoded; empty where no file exists
 abbrev pub text_of : Option (List ℕ) → List ℕ
 text_of None = []
 text_of (Some bytes) = utf8_lossy bytes
 
--- the text of the file in which a run has its lookups
+-- the text of the file with the lookups of a run
 abbrev pub lookups_text : Places → Files → List ℕ
 lookups_text p files = text_of (files (p.room.now ++ 47 ∷ codes "lookups"))
 
--- the text of the file in which curl says of each transfer how it ended
+-- the text of the file with the outcomes of the transfers
 abbrev pub answers_text : Places → Files → List ℕ
 answers_text p files = text_of (files (p.room.now ++ 47 ∷ codes "answers"))
 
--- what may be written for the lookups of a run
+-- the writes that the lookups of a run allow
 pub record PutsOf (p : Places) (files : Files) (path bytes : List ℕ) : Type 0 where
   pub lookups : List LookupText
   pub say : SaysLookups (lookups_text p files) lookups
   pub puts : PutsSome p lookups path bytes
 
--- an outcome of each lookup follows from what curl says of its transfer
+-- the results of the lookups follow from the outcomes of their transfers
 pub record HasOutcomes (p : Places) (options : StoreOptions) (files : Files) (ls : List Lookup)
     (outcomes : List Outcome)
     : Type 0 where
@@ -45,14 +45,14 @@ pub record HasOutcomes (p : Places) (options : StoreOptions) (files : Files) (ls
   pub all_outcomes : length outcomes ≡ length ls
   pub follow : AllFollow p (map lookup_text ls) options.offline answers files outcomes
 
--- what is said of lookups is what is said of such outcomes, those of excluded crates left out
+-- the report of lookups: that of such results, without the excluded crates
 pub record ReportsOn (p : Places) (options : StoreOptions) (files : Files) (ls : List Lookup) (r : Report)
     : Type 0 where
   pub outcomes : List Outcome
   pub by_answers : HasOutcomes p options files ls outcomes
   pub says : IsReport p.cache.now options.offline (upgraded options.excluded.now ls outcomes) r
 
--- what is said of a run: of all its lookups, or that they are malformed
+-- the report of a run: that of all its lookups, or that their file is malformed
 pub data Reports (p : Places) (options : StoreOptions) (files : Files) (r : Report) : Type 0 where
   readable : (ls : List Lookup) → SaysLookups (lookups_text p files) (map lookup_text ls)
       → ReportsOn p options files ls r → Reports p options files r

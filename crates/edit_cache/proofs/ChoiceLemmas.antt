@@ -1,4 +1,4 @@
--- What is remembered of texts, and of one more.
+-- The cached choices, and one choice more.
 use Rattle.std.proofs.Common.{◌≡◌, ℕ, List, [], ◌∷◌, ◌++◌, false, Option, Some, inl, inr, subst, sym}
 use Rattle.std.specs.Prelude.{All, IfSome}
 use Rattle.std.specs.BTreeMap.{BTreeMap, get_by_text}
@@ -13,7 +13,7 @@ use Rattle.edit_cache.specs.Choices.{AreChoices, IsChoice}
 use Rattle.edit_cache.specs.Ranks.{Ranking}
 use Rattle.edit_cache.specs.declared.choices.Choice.{Choice}
 
--- where one text has other choices that are its own, all are
+-- if one requirement gets other choices that are its own, every requirement has its own
 pub choices-with : (ranks : List Ranking) (text : List ℕ)
     (old new : BTreeMap (String Global) (Vec Choice)) (v : Vec Choice)
     → ((t : List ℕ) → bytes_eq text t ≡ false → get_by_text new t ≡ get_by_text old t)
@@ -29,7 +29,7 @@ choices-with ranks text old new v others at own were t = elim (cases_Bool (bytes
       (sym (others t other)) (were t)
 ]
 
--- the choices that are remembered of a text are its own
+-- the cached choices of a requirement are its own
 pub choices-at : (ranks : List Ranking) (text : List ℕ) (choices : BTreeMap (String Global) (Vec Choice))
     (v : Vec Choice) → Some v ≡ get_by_text choices text → AreChoices ranks choices
     → All (IsChoice ranks text) v.items

@@ -1,4 +1,4 @@
--- The first rank that passes a test is that of the greatest kept entry.
+-- The first rank that passes a test is that of the greatest admissible entry.
 use Rattle.std.proofs.Common.{◌≡◌, ℕ, ◌+◌, ◌<◌, List, [], ◌∷◌, map, Option, Some, None, Bool, true, false, ◌==◌, IsSome, subst, sym, ap, ◌∙◌, refl, arith, suc, get_or, take, drop, inl, inr, ◌⊎◌}
 use Rattle.std.specs.Prelude.{All, option_map, slice_get, option_and_then}
 use Rattle.std.specs.List.{find}
@@ -21,7 +21,7 @@ use Rattle.edit_cache.specs.Ranking.{IsRanking, rank_order}
 use Rattle.edit_cache.specs.Ranks.{Ranking, passes}
 use Rattle.edit_cache.proofs.ToldRanks.{rank_total, IsFirst, first_found, none_found, any_all, slice_get-take, slice_get-drop, parted, Told, told, tells-version, order_by_version, kept-passes, kept-read, decide, le_or_lt, same_place, sorted_order}
 
--- what each rank of a ranking is, beside the first that passes
+-- a rank beside the first one that passes: the entry of a rank that does not pass or does not come before it
 abbrev Beside : List IndexEntry → (Ranking → Bool) → Ranking → Ranking → Type 0
 Beside entries p r s = Told entries s × ((p s ≡ false) ⊎ (is_lt (rank_order s r) ≡ false))
 
@@ -38,13 +38,14 @@ beside entries ranks p r g f k d within = elim (le_or_lt f.at k) [
   | inr before ↦ (told entries (get_or ranks k d) (g.tells k d within), inl (f.before k d before))
 ]
 
--- the first rank that passes is a rank
+-- the first rank that passes has an entry
 tells_first : (entries : List IndexEntry) (ranks : List Ranking) (p : Ranking → Bool) (r : Ranking)
     → IsRanking entries ranks → IsFirst p ranks r → Told entries r
 tells_first entries ranks p r g f = subst (λ s. Told entries s) (f.is r)
     (told entries (get_or ranks f.at r) (g.tells f.at r f.within))
 
--- of two ranks, the entry of the one that does not come first is not greater, and less where it is later
+-- of two ranks, the entry of the one that does not come first is not greater, and is less if its index is
+-- greater
 ordered : (entries : List IndexEntry) (r s : Ranking) → (t : Told entries r) → (u : Told entries s)
     → is_lt (rank_order s r) ≡ false → (is_le (entry_order u.entry t.entry) ≡ true)
     × (r.place < s.place → entry_order u.entry t.entry ≡ Less)
@@ -75,7 +76,8 @@ beaten_by entries rust test r t j x at kept s place b =
           )
     ]
 
--- a kept entry is not greater than that of the first rank that passes, and less where it is later
+-- an admissible entry is not greater than that of the first rank that passes, and is less if its index is
+-- greater
 beaten : (entries : List IndexEntry) (ranks : List Ranking) (rust : Option Numbers) (test : Parts → Bool)
     (r : Ranking) → IsRanking entries ranks → IsFirst (passes rust test) ranks r → (t : Told entries r)
     → (j : ℕ) (x : IndexEntry) → slice_get entries j ≡ Some x → is_kept rust test x ≡ true
@@ -88,7 +90,7 @@ beaten entries ranks rust test r g f t j x at kept =
     (beside entries ranks (passes rust test) r g f) in
     beaten_by entries rust test r t j x at kept found.0 (same_place found.0.place j found.1) found.2
 
--- the entry of the first rank that passes is the greatest that is kept, the last of equal ones
+-- the entry of the first rank that passes is the greatest admissible one, the last of equal ones
 pub greatest_first : (entries : List IndexEntry) (ranks : List Ranking) (rust : Option Numbers)
     (test : Parts → Bool) (r : Ranking) → IsRanking entries ranks → find (passes rust test) ranks ≡ Some r
     → (t : Told entries r) × IsGreatestKept (is_kept rust test) entry_order entries t.entry
@@ -129,7 +131,7 @@ none_kept entries ranks rust test g fails j x at kept =
     ap (is_kept rust test) same ∙ kept in
     cc (passed, found.2.1)
 
--- where no rank passes, no entry is kept
+-- if no rank passes, no entry is admissible
 pub none_first : (entries : List IndexEntry) (ranks : List Ranking) (rust : Option Numbers)
     (test : Parts → Bool) → IsRanking entries ranks → find (passes rust test) ranks ≡ None
     → All (λ x. is_kept rust test x ≡ false) entries
@@ -140,7 +142,7 @@ none_first entries ranks rust test g h j d within =
       | inr dropped ↦ dropped
     ]
 
--- the version of the first rank that passes is the greatest of the admissible ones
+-- the version of the first rank that passes is the greatest admissible one that passes
 pub first_version : (entries : List IndexEntry) (ranks : List Ranking) (rust : Option Numbers)
     (test : Parts → Bool) (r : Ranking) → IsRanking entries ranks
     → find (passes rust test) ranks ≡ Some r
@@ -153,14 +155,14 @@ first_version entries ranks rust test r g h =
     let same : v.0 ≡ r.version = cc both in
     subst (λ w. IsGreatest test full_order (admissible_in rust entries) (Some w)) same v.2
 
--- where no rank passes, none of the admissible versions does
+-- if no rank passes, no admissible version passes
 pub no_version : (entries : List IndexEntry) (ranks : List Ranking) (rust : Option Numbers)
     (test : Parts → Bool) → IsRanking entries ranks
     → find (passes rust test) ranks ≡ None → IsGreatest test full_order (admissible_in rust entries) None
 no_version entries ranks rust test g h = none-versions rust test entries
     (none_first entries ranks rust test g h)
 
--- a search through the views of a list
+-- a search in a mapped list
 pub find-map : {X Y : Type 0} (f : X → Y) (p : Y → Bool) (xs : List X)
     → find p (map f xs) ≡ option_map f (find (λ x. p (f x)) xs)
 find-map f p [] = refl

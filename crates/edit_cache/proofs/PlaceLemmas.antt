@@ -1,4 +1,4 @@
--- Places of the first elements that pass a test, and the versions that stand there.
+-- The indices of the first elements that pass a test, and the versions at them.
 use Rattle.std.proofs.Common.{◌≡◌, ℕ, ◌+◌, List, [], ◌∷◌, ◌++◌, length, map, Option, Some, None, Bool, true, false, ◌&&◌, not, cond, inl, inr, subst, sym, ap, ◌∙◌, refl, append_assoc, length-append}
 use Rattle.std.specs.Prelude.{Result, Ok, Err, option_and_then, option_map, slice_get}
 use Rattle.std.specs.Result.{result_ok}
@@ -21,13 +21,13 @@ use Rattle.edit_cache.specs.Ranks.{Ranking, passes, rank_of}
 use Rattle.edit_cache.specs.declared.rank.Rank.{Rank}
 use Rattle.edit_cache.proofs.FirstLemmas.{first_version, no_version}
 
--- the place among mapped elements
+-- the index in a mapped list
 pub place-map : {X Y : Type 0} (p : Y → Bool) (f : X → Y) (i : ℕ) (xs : List X)
     → position_from p i (map f xs) ≡ position_from (λ x. p (f x)) i xs
 place-map p f i [] = refl
 place-map p f i (x ∷ xs) = ap (λ (o : Option ℕ). cond (p (f x)) (Some i) o) (place-map p f (i + 1) xs)
 
--- where nothing passes, there is no place
+-- if no element passes, there is no index
 pub place-never : {X : Type 0} (p : X → Bool) → ((x : X) → p x ≡ false) → (i : ℕ) (xs : List X)
     → position_from p i xs ≡ None
 place-never p fails i [] = refl
@@ -38,7 +38,7 @@ slice_get-here : {X : Type 0} (zs : List X) (x : X) (xs : List X)
 slice_get-here [] x xs = refl
 slice_get-here (z ∷ zs) x xs = slice_get-here zs x xs
 
--- at the place stands what a search finds
+-- the element at the index is the one that a search finds
 found-at : {X : Type 0} (p : X → Bool) (zs xs : List X)
     → option_and_then (slice_get (zs ++ xs)) (position_from p (length zs) xs) ≡ find p xs
 found-at p zs [] = refl
@@ -63,7 +63,7 @@ greatest-found : (entries : List IndexEntry) (ranks : List Ranking) (rust : Opti
 greatest-found entries ranks rust test None g h = no_version entries ranks rust test g h
 greatest-found entries ranks rust test (Some r) g h = first_version entries ranks rust test r g h
 
--- the version at the place of the first rank that passes is the greatest of the admissible ones
+-- the version of the first rank that passes, by its index, is the greatest admissible one that passes
 pub greatest-at : (entries : List IndexEntry) (ranks : List Ranking) (rust : Option Numbers)
     (test : Parts → Bool) (place : Option ℕ) → place ≡ position_from (passes rust test) 0 ranks
     → IsRanking entries ranks
@@ -75,7 +75,7 @@ greatest-at entries ranks rust test place is g =
     subst (λ (o : Option Parts). IsGreatest test full_order (admissible_in rust entries) o) (sym e)
     (greatest-found entries ranks rust test (find (passes rust test) ranks) g refl)
 
--- the place among ranks is the place among what clauses see of them
+-- the index among ranks is the index among their models
 pub place-ranked : (rust : Option Numbers) (test : Parts → Bool) (ranks : List Rank) (place : Option ℕ)
     → place ≡ position (λ r. passes rust test (rank_of r)) ranks
     → place ≡ position_from (passes rust test) 0 (map rank_of ranks)
@@ -93,7 +93,7 @@ place-read rust ranks (Ok cs) h = cc h
 place-read rust ranks (Err e) h =
     place-never (passes rust (admits_read (Err e))) (λ r. and-false (not (is_too_new r.rust_version rust))) 0 ranks
 
--- a text that is no requirement admits nothing
+-- a text that is no requirement admits nothing, so that there is no index
 pub place-unread : (rust : Option Numbers) (text : List ℕ) (ranks : List Ranking)
     → None ≡ requirement_read text → None ≡ position_from (passes rust (is_admitted text)) 0 ranks
 place-unread rust text ranks h = sym (place-read rust ranks (req_of text) h)
@@ -107,7 +107,7 @@ place-with rust ranks place cs (Ok ds) h e =
     subst (λ (c : List Held). place ≡ position_from (passes rust (admits c)) 0 ranks) same e
 place-with rust ranks place cs (Err e) h is = cc h
 
--- what was read of a text admits as the text does
+-- a parsed requirement admits the same versions as its text
 pub place-admitted : (rust : Option Numbers) (text : List ℕ) (ranks : List Ranking) (place : Option ℕ)
     (cs : List Held) → Some cs ≡ requirement_read text
     → place ≡ position_from (passes rust (admits cs)) 0 ranks

@@ -1,4 +1,4 @@
--- What the ranks of entries say, and what of that holds after sorting.
+-- The ranks of entries, and what holds for them after sorting.
 use Rattle.std.proofs.Common.{◌≡◌, ℕ, ◌+◌, ◌<◌, List, [], ◌∷◌, ◌++◌, length, map, Option, Some, None, Bool, true, false, ◌==◌, ◌||◌, ◌≤◌, IsSome, cond, inl, inr, subst, sym, ap, ◌∙◌, refl, append_assoc, arith, zero, suc, eq-eqb, length-append, append-nil, take, get_or}
 use Rattle.std.specs.Prelude.{All, slice_get, option_and_then, option_map, option_to_list}
 use Rattle.std.specs.List.{list_any, sum_by}
@@ -28,7 +28,7 @@ use Rattle.edit_cache.specs.Ranking.{IsInOrder, IsRanking, Tells, ranking, rank_
 use Rattle.edit_cache.specs.Ranks.{Ranking, rank_of}
 use Rattle.edit_cache.specs.declared.rank.Rank.{Rank}
 
--- one entry more
+-- the ranks of entries with one more
 pub ranks_from-more : (n : ℕ) (xs : List IndexEntry) (x : IndexEntry)
     → ranks_from n (xs ++ x ∷ []) ≡ ranks_from n xs ++ rank_at (n + length xs) x
 ranks_from-more n [] x =
@@ -40,7 +40,7 @@ ranks_from-more n (y ∷ xs) x =
     ap (λ m. ranks_from (n + 1) xs ++ rank_at m x) next)
     ∙ sym (append_assoc (rank_at n y) (ranks_from (n + 1) xs) (rank_at (n + length (y ∷ xs)) x))
 
--- the entry after a front
+-- the element after the front of a list
 at_front : (pre : List IndexEntry) (e : IndexEntry) (rest : List IndexEntry)
     → slice_get (pre ++ e ∷ rest) (length pre) ≡ Some e
 at_front [] e rest = refl
@@ -73,7 +73,7 @@ or-more : (a b c : Bool) → (b ≡ true → c ≡ true) → (a || b) ≡ true �
 or-more true b c f h = refl
 or-more false b c f h = f h
 
--- a test that a part passes
+-- a test that passes in the front of a list passes in the whole
 any-left : {X : Type 0} (p : X → Bool) (xs ys : List X) → list_any p xs ≡ true → list_any p (xs ++ ys) ≡ true
 any-left p [] ys h = cc
 any-left p (x ∷ xs) ys h = or-more (p x) (list_any p xs) (list_any p (xs ++ ys)) (any-left p xs ys) h
@@ -87,7 +87,7 @@ one_passes : (n m : ℕ) (e : IndexEntry) (o : Option (Parts × Option Numbers))
 one_passes n m e None h is = cc
 one_passes n m e (Some c) h is = or_left (n == m) false (eq-eqb n m is)
 
--- each entry that is read has a rank
+-- each candidate has a rank
 pub each_from : (n : ℕ) (xs : List IndexEntry) (j : ℕ)
     → IsSome (option_and_then candidate_in (slice_get xs j)) → (m : ℕ) → n + j ≡ m
     → list_any (λ r. r.place == m) (ranks_from n xs) ≡ true
@@ -97,7 +97,7 @@ each_from n (e ∷ xs) zero h m is = any-left (λ r. r.place == m) (rank_at n e)
 each_from n (e ∷ xs) (suc j) h m is = any-right (λ r. r.place == m) (rank_at n e) (ranks_from (n + 1) xs)
     (each_from (n + 1) xs j h m (omega arith))
 
--- the ranks of one entry more
+-- the ranks of the entries so far with one more
 pub ranks_from-step : (es : List IndexVersion) (i : ℕ) (x : IndexVersion) → i < length es → x ≡ get_or es i x
     → ranks_from 0 (map entry_of (take (i + 1) es)) ≡ ranks_from 0 (map entry_of (take i es)) ++ rank_at i
     (entry_of x)
@@ -115,7 +115,7 @@ element : {X : Type 0} (xs : List X) (k : ℕ) → k < length xs → X
 element [] k h = absurd (omega arith)
 element (x ∷ xs) k h = x
 
--- by six orders in a row, however they are grouped
+-- a lexicographic order does not depend on its grouping
 nested : (a b c d e f : Ordering)
     → ordering_then (ordering_then a (ordering_then b (ordering_then c (ordering_then d e)))) f
     ≡ ordering_then (ordering_then (ordering_then a (ordering_then b (ordering_then c d))) e) f
@@ -129,7 +129,7 @@ nested Equal Equal Greater d e f = refl
 nested Equal Greater c d e f = refl
 nested Greater b c d e f = refl
 
--- the order that a `Rank` has by its fields
+-- the derived order of `Rank`, by its fields
 abbrev pub by_fields : Rank → Rank → Ordering
 by_fields a b =
     ordering_then (ordering_then (nat_cmp b.version.0.major a.version.0.major)
@@ -145,7 +145,7 @@ by_rank a b = nested (nat_cmp b.version.0.major a.version.0.major)
     (pre_cmp (pre_text b.version.0.pre) (pre_text a.version.0.pre))
     (build_cmp (build_text b.version.0.build) (build_text a.version.0.build)) (nat_cmp b.place.0 a.place.0)
 
--- ranks in order are a ranking's in order
+-- ranks in the derived order are in the order of their models
 sorted_ranks : (ranks : List Rank) → IsSorted by_fields ranks → IsSorted rank_order (map rank_of ranks)
 sorted_ranks ranks h k d low high =
     let within : k + 1 < length ranks = omega (arith, length-map ranks rank_of) in
@@ -158,7 +158,7 @@ sorted_ranks ranks h k d low high =
     rw (first, second) (subst (λ o. is_lt o ≡ false) (by_rank (get_or ranks (k + 1) e) (get_or ranks k e))
     (h k e low within))
 
--- one for a rank at this place (own)
+-- 1 for a rank with this index (own)
 abbrev at_place : ℕ → Ranking → ℕ
 at_place i r = cond (r.place == i) 1 0
 
@@ -190,7 +190,7 @@ none_here : (i n : ℕ) (e : IndexEntry) (o : Option (Parts × Option Numbers)) 
 none_here i n e None low = refl
 none_here i n e (Some c) low = grind (arith, nat_tests)
 
--- an entry has one rank at most
+-- an entry has at most one rank
 once_from : (i n : ℕ) (xs : List IndexEntry) → sum_by (at_place i) (ranks_from n xs) ≤ 1
 once_from i n [] = omega arith
 once_from i n (e ∷ xs) =
@@ -224,7 +224,7 @@ second_equal Less r h = cc h
 second_equal Equal r h = h
 second_equal Greater r h = cc h
 
--- what is in order and has no place twice is so strictly
+-- ranks in order with distinct indices are in strict order
 in_order : (ranks : List Ranking) → IsSorted rank_order ranks → ((i : ℕ) → sum_by (at_place i) ranks ≤ 1)
     → IsInOrder ranks
 in_order ranks sorted once j k d low high =

@@ -1,4 +1,4 @@
--- Searches in lists, and what the ranks of a ranking tell of the entries.
+-- Searches in lists, and the entries of the ranks of a ranking.
 use Rattle.std.proofs.Common.{◌≡◌, ℕ, ◌+◌, ◌<◌, ◌≤◌, List, [], ◌∷◌, ◌++◌, length, Option, Some, None, Bool, true, false, ◌==◌, ◌&&◌, not, IsSome, sym, ap, ◌∙◌, refl, arith, zero, suc, get_or, take, drop, inl, inr, ◌⊎◌}
 use Rattle.std.specs.Prelude.{All, nat_le, if◌then◌else◌, option_map, slice_get, is_some, option_and_then, unwrap_or}
 use Rattle.std.specs.List.{find, list_any}
@@ -30,7 +30,7 @@ pub rank_total : IsTotalOrder rank_order
 rank_total = then_total (back_total (on_total (λ (r : Ranking). r.version) full_total))
     (back_total (on_total (λ (r : Ranking). r.place) nat_cmp_total))
 
--- where a search ends: at an element that passes, after others that do not
+-- the result of a search: an element that passes, after others that do not
 pub record IsFirst {X : Type 0} (p : X → Bool) (xs : List X) (x : X) : Type 0 where
   pub at : ℕ
   pub within : at < length xs
@@ -70,7 +70,7 @@ first_found p (y ∷ ys) x h = elim (cases_Bool (p y)) [
   | inr fails ↦ first_more p y ys x fails (first_found p ys x (rw fails at h))
 ]
 
--- where a search finds nothing, nothing passes
+-- if a search finds nothing, no element passes
 pub none_found : {X : Type 0} (p : X → Bool) (xs : List X) → find p xs ≡ None → All (λ x. p x ≡ false) xs
 none_found p [] h = All-nil (λ x. p x ≡ false)
 none_found p (y ∷ ys) h = elim (cases_Bool (p y)) [
@@ -78,7 +78,7 @@ none_found p (y ∷ ys) h = elim (cases_Bool (p y)) [
   | inr fails ↦ All-cons (λ x. p x ≡ false) y ys fails (none_found p ys (rw fails at h))
 ]
 
--- an element that passes, of a list of which each has Q
+-- an element that passes, with a property of all elements
 pub any_all : {X : Type 0} (p : X → Bool) (Q : X → Type 0) (xs : List X) → list_any p xs ≡ true → All Q xs
     → (y : X) × (p y ≡ true) × Q y
 any_all p Q [] h q = cc
@@ -87,7 +87,7 @@ any_all p Q (x ∷ xs) h q = elim (cases_Bool (p x)) [
   | inr fails ↦ any_all p Q xs (rw fails at h) (All-tail Q x xs q)
 ]
 
--- the entries before a place, and those after it
+-- the elements of the front of a list
 pub slice_get-take : {X : Type 0} (n : ℕ) (xs : List X) (j : ℕ) (d : X) → j < length (take n xs)
     → slice_get xs j ≡ Some (get_or (take n xs) j d)
 slice_get-take n [] j d h = absurd (grind (arith, common_steps))
@@ -112,7 +112,7 @@ parted (y ∷ ys) zero x h =
     ap (λ z. z ∷ ys) same
 parted (y ∷ ys) (suc i) x h = ap (λ zs. y ∷ zs) (parted ys i x h)
 
--- the entry that a rank tells of
+-- the entry of a rank
 pub record Told (entries : List IndexEntry) (r : Ranking) : Type 0 where
   pub entry : IndexEntry
   pub at : slice_get entries r.place ≡ Some entry
@@ -125,11 +125,11 @@ told-from : (entries : List IndexEntry) (r : Ranking) (o : Option IndexEntry) �
 told-from entries r None at named read = cc named
 told-from entries r (Some e) at named read = record { entry = e; at = at; named = cc named; read = read }
 
--- a rank that tells of an entry has it
+-- a rank has an entry
 pub told : (entries : List IndexEntry) (r : Ranking) → Tells entries r → Told entries r
 told entries r t = told-from entries r (slice_get entries r.place) refl t.named t.read
 
--- what is read of an entry tells its version
+-- the version of a candidate is that of its entry
 candidate-version : (y : Bool) (r : Option Numbers) (o : Option Parts) (c : Parts × Option Numbers)
     → (if y then None else option_map (λ v. (v, r)) o) ≡ Some c → o ≡ Some c.0
 candidate-version true r o c h = cc h
@@ -142,18 +142,18 @@ pub tells-version : (entries : List IndexEntry) (r : Ranking) → (t : Told entr
 tells-version entries r t = candidate-version t.entry.yanked (asked_rust t.entry) (version_in t.entry)
     (r.version, r.rust_version) t.read
 
--- a version that was read is written as its text
+-- a version that was parsed is formatted as the same text
 pub version-text : (text : List ℕ) (v : Parts) → version_read text ≡ Some v → parts_text v ≡ text
 version-text text v h = (version_parts-sound text v (read-parts text v h)).0
 
--- entries are ordered by the versions that are read of them
+-- entries are ordered by their parsed versions
 pub order_by_version : (a b : IndexEntry) (v w : Parts) → version_in a ≡ Some v → version_in b ≡ Some w
     → entry_order a b ≡ full_order v w
 order_by_version a b v w e f =
     ap (λ o. full_order (unwrap_or o (0, 0, 0, [], [])) (unwrap_or (version_in b) (0, 0, 0, [], []))) e
     ∙ ap (λ o. full_order v (unwrap_or o (0, 0, 0, [], []))) f
 
--- an entry is kept where its rank passes
+-- an entry is admissible if its rank passes
 passes-read : (new test : Bool) (v : Parts) (t : Parts → Bool) → t v ≡ test
     → is_some (if_passes t (if new then None else Some v)) ≡ (not new && test)
 passes-read true test v t e = refl
@@ -166,7 +166,7 @@ kept-passes rust test entries r t =
     ap (λ o. is_some (if_passes test (if_fits rust o))) t.read
     ∙ passes-read (is_too_new r.rust_version rust) (test r.version) r.version test refl
 
--- a kept entry is read
+-- an admissible entry is a candidate
 pub kept-read : (rust : Option Numbers) (test : Parts → Bool) (o : Option (Parts × Option Numbers))
     → is_some (if_passes test (if_fits rust o)) ≡ true → IsSome o
 kept-read rust test None h = cc h
@@ -190,7 +190,7 @@ le_or_lt i k = elim (cases_Bool (nat_le i k)) [
 pub same_place : (m n : ℕ) → (m == n) ≡ true → m ≡ n
 same_place m n h = grind (arith, nat_tests)
 
--- what comes after a rank is not less in that order
+-- what comes after a rank is not less in the order of ranks
 after_not_less : (a b : Ranking) → rank_order a b ≡ Less → is_lt (rank_order b a) ≡ false
 after_not_less a b h = ap is_lt (rank_total.antisymm b a ∙ ap ordering_reverse h)
 

@@ -1,4 +1,4 @@
--- What the text of a requirement leads to among the ranks of a crate, which is remembered (own).
+-- The model of the cached choices for requirements on a crate (own).
 use Rattle.std.specs.Prelude.{◌≡◌, ℕ, List, Option, All, IfSome, option_and_then, option_map, slice_get}
 use Rattle.std.specs.BTreeMap.{BTreeMap, get_by_text}
 use Rattle.std.specs.Global.{Vec}
@@ -12,18 +12,18 @@ use Rattle.edit_cache.specs.declared.choices.Choice.{Choice}
 use Rattle.std.specs.declared.alloc.Global.{Global}
 use Rattle.std.specs.declared.string.String.{String}
 
--- the places of the first rank that a text admits and of the first that it offers, of those that are for a
--- Rust version (own)
+-- the indices of the greatest version that a requirement admits and of the latest version, among the ranks
+-- that support a Rust version (own)
 pub record IsChoice (ranks : List Ranking) (text : List ℕ) (c : Choice) : Type 0 where
   pub compatible : c.compatible ≡ position_from (passes (numbers_in c.rust_version) (is_admitted text)) 0 ranks
   pub latest : c.latest ≡ position_from (passes (numbers_in c.rust_version) (is_offered text)) 0 ranks
 
--- what is remembered of each text is what it leads to (own)
+-- each cached choice is that of its requirement (own)
 abbrev pub AreChoices : List Ranking → BTreeMap (String Global) (Vec Choice) → Type 0
 AreChoices ranks choices =
     (text : List ℕ) → IfSome (get_by_text choices text) (λ v. All (IsChoice ranks text) v.items)
 
--- the version at a place, if there is one (own)
+-- the version at an index, if there is one (own)
 abbrev pub version_at : List Ranking → Option ℕ → Option Parts
 version_at ranks place = option_and_then (λ n. option_map (λ r. r.version) (slice_get ranks n)) place
 

@@ -1,4 +1,4 @@
--- A cache of the answers of an index: a finite map from address and name to the first answer (own).
+-- The model of the cache of an index: a finite map from address and name to the first result (own).
 use Rattle.std.specs.Prelude.{◌≡◌, ◌≢◌, ℕ, ◌⊎◌, List, Option, None, Bool, option_map, option_and_then, string_bytes, Result, Ok, IsOk, IsSome, IfSome, IfErr, OnOk, OnErr}
 use Rattle.std.specs.List.{list_any}
 use Rattle.std.specs.Str.{bytes_eq}
@@ -13,39 +13,39 @@ use Rattle.edit_cache.specs.declared.cache.IndexCache.{IndexCache}
 use Rattle.edit_cache.specs.declared.kept.Kept.{Kept}
 use Rattle.edit_cache.specs.declared.ranking.Ranked.{Ranked}
 
--- the index in which a name is looked up that the cache has no answer for (own)
+-- the index below the cache (own)
 abbrev pub index_of : {I : Type 0} → IndexCache I → I
 index_of cache = cache.index
 
--- what the cache has for an address and a name: an answer, and its ranking once that is made (own)
+-- the cached result for an address and a name, with its ranking once that is made (own)
 abbrev pub told_at : {I : Type 0} → IndexCache I → List ℕ → List ℕ → Option Kept
 told_at cache address name =
     option_and_then (λ names. get_by_text names name) (get_by_text cache.answers address)
 
--- the answer that the cache has for an address and a name, if there is one (own)
+-- the cached result for an address and a name, if there is one (own)
 abbrev pub kept_at : {I : Type 0} → IndexCache I → List ℕ → List ℕ → Option (Option IndexKrate)
 kept_at cache address name = option_map (λ kept. kept.answer) (told_at cache address name)
 
--- the entries that the cache has for an address and a name: none where it has no answer, or where the index
--- has no such name (own)
+-- the cached entries for an address and a name: none where nothing is cached, or where the index has no
+-- crate of that name (own)
 abbrev pub krate_at : {I : Type 0} → IndexCache I → List ℕ → List ℕ → Option IndexKrate
 krate_at cache address name = option_and_then (λ krate. krate) (kept_at cache address name)
 
--- for each address and name the cache has the answer that it had, and no new one (own)
+-- the cached results are the same for every address and name (own)
 abbrev pub SameKept : {I : Type 0} → IndexCache I → IndexCache I → Type 0
 SameKept old new = (address name : List ℕ) → kept_at new address name ≡ kept_at old address name
 
--- for each other address or name the cache has the answer that it had, and no new one (own)
+-- the cached results are the same for every address and name except this one (own)
 abbrev pub SameKeptBut : {I : Type 0} → List ℕ → List ℕ → IndexCache I → IndexCache I → Type 0
 SameKeptBut at of old new = (address name : List ℕ) → (address ≢ at) ⊎ (name ≢ of)
     → kept_at new address name ≡ kept_at old address name
 
--- whether one of the entries has a version of this text (own)
+-- whether one of the entries has this version, compared as text (own)
 abbrev pub has_version : IndexKrate → List ℕ → Bool
 has_version krate version = list_any (λ v. bytes_eq (string_bytes v.version) version) krate.versions.items
 
--- a call after which the cache has an answer, if it succeeds: it changes nothing where there was one; else it
--- makes one lookup, whose answer it adds and whose error it does not store (own)
+-- a call after which a result is cached, if it succeeds: it changes nothing where there was one; else it
+-- makes one lookup, whose result it caches and whose error it does not (own)
 pub record Fetches {I T : Type 0} (seen now : IndexView) (address : Parts) (name : List ℕ)
     (old new : IndexCache I) (result : Result T Error) : Type 0 where
   pub kept : OnOk result (IsSome (kept_at new (serialize address) name))
@@ -58,12 +58,12 @@ pub record Fetches {I T : Type 0} (seen now : IndexView) (address : Parts) (name
   pub same : SameOutcomes seen.gives now.gives
   pub cause : HasLookCause seen now address name result
 
--- the ranking that the cache has for an address and a name, if there is one (own)
+-- the cached ranking for an address and a name, if there is one (own)
 abbrev pub ranking_at : {I : Type 0} → IndexCache I → List ℕ → List ℕ → Option Ranked
 ranking_at cache address name = option_and_then (λ kept. kept.ranked) (told_at cache address name)
 
--- a call after which the cache has an answer and its ranking, if it succeeds: it makes a lookup only where
--- there was no answer, and an answer that it adds is one that the index gave, even if memory runs out (own)
+-- a call after which a result and its ranking are cached, if it succeeds: it makes a lookup only where
+-- nothing was cached, and a result that it caches is one that the index gave, even if memory runs out (own)
 pub record Ranks {I T : Type 0} (seen now : IndexView) (address : Parts) (name : List ℕ)
     (old new : IndexCache I) (result : Result T Error) : Type 0 where
   pub ranked : OnOk result (IfSome (kept_at new (serialize address) name)
@@ -76,8 +76,8 @@ pub record Ranks {I T : Type 0} (seen now : IndexView) (address : Parts) (name :
   pub same : SameOutcomes seen.gives now.gives
   pub cause : HasLookCause seen now address name result
 
--- why a call gives no answer: want of memory, or, where the cache had none, an error that the index gives or
--- a fault of its device (own)
+-- the errors of a call: lack of memory, or, where nothing was cached, an error that the index gives or a
+-- fault of its device (own)
 abbrev pub IsMissed : Outcomes → Parts → List ℕ → Option (Option IndexKrate) → Error → Type 0
 IsMissed gives address name kept e =
     IsMemory e ⊎ ((kept ≡ None) × (IsGivenRefusal gives address name e ⊎ (number_of e ≡ 3)))

@@ -1,4 +1,4 @@
--- Where a key is first defined: in a file, and among files.
+-- The first definition of a key: in a file, and among files.
 use Rattle.std.proofs.Common.{◌≡◌, ◌<◌, ◌+◌, ℕ, suc, List, [], ◌∷◌, ◌++◌, Bool, true, false, cond, Option, Some, None, option_map, map, drop, get_or, length, String, string_bytes, refl, ap, ◌∙◌, sym, add-one, drop-cons}
 use Rattle.std.specs.Prelude.{◌&&◌, is_none, is_some, not}
 use Rattle.std.specs.List.{find}
@@ -68,7 +68,7 @@ from-here configs i c within is =
     ∙ ap (λ d. definitions_of (configuration d) ++ all_definitions (drop (suc i) configs)) (sym is)
     ∙ ap (λ k. definitions_of (configuration c) ++ all_definitions (drop k configs)) (sym (add-one i))
 
--- a file without the key is passed
+-- a file without the key is skipped
 pub passes : (key : List ℕ) (configs : List Config) (i : ℕ) (c : Config) → i < length configs
     → c ≡ get_or configs i c
     → option_map is_empty_source (first key (definitions_of (configuration c))) ≡ None
@@ -99,7 +99,7 @@ without-index : (o : Option (String Global)) → is_none o ≡ (is_none (option_
 without-index None = refl
 without-index (Some x) = refl
 
--- what a file says of a key of `registries`
+-- the definition of a key in `registries` of a file
 pub in-registries : (c : Config) (key : List ℕ) (entry : String Global × Option (String Global))
     → find (λ r. bytes_eq key (string_bytes r.0)) c.registries.items ≡ Some entry
     → Some (is_none entry.1) ≡ option_map is_empty_source (first key (definitions_of (configuration c)))
@@ -114,7 +114,7 @@ in-registries c key entry found =
     (map registry_definition (map registry_entry c.registries.items)) sources
     (registry_definition (registry_entry entry)).source here))
 
--- a key that is none of `registries`
+-- a key that is not in `registries`
 passed-registries : (c : Config) (key : List ℕ)
     → find (λ r. bytes_eq key (string_bytes r.0)) c.registries.items ≡ None
     → first key (definitions_of (configuration c))
@@ -133,7 +133,7 @@ mapped : (found : Option (String Global × ConfigSource))
 mapped None = refl
 mapped (Some s) = refl
 
--- what a file says of a key of `source`
+-- the definition of a key in `source` of a file
 pub in-sources : (c : Config) (key : List ℕ) (found : Option (String Global × ConfigSource))
     → find (λ r. bytes_eq key (string_bytes r.0)) c.registries.items ≡ None
     → find (λ s. bytes_eq key (string_bytes s.0)) c.sources.items ≡ found

@@ -1,4 +1,4 @@
--- The requests of lookups, with one lookup more.
+-- The requests for lookups, with one lookup more.
 use Rattle.std.proofs.Common.{◌≡◌, ◌<◌, ◌+◌, ℕ, List, [], ◌∷◌, ◌++◌, true, false, length, map, option_map, take, get_or, ap, sym, ◌∙◌, subst, string_bytes, arith}
 use Rattle.std.specs.Prelude.{codes}
 use Rattle.std.proofs.lemmas.List.{length-append, length-map, length-take-le, map_more}

@@ -1,4 +1,4 @@
--- What curl reads from the lines of options.
+-- The options that curl reads from lines of a configuration file.
 use Rattle.std.proofs.Common.{◌≡◌, ℕ, ◌≤◌, List, [], ◌∷◌, ◌++◌, Bool, true, false, cond, eqb, leb, Option, Some, None, option_map, map, refl, ap, sym, ◌∙◌, subst, ⊎_elim, arith}
 use Rattle.std.specs.Prelude.{◌&&◌, ◌||◌, not, All}
 use Rattle.std.specs.List.{cons_option, filter, filter_map, flat_map, list_all}
@@ -104,7 +104,7 @@ letter_space = letter_cases (λ c. not (is_space c) ≡ true) refl
 letter_number_sign : (c : ℕ) → is_letter c ≡ true → eqb c 35 ≡ false
 letter_number_sign = letter_cases (λ c. eqb c 35 ≡ false) refl (λ c low. ne_eqb c 35 (λ e. omega arith))
 
--- what stands before the first byte that passes, and from it on
+-- the bytes before the first that passes, and those from it on
 up_to_at : (p : ℕ → Bool) (xs : List ℕ) (c : ℕ) (rest : List ℕ) → list_all (λ x. not (p x)) xs ≡ true
     → p c ≡ true → up_to p (xs ++ c ∷ rest) ≡ xs
 up_to_at p [] c rest h at = rw at
@@ -177,7 +177,7 @@ option_read (b ∷ bs) value h =
     })) (name_read (b ∷ bs) value h)
     ∙ ap (λ v. Some (record { name = b ∷ bs; value = v })) (value_read (b ∷ bs) value h)
 
--- no line feed stands in a line
+-- a line contains no line feed
 no_feed_value : (value : List ℕ) → list_all (λ c. not (eqb c 10)) (flat_map escape_of value ++ 34 ∷ []) ≡ true
 no_feed_value [] = refl
 no_feed_value (b ∷ bs) =

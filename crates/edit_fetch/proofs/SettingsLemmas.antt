@@ -1,4 +1,4 @@
--- The settings of places in a row, with one place more at the end.
+-- The settings of several sources, with one source more at the end.
 use Rattle.std.proofs.Common.{◌≡◌, ◌<◌, ◌+◌, ℕ, List, [], ◌∷◌, ◌++◌, Option, Some, None, length, take, get_or, refl, ap, string_bytes, sym, ◌∙◌, subst}
 use Rattle.std.specs.List.{AllZip}
 use Rattle.std.specs.Option.{option_or}
@@ -36,7 +36,8 @@ first_values_push (x ∷ xs) v =
     (or_assoc x.timeout all.timeout v.timeout) (or_assoc x.proxy all.proxy v.proxy)
     (or_assoc x.cainfo all.cainfo v.cainfo)
 
--- what was read so far: the first place, and the files of these configurations
+-- the settings that were read so far: those of the environment, and those of the files of these
+-- configurations
 pub record ReadSoFar (files : Files) (configs : List Config) (own now : Values) : Type 0 where
   pub later : List Values
   pub read : AreReadAt files configs later

@@ -1,4 +1,4 @@
--- Whose token is found.
+-- The token that is found for an address.
 use Rattle.std.proofs.Common.{◌≡◌, ℕ, List, [], ◌∷◌, ◌++◌, Bool, true, false, cond, Option, Some, None, option_map, refl, ap, sym, ◌∙◌, ⊎_elim}
 use Rattle.std.specs.List.{find}
 use Rattle.std.specs.Str.{bytes_eq}
@@ -16,7 +16,7 @@ passed_over : (k : Token) (rest : Option Token) (b : Bool) → b ≡ false
     → option_map (λ t. t.token.now) (cond b (Some k) rest) ≡ option_map (λ t. t.token.now) rest
 passed_over k rest b no_ = ap (λ x. option_map (λ (t : Token). t.token.now) (cond x (Some k) rest)) no_
 
--- the token that is found is one of the list, and that of the address
+-- the token that is found is in the list, and belongs to the address
 pub found_token : (tokens : List Token) (address token : List ℕ)
     → token_of tokens address ≡ Some token → IsTokenOf tokens address token
 found_token [] address token found = absurd (cc)

@@ -1,5 +1,4 @@
--- Sources of configuration files that have no address, and the lines of a file that give each one that
--- stands in.
+-- Sources of configuration files without a URL, and the lines that give each of them a placeholder URL.
 use Rattle.std.specs.Prelude.{◌≡◌, ℕ, List, [], ◌∷◌, ◌++◌, Option, Some, None, Bool, true, false, ◌&&◌, codes, is_none, not}
 use Rattle.std.specs.Str.{bytes_eq}
 use Rattle.edit_fetch.specs.TomlText.{quoted, value_line}
@@ -9,33 +8,33 @@ use Rattle.edit_sources.specs.Configuration.{Source}
 use Rattle.edit_sources.specs.declared.config.Config.{Config}
 use Rattle.edit_fetch.specs.declared.addressless.AddresslessSource.{AddresslessSource}
 
--- a source that names neither a registry nor another source
+-- a source with neither `registry` nor `replace-with`
 abbrev pub is_empty_source : Source → Bool
 is_empty_source s = is_none s.registry && is_none s.replace_with
 
--- the same of a definition that need not be there
+-- a definition that exists and has neither `registry` nor `replace-with`
 abbrev pub is_empty_definition : Option Source → Bool
 is_empty_definition None = false
 is_empty_definition (Some s) = is_empty_source s
 
--- a key that is none of the default registry's, which has an address where none is given
+-- a key that is not one of the default registry, which always has a URL
 abbrev pub is_own_key : List ℕ → Bool
 is_own_key key = not (bytes_eq key crates_io) && not (bytes_eq key crates_io_index)
 
--- the first definition of a key in these files has no address
+-- the first definition of a key in these files has no URL
 pub record IsAddressless (configs : List Config) (key : List ℕ) : Type 0 where
   pub own : is_own_key key ≡ true
   pub first : is_empty_definition (first key (all_definitions configs)) ≡ true
 
--- the address that stands for a source: its key after `source:`
+-- the placeholder URL of a source: `source:` and its key
 abbrev pub stand_in_address : List ℕ → List ℕ
 stand_in_address key = codes "source:" ++ key
 
--- the line that gives a source an address
+-- the line that sets the URL of a source
 unfoldable pub source_line : List ℕ → List ℕ → List ℕ
 source_line key address =
     codes "source." ++ (quoted key ++ (codes ".registry = " ++ value_line address))
 
--- the line of a source
+-- the line that gives a source its placeholder URL
 abbrev pub stand_in_line : AddresslessSource → List ℕ
 stand_in_line s = source_line s.key.now (stand_in_address s.key.now)

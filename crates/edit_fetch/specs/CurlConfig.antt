@@ -1,4 +1,4 @@
--- The text of a configuration file of curl, and how curl reads it (curl's manual, `--config`).
+-- The syntax of a configuration file of curl, and how curl reads it (curl's manual, `--config`).
 use Rattle.std.specs.Prelude.{ℕ, List, [], ◌∷◌, ◌++◌, Option, Some, None, option_map, Bool, true, false, ◌==◌, ◌&&◌, ◌||◌, nat_le, not, codes, if◌then◌else◌}
 use Rattle.std.specs.List.{filter, filter_map, flat_map, join_by, list_all, slice_split}
 
@@ -13,8 +13,8 @@ bare name = record { name = name; value = None }
 abbrev pub valued : List ℕ → List ℕ → CurlOption
 valued name value = record { name = name; value = Some value }
 
--- a byte of a value in double quotes: `"` and `\` behind a backslash, tab, line feed, carriage return and
--- vertical tab as `\t`, `\n`, `\r` and `\v`; a NUL, which ends each text of curl, is left out
+-- a byte of a quoted value: `"` and `\` after a backslash, tab, line feed, carriage return and vertical tab
+-- as `\t`, `\n`, `\r` and `\v`; a NUL, which ends every string in curl, is dropped
 abbrev pub escape_of : ℕ → List ℕ
 escape_of b =
     if b == 0 then []
@@ -26,11 +26,11 @@ escape_of b =
     else if b == 11 then codes "\\v"
     else b ∷ []
 
--- a value in double quotes
+-- a quoted value
 abbrev pub quoted : List ℕ → List ℕ
 quoted value = 34 ∷ (flat_map escape_of value ++ 34 ∷ [])
 
--- what follows the name of an option that takes a value
+-- the text after the name of an option
 abbrev pub value_text : Option (List ℕ) → List ℕ
 value_text None = []
 value_text (Some value) = codes " = " ++ quoted value
@@ -43,23 +43,23 @@ option_text o = o.name ++ value_text o.value
 unfoldable pub option_line : CurlOption → List ℕ
 option_line o = option_text o ++ 10 ∷ []
 
--- the option that parts two transfers
+-- the option that separates two transfers
 abbrev pub next : CurlOption
 next = bare (codes "next")
 
--- what parts a transfer from as many before it
+-- the options before a transfer that follows `before` others
 abbrev pub parting : ℕ → List CurlOption
 parting before = if before == 0 then [] else next ∷ []
 
--- the options of transfers in a row, parted by `next`
+-- the options of several transfers, separated by `next`
 abbrev pub in_a_row : List (List CurlOption) → List CurlOption
 in_a_row transfers = join_by (λ options. options) (next ∷ []) transfers
 
--- the text for these transfers: the lines of their options
+-- the configuration file for these transfers: the lines of their options
 abbrev pub config_text : List (List CurlOption) → List ℕ
 config_text transfers = flat_map option_line (in_a_row transfers)
 
--- what a byte behind a backslash stands for
+-- the byte that an escape stands for, given the byte after the backslash
 abbrev pub meant : ℕ → ℕ
 meant b =
     if b == 116 then 9
@@ -68,8 +68,8 @@ meant b =
     else if b == 118 then 11
     else b
 
--- what is read behind a double quote: the bytes up to the next one that no backslash stands before; `escaped`
--- says whether a backslash was just read
+-- the value after an opening quote: the bytes up to the next quote that is not escaped; `escaped` is set
+-- after a backslash
 abbrev pub unquoted : Bool → List ℕ → List ℕ
 unquoted escaped [] = []
 unquoted true (b ∷ bs) = meant b ∷ unquoted false bs
@@ -93,12 +93,12 @@ abbrev pub from_on : (ℕ → Bool) → List ℕ → List ℕ
 from_on p [] = []
 from_on p (b ∷ bs) = if p b then b ∷ bs else from_on p bs
 
--- the value of an option, by what follows its name and separators
+-- the value of an option, given the text after its name and separators
 abbrev pub value_in : List ℕ → Option (List ℕ)
 value_in [] = None
 value_in (b ∷ bs) = Some (if b == 34 then unquoted false bs else up_to is_space (b ∷ bs))
 
--- the option of a line that begins with its name; none where a `#` begins a comment
+-- the option of a line without leading white space; none for a comment
 abbrev pub option_from : List ℕ → Option CurlOption
 option_from [] = None
 option_from (b ∷ bs) =
@@ -108,16 +108,16 @@ option_from (b ∷ bs) =
       value = value_in (from_on (λ c. not (is_separator c)) (from_on is_separator (b ∷ bs)));
     })
 
--- the options that curl reads from a text: one of each line that is no comment and not blank
+-- the options that curl reads from a text: one for each line that is neither a comment nor blank
 abbrev pub options_in : List ℕ → List CurlOption
 options_in text =
     filter_map (λ line. option_from (from_on (λ c. not (is_space c)) line)) (slice_split (λ b. b == 10) text)
 
--- an option as curl can have it: a value has no NUL
+-- an option as curl stores it: without NULs in its value
 abbrev pub without_nuls : CurlOption → CurlOption
 without_nuls o = record { name = o.name; value = option_map (filter (λ b. not (b == 0))) o.value }
 
--- a name of an option: small letters and dashes
+-- the name of an option: lower-case letters and dashes
 abbrev pub is_option_name : List ℕ → Bool
 is_option_name [] = false
 is_option_name (b ∷ bs) = list_all (λ c. (nat_le 97 c && nat_le c 122) || (c == 45)) (b ∷ bs)

@@ -1,4 +1,4 @@
--- What is fetched for lookups, and the files that say so.
+-- The plan of the transfers for lookups, and the files that hold it.
 use Rattle.std.specs.Prelude.{◌≡◌, ◌≢◌, ℕ, ◌+◌, List, [], ◌∷◌, ◌++◌, Option, Some, None, Bool, true, false, ◌||◌, nat_eq, codes, drop, length, MatchBool, MatchOption, option_map, string_bytes, if◌then◌else◌}
 use Rattle.std.specs.List.{ends_with, starts_with}
 use Rattle.edit_lookups.specs.Cached.{cached_path, validator_path}
@@ -13,27 +13,27 @@ use Rattle.edit_fetch.specs.declared.plan.FetchPlan.{FetchPlan}
 use Rattle.edit_fetch.specs.declared.transfers.Request.{Request}
 use Rattle.edit_store.specs.Store.{Files, raised}
 
--- whether the entries of a registry are fetched: one of the sparse protocol, over http or https
+-- whether the entries of a registry are fetched: it uses the sparse protocol
 abbrev pub is_fetched : List ℕ → Bool
 is_fetched address =
     starts_with nat_eq address (codes "sparse+http://")
     || starts_with nat_eq address (codes "sparse+https://")
 
--- a text with a slash at its end
+-- a text with a slash appended, unless it ends with one
 abbrev pub with_slash : List ℕ → List ℕ
 with_slash text = if ends_with nat_eq text (codes "/") then text else text ++ 47 ∷ []
 
--- where an entry is fetched: its path below the address without `sparse+`
+-- the URL of an entry: its path below the address without `sparse+`
 abbrev pub fetched_url : LookupText → List ℕ
 fetched_url lookup = with_slash (drop 7 lookup.address) ++ lookup.path
 
--- the ETag of a cached entry: the one of its validator, where that belongs to the entry's bytes
+-- the ETag of a cached entry: that of its validator, if the validator belongs to the entry's bytes
 abbrev pub IsCachedEtag : Option (List ℕ) → Option (List ℕ) → Option (List ℕ) → Type 0
 IsCachedEtag (Some body) (Some line) etag =
     MatchOption etag ((e : List ℕ) → IsValidatorOf body line e → ⊥) (λ e. IsValidatorOf body line e)
 IsCachedEtag _ _ etag = etag ≡ None
 
--- the request of a lookup, which has a number
+-- the request for a lookup with this number
 pub record IsRequest (files : Files) (plan : FetchPlan) (number : ℕ) (lookup : LookupText)
     (request : Request) : Type 0 where
   pub place : request.number ≡ number
@@ -42,7 +42,7 @@ pub record IsRequest (files : Files) (plan : FetchPlan) (number : ℕ) (lookup :
       (files (validator_path (cached_path plan.cache.now lookup))) (option_map string_bytes request.etag)
   pub token : option_map (λ t. t.now) request.token ≡ token_of plan.tokens.now lookup.address
 
--- the requests of lookups, in their order; each lookup has its place in them as its number, from 1
+-- the requests for lookups, in their order; each lookup is numbered by its position, from 1
 pub data AreRequests (files : Files) (plan : FetchPlan) : List LookupText → List Request → Type 0 where
   none : AreRequests files plan [] []
   passed : (lookups : List LookupText) (requests : List Request) (lookup : LookupText)
@@ -58,28 +58,28 @@ abbrev pub AreMade : Files → FetchPlan → List LookupText → List Request �
 AreMade files plan lookups requests =
     MatchBool plan.settings.now.offline (requests ≡ []) (AreRequests files plan lookups requests)
 
--- a file of the folder that the transfers use
+-- the path of a file in the working folder
 abbrev pub room_file : List ℕ → List ℕ → List ℕ
 room_file room name = room ++ 47 ∷ name
 
--- each file but the lookups and curl's configuration is what it was
+-- every file is unchanged except `lookups` and `curl` in the working folder
 abbrev pub SameButRoom : List ℕ → Files → Files → Type 0
 SameButRoom room old new =
     (path : List ℕ) → path ≢ room_file room (codes "lookups") → path ≢ room_file room (codes "curl")
     → new path ≡ old path
 
--- the device failed in a call
+-- the device failed in some call, which was counted
 pub record HasFailedIn (before now : ℕ) (e : Error) : Type 0 where
   pub call : DeviceCall
   pub is : e ≡ Device call
   pub counted : raised before now
 
--- a text is not the lines of any lookups
+-- the text is not a valid file of lookups
 abbrev pub IsUnreadable : List ℕ → Type 0
 IsUnreadable text = (lookups : List LookupText) → SaysLookups text lookups → ⊥
 
--- what is written for a text of lookups: the text, and the configuration for the requests of its lookups; the
--- count is that of the requests
+-- the files that are written for a text of lookups: the text, and the configuration for the requests of its
+-- lookups; `count` is the number of the requests
 pub record IsPlanned (old new : Files) (plan : FetchPlan) (text : List ℕ) (count : ℕ) : Type 0 where
   pub lookups : List LookupText
   pub requests : List Request

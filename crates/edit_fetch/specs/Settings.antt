@@ -14,7 +14,7 @@ use Rattle.edit_sources.specs.declared.config.Config.{Config}
 use Rattle.edit_sources.specs.Configured.{given}
 use Rattle.edit_store.specs.Store.{Files}
 
--- the network settings that one place gives
+-- the network settings of one source: the environment, or a configuration file
 pub record Values : Type 0 where
   pub offline : Option Bool
   pub retry : Option ℕ
@@ -34,7 +34,7 @@ values_of v = record {
 abbrev pub no_values : Values
 no_values = record { offline = None; retry = None; timeout = None; proxy = None; cainfo = None }
 
--- the settings of a place, and those of a later place where the first gives none
+-- merges two settings: where the first does not set a value, that of the later one counts
 abbrev pub values_or : Values → Values → Values
 values_or first later = record {
   offline = option_or first.offline later.offline;
@@ -44,12 +44,12 @@ values_or first later = record {
   cainfo = option_or first.cainfo later.cainfo;
 }
 
--- of places in a row: of each setting the first that is given
+-- merges several settings: of each value the first that is set
 abbrev pub first_values : List Values → Values
 first_values [] = no_values
 first_values (first ∷ later) = values_or first (first_values later)
 
--- the settings that count
+-- the effective settings
 pub record Settings : Type 0 where
   pub offline : Bool
   pub retry : ℕ
@@ -57,7 +57,7 @@ pub record Settings : Type 0 where
   pub proxy : Option (List ℕ)
   pub cainfo : Option (List ℕ)
 
--- the settings that count, as numbers and texts
+-- the model of the effective settings
 abbrev pub settings_view : NetSettings → Settings
 settings_view s = record {
   offline = s.offline;
@@ -67,7 +67,8 @@ settings_view s = record {
   cainfo = option_map string_bytes s.cainfo;
 }
 
--- with cargo's defaults (Cargo reference, "Configuration", net.offline, net.retry, http.timeout)
+-- the effective settings, with cargo's defaults (Cargo reference, "Configuration", net.offline, net.retry,
+-- http.timeout)
 abbrev pub settings_of : Values → Settings
 settings_of v = record {
   offline = unwrap_or v.offline false;
@@ -77,17 +78,17 @@ settings_of v = record {
   cainfo = v.cainfo;
 }
 
--- the value at a key of a table in a document
+-- the value of a key in a table of a document
 abbrev pub value_in : List ℕ → List ℕ → Members → Option Data
 value_in table key document =
     option_and_then (get_member key) (option_and_then as_table (get_member table document))
 
--- an integer, where it is from 0 to 4294967295
+-- an integer that fits in 32 bits, unsigned
 abbrev pub count_of : ℤ → Option ℕ
 count_of (pos n) = if nat_lt n 4294967296 then Some n else None
 count_of (negsuc n) = None
 
--- what a document says, where relative paths start in `base`
+-- the settings of a document, with relative paths joined to `base`
 abbrev pub values_in : List ℕ → Members → Values
 values_in base document = record {
   offline = option_and_then as_bool (value_in (codes "net") (codes "offline") document);
@@ -105,13 +106,13 @@ pub data IsNoDocument (bytes : List ℕ) : Type 0 where
   not_utf8 : (IsUtf8 bytes → ⊥) → IsNoDocument bytes
   not_toml : parse_document bytes ≡ None → IsNoDocument bytes
 
--- what the bytes of a file say
+-- the settings of the bytes of a file; none where they are no TOML document
 pub data SaysValues (base bytes : List ℕ) (values : Values) : Type 0 where
   document : (members : Members) → IsUtf8 bytes → parse_document bytes ≡ Some members
       → values ≡ values_in base members → SaysValues base bytes values
   nothing : IsNoDocument bytes → values ≡ no_values → SaysValues base bytes values
 
--- what the file at a path says, where one stands; relative paths start in the folder above the file's
+-- the settings of the file at a path; relative paths are joined to the parent of the file's folder
 pub record SaysAt (path bytes : List ℕ) (values : Values) : Type 0 where
   pub folder : List ℕ
   pub base : List ℕ
@@ -123,26 +124,26 @@ abbrev pub IsReadAt : List ℕ → Option (List ℕ) → Values → Type 0
 IsReadAt path None values = values ≡ no_values
 IsReadAt path (Some bytes) values = SaysAt path bytes values
 
--- what the files of these configurations say, in their order
+-- the settings of the files of these configurations, in their order
 abbrev pub AreReadAt : Files → List Config → List Values → Type 0
 AreReadAt files configs values =
     AllZip (λ c v. IsReadAt (string_bytes c.path) (files (string_bytes c.path)) v) configs values
 
--- what a text says of a flag
+-- the boolean of a text, if it is one
 abbrev pub flag_of : List ℕ → Option Bool
 flag_of text =
     if bytes_eq text (codes "true") then Some true
     else if bytes_eq text (codes "false") then Some false
     else None
 
--- what a variable says of a number: the one that it gives as a decimal number of at most 32 bits
+-- the number of an environment variable: a decimal number of at most 32 bits
 abbrev pub ReadsCount : Option (List ℕ) → Option ℕ → Type 0
 ReadsCount None count = count ≡ None
 ReadsCount (Some text) count =
     SomeIff count (IsNumeral 10 (without_leading_plus text)
     × (digits_value 10 (without_leading_plus text) < 2 ^ 32)) (digits_value 10 (without_leading_plus text))
 
--- what the environment says
+-- the settings of the environment
 pub record IsEnvironment (environment : Environment) (values : Values) : Type 0 where
   pub offline : values.offline ≡ option_and_then flag_of (given environment.offline)
   pub retry : ReadsCount (given environment.retry) values.retry
@@ -150,7 +151,8 @@ pub record IsEnvironment (environment : Environment) (values : Values) : Type 0 
   pub proxy : values.proxy ≡ given environment.proxy
   pub cainfo : values.cainfo ≡ given environment.cainfo
 
--- the settings that count: the environment's, and then those of the files of these configurations, in order
+-- the effective settings: those of the environment, then those of the files of these configurations, in
+-- order
 pub record AreSettings (files : Files) (environment : Environment) (configs : List Config)
     (settings : Settings) : Type 0 where
   pub own : Values

@@ -7,12 +7,12 @@ use Rattle.url.specs.Parser.{parse_url}
 use Rattle.url.specs.Parts.{Parts, serialize}
 use Rattle.edit_fetch.specs.declared.tokens.Token.{Token}
 
--- the token of the registry with an address: the first
+-- the token of the first registry with this address
 abbrev pub token_of : List Token → List ℕ → Option (List ℕ)
 token_of tokens address =
     option_map (λ t. t.token.now) (find (λ t. bytes_eq t.address.now address) tokens)
 
--- a token is that of a registry with this address
+-- the token belongs to a registry with this address
 pub record IsTokenOf (tokens : List Token) (address token : List ℕ) : Type 0 where
   pub before : List Token
   pub holder : Token
@@ -21,15 +21,15 @@ pub record IsTokenOf (tokens : List Token) (address token : List ℕ) : Type 0 w
   pub own : holder.address.now ≡ address
   pub is : holder.token.now ≡ token
 
--- a byte of a registry's name as a variable's name has it
+-- a byte of a registry's name as in the name of the environment variable: upper case, and `_` for `-`
 abbrev pub variable_byte : ℕ → ℕ
 variable_byte b = if b == 45 then 95 else to_ascii_uppercase b
 
--- the variable with the token of a registry
+-- the environment variable with the token of a registry
 abbrev pub token_variable : List ℕ → List ℕ
 token_variable name = codes "CARGO_REGISTRIES_" ++ (map variable_byte name ++ codes "_TOKEN")
 
--- an address as the URL has it that a text is (URL Standard, "URL serializing")
+-- the address is the text, parsed as a URL and serialized again (URL Standard, "URL serializing")
 pub record IsAddressOf (text address : List ℕ) : Type 0 where
   pub url : Parts
   pub reads : parse_url None text ≡ Ok url

@@ -1,4 +1,4 @@
--- Strings of a TOML text (TOML 1.0.0, "String").
+-- TOML strings (TOML 1.0.0, "String").
 use Rattle.std.specs.Prelude.{ℕ, ◌+◌, ◌-◌, List, [], ◌∷◌, ◌++◌, Bool, ◌==◌, ◌||◌, nat_lt, ◌/◌, ◌%◌, if◌then◌else◌}
 use Rattle.std.specs.List.{flat_map}
 
@@ -10,8 +10,7 @@ hex_digit n = if nat_lt n 10 then 48 + n else 97 + (n - 10)
 abbrev pub is_control : ℕ → Bool
 is_control b = nat_lt b 32 || (b == 127)
 
--- a byte in a basic string: `"` and `\` behind a `\`, a control character as `\u` and its number in four
--- hex digits
+-- a byte in a basic string: `"` and `\` after a `\`, a control character as `\u` and four hex digits
 abbrev pub escape_of : ℕ → List ℕ
 escape_of b =
     if (b == 34) || (b == 92) then 92 ∷ b ∷ []
@@ -22,6 +21,6 @@ escape_of b =
 abbrev pub quoted : List ℕ → List ℕ
 quoted value = 34 ∷ (flat_map escape_of value ++ 34 ∷ [])
 
--- a value as a basic string at the end of a line
+-- a value as a basic string, and a line end
 abbrev pub value_line : List ℕ → List ℕ
 value_line value = quoted value ++ 10 ∷ []

@@ -6,71 +6,71 @@ use Rattle.edit_fetch.specs.CurlConfig.{CurlOption, bare, config_text, valued}
 use Rattle.edit_fetch.specs.declared.settings.NetSettings.{NetSettings}
 use Rattle.edit_fetch.specs.declared.transfers.Request.{Request}
 
--- whether an address is reached by TLS
+-- whether a URL has the scheme `https`
 abbrev pub is_https : List ℕ → Bool
 is_https url = starts_with nat_eq url (codes "https://")
 
--- whether an address begins with one of these two texts
+-- whether a URL begins with one of these two texts
 unfoldable pub has_either : List ℕ → List ℕ → List ℕ → Bool
 has_either url first second = starts_with nat_eq url first || starts_with nat_eq url second
 
--- whether an address names this machine's loopback interface after its scheme
+-- whether a URL names the loopback interface directly after its scheme
 abbrev pub begins_at_loopback : List ℕ → Bool
 begins_at_loopback url =
     has_either url (codes "http://localhost/") (codes "http://localhost:")
     || (has_either url (codes "http://127.0.0.1/") (codes "http://127.0.0.1:")
     || has_either url (codes "http://[::1]/") (codes "http://[::1]:"))
 
--- the same, with no `@` in the address, before which a user would be named and behind it another host
+-- whether a URL leads to the loopback interface; one with `@` never counts, since another host might follow
 abbrev pub is_loopback : List ℕ → Bool
 is_loopback url = not (list_any (λ b. b == 64) url) && begins_at_loopback url
 
--- whether a token may be sent to an address
+-- whether a token may be sent to a URL
 abbrev pub is_secure : List ℕ → Bool
 is_secure url = is_https url || is_loopback url
 
--- whether a text may stand in a header: no control character is in it
+-- whether a text is allowed in a header: it contains no control character
 abbrev pub is_header_text : List ℕ → Bool
 is_header_text text = list_all (λ b. nat_le 32 b && not (b == 127)) text
 
--- a text that need not be there, where it may stand in a header
+-- a text, if it is allowed in a header
 abbrev pub header_text : Option (List ℕ) → Option (List ℕ)
 header_text None = None
 header_text (Some text) = if is_header_text text then Some text else None
 
--- the ETag that is sent
+-- the ETag that is sent, if there is one
 abbrev pub sent_etag : Request → Option (List ℕ)
 sent_etag request = header_text (option_map string_bytes request.etag)
 
--- the token that is sent: none where the address is not secure
+-- the token that is sent: none where the URL is not secure
 abbrev pub sent_token : Request → Option (List ℕ)
 sent_token request =
     if is_secure request.url.items then header_text (option_map (λ t. t.now) request.token) else None
 
--- the header with the ETag of the cached entry
+-- the header `If-None-Match` with the ETag of the cached entry, if there is one
 unfoldable pub etag_options : Option (List ℕ) → List CurlOption
 etag_options etag =
     option_to_list (option_map (λ e. valued (codes "header") (codes "If-None-Match: " ++ e)) etag)
 
--- the header with a token, and then no redirect is followed
+-- the header `Authorization` with the token or, without a token, the options that follow redirects
 unfoldable pub token_options : Option (List ℕ) → List CurlOption
 token_options (Some token) = valued (codes "header") (codes "Authorization: " ++ token) ∷ []
 token_options None = bare (codes "location") ∷ valued (codes "max-redirs") (codes "5") ∷ []
 
--- the protocols that a transfer may use: what is reached by TLS is not left for plain text
+-- the protocols that a transfer may use: from `https` no redirect leads to `http`
 abbrev pub protocols : List ℕ → List ℕ
 protocols url = if is_https url then codes "=https" else codes "=http,https"
 
--- the same, for the first address and for redirects
+-- the options for these protocols, for the first URL and for redirects
 unfoldable pub protocol_options : List ℕ → List CurlOption
 protocol_options url =
     valued (codes "proto") (protocols url) ∷ valued (codes "proto-redir") (protocols url) ∷ []
 
--- the file of a transfer in a folder: its number, and an ending
+-- the path of a file of a transfer: its number, and a suffix
 abbrev pub numbered : List ℕ → ℕ → List ℕ → List ℕ
 numbered room number ending = room ++ 47 ∷ (decimal number ++ ending)
 
--- where to get an entry, and where to put the body, the ETag and the outcome
+-- the URL of an entry, and the files for the body, the ETag and the outcome
 unfoldable pub file_options : List ℕ → Request → List CurlOption
 file_options room request =
     valued (codes "url") request.url.items
@@ -80,13 +80,13 @@ file_options room request =
     (decimal request.number ++ codes "\t%{response_code}\t%{exitcode}\t%{num_redirects}\t%{errormsg}\n")
     ∷ []
 
--- how to transfer: no progress is shown, no globbing in addresses, compressed if the server can
+-- options of every transfer: no progress, no globbing in URLs, compression if the server supports it
 unfoldable pub common_options : List CurlOption
 common_options =
     bare (codes "silent") ∷ bare (codes "globoff") ∷ bare (codes "compressed")
     ∷ valued (codes "user-agent") (codes "cargo-edit/0.1.0") ∷ []
 
--- how long to wait for a connection, how long without ten bytes a second, and how often to try again
+-- the timeouts of connecting and of a transfer below 10 bytes per second, and the number of retries
 unfoldable pub time_options : NetSettings → List CurlOption
 time_options settings =
     valued (codes "connect-timeout") (decimal settings.timeout)
@@ -94,7 +94,7 @@ time_options settings =
     ∷ valued (codes "speed-time") (decimal settings.timeout)
     ∷ valued (codes "retry") (decimal settings.retry) ∷ []
 
--- the proxy and the file of certificates, where settings name them
+-- the proxy and the file of certificates, if the settings have them
 unfoldable pub named_options : NetSettings → List CurlOption
 named_options settings =
     option_to_list (option_map (λ p. valued (codes "proxy") (string_bytes p)) settings.proxy)

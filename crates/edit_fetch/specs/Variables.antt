@@ -1,5 +1,5 @@
--- The lines of a configuration file for the registries that variables of the environment define (Cargo
--- reference, "Configuration", Environment variables).
+-- The lines of a configuration file for the registries that environment variables define (Cargo reference,
+-- "Configuration", Environment variables).
 use Rattle.std.specs.Prelude.{ℕ, ◌-◌, List, [], ◌∷◌, ◌++◌, Bool, ◌==◌, ◌&&◌, ◌||◌, nat_eq, nat_le, nat_lt, codes, drop, length, map, String, string_bytes, take, if◌then◌else◌}
 use Rattle.std.specs.Char.{to_ascii_lowercase}
 use Rattle.std.specs.List.{ends_with, flat_map, list_all, list_any, starts_with}
@@ -7,11 +7,11 @@ use Rattle.std.specs.declared.alloc.Global.{Global}
 use Rattle.edit_fetch.specs.TomlText.{value_line}
 use Rattle.edit_sources.specs.SourceReplacement.{crates_io_index}
 
--- a byte of a registry's name in a variable's name: a capital letter, a digit or `_`
+-- a byte of a registry's name in a variable's name: an upper-case letter, a digit or `_`
 abbrev pub is_name_byte : ℕ → Bool
 is_name_byte b = (nat_le 65 b && nat_le b 90) || ((nat_le 48 b && nat_le b 57) || (b == 95))
 
--- what stands between `CARGO_REGISTRIES_` and `_INDEX` in a name
+-- the part of a variable's name between `CARGO_REGISTRIES_` and `_INDEX`
 abbrev pub registry_part : List ℕ → List ℕ
 registry_part name = take (length name - 6 - 17) (drop 17 name)
 
@@ -22,43 +22,43 @@ abbrev pub is_between : List ℕ → Bool
 is_between name =
     starts_with nat_eq name (codes "CARGO_REGISTRIES_") && ends_with nat_eq name (codes "_INDEX")
 
--- a variable of this name has the address of a registry's index
+-- whether a variable of this name sets a registry's index
 abbrev pub is_index_variable : List ℕ → Bool
 is_index_variable name =
     nat_lt 23 (length name) && (is_between name && is_name (registry_part name))
 
--- a byte of the registry's key
+-- a byte of the registry's key: in lower case
 abbrev pub key_byte : ℕ → ℕ
 key_byte b = to_ascii_lowercase b
 
 abbrev pub registry_key : List ℕ → List ℕ
 registry_key part = map key_byte part
 
--- a byte of the key with `-` for each `_`
+-- a byte of the key, with `-` for `_`
 abbrev pub dashed_byte : ℕ → ℕ
 dashed_byte b = if b == 95 then 45 else b
 
 abbrev pub dashed : List ℕ → List ℕ
 dashed key = map dashed_byte key
 
--- the line that gives a registry its index
+-- the line that sets the index of a registry
 unfoldable pub registry_line : List ℕ → List ℕ → List ℕ
 registry_line key index = codes "registries." ++ (key ++ (codes ".index = " ++ value_line index))
 
--- the line of a key, and that of the key with `-` where `_` stands in it
+-- the line for a key and, where it contains `_`, the line for the key with `-` instead
 unfoldable pub registry_lines : List ℕ → List ℕ → List ℕ
 registry_lines key index =
     registry_line key index ++ (if list_any (λ b. b == 95) key then registry_line (dashed key) index else [])
 
--- the lines of a variable, by its name and its value
+-- the lines for a variable, given its name and its value
 unfoldable pub variable_lines : List ℕ × List ℕ → List ℕ
 variable_lines v =
     if is_index_variable v.0 then registry_lines (registry_key (registry_part v.0)) v.1 else []
 
--- a variable as texts
+-- the model of a variable
 abbrev pub variable_texts : String Global × String Global → List ℕ × List ℕ
 variable_texts v = (string_bytes v.0, string_bytes v.1)
 
--- the line that gives the default registry the address that cargo has built in
+-- the line that sets the URL of the default registry to cargo's built-in one
 abbrev pub default_registry_text : List ℕ
 default_registry_text = codes "source.crates-io.registry = " ++ value_line crates_io_index

@@ -86,7 +86,8 @@ fn is_listed(sources: &[AddresslessSource<'_>], key: &str) -> bool {
     sources.iter().any(|source| source.key == key)
 }
 
-/// The keys of `source` whose first definition in these files has no URL, each once and in order.
+/// The sources without a URL, each once and in the order of these files: the keys of `source`, other than
+/// the default registry's, whose first definition has neither a URL nor a replacement.
 pub fn addressless_sources<'a>(
     alloc: Global,
     configs: &'a [Config],

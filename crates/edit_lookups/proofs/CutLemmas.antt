@@ -1,4 +1,4 @@
--- Where a text is cut at a byte for the first time.
+-- A text is split at the first occurrence of a byte.
 use Rattle.std.proofs.Common.{◌≡◌, ◌≢◌, ℕ, zero, suc, ◌<◌, List, [], ◌∷◌, ◌++◌, take, refl, ap, ◌∙◌, subst, sym, arith, length-append, eqb}
 use Rattle.std.proofs.lemmas.List.{take-append-drop, get_or_append_left}
 use Rattle.std.proofs.lemmas.Str.Pattern.{NoCharPasses-char, drop_at_char}
@@ -6,7 +6,7 @@ use Rattle.std.specs.Str.{NoCharPasses}
 use Rattle.std.specs.Str.Pattern.{SplitsAroundMatch, FindsChar}
 use Rattle.edit_lookups.specs.Lookups.{HasNo}
 
--- a byte stands in a text where it was written
+-- a byte occurs in a text where it was written
 pub HasNo-at : (c : ℕ) (xs ys : List ℕ) → HasNo c (xs ++ c ∷ ys) → ⊥
 HasNo-at c [] ys h = h 0 (omega arith) refl
 HasNo-at c (x ∷ xs) ys h = HasNo-at c xs ys (λ i w. h (suc i) (omega arith))

@@ -1,4 +1,4 @@
--- The place of an ETag in a validator.
+-- The position of an ETag in a validator.
 use Rattle.std.proofs.Common.{◌≡◌, ℕ, ◌+◌, ◌-◌, List, [], ◌∷◌, ◌++◌, length, take, drop, ap, ◌∙◌, sym, arith, length-append}
 use Rattle.std.proofs.Math.Seq.{drop-append-add, take-append_seam}
 

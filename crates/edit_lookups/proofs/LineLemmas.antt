@@ -1,4 +1,4 @@
--- The lines of lookups, one at a time.
+-- The lines of a file of lookups, one at a time.
 use Rattle.std.proofs.Common.{◌≡◌, ℕ, List, [], ◌∷◌, ◌++◌, length, map, ap, ◌∙◌, sym, subst, arith, length-append, append_assoc}
 use Rattle.std.specs.Prelude.{All}
 use Rattle.std.specs.List.{flat_map}
@@ -44,7 +44,7 @@ first-line rest line after (l ∷ ls) cut plain h =
       say = record { is = parts.1; plain = All-tail IsLookup l ls h.plain };
     }
 
--- a text without a line end says no lookup
+-- a text without a line feed has no lookup
 pub no-line : (rest : List ℕ) (ls : List LookupText) → HasNo 10 rest → SaysLookups rest ls → rest ≡ []
 no-line rest [] plain h = h.is
 no-line rest (l ∷ ls) plain h =

@@ -1,4 +1,4 @@
--- Addresses cut at their first slash.
+-- Addresses are split at their first slash.
 use Rattle.std.proofs.Common.{◌≡◌, ◌≢◌, ℕ, false, cond, eqb, List, [], ◌∷◌, ◌++◌, get_or, drop, refl, ap, ◌∙◌, sym, arith}
 use Rattle.std.specs.Prelude.{codes}
 use Rattle.std.specs.List.{before_first, after_first}

@@ -1,4 +1,4 @@
--- The length of a userinfo, byte by byte.
+-- The length of the userinfo, byte by byte.
 use Rattle.std.proofs.Common.{◌≡◌, ℕ, zero, suc, ◌+◌, ◌<◌, Bool, true, false, cond, eqb, List, ◌∷◌, length, get_or, drop, refl, ap, ◌∙◌, sym, arith, drop-cons, add-one}
 use Rattle.edit_lookups.specs.Shown.{ends_authority, one_more, userinfo_len}
 

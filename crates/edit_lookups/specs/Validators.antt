@@ -1,4 +1,4 @@
--- Validators of bodies.
+-- Validators of response bodies.
 use Rattle.std.specs.Prelude.{◌≡◌, ℕ, List, [], ◌∷◌, ◌++◌}
 use Rattle.std.specs.Str.{IsUtf8}
 use Rattle.hex.specs.Hex.{encode_lower}
@@ -9,12 +9,12 @@ use Rattle.edit_lookups.specs.Lookups.{HasNo}
 abbrev pub validator_line : List ℕ → List ℕ → List ℕ
 validator_line body etag = encode_lower (sha256 body) ++ 32 ∷ (etag ++ 10 ∷ [])
 
--- an ETag that a line can have: text without a line end
+-- an ETag that fits in a validator: UTF-8 without a line feed
 pub record IsEtag (etag : List ℕ) : Type 0 where
   pub utf8 : IsUtf8 etag
   pub one_line : HasNo 10 etag
 
--- a line is the validator of a body with this ETag
+-- the line is the validator of a body, with this ETag
 pub record IsValidatorOf (body line etag : List ℕ) : Type 0 where
   pub is : line ≡ validator_line body etag
   pub valid : IsEtag etag

@@ -1,4 +1,4 @@
--- What holds of each element of lists that are made of others.
+-- Properties of each element of lists that are built from others.
 use Rattle.std.proofs.Common.{◌∷◌, ◌++◌, [], List, map}
 use Rattle.std.specs.List.{AllByRecursion, flat_map}
 

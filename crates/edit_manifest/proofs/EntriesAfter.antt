@@ -1,4 +1,5 @@
--- The entries of a tree once strings were written at version literals: the same ones, with the new versions.
+-- The entries of a tree after strings were written at version literals: the same entries, with the new
+-- versions.
 use Rattle.std.proofs.Common.{◌≡◌, ℕ, List, [], ◌∷◌, ◌++◌, map, Bool, true, false, Option, Some, None, Result, Ok, Err, refl, ap, sym, ◌∙◌, append-nil}
 use Rattle.std.specs.Prelude.{codes, if◌then◌else◌, option_map}
 use Rattle.std.specs.List.{AllByRecursion, flat_map}
@@ -39,7 +40,8 @@ patch b u h = λ i rest. at-rest rest i
     at-rest : (rest : Place) → u rest ≡ patched b (u []) (u (key (codes "version") ∷ [])) rest
     at-rest rest = by-root rest (same_place [] rest) refl
 
--- what is written below an entry stands at the entry or at its version
+-- strings written at version literals change nothing below an entry except the entry itself and its key
+-- `version`
 below-same : (ws : Edits) (t : Tree) (base : Place) (name : List ℕ) (rest : Place)
     → AllByRecursion (λ w. IsLiteral w.0) ws → IsTable base → IsOther rest
     → below (written ws t) (at base (key name)) rest ≡ below t (at base (key name)) rest
@@ -47,7 +49,7 @@ below-same [] t base name rest l is o = refl
 below-same (w ∷ ws) t base name rest l is o =
     rw (literal-other w.0 base name rest l.0 is o) (below-same ws t base name rest l.1 is o)
 
--- what is said once a text was written at the version literal
+-- the result of reading an entry after a string was written at its version literal
 abbrev pub said_after : Option (List ℕ) → Option EntryRecord → Option EntryRecord
 said_after None said = said
 said_after (Some text) said = option_map (versioned (cut text)) said
@@ -57,7 +59,7 @@ ok-mapped : (f : EntryRecord → EntryRecord) (m : Result EntryRecord Refusal)
 ok-mapped f (Ok x) = refl
 ok-mapped f (Err r) = refl
 
--- a table, by what was written at its version
+-- a table, given what was written at its `version`
 table-by : (b : Tree) (root name : List ℕ) (o v : Option View) (n : Option (List ℕ))
     → (is_string v ≡ false → n ≡ None)
     → result_ok (table_record (patched b o (view_after n v)) root name) ≡ said_after n
@@ -111,7 +113,7 @@ nothing-after : (o : Option (List ℕ)) → said_after o None ≡ None
 nothing-after None = refl
 nothing-after (Some text) = refl
 
--- what is neither a string nor a table says nothing
+-- an item that is neither a string nor a table is unsupported, also after strings were written
 unsaid : (ws : Edits) (t : Tree) (root : List ℕ) (base : Place) (name : List ℕ) → AreStrings ws t
     → (v : Option View) → t (at base (key name)) ≡ v
     → is_string v ≡ false → ((u : Tree) → result_ok
@@ -128,7 +130,7 @@ unsaid ws t root base name strings v e fails none =
     ∙ sym (ap (said_after o)
     (ap (λ (x : Option View). result_ok (entry_record (below t entry) root name x)) e ∙ none t))
 
--- what an entry says, by what stands there
+-- the result of reading any entry after strings were written at version literals
 said-by : (ws : Edits) (t : Tree) (root : List ℕ) (base : Place) (name : List ℕ) → AreStrings ws t
     → AllByRecursion (λ w. IsLiteral w.0) ws → IsTable base
     → (v : Option View) → t (at base (key name)) ≡ v
@@ -189,7 +191,7 @@ said-by ws t root base name strings l is (Some (table_array x)) e =
 
 -- ---- all entries
 
--- an entry once strings were written
+-- an entry after strings were written
 abbrev pub entry_after : Edits → Entry → Entry
 entry_after ws e = record e { said = said_after (new_text ws e.literal) e.said }
 
@@ -241,7 +243,7 @@ tables-entries ws t root strings l (p ∷ ps) is =
     (tables-entries ws t root strings l ps is.1)
     ∙ sym (map-append (entry_after ws) (entries_of t root p) (flat_map (entries_of t root) ps))
 
--- the entries of the tree in which strings gave way to others at version literals
+-- the entries of the tree in which the strings at version literals were replaced
 pub entries-after : (ws : Edits) (t : Tree) (root : List ℕ) → AreStrings ws t
     → AllByRecursion (λ w. IsLiteral w.0) ws
     → entries (written ws t) root ≡ map (entry_after ws) (entries t root)

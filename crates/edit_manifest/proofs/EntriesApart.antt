@@ -1,4 +1,4 @@
--- No two entries of a manifest have their version literals at one place.
+-- No two entries of a manifest have the same place for their version literals.
 use Rattle.std.proofs.Common.{◌≡◌, ◌∷◌, ◌++◌, [], List, ℕ, Bool, map, true, false, refl, ap, ◌∙◌, sym, subst, inl, inr, ◌⊎◌}
 use Rattle.std.specs.Prelude.{◌&&◌, codes}
 use Rattle.std.specs.List.{AllByRecursion, flat_map}
@@ -31,11 +31,11 @@ differ-append same (x ∷ xs) ys h g c =
 
 -- ---- the tables
 
--- the place lies at or below the other
+-- the place is the other one or below it
 abbrev Begins : Place → Place → Type 0
 Begins p q = (rest : Place) × (q ≡ p ++ rest)
 
--- places below different members differ
+-- places below different keys differ
 begun-apart : (pre : Place) (n m : List ℕ) (p q : Place) → same_bytes n m ≡ false
     → Begins (at pre (key n)) p → Begins (at pre (key m)) q → same_place p q ≡ false
 begun-apart pre n m p q h b c =
@@ -50,7 +50,7 @@ begun-apart pre n m p q h b c =
         of-step true e = e
         of-step false e = refl
 
--- tables below the members of a table
+-- tables below the keys of a table
 flat-apart : (pre : Place) (f : List ℕ → List Place) (ns : List (List ℕ)) → AreNamesApart ns
     → ((n : List ℕ) → AllByRecursion (Begins (at pre (key n))) (f n))
     → ((n : List ℕ) → Differ same_place (f n)) → Differ same_place (flat_map f ns)

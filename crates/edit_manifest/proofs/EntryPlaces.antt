@@ -1,4 +1,4 @@
--- The places of entries: each is the front of every place at or below it, so that no entry stands in another.
+-- The places of entries: each is a prefix of every place at or below it, so that no entry contains another.
 use Rattle.std.proofs.Common.{◌≡◌, ℕ, List, [], ◌∷◌, ◌++◌, Bool, true, false, refl, ap, sym, ◌∙◌, inl, inr, ◌⊎◌, take, append-nil}
 use Rattle.std.specs.Prelude.{◌||◌, codes}
 use Rattle.std.specs.List.{AllByRecursion, flat_map}
@@ -14,7 +14,7 @@ use Rattle.edit_manifest.proofs.Texts.{bytes-is, or-cases}
 
 -- ---- the tables
 
--- a place at which a dependency table may stand
+-- a place that may be a dependency table
 pub data IsTable : Place → Type 0 where
   of_kind : (k : List ℕ) → is_kind k ≡ true → IsTable (keyed (k ∷ []))
   of_workspace : IsTable (keyed shared)
@@ -98,7 +98,7 @@ other-by p table name rest l is o e =
           ∙ same-front entry (key (codes "version") ∷ []) rest ∙ o.version
     ]
 
--- no literal stands there
+-- no version literal is at the place
 pub literal-other : (p table : Place) (name : List ℕ) (rest : Place) → IsLiteral p → IsTable table
     → IsOther rest
     → same_place p (at table (key name) ++ rest) ≡ false
@@ -151,6 +151,6 @@ under-all t name = elim (cases_Bool (is_kind name)) [
   ]
 ]
 
--- the dependency tables stand at such places
+-- the dependency tables are at such places
 pub tables-all : (t : Tree) → AllByRecursion IsTable (dependency_tables t)
 tables-all t = flat-all IsTable (tables_under t) (member_names (t [])) (under-all t)

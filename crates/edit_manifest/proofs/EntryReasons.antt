@@ -1,4 +1,4 @@
--- The error of an entry without a record: at equal places, and where nothing stands.
+-- The error of an unsupported entry: at equal places, and where there is no item.
 use Rattle.std.proofs.Common.{◌≡◌, ℕ, List, None, Err, refl, subst, sym}
 use Rattle.edit_tree.specs.Assertions.{Place}
 use Rattle.edit_tree.specs.Shown.{Shown, tree_of}
@@ -16,7 +16,7 @@ reason_at d d' p p' root name name' s same_document same_place same_name reason 
     (subst (λ x. IsReason (record_of (tree_of d) x root name') s) same_place
     (subst (λ x. IsReason (record_of (tree_of d) p root x) s) same_name reason))
 
--- the error where nothing stands
+-- the error where there is no item
 pub reason_nowhere : (d : Shown) (p p' : Place) (root name name' : List ℕ) (s : Said)
     → tree_of d p ≡ None → p ≡ p' → name ≡ name' → IsReason (Err (unknown_entry name)) s
     → IsReason (record_of (tree_of d) p' root name') s

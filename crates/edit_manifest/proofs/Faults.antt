@@ -1,4 +1,4 @@
--- Faults that are counted from earlier on.
+-- Faults count from an earlier state on.
 use Rattle.std.proofs.Common.{ℕ, ◌≤◌, ⊎_elim, inl, inr, arith, ◌∙◌}
 use Rattle.std.proofs.Math.Nat.{eq-or-lt_of_le}
 use Rattle.edit_base.specs.declared.errors.DeviceCall.{DeviceCall}

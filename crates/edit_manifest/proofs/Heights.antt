@@ -1,4 +1,4 @@
--- The folders on the way upwards come nearer to the root.
+-- The folders on the way up come nearer to the root.
 use Rattle.std.proofs.Common.{◌≡◌, ◌≢◌, ℕ, ◌+◌, ◌<◌, ◌≤◌, List, ◌∷◌, length, Bool, true, false, cond, ap, arith, length-append, refl}
 use Rattle.std.specs.Prelude.{codes}
 use Rattle.std.specs.Str.{bytes_eq}

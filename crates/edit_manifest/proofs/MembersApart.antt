@@ -1,4 +1,4 @@
--- No two members of a table of a manifest have one name.
+-- No two keys of a table of a manifest are equal.
 use Rattle.std.proofs.Common.{◌≡◌, ◌∷◌, [], List, ℕ, Option, Some, None, Bool, true, false, refl, inl, inr}
 use Rattle.std.specs.Prelude.{not, option_map}
 use Rattle.std.specs.List.{AllByRecursion, filter}
@@ -85,7 +85,7 @@ kind-apart made place (Some header_kind) = names-apart (members_of made place) (
 kind-apart made place (Some element_kind) = names-apart (members_of made place) (once-apart _)
 kind-apart made place (Some array_kind) = tt
 
--- the members of what stands at a place of a form have names that differ
+-- the keys of the item at a place of a document are distinct
 pub form-names : (form : grammar.Text) (place : Place) → AreNamesApart (member_names (view_at form place))
 form-names form [] = names-apart (members_of (assertions form) []) (once-apart _)
 form-names form (s ∷ ss) = kind-apart (assertions form) (s ∷ ss) (kind_at (assertions form) (s ∷ ss))

@@ -1,4 +1,4 @@
--- Nothing stands below a place where nothing stands.
+-- A place without an item has no item below it.
 use Rattle.std.proofs.Common.{◌≡◌, cond, List, [], ◌∷◌, Option, None, Some, option_map, refl, sym, ap, ◌∙◌, ◌⊎◌, inl, inr, ⊎_elim, subst}
 use Rattle.edit_tree.specs.Assertions.{Place, Step, at, same_place, Kind, Assertion, assertions}
 use Rattle.edit_tree.specs.Shown.{Shown, tree_of, ShowsTree}

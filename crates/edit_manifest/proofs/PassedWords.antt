@@ -1,4 +1,4 @@
--- The way upwards, past folders without a manifest.
+-- Walking up past folders without a manifest.
 use Rattle.std.proofs.Common.{◌≡◌, ◌≢◌, ℕ, List, [], ◌∷◌, ◌++◌, Bool, true, Option, Some, None, ◌∙◌, sym, subst, inl, inr, ⊎_elim}
 use Rattle.std.proofs.Math.Path.{fun_ext}
 use Rattle.std.proofs.lemmas.List.Elements.{All-nil, All-cons, All-append}
@@ -21,7 +21,7 @@ pub record HasPassed (tells : Bool) (files : Files) (start here : List ℕ) : Ty
   pub climbs : Climbs start passed here
   pub none : tells ≡ true → HaveNone files passed
 
--- what holds of files holds of the same files
+-- a property of files holds for the same files
 pub as_before : (P : Files → Type 0) (old now : Files) → SameFiles old now → P now → P old
 as_before P old now same h = subst P (fun_ext same) h
 
@@ -50,7 +50,7 @@ passed_more tells told old now start here above same_told same h on up missing =
       (as_before (λ files. IsMissing files (manifest_in here)) old now same (missing (same_told ∙ t)));
 }
 
--- none is found, also at the root
+-- no manifest is found, not even at the root
 pub none_above : (tells told : Bool) (old now : Files) (start here : List ℕ) → told ≡ tells
     → SameFiles old now → HasPassed tells old start here → here ≡ codes "/"
     → (told ≡ true → IsMissing now (manifest_in here)) → tells ≡ true → HasNoneAbove old start
@@ -88,9 +88,9 @@ none_found tells told old now place at from e is is2 same_told same stands none 
       (as_before (λ files. IsNotFound files from e) old now same (none (same_told ∙ t))),
 )
 
--- ---- what is specified, and what is not
+-- ---- a specified manifest, and none specified
 
--- the manifest at the path that is specified
+-- the manifest at the specified path
 pub path_specified : (files : Files) (current name whole place path : List ℕ) (o : Option (List ℕ))
     → o ≡ Some name → whole ≡ joined current name → IsNormalOf whole place → IsManifestAt files place path
     → IsManifestPath files current o path
@@ -98,7 +98,7 @@ path_specified files current name whole place path o e is normal at =
     subst (λ x. IsManifestPath files current x path) (sym e)
     (specified name place path (subst (λ text. IsNormalOf text place) is normal) at)
 
--- none is found there
+-- no manifest is found at the specified path
 pub none_specified : (files : Files) (current name whole place : List ℕ) (o : Option (List ℕ)) (e : Error)
     → o ≡ Some name → whole ≡ joined current name → IsNormalOf whole place → IsUnfound files place e
     → HasNoManifest files current e o
@@ -114,7 +114,7 @@ path_unspecified files current start place path o e is normal near =
     subst (λ x. IsManifestPath files current x path) (sym e)
     (unspecified place path normal (subst (λ text. IsNearest files text path) is near))
 
--- none is found there
+-- no manifest is found from the current folder upwards
 pub none_unspecified : (files : Files) (current start place : List ℕ) (o : Option (List ℕ)) (e : Error)
     → o ≡ None → start ≡ place → IsNormalOf current place → IsNotFound files start e
     → HasNoManifest files current e o
@@ -122,7 +122,7 @@ none_unspecified files current start place o e given is normal none =
     subst (λ x. HasNoManifest files current e x) (sym given)
     (lacks_here place normal (subst (λ text. IsNotFound files text e) is none))
 
--- the error names the folder at the path that is specified, or says that nothing stands there
+-- the error has the folder at the specified path, or is `NoPath`
 pub start_specified : (current name whole place : List ℕ) (o : Option (List ℕ)) (e : Error) → o ≡ Some name
     → whole ≡ joined current name → IsNormalOf whole place → (e ≡ NoPath) ⊎ NamesFolder place e
     → NamesStart current o e
@@ -130,7 +130,7 @@ start_specified current name whole place o e given is normal lacks =
     subst (λ x. NamesStart current x e) (sym given)
     (⊎_elim inl (λ names. inr (place, subst (λ text. IsNormalOf text place) is normal, names)) lacks)
 
--- the error names the current folder
+-- the error has the current folder
 pub start_unspecified : (current start place : List ℕ) (o : Option (List ℕ)) (e : Error) → o ≡ None
     → start ≡ place → IsNormalOf current place → NamesFolder start e → NamesStart current o e
 start_unspecified current start place o e given is normal names =

@@ -1,4 +1,4 @@
--- What a table says where another version stands in it, and where the version of a record stands.
+-- A table after its version is replaced, and the place of the version requirement of a dependency.
 use Rattle.std.proofs.Common.{◌≡◌, ℕ, List, [], ◌∷◌, Option, Some, None, Result, Ok, Err, true, false, refl, ap, sym, ◌∙◌}
 use Rattle.std.specs.Prelude.{codes, if◌then◌else◌, option_and_then, option_map}
 use Rattle.std.specs.Result.{result_ok}
@@ -92,7 +92,7 @@ rest_record t dep named origin = ok_map (λ options. record {
   rename = (names_by named dep).1;
 }) (options_at t dep)
 
--- what a table says with another string for its version
+-- the result of reading a table with another string as its version
 pub table-versioned : (b : Tree) (o : Option View) (root dep s u : List ℕ)
     → table_record (with_text b o u) root dep ≡ ok_map (versioned (cut u))
     (table_record (with_text b o s) root dep)
@@ -109,9 +109,9 @@ table-versioned b o root dep s u =
     (rest_record (with_text b o s) dep named) (versioned (cut u))
     (λ origin. ok-map-both (options_at (with_text b o s) dep) _ _ (versioned (cut u)) (λ options. refl)))
 
--- ---- where a version stands
+-- ---- the place of a version
 
--- the member `version` is a string, and the requirement is what stands before its first `+`
+-- the value of `version` is a string, and the requirement is its part before the first `+`
 pub record IsVersion (t : Tree) (v : List ℕ) : Type 0 where
   pub text : List ℕ
   pub there : t (key (codes "version") ∷ []) ≡ Some (string text)
@@ -210,7 +210,7 @@ table-version t root dep v r h g =
 
 -- ---- entries
 
--- the version literal of an entry is a string, and its requirement is what stands before the first `+`
+-- the version literal of an entry is a string, and its requirement is the part before the first `+`
 pub record IsLiteralOf (t : Tree) (place : Place) (v : List ℕ) : Type 0 where
   pub text : List ℕ
   pub there : t (literal_at t place) ≡ Some (string text)
@@ -264,7 +264,7 @@ by-view t place root dep v r (Some (static_array x)) q h g =
 by-view t place root dep v r (Some (table_array x)) q h g =
     cc (sym (ap (λ (y : Option View). entry_record (below t place) root dep y) q) ∙ h)
 
--- where the requirement of an entry stands
+-- the place of the version requirement of an entry
 pub version-stands : (t : Tree) (place : Place) (root dep v : List ℕ) (r : EntryRecord)
     → result_ok (record_of t place root dep) ≡ Some r
     → version_in r ≡ Some v → IsLiteralOf t place v

@@ -1,4 +1,4 @@
--- A requirement that was set is the one that is told.
+-- A requirement that was set is the one that is read.
 use Rattle.std.proofs.Common.{◌≡◌, ℕ, false, ◌&&◌, ◌||◌, cond, List, [], ◌∷◌, Option, None, Some, refl, sym, ap, ap₂, ◌∙◌}
 use Rattle.std.specs.Prelude.{Result, Ok, codes}
 use Rattle.edit_tree.specs.Assertions.{Place, Step, at, key}
@@ -9,7 +9,7 @@ use Rattle.edit_tree.proofs.SamePlace.{not_below, other_place, same_place_self, 
 use Rattle.edit_manifest.specs.Tables.{Tree}
 use Rattle.edit_manifest.specs.Versions.{dep_version, member_place, requirement_in, version_member, version_place_in}
 
--- no place lies below a member of its own
+-- no place is below its own key
 not_above : (p : Place) (s : Step) → is_below (at p s) p ≡ false
 not_above [] s = refl
 not_above (x ∷ p) s = ap (λ b. b && is_below (at p s) p) (same_step_self x) ∙ not_above p s
@@ -22,7 +22,7 @@ edited_here : (place : Place) (text : List ℕ) (t : Tree) → edited place text
 edited_here place text t =
     ap (λ b. cond b (Some (string text)) (emptied (one_edit place text) t place)) (same_place_self place)
 
--- what stands above the place is as it was
+-- the items above the place are unchanged
 edited_above : (place : Place) (s : Step) (text : List ℕ) (t : Tree)
     → edited (at place s) text t place ≡ t place
 edited_above place s text t =
@@ -71,7 +71,7 @@ answered_in t u place literal text (Some (static_array n)) was e same = absurd c
 answered_in t u place literal text (Some (table_array n)) was e same = absurd cc
 answered_in t u place literal text None was e same = absurd cc
 
--- once a requirement is set, it is told
+-- after a requirement is set, it is read
 pub set_answered : (t u : Tree) (place literal : Place) (text : List ℕ)
     → version_place_in place (t place) (t (version_member place)) ≡ Ok literal
     → ((q : Place) → u q ≡ edited literal text t q) → dep_version u place ≡ Ok text

@@ -1,4 +1,4 @@
--- A tree once strings were written at places of strings: the same tables, with the same members.
+-- A tree after strings were written at places of strings: the same tables, with the same keys.
 use Rattle.std.proofs.Common.{◌≡◌, ℕ, List, [], ◌∷◌, ◌++◌, Bool, true, false, Option, Some, None, refl, ap, sym, ◌∙◌, inl, inr}
 use Rattle.std.specs.Prelude.{codes, if◌then◌else◌, option_to_list}
 use Rattle.std.specs.List.{flat_map}
@@ -11,9 +11,9 @@ use Rattle.edit_manifest.specs.Kinds.{is_kind}
 use Rattle.edit_manifest.specs.Tables.{Tree, dependency_tables, is_table_like, keyed, member_names, shared, tables_at, tables_of_target, tables_under, target_table, target_tables}
 use Rattle.std.specs.Str.{bytes_eq}
 
--- ---- what stands at a place
+-- ---- the item at a place
 
--- what stands there once a text was written
+-- the item after a string was written
 abbrev pub view_after : Option (List ℕ) → Option View → Option View
 view_after None v = v
 view_after (Some text) v = Some (string text)
@@ -25,7 +25,7 @@ written-by (w ∷ ws) t q = elim (cases_Bool (same_place w.0 q)) [
   | inr other ↦ rw other (written-by ws t q)
 ]
 
--- a string gives way to strings alone
+-- strings are only written over strings
 pub string-only : (ws : Edits) (t : Tree) (q : Place) → AreStrings ws t → is_string (t q) ≡ false
     → new_text ws q ≡ None
 string-only [] t q h fails = refl
@@ -39,7 +39,7 @@ pub stays : (ws : Edits) (t : Tree) (q : Place) → AreStrings ws t → is_strin
 stays ws t q h fails =
     written-by ws t q ∙ ap (λ (o : Option (List ℕ)). view_after o (t q)) (string-only ws t q h fails)
 
--- what is not told of a string is as before
+-- what does not depend on the value of a string is unchanged
 same-by : {A : Type 0} (f : Option View → A) (ws : Edits) (t : Tree) (q : Place) → AreStrings ws t
     → ((v w : Option View) → is_string v ≡ true → is_string w ≡ true → f v ≡ f w)
     → f (written ws t q) ≡ f (t q)
@@ -79,7 +79,7 @@ same-string ws t h q = same-by is_string ws t q h (λ v w a b. a ∙ sym b)
 
 -- ---- the tables
 
--- a list is gone through the same way
+-- a list is walked through the same way
 same-flat : {A B : Type 0} (f g : A → List B) (xs ys : List A) → ((x : A) → f x ≡ g x) → xs ≡ ys
     → flat_map f xs ≡ flat_map g ys
 same-flat {A = A} f g xs ys h e = go xs ∙ ap (flat_map g) e
@@ -88,7 +88,7 @@ same-flat {A = A} f g xs ys h e = go xs ∙ ap (flat_map g) e
     go [] = refl
     go (z ∷ zs) = ap (λ l. l ++ flat_map f zs) (h z) ∙ ap (λ l. g z ++ l) (go zs)
 
--- two trees with the same tables and members
+-- two trees with the same tables and keys
 pub record AreAlike (u t : Tree) : Type 0 where
   pub names : (q : Place) → member_names (u q) ≡ member_names (t q)
   pub like : (q : Place) → is_table_like (u q) ≡ is_table_like (t q)

@@ -1,4 +1,4 @@
--- Texts that are the same, and tests of which one holds.
+-- Equal texts, and tests of which one holds.
 use Rattle.std.proofs.Common.{◌≡◌, ℕ, List, Bool, true, false, refl, sym, ◌∙◌, inl, inr, ◌⊎◌}
 use Rattle.std.specs.Prelude.{◌||◌}
 use Rattle.std.specs.Str.{bytes_eq}

@@ -1,5 +1,5 @@
--- The entries of a manifest: the members of its dependency tables, in order, and what each says (Cargo
--- reference, "Specifying Dependencies").
+-- The entries of a manifest: the members of its dependency tables, in order (Cargo reference, "Specifying
+-- Dependencies").
 use Rattle.std.specs.Prelude.{ℕ, List, map, Option, if◌then◌else◌, codes}
 use Rattle.std.specs.List.{flat_map}
 use Rattle.std.specs.Result.{result_ok}
@@ -9,24 +9,24 @@ use Rattle.edit_record.specs.EntryRecords.{EntryRecord}
 use Rattle.edit_record.specs.ReadEntries.{record_of}
 use Rattle.edit_manifest.specs.Tables.{Tree, dependency_tables, member_names}
 
--- an entry
+-- the model of an entry
 pub record Entry : Type 0 where
-  -- its key, where it stands, and where its version literal does
+  -- its key, its place, and the place of its version literal
   pub name : List ℕ
   pub place : Place
   pub literal : Place
-  -- its record; none where that is refused
+  -- the dependency; none where reading it fails
   pub said : Option EntryRecord
 
--- the member that holds the requirement of an entry that is a table
+-- the place of the version requirement of an entry that is a table
 abbrev pub version_place : Place → Place
 version_place place = at place (key (codes "version"))
 
--- the version literal of an entry: itself where it is a string, else its member `version`
+-- the place of the version literal of an entry: itself if it is a string, else its key `version`
 abbrev pub literal_at : Tree → Place → Place
 literal_at t place = if is_string (t place) then place else version_place place
 
--- the entry of this name of a table, with its paths meant from this root on
+-- the entry of this key in a table, with relative paths joined to this root
 abbrev pub entry_at : Tree → List ℕ → Place → List ℕ → Entry
 entry_at t root table name = record {
   name = name;

@@ -1,4 +1,4 @@
--- Entries, as the program has them.
+-- The models of entries.
 use Rattle.std.specs.Prelude.{◌≡◌, ⊤, ℕ, List, Bool, true, false, Option, Some, None, Result, Err, string_bytes}
 use Rattle.edit_tree.specs.Assertions.{Place}
 use Rattle.edit_document.specs.Items.{place_seen}
@@ -12,17 +12,17 @@ use Rattle.edit_manifest.specs.declared.entries.found.Entry.{Entry}
 use Rattle.edit_manifest.specs.declared.entries.found.Said.{Said}
 use Rattle.edit_manifest.specs.declared.entries.found.Said.TheVariants.{Read, Unsupported}
 
--- where the version literal of an entry stands: itself where it is a string (own)
+-- the place of the version literal of an entry, given whether it is a string (own)
 abbrev pub literal_by : Bool → Place → Place
 literal_by true place = place
 literal_by false place = version_place place
 
--- what an entry says, by its texts (own)
+-- the model of a read entry (own)
 abbrev pub said_view : Said → Option EntryRecord
 said_view (Read d) = Some (record_view d)
 said_view (Unsupported error) = None
 
--- an entry, by its texts (own)
+-- the model of an entry (own)
 abbrev pub entry_view : Entry → named.Entry
 entry_view e = record {
   name = string_bytes e.key;
@@ -31,12 +31,12 @@ entry_view e = record {
   said = said_view e.said;
 }
 
--- where nothing was read, the error is the one with which reading the item fails (own)
+-- an unsupported entry has the error of reading the item (own)
 abbrev pub IsReason : Result EntryRecord Refusal → Said → Type 0
 IsReason read (Read d) = ⊤
 IsReason read (Unsupported error) = (r : Refusal) × (read ≡ Err r) × Tells r error
 
--- an entry without a record has the error with which reading the item at its place under its key fails, with
--- its paths meant from this root on (own)
+-- an unsupported entry has the error of reading the item at its place under its key, with relative paths
+-- joined to this root (own)
 abbrev pub HasReason : Tree → List ℕ → Entry → Type 0
 HasReason t root e = IsReason (record_of t (place_seen e.place.items) root (string_bytes e.key)) e.said

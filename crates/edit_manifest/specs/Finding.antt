@@ -1,4 +1,4 @@
--- A manifest that is found and read.
+-- Finding and reading a manifest.
 use Rattle.std.specs.Prelude.{◌≡◌, ◌⊎◌, ℕ, true, List, Option, Some}
 use Rattle.edit_base.specs.declared.errors.DeviceCall.TheVariants as call
 use Rattle.edit_base.specs.declared.errors.Error.{Error}
@@ -6,21 +6,21 @@ use Rattle.edit_store.specs.Store.{Files, StoreView}
 use Rattle.edit_manifest.specs.Loaded.{IsUnread}
 use Rattle.edit_manifest.specs.Located.{HasNoManifest, IsFault, IsManifestPath}
 
--- the manifest that is specified stands at the path, with these bytes
+-- the specified manifest is at this path, with these bytes
 pub record IsFound (files : Files) (current : List ℕ) (specified : Option (List ℕ))
     (path bytes : List ℕ) : Type 0 where
   pub at : IsManifestPath files current specified path
   pub is : files path ≡ Some bytes
 
--- something is wrong with the file of the manifest that is specified
+-- the file of the specified manifest is malformed or missing
 pub record IsWrongThere (files : Files) (current : List ℕ) (specified : Option (List ℕ)) (e : Error)
     : Type 0 where
   pub path : List ℕ
   pub at : IsManifestPath files current specified path
   pub wrong : IsUnread (files path) e
 
--- why no manifest is found and read: memory ran out or the device failed, or none is there, or something is
--- wrong with its file
+-- the errors of finding and reading a manifest: lack of memory, a fault of the device, no manifest, or a
+-- malformed one
 abbrev pub IsUnfoundOrUnread : StoreView → StoreView → List ℕ → Option (List ℕ) → Error → Type 0
 IsUnfoundOrUnread old new current specified e =
     IsFault call.Kind old.faults new.faults e

@@ -1,10 +1,10 @@
--- Lists of places, as contracts see them.
+-- Models of lists of places.
 use Rattle.std.specs.Prelude.{List, map}
 use Rattle.std.specs.Global.{Vec}
 use Rattle.edit_document.specs.declared.place.Step.{Step}
 use Rattle.edit_tree.specs.Assertions.{Place}
 use Rattle.edit_document.specs.Items.{place_seen}
 
--- the places
+-- the models of the places
 abbrev pub places_seen : List (Vec Step) → List Place
 places_seen ps = map (λ p. place_seen p.items) ps

@@ -1,4 +1,4 @@
--- A loop over the elements of an array: what was read so far, and what is left to read.
+-- A loop over the elements of an array: the elements that were read so far, and the tokens that are left.
 use Rattle.std.proofs.Common.{◌≡◌, ℕ, ◌-◌, ◌<◌, ◌≤◌, List, [], ◌∷◌, ◌++◌, length, Option, Some, None, refl, sym, ap, ◌∙◌, subst, arith}
 use Rattle.std.specs.List.{AllZip}
 use Rattle.std.proofs.lemmas.List.{append-nil, append_assoc}
@@ -11,7 +11,7 @@ use Rattle.edit_json.specs.Reads.{ReadsItems, ReadsValue}
 use Rattle.edit_json.proofs.GrammarLemmas.{item_read, items_over, none_before}
 use Rattle.edit_metadata.specs.Metadata.{values}
 
--- the elements that a reader passed on its way from the first tokens to the second say these
+-- the elements between the first tokens and the second are these
 abbrev pub HasRead : {B : Type 0} → ℕ → (Data → B → Type 0) → List Token → List Token → List B → Type 0
 HasRead depth Says first reader ys =
     (n : ℕ) × (length reader ≤ n) × (f : Items → Items)
@@ -27,7 +27,7 @@ module _ {B : Type 0} (depth : ℕ) (Says : Data → B → Type 0) (first : List
   pub begin : HasRead depth Says first first []
   begin = (length first, omega arith, (λ ds. ds), none_before _, omega arith, [], (λ ds. refl), tt)
 
-  -- an element more
+  -- one element more
   pub element-more : (reader rest : List Token) (ys : List B) (d : Data) (y : B) → HasRead depth Says first reader ys
       → after_end_array reader ≡ None → ReadsValue depth reader d rest → length rest < length reader → Says d y
       → HasRead depth Says first rest (ys ++ y ∷ [])

@@ -1,4 +1,4 @@
--- Sets of texts, and the lists that they were made of.
+-- Sets of texts, and the lists that they were built from.
 use Rattle.std.proofs.Common.{◌≡◌, ◌≢◌, ℕ, zero, suc, ◌<◌, List, [], ◌∷◌, ◌++◌, length, get_or, Bool, true, false, cond, BTreeSet, Bor, refl, ap, sym, ◌∙◌, subst, arith}
 use Rattle.std.specs.Prelude.{◌||◌, AllPairs, Contains, slice_index_or}
 use Rattle.std.specs.BTreeSet.{UpdatesBy}

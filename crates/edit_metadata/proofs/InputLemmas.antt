@@ -1,4 +1,4 @@
--- The manifests of members among packages, and why one of them is not read.
+-- The manifests of the members of packages, and the errors of reading them.
 use Rattle.std.proofs.Common.{◌≡◌, ℕ, zero, suc, ◌+◌, ◌<◌, ◌≤◌, List, [], ◌∷◌, ◌++◌, true, false, Option, length, map, take, drop, get_or, string_bytes, option_map, arith, refl, ap, sym, ◌∙◌, subst, inl, inr, ⊎_elim}
 use Rattle.std.specs.Prelude.{Contains, All}
 use Rattle.std.proofs.Math.Nat.{eq-or-lt_of_le}
@@ -118,14 +118,14 @@ has-path is i input path within at same =
     (Contains-append_left (map f (take (i + 1) is)) (map f (drop (i + 1) is)) path
     (subst (λ xs. Contains xs path) (sym more) here))
 
--- ---- refusals
+-- ---- errors
 
 raised_later : (a b c : ℕ) → a ≤ b → raised b c → raised a c
 raised_later a b c le (inl lt) = inl (omega arith)
 raised_later a b c le (inr ends) = ⊎_elim (λ same. inr (same ∙ ends.0, ends.1)) (λ lt. inl (omega arith))
     (eq-or-lt_of_le le)
 
--- a refusal of a call is one from an earlier count on
+-- an error of a call is one from an earlier count on
 pub refused-later : (first old new : StoreView) (e : Error) → OnlyReads first old
     → RefusesCall call.Read old new e → RefusesCall call.Read first new e
 refused-later first old new e reads (inl memory) = inl memory

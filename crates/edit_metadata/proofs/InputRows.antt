@@ -1,4 +1,4 @@
--- The inputs of a workspace: rows worked out.
+-- Examples of the inputs of a workspace.
 use Rattle.std.proofs.Common.{◌≡◌, ℕ, Bool, List, true, false, [], ◌∷◌, Some, None, refl}
 use Rattle.std.specs.Prelude.{codes}
 use Rattle.semver.specs.Parse.{Parts}
@@ -10,7 +10,7 @@ use Rattle.edit_metadata.specs.Metadata.{PackageSaid, WorkspaceSaid}
 abbrev first : Parts
 first = (1, 0, 0, [], [])
 
--- what is said of a package: its name, its manifest, its Rust version, and whether it is a member
+-- a package: its name, its manifest, its Rust version, and whether it is a member
 abbrev said : List ℕ → List ℕ → Numbers → Bool → PackageSaid
 said name manifest_path rust_version member = record {
   name = name;
@@ -22,7 +22,7 @@ said name manifest_path rust_version member = record {
   member = member;
 }
 
--- members of two Rust versions, and a package of a lesser one that is no member
+-- members of two Rust versions, and a package of a smaller one that is no member
 abbrev one : PackageSaid
 one = said (codes "a") (codes "/w/a/Cargo.toml") (1, 71, 0) true
 
@@ -35,7 +35,7 @@ other = said (codes "c") (codes "/c/Cargo.toml") (1, 1, 0) false
 abbrev workspace : WorkspaceSaid
 workspace = record { root = codes "/w"; packages = one ∷ other ∷ two ∷ [] }
 
--- the root's manifest has the least Rust version of the members'
+-- the root's manifest has the smallest Rust version of the members
 root_of_two : root_manifest workspace ≡ record {
   name = codes "virtual workspace";
   path = codes "/w/Cargo.toml";
@@ -49,7 +49,7 @@ members_of_two : member_manifests workspace.packages ≡
     ∷ record { name = codes "b"; path = codes "/w/b/Cargo.toml"; rust_version = Some (1, 70, 2) } ∷ []
 members_of_two = refl
 
--- a member without one counts for nothing
+-- a member without a Rust version is ignored
 least_of_some : least (None ∷ Some (1, 71, 0) ∷ None ∷ Some (1, 70, 9) ∷ Some (2, 0, 0) ∷ [])
     ≡ Some (1, 70, 9)
 least_of_some = refl
@@ -57,7 +57,7 @@ least_of_some = refl
 least_of_none : least (None ∷ None ∷ []) ≡ None
 least_of_none = refl
 
--- the given one stands before all, also where they are ignored
+-- the given Rust version counts, even if those of the manifests are ignored
 given_first : rust_version_for (record { given = Some (1, 2, 3); ignored = false }) (Some (1, 71, 0))
     ≡ Some (1, 2, 3)
 given_first = refl

@@ -1,4 +1,4 @@
--- The paths of the members among packages.
+-- The paths of the manifests of members.
 use Rattle.std.proofs.Common.{◌≡◌, ℕ, ◌+◌, ◌<◌, List, [], ◌∷◌, ◌++◌, Bool, true, false, cond, length, map, take, get_or, string_bytes, ap, sym, ◌∙◌}
 use Rattle.std.proofs.lemmas.List.{append-nil, map-append, take_more}
 use Rattle.std.proofs.lemmas.List.Elements.{filter-append}
@@ -9,7 +9,7 @@ use Rattle.edit_metadata.specs.declared.workspace.Package.{Package}
 one : (p : PackageSaid) (b : Bool) → p.member ≡ b → members (p ∷ []) ≡ cond b (p ∷ []) []
 one p b is = ap (λ x. cond x (p ∷ []) []) is
 
--- the members among packages with one more
+-- the members of packages with one more
 pub members-more : (ps : List Package) (i : ℕ) (p : Package) (b : Bool) → i < length ps → p ≡ get_or ps i p
     → p.member ≡ b
     → members (packages_said (take (i + 1) ps)) ≡ members (packages_said (take i ps))

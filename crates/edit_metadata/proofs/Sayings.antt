@@ -1,4 +1,4 @@
--- What a value says: one workspace, of packages whose versions can be read.
+-- The workspace of a JSON value is unique, and the versions of its packages can be parsed.
 use Rattle.std.proofs.Common.{◌≡◌, ℕ, zero, suc, ◌<◌, List, [], ◌∷◌, length, map, Option, Some, None, Result, Ok, Err, Bool, refl, ap, sym, ◌∙◌, subst, arith}
 use Rattle.std.specs.Prelude.{option_and_then, slice_index_or, codes}
 use Rattle.std.specs.List.{AllZip}
@@ -27,7 +27,7 @@ read-some : (text : Option (List ℕ)) (v : Parts) → option_and_then version_r
 read-some None v is = cc is
 read-some (Some text) v is = read-ok text (version_parts text) v refl is
 
--- the versions of packages that are said can be read
+-- the versions of packages that were read can be parsed
 pub versions-readable : (listed : List ℕ → Bool) (ds : List Data) (ps : List Package)
     → AllZip (SaysPackage listed) ds (map package_said ps)
     → (k : ℕ) (p : Package) → k < length ps → IsReadable (parts_of (slice_index_or ps k p).version)
@@ -40,7 +40,7 @@ versions-readable listed (d ∷ ds) (q ∷ ps) all (suc k) p within = versions-r
 
 -- ---- ids
 
--- a package, where the same ids are listed
+-- a package, if the same ids are listed
 pub says-as : (f g : List ℕ → Bool) → ((id : List ℕ) → f id ≡ g id) → (d : Data) (p : PackageSaid)
     → SaysPackage f d p → SaysPackage g d p
 says-as f g same d p says = record {
@@ -54,17 +54,17 @@ says-as f g same d p says = record {
   member = says.member ∙ same p.id;
 }
 
--- packages, where the same ids are listed
+-- packages, if the same ids are listed
 pub packages-as : (f g : List ℕ → Bool) → ((id : List ℕ) → f id ≡ g id)
     → (ds : List Data) (ps : List PackageSaid)
     → AllZip (SaysPackage f) ds ps → AllZip (SaysPackage g) ds ps
 packages-as f g same ds ps = zipped-as (SaysPackage f) (SaysPackage g) ds ps (says-as f g same)
 
--- the ids of members are one list
+-- the list of the members' ids is unique
 pub ids-once : (ds : List Data) (xs ys : List (List ℕ)) → AllZip IsText ds xs → AllZip IsText ds ys → xs ≡ ys
 ids-once ds xs ys = zipped-once IsText ds xs ys (λ d x y a b. some-same x y (sym a ∙ b))
 
--- the packages of a workspace that is said, over the values and the ids that stand there
+-- the packages of a workspace, given its values and ids
 pub packages-within : (d : Data) (w : WorkspaceSaid) (listed said : List Data) (ids : List (List ℕ))
     → SaysWorkspace d w
     → values_at (codes "workspace_members") d ≡ Some listed → AllZip IsText listed ids

@@ -1,4 +1,4 @@
--- The values of an array, as a list and as JSON has them, and what is there.
+-- The elements of a JSON array, as a list and as data.
 use Rattle.std.proofs.Common.{◌≡◌, List, [], ◌∷◌, Some, refl, ap}
 use Rattle.std.specs.Prelude.{unwrap_or}
 use Rattle.serde_json.specs.Data.{Data}

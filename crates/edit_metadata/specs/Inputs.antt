@@ -1,4 +1,4 @@
--- The manifests of a workspace that plans are made for (own).
+-- The manifests of a workspace to plan for (own).
 use Rattle.std.specs.Prelude.{◌≡◌, ◌≢◌, ◌⊎◌, ℕ, List, ◌∷◌, AllPairs, Bool, true, Option, Some, None, codes, Contains, if◌then◌else◌, map, option_map, string_bytes}
 use Rattle.std.specs.List.{AllZip, fold}
 use Rattle.std.specs.Option.{option_or}
@@ -13,28 +13,28 @@ use Rattle.edit_metadata.specs.declared.input.Input.{Input}
 
 -- ---- Rust versions
 
--- the lesser of two Rust versions; where one is none, the other
+-- the smaller of two Rust versions; if one is absent, the other
 abbrev pub lesser : Option Numbers → Option Numbers → Option Numbers
 lesser None b = b
 lesser (Some a) None = Some a
 lesser (Some a) (Some b) = if is_above a b then Some b else Some a
 
--- the least of these Rust versions, none where each is none
+-- the smallest of these Rust versions, none if all are absent
 abbrev pub least : List (Option Numbers) → Option Numbers
 least versions = fold lesser None versions
 
--- the Rust version that is asked for, and whether Rust versions are ignored
+-- the options for Rust versions: the given one, and whether those of the manifests are ignored
 pub record RustAsked : Type 0 where
   pub given : Option Numbers
   pub ignored : Bool
 
--- the Rust version to plan for: the given one; none where they are ignored; else the manifest's own
+-- the Rust version to plan for: the given one, else none if they are ignored, else the manifest's own
 abbrev pub rust_version_for : RustAsked → Option Numbers → Option Numbers
 rust_version_for asked own = option_or asked.given (if asked.ignored then None else own)
 
 -- ---- manifests
 
--- a manifest of a workspace: what reports call it, its path as it is written, and its own Rust version
+-- the model of a manifest of a workspace: its name in reports, its path as written, and its own Rust version
 pub record ManifestSaid : Type 0 where
   pub name : List ℕ
   pub path : List ℕ
@@ -44,11 +44,11 @@ pub record ManifestSaid : Type 0 where
 abbrev pub manifest_of : PackageSaid → ManifestSaid
 manifest_of p = record { name = p.name; path = p.manifest_path; rust_version = p.rust_version }
 
--- the manifests of the members among packages, in order
+-- the manifests of the members of these packages, in order
 abbrev pub member_manifests : List PackageSaid → List ManifestSaid
 member_manifests ps = map manifest_of (members ps)
 
--- the manifest of the workspace itself; its Rust version is the least of the members'
+-- the manifest in the root of the workspace; its Rust version is the smallest of the members'
 abbrev pub root_manifest : WorkspaceSaid → ManifestSaid
 root_manifest w = record {
   name = codes "virtual workspace";
@@ -62,7 +62,7 @@ manifests w = root_manifest w ∷ member_manifests w.packages
 
 -- ---- inputs
 
--- an input is made of this manifest, but for its bytes
+-- the input is that of this manifest, except for its bytes
 pub record IsInputOf (asked : RustAsked) (m : ManifestSaid) (i : Input) : Type 0 where
   pub name : string_bytes i.name ≡ m.name
   pub path : IsNormalOf m.path (string_bytes i.path)
@@ -76,11 +76,12 @@ path_of i = string_bytes i.path
 abbrev pub input_paths : List Input → List (List ℕ)
 input_paths is = map (λ i. string_bytes i.path) is
 
--- no two inputs have one path
+-- no two inputs have the same path
 abbrev pub HaveOwnPaths : List Input → Type 0
 HaveOwnPaths is = AllPairs (λ a b. path_of a ≢ path_of b) is
 
--- the inputs of a workspace: the members' in order, and before them the root's where no member has its path
+-- the inputs of a workspace: those of the members in order and, if none of them has the root's path, that of
+-- the root before them
 pub data AreInputs (asked : RustAsked) (w : WorkspaceSaid) : List Input → Type 0 where
   of_members : (root : List ℕ) (is : List Input) → AllZip (IsInputOf asked) (member_manifests w.packages) is
       → IsNormalOf (root_manifest w).path root → Contains (input_paths is) root → AreInputs asked w is
@@ -88,13 +89,13 @@ pub data AreInputs (asked : RustAsked) (w : WorkspaceSaid) : List Input → Type
       → IsInputOf asked (root_manifest w) i → (Contains (input_paths is) (string_bytes i.path) → ⊥)
       → AreInputs asked w (i ∷ is)
 
--- an input has the bytes of the file at its path
+-- the input has the bytes of the file at its path
 abbrev pub IsReadFrom : Files → Input → Type 0
 IsReadFrom files i = files (string_bytes i.path) ≡ Some i.bytes.items
 
--- ---- refusals
+-- ---- errors
 
--- no file stands at the normal path of one of these manifests
+-- no file exists at the normalised path of one of these manifests
 pub record LackFile (files : Files) (ms : List ManifestSaid) : Type 0 where
   pub manifest : ManifestSaid
   pub among : Contains ms manifest
@@ -102,7 +103,7 @@ pub record LackFile (files : Files) (ms : List ManifestSaid) : Type 0 where
   pub is_normal : IsNormalOf manifest.path path
   pub absent : files path ≡ None
 
--- why no inputs are made of manifests: memory ran out or the device failed, or a file is not there
+-- the errors of reading manifests: lack of memory, a fault of the device, or a missing file
 abbrev pub IsNoInput : StoreView → StoreView → List ManifestSaid → Error → Type 0
 IsNoInput old new ms e =
     RefusesCall call.Read old new e

@@ -1,5 +1,4 @@
--- What metadata say of a workspace: JSON as `cargo metadata` prints it (The Cargo Book, "cargo metadata",
--- JSON format).
+-- The workspace in the output of `cargo metadata` (The Cargo Book, "cargo metadata", JSON format).
 use Rattle.std.specs.Prelude.{◌≡◌, ℕ, List, [], ◌∷◌, Option, Some, None, option_map, option_and_then, Bool, true, codes, nat_eq}
 use Rattle.std.specs.List.{AllZip, filter, list_any, starts_with}
 use Rattle.std.specs.Str.{IsUtf8, bytes_eq}
@@ -10,33 +9,33 @@ use Rattle.serde_json.specs.Read.{read}
 use Rattle.edit_version.specs.ReadVersion.{version_read}
 use Rattle.edit_version.specs.RustVersions.{Numbers, rust_of}
 
--- ---- what a member of an object says
+-- ---- members of an object
 
--- the text of a member, where a text stands there
+-- the string of a member, if it holds one
 abbrev pub text_at : List ℕ → Data → Option (List ℕ)
 text_at name d = option_and_then as_str (get name d)
 
--- a text that may be left out or null
+-- the string of a member that may be absent or null; none where it holds anything else
 abbrev pub maybe_text : Option Data → Option (Option (List ℕ))
 maybe_text None = Some None
 maybe_text (Some null) = Some None
 maybe_text (Some (string text)) = Some (Some text)
 maybe_text (Some other) = None
 
--- the text of a member that may be left out or null; none where something else stands there
+-- the string of the member of this name, which may be absent or null; none where it holds anything else
 abbrev pub maybe_text_at : List ℕ → Data → Option (Option (List ℕ))
 maybe_text_at name d = maybe_text (get name d)
 
--- the values of an array
+-- the elements of an array
 abbrev pub values : Items → List Data
 values no_items = []
 values (item d ds) = d ∷ values ds
 
--- the values of a member, where an array stands there
+-- the elements of a member, if it holds an array
 abbrev pub values_at : List ℕ → Data → Option (List Data)
 values_at name d = option_map values (option_and_then as_array (get name d))
 
--- a value is this text
+-- the value is this string
 abbrev pub IsText : Data → List ℕ → Type 0
 IsText d text = as_str d ≡ Some text
 
@@ -46,7 +45,7 @@ is_absolute path = starts_with nat_eq path (codes "/")
 
 -- ---- packages
 
--- a package that metadata tell of
+-- the model of a package
 pub record PackageSaid : Type 0 where
   pub name : List ℕ
   pub id : List ℕ
@@ -56,21 +55,21 @@ pub record PackageSaid : Type 0 where
   pub rust_version : Option Numbers
   pub member : Bool
 
--- the version of a package, where a text stands there that is one (SemVer 2.0.0)
+-- the version of a package, if it is a string with a valid version (SemVer 2.0.0)
 abbrev pub version_said : Data → Option Parts
 version_said d = option_and_then version_read (text_at (codes "version") d)
 
--- the Rust version of a package; a text that names none counts as left out (own)
+-- the Rust version of a package; an invalid one counts as absent (own)
 abbrev pub rust_version_said : Data → Option (Option Numbers)
 rust_version_said d =
     option_map (λ text. option_and_then rust_of text) (maybe_text_at (codes "rust_version") d)
 
--- whether an id is among those of the members
+-- whether an id is one of the members'
 abbrev pub is_listed : List (List ℕ) → List ℕ → Bool
 is_listed ids id = list_any (λ listed. bytes_eq listed id) ids
 
--- an object says this package, where ids of members are those that pass a test
--- (The Cargo Book, "cargo metadata", packages)
+-- the package of a JSON object, given a test for the ids of members (The Cargo Book, "cargo metadata",
+-- packages)
 pub record SaysPackage (listed : List ℕ → Bool) (d : Data) (p : PackageSaid) : Type 0 where
   pub name : text_at (codes "name") d ≡ Some p.name
   pub id : text_at (codes "id") d ≡ Some p.id
@@ -81,18 +80,18 @@ pub record SaysPackage (listed : List ℕ → Bool) (d : Data) (p : PackageSaid)
   pub rust_version : rust_version_said d ≡ Some p.rust_version
   pub member : p.member ≡ listed p.id
 
--- those of these packages that are members, in their order
+-- the packages that are members, in their order
 abbrev pub members : List PackageSaid → List PackageSaid
 members ps = filter (λ p. p.member) ps
 
 -- ---- the workspace
 
--- a workspace that metadata tell of: its folder, and its packages in their order
+-- the model of a workspace: its root, and its packages in their order
 pub record WorkspaceSaid : Type 0 where
   pub root : List ℕ
   pub packages : List PackageSaid
 
--- a JSON value says this workspace (The Cargo Book, "cargo metadata", workspace_root, workspace_members)
+-- the workspace of a JSON value (The Cargo Book, "cargo metadata", workspace_root, workspace_members)
 pub record SaysWorkspace (d : Data) (w : WorkspaceSaid) : Type 0 where
   pub root : text_at (codes "workspace_root") d ≡ Some w.root
   pub absolute : is_absolute w.root ≡ true
@@ -104,7 +103,7 @@ pub record SaysWorkspace (d : Data) (w : WorkspaceSaid) : Type 0 where
   pub has_packages : values_at (codes "packages") d ≡ Some said
   pub packages : AllZip (SaysPackage (is_listed ids)) said w.packages
 
--- the bytes are the JSON of a value that says this workspace
+-- the bytes are the JSON of a value with this workspace
 pub record AreMetadata (bytes : List ℕ) (w : WorkspaceSaid) : Type 0 where
   pub utf8 : IsUtf8 bytes
   pub value : Data

@@ -1,4 +1,4 @@
--- The texts that are read of the output of `cargo metadata` without a tree.
+-- The strings that are read from the output of `cargo metadata` token by token.
 use Rattle.std.specs.Prelude.{◌≡◌, ℕ, List, Some, IfSome, codes, map, option_map}
 use Rattle.std.specs.List.{AllZip}
 use Rattle.serde_json.specs.Data.{Data}
@@ -6,7 +6,7 @@ use Rattle.edit_metadata.specs.Metadata.{IsText, maybe_text_at, text_at, values_
 use Rattle.edit_metadata.specs.declared.package_texts.PackageTexts.{PackageTexts}
 use Rattle.edit_metadata.specs.declared.workspace_texts.WorkspaceTexts.{WorkspaceTexts}
 
--- the texts are those of the members of a package's value
+-- the strings are those of a package's value
 pub record ShowsPackage (d : Data) (p : PackageTexts) : Type 0 where
   pub name : text_at (codes "name") d ≡ option_map (λ s. s.now) p.name
   pub id : text_at (codes "id") d ≡ option_map (λ s. s.now) p.id
@@ -15,15 +15,15 @@ pub record ShowsPackage (d : Data) (p : PackageTexts) : Type 0 where
   pub source : maybe_text_at (codes "source") d ≡ Some (option_map (λ s. s.now) p.source)
   pub rust_version : maybe_text_at (codes "rust_version") d ≡ Some (option_map (λ s. s.now) p.rust_version)
 
--- a member of a value is an array of these packages
+-- the member `packages` of the value is an array of these packages
 abbrev pub ShowsPackages : Data → List PackageTexts → Type 0
 ShowsPackages d ps = (said : List Data) × (values_at (codes "packages") d ≡ Some said) × AllZip ShowsPackage said ps
 
--- a member of a value is an array of these ids
+-- the member `workspace_members` of the value is an array of these ids
 abbrev pub ShowsIds : Data → List (List ℕ) → Type 0
 ShowsIds d ids = (listed : List Data) × (values_at (codes "workspace_members") d ≡ Some listed) × AllZip IsText listed ids
 
--- the texts are those of the members of the metadata's value, where they were read
+-- the strings are those of the output's value, as far as they were read
 pub record ShowsWorkspace (d : Data) (w : WorkspaceTexts) : Type 0 where
   pub root : IfSome w.root (λ s. text_at (codes "workspace_root") d ≡ Some s.now)
   pub ids : IfSome w.ids (λ v. ShowsIds d (map (λ s. s.now) v.items))

@@ -1,4 +1,4 @@
--- A workspace as contracts see it, and what reading one answers.
+-- The models of workspaces, and the errors of reading one.
 use Rattle.std.specs.Prelude.{◌≡◌, ◌⊎◌, ◌&&◌, ℕ, Bool, List, map, option_map, string_bytes}
 use Rattle.std.specs.Str.{bytes_eq}
 use Rattle.semver.specs.Identifiers.{parts_of}
@@ -11,7 +11,7 @@ use Rattle.edit_metadata.specs.Metadata.{AreMetadata, PackageSaid, WorkspaceSaid
 use Rattle.edit_metadata.specs.declared.workspace.Package.{Package}
 use Rattle.edit_metadata.specs.declared.workspace.Workspace.{Workspace}
 
--- what a package shows
+-- the model of a package
 abbrev pub package_said : Package → PackageSaid
 package_said p = record {
   name = string_bytes p.name;
@@ -23,11 +23,11 @@ package_said p = record {
   member = p.member;
 }
 
--- what packages show, in order
+-- the models of packages, in order
 abbrev pub packages_said : List Package → List PackageSaid
 packages_said ps = map package_said ps
 
--- what a workspace shows
+-- the model of a workspace
 abbrev pub workspace_said : Workspace → WorkspaceSaid
 workspace_said w = record { root = string_bytes w.root; packages = packages_said w.packages.items }
 
@@ -35,24 +35,24 @@ workspace_said w = record { root = string_bytes w.root; packages = packages_said
 abbrev pub member_paths : List PackageSaid → List (List ℕ)
 member_paths ps = map (λ p. p.manifest_path) (members ps)
 
--- the members' manifests stand in folders of their own
+-- the manifests of the members are in folders of their own
 abbrev pub HasOwnFolders : WorkspaceSaid → Type 0
 HasOwnFolders w = HaveOwnFolders (member_paths w.packages)
 
--- the bytes say no workspace
+-- the bytes are not the output of `cargo metadata` for any workspace
 abbrev pub SayNothing : List ℕ → Type 0
 SayNothing bytes = (w : WorkspaceSaid) → AreMetadata bytes w → ⊥
 
--- the bytes say a workspace, and two of its members share the folder that is named
+-- the bytes are the output for a workspace, of which two members share the folder of the error
 pub record SayFolderTwice (bytes : List ℕ) (e : Error) : Type 0 where
   pub workspace : WorkspaceSaid
   pub said : AreMetadata bytes workspace
   pub shared : ShareNamed (member_paths workspace.packages) e
 
--- why no workspace is read: memory ran out, the bytes say none, or two members share a folder
+-- the errors of reading a workspace: lack of memory, malformed output, or two members that share a folder
 abbrev pub IsNoWorkspace : List ℕ → Error → Type 0
 IsNoWorkspace bytes e = IsMemory e ⊎ (((e ≡ Metadata) × SayNothing bytes) ⊎ SayFolderTwice bytes e)
 
--- a member of this name
+-- the package is a member of this name
 abbrev pub is_member_named : List ℕ → Package → Bool
 is_member_named name p = p.member && bytes_eq (string_bytes p.name) name

@@ -1,4 +1,4 @@
--- The order of entries, and what the greatest of them says of versions.
+-- The order of index entries, and the version of the greatest of them.
 use Rattle.std.proofs.Common.{◌≡◌, List, ℕ, Option, Some, None, Bool, ap, ◌∙◌}
 use Rattle.std.specs.Prelude.{IsTrue, option_and_then}
 use Rattle.semver.specs.Parse.{Parts}
@@ -21,7 +21,7 @@ use Rattle.edit_version.proofs.Kept.{admissible-version, read-parts}
 use Rattle.edit_version.proofs.Offers.{admitted-allowed}
 use Rattle.edit_version.proofs.GreatestEntries.{entry_total, kept-weaker, admissible-valid, none-versions, greatest-versions}
 
--- where a requirement has a greatest entry, the latest one is there and not less
+-- if a requirement has a greatest entry, the latest one exists and is not less
 pub found-at_least : (rust : Option Numbers) (pre : Bool) (entries : List IndexEntry) (o : Option Dependency)
     → IsFound rust (is_allowed pre) entries o
     → (req : List ℕ) → (IsTrue (holds_dash req) → IsTrue pre) → (e : IndexEntry)
@@ -40,9 +40,9 @@ found-at_least rust pre entries (Some d) h req dash e g = (
       x k) entries e h.0 g h.1,
 )
 
--- ---- what a search finds, in versions
+-- ---- the result of a search, by version
 
--- a found dependency has the name of an entry and the text of the greatest version, without build metadata
+-- the result has the name of an entry and the text of the greatest version, without build metadata
 pub found-version : (rust : Option Numbers) (test : Parts → Bool) (entries : List IndexEntry)
     (d : Dependency) → IsFound rust test entries (Some d)
     → (v : Parts) × IsValid v × IsGreatestKept test full_order (admissible_in rust entries) v

@@ -1,4 +1,4 @@
--- How the checks of an entry go on, and where they stop.
+-- The checks while an entry is read: how they continue, and where they stop.
 use Rattle.std.proofs.Common.{◌≡◌, ℕ, zero, suc, ◌+◌, ◌-◌, ◌<◌, true, false, List, [], ◌∷◌, ◌++◌, Some, None, Result, Ok, Err, codes, refl, ap, ◌∙◌, inl, inr, arith, append-nil, add-zero, add-suc}
 use Rattle.edit_base.specs.declared.errors.Error.{Error}
 use Rattle.edit_tree.specs.Assertions.{Step, Place, at, index}
@@ -16,13 +16,13 @@ pub told_refusal : {A : Type 0} (r : Refusal) (told : Result A Refusal) (e : Err
     told ≡ Err r → Tells r e → IsRefused told e
 told_refusal r told e is tells = inr (r, is, tells)
 
--- an error stays in what follows
+-- an error is not changed by what follows
 pub refusal_stays : {A B : Type 0} (told : Result A Refusal) (f : A → Result B Refusal) (e : Error) →
     IsRefused told e → IsRefused (and_then told f) e
 refusal_stays told f e (inl memory) = inl memory
 refusal_stays told f e (inr h) = inr (h.0, ap (λ x. and_then x f) h.1, h.2)
 
--- past a value, an error of what follows
+-- an error of what follows a value
 pub refusal_past : {A B : Type 0} (told : Result A Refusal) (f : A → Result B Refusal) (x : A) (e : Error) →
     told ≡ Ok x → IsRefused (f x) e → IsRefused (and_then told f) e
 refusal_past told f x e is refused = rw is refused
@@ -35,7 +35,7 @@ pub no_text : (dep name : List ℕ) (v : View) (e : Error) → None ≡ string_i
 no_text dep name v e none tells =
     rw (← none) (inr (wrong_type (type_name_of v) name (codes "string") dep, refl, tells))
 
--- what stands below a member, as the entry's own tree shows it
+-- the tree below a key, as part of the entry's own tree
 pub shown_below : (d : Shown) (p : Place) (s : Step) →
     below (tree_of d) (at p s) ≡ below (below (tree_of d) p) (s ∷ [])
 shown_below d [] s = refl
@@ -74,7 +74,7 @@ wrong_element t dep n m ss v e first there (inr h) lt =
     let here : first_texts t dep (suc n) ≡ Err h.0 = rw (first, there, h.1) refl in
     inr (h.0, ap (first_texts t dep) more ∙ refused_later t dep (suc n) (m - suc n) h.0 here, h.2)
 
--- ---- what is not of its type
+-- ---- values of a wrong type
 
 -- no array
 pub no_array : (t : Tree) (dep : List ℕ) (v : View) (e : Error) → is_static_array v ≡ false →
@@ -116,7 +116,7 @@ table_entry t root dep v is = absurd cc
 
 -- ---- trees
 
--- a member's own tree is what the entry's tree shows below its name
+-- the tree of a key's value is the part of the entry's tree below that key
 pub member_tree : (i : Item) (d : Shown) (p : Place) (s : Step) → document_of i ≡ d → place_of i ≡ at p s →
     shown_at i ≡ below (below (tree_of d) p) (s ∷ [])
 member_tree i d p s same there = (λ j. below (tree_of (same j)) (there j)) ∙ shown_below d p s

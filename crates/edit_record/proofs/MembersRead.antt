@@ -1,4 +1,4 @@
--- What is read of an inline table with the members of a source and the options of a record.
+-- The result of reading an inline table with the keys of a source and the options of a dependency.
 use Rattle.std.proofs.Common.{◌≡◌, ◌≤◌, ℕ, false, List, ◌++◌, length, refl, ◌∙◌, Option, Some, None, arith}
 use Rattle.std.specs.Prelude.{Result, Ok, option_map, option_to_list, codes}
 use Rattle.edit_base.specs.Paths.{joined}
@@ -14,7 +14,7 @@ use Rattle.edit_record.proofs.NewMembers.{held, held-past, past-where, other-whe
 
 -- ---- the options
 
--- no member of these has the name of an option
+-- none of these keys is that of an option
 pub record IsApart (front : List Member) : Type 0 where
   registry : held (codes "registry") front ≡ None
   package_name : held (codes "package") front ≡ None
@@ -23,7 +23,7 @@ pub record IsApart (front : List Member) : Type 0 where
   features : held (codes "features") front ≡ None
   optional : held (codes "optional") front ≡ None
 
--- what is read of the options behind them, and of the source in them
+-- the result of reading the options after the source, and of reading the source before them
 abbrev pub read_again : EntryRecord → Origin → EntryRecord
 read_again r origin = record {
   name = (names_by (written_name r) (key_of r)).0;
@@ -60,7 +60,7 @@ table-again root front r origin apart at =
 
 -- ---- sources
 
--- no option has the name of a source's member
+-- no option has the key of a source
 no_git : (r : EntryRecord) → held (codes "git") (option_members r) ≡ None
 no_git r = options-lack r (codes "git") refl refl refl refl refl
 
@@ -79,7 +79,7 @@ no_tag r = options-lack r (codes "tag") refl refl refl refl refl
 no_rev : (r : EntryRecord) → held (codes "rev") (option_members r) ≡ None
 no_rev r = options-lack r (codes "rev") refl refl refl refl refl
 
--- a repository
+-- a Git source
 abbrev git_at : List ℕ → Option (List ℕ) → Option (List ℕ) → Option (List ℕ) → Option (List ℕ) → Repository
 git_at address branch tag rev version = record {
   address = address;
@@ -89,7 +89,7 @@ git_at address branch tag rev version = record {
   version = version;
 }
 
--- the source that is read of what is written of one
+-- the result of reading a source that was written
 abbrev pub origin_again : List ℕ → Origin → Origin
 origin_again root (from_registry version) = from_registry (cut version)
 origin_again root (from_path path version) =
@@ -97,7 +97,7 @@ origin_again root (from_path path version) =
 origin_again root (from_git g) = from_git (record g { version = option_map cut g.version })
 origin_again root from_workspace = from_workspace
 
--- the source of a table of these members and of a record's options
+-- the source of a table with these keys and the options of a dependency
 abbrev origin_in : List ℕ → EntryRecord → List ℕ → List Member → Result Origin Refusal
 origin_in root r dep front = origin_at (shown (front ++ option_members r)) root dep
 
@@ -134,7 +134,7 @@ origin-read root r dep registry (from_git g) h =
     git-read root r dep g.address g.branch g.tag g.rev g.version h
 origin-read root r dep registry from_workspace h = rw (no_git r, no_path r, no_version r) refl
 
--- no member of a repository has another name than these
+-- a Git source has only these keys
 repository-lack : (g : Repository) (name : List ℕ) → same_bytes (codes "git") name ≡ false
     → same_bytes (codes "branch") name ≡ false → same_bytes (codes "tag") name ≡ false
     → same_bytes (codes "rev") name ≡ false → same_bytes (codes "version") name ≡ false
@@ -146,7 +146,7 @@ repository-lack g name a b c d e =
     ∙ past-where name (codes "rev") (option_map a_string g.rev) _ d
     ∙ other-where name (codes "version") (option_map a_string g.version) e)
 
--- no source has a member with the name of an option
+-- no source has the key of an option
 path-apart : (root path : List ℕ) (version : Option (List ℕ)) → IsApart (path_members root path version)
 path-apart root path None = record {
   registry = refl;

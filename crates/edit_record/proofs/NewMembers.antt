@@ -1,4 +1,4 @@
--- What is read of the members of a new entry.
+-- The result of reading the keys of a new entry.
 use Rattle.std.proofs.Common.{◌≡◌, ℕ, zero, suc, ◌+◌, ◌<◌, ◌≤◌, Bool, false, List, [], ◌∷◌, ◌++◌, length, take, get_or, refl, ap, ◌∙◌, Option, Some, None, arith}
 use Rattle.std.specs.Prelude.{find, Ok, option_map, codes, slice_get}
 use Rattle.std.specs.Option.{option_or}
@@ -15,13 +15,13 @@ use Rattle.edit_record.specs.EntryRecords.{EntryRecord}
 use Rattle.edit_record.specs.NewEntries.{Member, where_there, written_registry, written_name, option_members}
 use Rattle.edit_record.specs.ReadEntries.{Tree, below, first_texts, text_at, truth_at, features_at}
 
--- ---- the member of a name
+-- ---- the value of a key
 
--- the member of a name
+-- the value of a key
 abbrev pub held : List ℕ → List Member → Option Member
 held name ms = find (λ m. same_bytes m.0 name) ms
 
--- past what has no such member
+-- skips what does not have this key
 pub held-past : (name : List ℕ) (xs ys : List Member) → held name xs ≡ None
     → held name (xs ++ ys) ≡ held name ys
 held-past name xs ys h =
@@ -31,38 +31,38 @@ or-none : {X : Type 0} (o : Option X) → option_or o None ≡ o
 or-none None = refl
 or-none (Some x) = refl
 
--- nothing of that name comes behind
+-- nothing after it has this key
 held-first : (name : List ℕ) (xs ys : List Member) → held name ys ≡ None
     → held name (xs ++ ys) ≡ held name xs
 held-first name xs ys h =
     find-append (λ m. same_bytes m.0 name) xs ys ∙ ap (λ o. option_or (held name xs) o) h
     ∙ or-none (held name xs)
 
--- a member of another name
+-- another key
 pub other-where : (name other : List ℕ) (o : Option NewValue) → same_bytes other name ≡ false
     → held name (where_there other o) ≡ None
 other-where name other None h = refl
 other-where name other (Some v) h = rw h refl
 
--- this member
+-- this key
 this-where : (name : List ℕ) (o : Option NewValue)
     → held name (where_there name o) ≡ option_map (λ v. (name, v)) o
 this-where name None = refl
 this-where name (Some v) = rw (same_bytes_self name) refl
 
--- past a member of another name
+-- skips another key
 pub past-where : (name other : List ℕ) (o : Option NewValue) (ys : List Member)
     → same_bytes other name ≡ false → held name (where_there other o ++ ys) ≡ held name ys
 past-where name other o ys h = held-past name (where_there other o) ys (other-where name other o h)
 
--- this member, where none of its name comes behind
+-- this key, which nothing after it has
 at-where : (name : List ℕ) (o : Option NewValue) (ys : List Member) → held name ys ≡ None
     → held name (where_there name o ++ ys) ≡ option_map (λ v. (name, v)) o
 at-where name o ys h = held-first name (where_there name o) ys h ∙ this-where name o
 
--- ---- the members behind the source
+-- ---- the keys after the source
 
--- the values of the members behind the source
+-- the values of the keys after the source
 record Options : Type 0 where
   registry : Option NewValue
   package_name : Option NewValue
@@ -70,7 +70,7 @@ record Options : Type 0 where
   features : Option NewValue
   optional : Option NewValue
 
--- the members from `optional` on, from `features` on, and so on
+-- the keys from `optional` on, from `features` on, and so on
 abbrev from_optional : Options → List Member
 from_optional o = where_there (codes "optional") o.optional
 
@@ -86,7 +86,7 @@ from_package o = where_there (codes "package") o.package_name ++ from_default o
 abbrev all_options : Options → List Member
 all_options o = where_there (codes "registry") o.registry ++ from_package o
 
--- of a record
+-- the keys after the source of a dependency
 abbrev options_of : EntryRecord → Options
 options_of r = record {
   registry = option_map a_string (written_registry r);
@@ -96,14 +96,14 @@ options_of r = record {
   optional = option_map a_truth r.optional;
 }
 
--- another name than those from `features` on
+-- a key other than those from `features` on
 features-lack : (o : Options) (name : List ℕ) → same_bytes (codes "features") name ≡ false
     → same_bytes (codes "optional") name ≡ false → held name (from_features o) ≡ None
 features-lack o name f p =
     past-where name (codes "features") o.features (from_optional o) f ∙ other-where name (codes "optional")
     o.optional p
 
--- another name than those of the options
+-- a key other than those of the options
 pub options-lack : (r : EntryRecord) (name : List ℕ) → same_bytes (codes "registry") name ≡ false
     → same_bytes (codes "package") name ≡ false → same_bytes (codes "default-features") name ≡ false
     → same_bytes (codes "features") name ≡ false → same_bytes (codes "optional") name ≡ false
@@ -162,9 +162,9 @@ held-optional r =
     ∙ past-where (codes "optional") (codes "features") o.features (from_optional o) refl
     ∙ this-where (codes "optional") o.optional
 
--- ---- what is read of a member
+-- ---- the result of reading a key
 
--- an inline table of these members
+-- an inline table with these keys
 abbrev pub shown : List Member → Tree
 shown ms = item_view false (a_table false ms)
 
@@ -180,7 +180,7 @@ pub truth-held : (ms : List Member) (name : List ℕ) (o : Option Bool)
 truth-held ms name None h = rw h refl
 truth-held ms name (Some b) h = rw h refl
 
--- elements that stand there
+-- the elements of an array
 texts-there : (t : Tree) (dep : List ℕ) (ss : List (List ℕ))
     → ((i : ℕ) → t (index i ∷ []) ≡ option_map string (slice_get ss i)) → (n : ℕ) → n ≤ length ss
     → first_texts t dep n ≡ Ok (take n ss)
@@ -194,7 +194,7 @@ texts-there t dep ss there (suc n) h =
     ap (λ k. take k ss) next ∙ take_more ss n [] within in
     rw (texts-there t dep ss there n (omega arith), text, more) refl
 
--- a list of texts
+-- an array of strings
 pub list-held : (ms : List Member) (dep : List ℕ) (o : Option (List (List ℕ)))
     → held (codes "features") ms ≡ option_map (λ v. (codes "features", v)) (option_map a_list o)
     → features_at (shown ms) dep ≡ Ok o

@@ -1,4 +1,4 @@
--- Entries and their records or errors, and the texts of dependencies, as the definitions compute them.
+-- Examples of entries with the dependencies or errors of reading them, and of displayed dependencies.
 use Rattle.std.proofs.Common.{◌≡◌, [], refl}
 use Rattle.std.specs.Prelude.{ℕ, true, false, List, ◌∷◌, Some, None, Result, Ok, Err, codes}
 use Rattle.edit_tree.specs.Assertions.{key}
@@ -10,7 +10,7 @@ use Rattle.edit_record.specs.ReadEntries.{repository, record_of}
 use Rattle.edit_record.specs.RecordViews.{refusal_text}
 use Rattle.edit_record.proofs.SampleEntries.{x, foo, one_string, entry, reads, says, flag, number, with_features}
 
--- ---- records
+-- ---- entries that can be read
 
 -- `x = "1.0+a"`
 pub plain_string : reads (one_string (codes "1.0+a")) ≡ Ok (bare_record x (from_registry (codes "1.0")))
@@ -76,7 +76,7 @@ pub two_features : reads (with_features 2 (string (codes "a")))
     })
 two_features = refl
 
--- the entry stands deeper in its tree
+-- an entry that is nested deeper in its tree
 pub below_a_place : record_of (node_at ((key (codes "dependencies") ∷ key x ∷ [], string (codes "1"))
     ∷ [])) (key (codes "dependencies") ∷ key x ∷ []) foo x
     ≡ Ok (bare_record x (from_registry (codes "1")))
@@ -191,7 +191,7 @@ pub a_tag : reads (entry (says (codes "git") (codes "u") ∷ says (codes "branch
     ≡ Ok (bare_record x (from_git (repository (codes "u") None (Some (codes "t")) None None)))
 a_tag = refl
 
--- ---- what dependencies are called
+-- ---- displayed dependencies
 
 -- with a source: its name and the source
 pub called_by_version : record_text (bare_record x (from_registry (codes "1.0"))) ≡ codes "x@1.0"
@@ -204,7 +204,7 @@ called_by_path = refl
 pub called_by_workspace : record_text (bare_record x from_workspace) ≡ codes "x@workspace"
 called_by_workspace = refl
 
--- a repository: the branch before the tag before the revision
+-- a Git source: the branch before the tag before the revision
 pub called_by_branch : origin_text
     (from_git (record (repository (codes "u") None (Some (codes "t")) None None)
     { branch = Some (codes "b") })) ≡ codes "u?branch=b"

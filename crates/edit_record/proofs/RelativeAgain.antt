@@ -1,4 +1,4 @@
--- A path as seen from a root, joined to the root and seen from it again, is the same text.
+-- A path relative to a root, joined to that root and made relative to it again, is the same text.
 use Rattle.std.proofs.Common.{◌≡◌, ◌≢◌, ℕ, ◌-◌, Bool, true, false, List, [], ◌∷◌, ◌++◌, length, drop, take, replicate, refl, ap, sym, ◌∙◌, inl, inr, append-nil, append_assoc, arith, subst}
 use Rattle.std.specs.Prelude.{codes, filter, All, nat_eq, ◌==◌}
 use Rattle.std.specs.List.{join_by, onto_first, starts_with, ends_with}
@@ -13,13 +13,13 @@ use Rattle.edit_record.proofs.RelativeTexts.{slashed-none}
 use Rattle.edit_tree.specs.Assertions.{same_bytes}
 use Rattle.edit_record.specs.RelativePaths.{is_kept, names_of, steps_between, relative_of, slashed, path_field}
 
--- ---- parts
+-- ---- segments
 
 -- no slash
 abbrev is_slash : ℕ → Bool
 is_slash b = b == 47
 
--- there is a first part
+-- there is a first segment
 first_part : (text : List ℕ) → (first : List ℕ) × (rest : List (List ℕ)) × (parts_of text ≡ first ∷ rest)
 first_part [] = ([], [], refl)
 first_part (b ∷ bs) =
@@ -29,7 +29,7 @@ first_part (b ∷ bs) =
       | inr other ↦ (b ∷ more.0, more.1, slice_split-cons_no is_slash b bs other ∙ ap (onto_first b) more.2)
     ]
 
--- what holds of each byte but the slashes holds of each byte of each part
+-- a property of each byte except the slashes holds for each byte of each segment
 All-parts : (P : ℕ → Type 0) (text : List ℕ) → All (λ b. is_slash b ≡ false → P b) text
     → All (All P) (parts_of text)
 All-parts P [] h = All-cons (All P) [] [] (All-nil P) (All-nil (All P))
@@ -49,7 +49,7 @@ All-parts P (b ∷ bs) h =
           (All-tail (All P) parts.0 parts.1 shown))
     ]
 
--- the parts of two texts with a slash between them
+-- the segments of two texts with a slash between them
 parts-slash : (a b : List ℕ) → parts_of (a ++ 47 ∷ b) ≡ parts_of a ++ parts_of b
 parts-slash [] b = refl
 parts-slash (x ∷ a) b =
@@ -68,7 +68,7 @@ parts-slash (x ∷ a) b =
 
 -- ---- names
 
--- a part without a slash, that names something
+-- a segment without a slash that is a name
 record IsStep (part : List ℕ) : Type 0 where
   whole : All (λ b. is_slash b ≡ false) part
   kept : is_kept part ≡ true
@@ -80,7 +80,7 @@ way steps = join_by (λ step. step) (codes "/") steps
 names-slash : (a b : List ℕ) → names_of (a ++ 47 ∷ b) ≡ names_of a ++ names_of b
 names-slash a b = ap (filter is_kept) (parts-slash a b) ∙ filter-append is_kept (parts_of a) (parts_of b)
 
--- both facts of each part
+-- both facts for each segment
 zipped : (ps : List (List ℕ)) → All (All (λ b. is_slash b ≡ false)) ps → All (λ p. is_kept p ≡ true) ps
     → All IsStep ps
 zipped ps whole kept = λ k d l. record { whole = whole k d l; kept = kept k d l }
@@ -92,14 +92,14 @@ names-steps text =
     (All-parts (λ b. is_slash b ≡ false) text (λ k d l other. other)))
     (filter_passes is_kept (parts_of text))
 
--- of steps alone none is left out
+-- no step is left out
 filter-steps : (ws : List (List ℕ)) → All IsStep ws → filter is_kept ws ≡ ws
 filter-steps [] h = refl
 filter-steps (w ∷ ws) h =
     let first = All-head IsStep w ws h in
     rw (first.kept) (ap (λ l. w ∷ l) (filter-steps ws (All-tail IsStep w ws h)))
 
--- the parts of a way are its steps
+-- the segments of a relative path are its steps
 parts-way : (w : List ℕ) (ws : List (List ℕ)) → All IsStep (w ∷ ws) → parts_of (way (w ∷ ws)) ≡ w ∷ ws
 parts-way w [] h =
     let first = All-head IsStep w [] h in
@@ -115,7 +115,7 @@ names-way (w ∷ ws) h = ap (filter is_kept) (parts-way w ws h) ∙ filter-steps
 
 -- ---- the joined path
 
--- a way is no absolute path
+-- a relative path is not absolute
 way-begins : (ws : List (List ℕ)) → All IsStep ws → starts_with nat_eq (way ws) (codes "/") ≡ false
 way-begins [] h = refl
 way-begins ([] ∷ ws) h = let first = All-head IsStep [] ws h in absurd cc
@@ -146,7 +146,7 @@ ends-slash text h = (
       ∙ ap (λ t. take (length text - 1) text ++ t) (one-slash (drop (length text - 1) text) h),
 )
 
--- it is not empty
+-- the path is not empty
 some : (b : ℕ) (bs : List ℕ) → (length (b ∷ bs) == 0) ≡ false
 some b bs = elim (cases_Bool (length (b ∷ bs) == 0)) [
   | inl e ↦ let none : length (b ∷ bs) ≡ 0 = eqb-true (length (b ∷ bs)) 0 e in absurd (omega arith)
@@ -176,7 +176,7 @@ steps-below [] [] = refl
 steps-below [] (w ∷ ws) = refl
 steps-below (r ∷ root) ws = rw (same_bytes_self r) (steps-below root ws)
 
--- what holds of each name, and of `..`, holds of each step
+-- a property of each name, and of `..`, holds for each step
 All-steps : (P : List ℕ → Type 0) → P (codes "..") → (down up : List (List ℕ)) → All P down
     → All P (steps_between down up)
 All-steps P up_one [] up h =
@@ -197,7 +197,7 @@ two_dots = record {
   kept = refl;
 }
 
--- the law of paths
+-- the law of relative paths
 pub relative-again : (path root : List ℕ)
     → relative_of (joined root (relative_of path root)) root ≡ relative_of path root
 relative-again path root =
@@ -210,7 +210,7 @@ relative-again path root =
 
 -- ---- backslashes
 
--- what holds of each byte of each step, and of a slash, holds of each byte of their way
+-- a property of each byte of each step, and of the slash, holds for each byte of their path
 All-way : (P : ℕ → Type 0) → P 47 → (ws : List (List ℕ)) → All (All P) ws → All P (way ws)
 All-way P slash [] h = All-nil P
 All-way P slash (w ∷ []) h = All-append P w [] (All-head (All P) w [] h) (All-nil P)
@@ -218,7 +218,7 @@ All-way P slash (w ∷ v ∷ vs) h =
     All-append P w (47 ∷ way (v ∷ vs)) (All-head (All P) w (v ∷ vs) h)
     (All-cons P 47 (way (v ∷ vs)) slash (All-way P slash (v ∷ vs) (All-tail (All P) w (v ∷ vs) h)))
 
--- no backslash in a path is none in the path as seen from a folder
+-- a path without a backslash has none relative to a folder either
 relative-whole : (path root : List ℕ) → All (λ b. b ≢ 92) path → All (λ b. b ≢ 92) (relative_of path root)
 relative-whole path root h =
     let P : ℕ → Type 0 = λ b. b ≢ 92 in
@@ -229,7 +229,7 @@ relative-whole path root h =
     All-way P (λ e. absurd (omega arith)) (steps_between (names_of path) (names_of root))
     (All-steps (All P) dots (names_of path) (names_of root) named)
 
--- the path that is written, read from the root on and written again, is the same text
+-- the path that is written, joined to the root and written again, is the same text
 pub path-again : (path root : List ℕ) → All (λ b. b ≢ 92) path
     → path_field root (joined root (path_field root path)) ≡ path_field root path
 path-again path root h =

@@ -1,4 +1,4 @@
--- What the calls on paths give is what the definitions give.
+-- The functions on paths agree with their definitions.
 use Rattle.std.proofs.Common.{◌≡◌, ◌≢◌, ℕ, zero, suc, true, false, List, [], ◌∷◌, ◌++◌, length, drop, take, replicate, refl, ap, sym, ◌∙◌, inl, inr, append-nil, arith}
 use Rattle.std.specs.Prelude.{codes, filter, All, ◌==◌}
 use Rattle.std.specs.List.{join_by}
@@ -17,12 +17,12 @@ use Rattle.edit_record.specs.RelativePaths.{is_kept, names_of, steps_between, re
 
 -- ---- relative paths
 
--- a part that is empty or `.` is left out
+-- a segment that is empty or `.` is left out
 idle-lost : (part : List ℕ) → IsIdle part → is_kept part ≡ false
 idle-lost part (inl e) = rw e refl
 idle-lost part (inr e) = rw e refl
 
--- a part that is neither empty nor `.` stays
+-- a segment that is neither empty nor `.` stays
 other-kept : (part : List ℕ) → (IsIdle part → ⊥) → is_kept part ≡ true
 other-kept part h = elim (cases_Bool (same_bytes part [])) [
   | inl e ↦ absurd (h (inl (same_bytes_is part [] e)))
@@ -32,7 +32,7 @@ other-kept part h = elim (cases_Bool (same_bytes part [])) [
   ]
 ]
 
--- the parts that name something are those that stay
+-- the segments that are names are those that stay
 named-filter : (parts names : List (List ℕ)) → Named parts names → filter is_kept parts ≡ names
 named-filter _ _ none = refl
 named-filter _ _ (named_drop parts names part n idle) =
@@ -42,7 +42,7 @@ named-filter _ _ (named_take parts names part n other) =
     filter-append is_kept parts (part ∷ [])
     ∙ rw (other-kept part other) (rw (named-filter parts names n) refl)
 
--- past the front in common the way is up and down
+-- after the common prefix the path goes up and down
 steps-common : (common down up : List (List ℕ)) → BeginApart down up
     → steps_between (common ++ down) (common ++ up) ≡ replicate (length up) (codes "..") ++ down
 steps-common [] [] up apart = refl
@@ -53,7 +53,7 @@ steps-common [] (d ∷ down) (u ∷ up) apart = elim (cases_Bool (same_bytes d u
 ]
 steps-common (c ∷ common) down up apart = rw (same_bytes_self c) (steps-common common down up apart)
 
--- what the relation holds of is the text of the function
+-- the relation holds for the text of the function
 pub relative-is : (to from text : List ℕ) → IsRelative to from text → text ≡ relative_of to from
 relative-is to from text r =
     r.writes ∙ ap (join_by (λ step. step) (codes "/")) (sym (steps-common r.common r.down r.up r.longest)
@@ -64,7 +64,7 @@ relative-is to from text r =
 
 -- ---- slashes
 
--- a text without a backslash stays
+-- a text without a backslash is unchanged
 pub slashed-none : (text : List ℕ) → All (λ b. b ≢ 92) text → slashed text ≡ text
 slashed-none [] h = refl
 slashed-none (b ∷ bs) h = elim (cases_Bool (b == 92)) [
@@ -72,7 +72,7 @@ slashed-none (b ∷ bs) h = elim (cases_Bool (b == 92)) [
   | inr e ↦ rw e (ap (λ l. b ∷ l) (slashed-none bs (All-tail (λ x. x ≢ 92) b bs h)))
 ]
 
--- what a search for a backslash leaves has none
+-- the text before the first backslash has none
 no-backslash : (p : ℕ) (text : List ℕ) → p ≡ 92 → NoCharPasses (λ d. d == p) text → All (λ b. b ≢ 92) text
 no-backslash p text is h = λ k d l e.
     NoCharPasses-char p text k h (omega arith) l (get_or_default text k 0 d l ∙ e ∙ sym is)
@@ -88,7 +88,7 @@ slashed-at p a b text is lacks at =
     ∙ ap (λ t. t ++ 47 ∷ slashed (drop b text))
     (slashed-none (take a text) (no-backslash p (take a text) is lacks))
 
--- where each backslash is replaced by a slash, the text has slashes alone
+-- after each backslash is replaced, the text has only slashes
 pub replaced-slashed : (n p : ℕ) (text out : List ℕ) → p ≡ 92
     → ReplacesMatches FindsChar (λ a b. b ≡ a) (codes "/") n p text out → out ≡ slashed text
 replaced-slashed zero p text out is h = h.1 ∙ sym (slashed-none text (no-backslash p text is h.0))

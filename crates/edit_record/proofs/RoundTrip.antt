@@ -1,4 +1,4 @@
--- The new entry of a plain record reads as a record that has the same new entry.
+-- Round trip: the new entry of a plain dependency is read as a dependency with the same new entry.
 use Rattle.std.proofs.Common.{◌≡◌, ℕ, Bool, true, false, List, [], ◌∷◌, ◌++◌, refl, ap, sym, subst, ◌∙◌, Option, Some, None, append-nil}
 use Rattle.std.specs.Prelude.{Result, Ok, option_map, is_some, if◌then◌else◌, option_and_then, unwrap_or, IsSome, IfSome, IsOkAnd, codes}
 use Rattle.edit_tree.specs.NewItems.{NewItem, a_string, a_value}
@@ -15,13 +15,13 @@ use Rattle.edit_version.proofs.NoPlus.{cut-none}
 use Rattle.edit_record.proofs.MembersRead.{read_again, table-again, origin_again, origin-read, members-apart}
 use Rattle.edit_record.proofs.NewMembers.{shown}
 
--- a requirement without a plus is read as it is
+-- a requirement without `+` is read unchanged
 version-whole : (version : Option (List ℕ)) → IfSome version (λ v. holds_plus v ≡ false)
     → option_map cut version ≡ version
 version-whole None h = refl
 version-whole (Some v) h = ap Some (cut-none v h)
 
--- the source that is read again has the same members
+-- the source that is read back has the same keys
 members-again : (root : List ℕ) (registry : Option (List ℕ)) (origin : Origin)
     → IsPlainSource registry origin
     → IfSome (origin_version origin) (λ v. holds_plus v ≡ false)
@@ -33,13 +33,13 @@ members-again root registry (from_path path version) h whole =
 members-again root registry (from_git g) h whole = rw (version-whole g.version whole) refl
 members-again root registry from_workspace h whole = refl
 
--- the names are the record's
+-- the name and the key are those of the dependency
 names-again : (dep : List ℕ) (other : Option (List ℕ))
     → names_by (option_map (λ key. dep) other) (unwrap_or other dep) ≡ (dep, other)
 names-again dep None = refl
 names-again dep (Some key) = refl
 
--- the requirement is there where it was
+-- the requirement is there if it was
 version-again : (root : List ℕ) (origin : Origin)
     → is_some (origin_version (origin_again root origin)) ≡ is_some (origin_version origin)
 version-again root (from_registry version) = refl
@@ -52,13 +52,13 @@ version-again root (from_git g) = some-map g.version
     some-map (Some v) = refl
 version-again root from_workspace = refl
 
--- what is written twice over is written
+-- what is written twice is written once
 if-twice : {X : Type 0} (b : Bool) (o : Option X)
     → (if b then (if b then o else None) else None) ≡ (if b then o else None)
 if-twice true o = refl
 if-twice false o = refl
 
--- the options that are read again have the same members
+-- the options that are read back have the same keys
 options-again : (root : List ℕ) (r : EntryRecord) (origin : Origin) → r.origin ≡ Some origin
     → option_members (read_again r (origin_again root origin)) ≡ option_members r
 options-again root r origin is =
@@ -69,14 +69,14 @@ options-again root r origin is =
       if-twice (is_some (origin_version origin)) r.registry,
     ) refl
 
--- so is the inline table
+-- the inline table that is read back is the same
 full-again : (root : List ℕ) (r : EntryRecord) (origin : Origin) → r.origin ≡ Some origin
     → IsPlainSource r.registry origin → IfSome (origin_version origin) (λ v. holds_plus v ≡ false)
     → full_item root (read_again r (origin_again root origin)) ≡ full_item root r
 full-again root r origin is plain whole =
     rw (options-again root r origin is, members-again root r.registry origin plain whole, is) refl
 
--- what is read of the inline table
+-- the result of reading the inline table
 table-read : (root : List ℕ) (r : EntryRecord) (origin : Origin) → r.origin ≡ Some origin
     → IsPlainSource r.registry origin
     → record_of (item_view false (full_item root r)) [] root (key_of r)
@@ -90,7 +90,7 @@ table-read root r origin is plain =
 known : {A : Type 0} (P : A → Type 0) (told : Result A Refusal) (x : A) → told ≡ Ok x → P x → IsOkAnd told P
 known P told x is p = subst (λ t. IsOkAnd t P) (sym is) p
 
--- an inline table reads again where of what is read another one is written
+-- an inline table is read back if the result of reading it is written as the same inline table
 table-reads : (root : List ℕ) (r : EntryRecord) (origin : Origin) → r.origin ≡ Some origin
     → IsPlainSource r.registry origin → IfSome (origin_version origin) (λ v. holds_plus v ≡ false)
     → item_of root (read_again r (origin_again root origin))
@@ -100,7 +100,7 @@ table-reads root r origin is plain whole full =
     known (λ again. item_of root again ≡ full_item root r) _ (read_again r (origin_again root origin))
     (table-read root r origin is plain) (full ∙ full-again root r origin is plain whole)
 
--- the registry is written beside a registry's source, and is not there beside the workspace
+-- the registry is written with a registry source, and is absent with the workspace
 registry-kept : (r : EntryRecord) (origin : Origin) → r.origin ≡ Some origin
     → is_some (origin_version origin) ≡ true → written_registry r ≡ r.registry
 registry-kept r origin is some = rw (is, some) refl
@@ -112,12 +112,12 @@ no-registry r none = both-none (is_some (option_and_then origin_version r.origin
     both-none true o e = refl
     both-none false o e = sym e
 
--- what is read is short where the record is
+-- the result of reading is short if the dependency is
 short-again : (r : EntryRecord) (origin : Origin) → written_registry r ≡ r.registry
     → is_short (read_again r origin) ≡ is_short r
 short-again r origin kept = rw (kept, names-again r.name r.rename) refl
 
--- a record from a registry
+-- a dependency with a registry source
 registry-reads : (root version : List ℕ) (r : EntryRecord) (short : Bool)
     → r.origin ≡ Some (from_registry version)
     → holds_plus version ≡ false → is_short r ≡ short
@@ -128,7 +128,7 @@ registry-reads root version r false is whole e =
     let short = short-again r (from_registry (cut version)) kept in
     table-reads root r (from_registry version) is tt whole (rw (short, e) refl)
 
--- a record from the workspace
+-- a dependency with a workspace source
 workspace-reads : (root : List ℕ) (r : EntryRecord) (short : Bool) → r.origin ≡ Some from_workspace
     → r.registry ≡ None → is_short r ≡ short
     → ReadsAgain root (key_of r) (item_by root r (Some from_workspace) short)
@@ -137,7 +137,7 @@ workspace-reads root r false is none e =
     let short = short-again r from_workspace (no-registry r none) in
     table-reads root r from_workspace is none tt (rw (short, e) refl)
 
--- a record with a source
+-- a dependency with any source
 source-reads : (root : List ℕ) (r : EntryRecord) (origin : Origin) → r.origin ≡ Some origin
     → IsPlainSource r.registry origin → IfSome (origin_version origin) (λ v. holds_plus v ≡ false)
     → ReadsAgain root (key_of r) (item_by root r (Some origin) (is_short r))
@@ -158,7 +158,7 @@ reads-again root r plain = by r.origin refl plain.sourced plain.plain plain.no_p
     by None is some plain whole = absurd cc
     by (Some origin) is some plain whole = source-reads root r origin is plain whole
 
--- what reads again reads so wherever it stands in a tree
+-- an entry is read back wherever it is in a tree
 pub reads-there : (t : Tree) (place : Place) (root dep : List ℕ) (item : NewItem)
     → ((q : Place) → t (place ++ q) ≡ item_view false item q) → ReadsAgain root dep item
     → IsOkAnd (record_of t place root dep) (λ again. item_of root again ≡ item)

@@ -1,4 +1,4 @@
--- Entries by their members, for the facts.
+-- Sample entries, given by their keys.
 use Rattle.std.proofs.Common.{[]}
 use Rattle.std.specs.Prelude.{ℕ, true, List, ◌∷◌, ◌++◌, map, Result, codes}
 use Rattle.edit_tree.specs.Assertions.{key, index, Place}
@@ -7,7 +7,7 @@ use Rattle.edit_tree.specs.Tree.{View, string, truth, whole, static_array, inlin
 use Rattle.edit_record.specs.EntryRecords.{EntryRecord, Refusal}
 use Rattle.edit_record.specs.ReadEntries.{Tree, record_of}
 
--- ---- entries by their members
+-- ---- entries by their keys
 
 -- the key of each entry here, and the root of its manifest
 abbrev pub x : List ℕ
@@ -20,19 +20,19 @@ foo = codes "/foo"
 abbrev pub one_string : List ℕ → Tree
 one_string s = node_at (([], string s) ∷ [])
 
--- an inline table of these members
+-- an inline table with these keys
 abbrev pub members : List (List ℕ × View) → List (Place × View)
 members ms = ([], inline_table (map (λ m. key m.0) ms)) ∷ map (λ m. (key m.0 ∷ [], m.1)) ms
 
--- the entry, with nothing below its members
+-- the entry, with nothing below its keys
 abbrev pub entry : List (List ℕ × View) → Tree
 entry ms = node_at (members ms)
 
--- the record of an entry, or its error
+-- the result of reading an entry
 abbrev pub reads : Tree → Result EntryRecord Refusal
 reads t = record_of t [] foo x
 
--- a member of each type
+-- a value of each type
 abbrev pub says : List ℕ → List ℕ → List ℕ × View
 says name s = (name, string s)
 

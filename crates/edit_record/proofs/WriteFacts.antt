@@ -1,4 +1,4 @@
--- The new entries of records, and what is read of them again, as the definitions compute it.
+-- Examples of new entries, and of the results of reading them back.
 use Rattle.std.proofs.Common.{◌≡◌, [], refl}
 use Rattle.std.specs.Prelude.{ℕ, true, false, List, ◌∷◌, ◌++◌, Some, None, Result, Ok, codes}
 use Rattle.edit_tree.specs.Meant.{item_view}
@@ -25,7 +25,7 @@ at_one = (codes "version", a_string (codes "1.0"))
 pub short_entry : item_of root dep ≡ a_value (a_string (codes "1.0"))
 short_entry = refl
 
--- `"1.0"`: that a crate is not optional, and wanted with its default features, needs no member
+-- `"1.0"`: neither `optional = false` nor `default-features = true` has to be written
 pub plain_entry : item_of root (record dep { optional = Some false; default_features = Some true })
     ≡ a_value (a_string (codes "1.0"))
 plain_entry = refl
@@ -100,23 +100,23 @@ pub inherited_entry : item_of root (record (bare_record x from_workspace) {
     ∷ (codes "optional", a_truth true) ∷ [])
 inherited_entry = refl
 
--- `{ path = "p" }`: a registry is written only beside a requirement
+-- `{ path = "p" }`: a registry is written only with a version requirement
 pub registry_without_version :
     item_of root (record (bare_record x (from_path (codes "/p") None)) { registry = Some (codes "r") })
     ≡ a_table false ((codes "path", a_string (codes "p")) ∷ [])
 registry_without_version = refl
 
--- `{}`: a record without a source
+-- `{}`: a dependency without a source
 pub nothing_entry : item_of root (record dep { origin = None }) ≡ a_table false []
 nothing_entry = refl
 
--- ---- written and read again
+-- ---- round trips
 
--- a record is written; what was written is read under its key and written again
+-- a dependency is written; the result is read under its key and written again
 abbrev again : List ℕ → EntryRecord → Result NewItem Refusal
 again from r = ok_map (item_of from) (record_of (item_view false (item_of from r)) [] from (key_of r))
 
--- all members, renamed
+-- all keys, renamed
 abbrev full : EntryRecord
 full = record dep {
   optional = Some false;
@@ -129,7 +129,7 @@ full = record dep {
 pub full_again : again foo full ≡ Ok (item_of foo full)
 full_again = refl
 
--- from the workspace, renamed, without features
+-- a workspace source, renamed, without features
 abbrev inherited : EntryRecord
 inherited = record (bare_record x from_workspace) { rename = Some (codes "d"); features = Some [] }
 
@@ -141,7 +141,7 @@ pub workspace_again : again foo (bare_record x from_workspace)
     ≡ Ok (item_of foo (bare_record x from_workspace))
 workspace_again = refl
 
--- a path with `..` and empty parts, which are no names
+-- a path with `..` and empty segments
 pub beside_again : again (codes "/a/d") (bare_record x (from_path (codes "/a/../b//./c") None))
     ≡ Ok (a_table false ((codes "path", a_string (codes "../../b/c")) ∷ []))
 beside_again = refl
@@ -151,7 +151,7 @@ pub same_folder_again : again foo (bare_record x (from_path foo None))
     ≡ Ok (a_table false ((codes "path", a_string []) ∷ []))
 same_folder_again = refl
 
--- where the law does not hold: a tag beside a branch
+-- where the law does not hold: a tag with a branch
 abbrev two_parts : Repository
 two_parts = record (repository (codes "u") None None None None) {
   branch = Some (codes "b");
@@ -163,16 +163,16 @@ pub branch_and_tag : again foo (bare_record x (from_git two_parts))
     ∷ (codes "tag", a_string (codes "t")) ∷ []))
 branch_and_tag = refl
 
--- a plus
+-- a requirement with `+`
 pub plus : again foo (bare_record x (from_registry (codes "1+a"))) ≡ Ok (a_value (a_string (codes "1")))
 plus = refl
 
--- a registry beside the workspace
+-- a registry with the workspace
 pub workspace_registry : again foo (record (bare_record x from_workspace) { registry = Some (codes "r") })
     ≡ Ok (a_table true ((codes "workspace", a_truth true) ∷ []))
 workspace_registry = refl
 
--- a backslash that leads the member `path` becomes a slash, and the path is then another
+-- a leading backslash in `path` becomes a slash, so that the path is another one
 pub backslash : again foo (bare_record x (from_path (codes "/foo/" ++ 92 ∷ codes "y") None))
     ≡ Ok (a_table false ((codes "path", a_string (codes "../y")) ∷ []))
 backslash = refl

@@ -1,7 +1,8 @@
--- The record of a dependency, and why an entry has none (Cargo reference, "Specifying Dependencies").
+-- The model of a `Dependency`, and the errors of reading one (Cargo reference, "Specifying Dependencies").
 use Rattle.std.specs.Prelude.{ℕ, Bool, List, Option, Some, None, unwrap_or}
 
--- a repository: its address, where in it, and the requirement (Cargo reference, "Specifying Dependencies")
+-- a Git source: its URL, at most one of a branch, a tag and a revision, and the version requirement (Cargo
+-- reference, "Specifying Dependencies")
 pub record Repository : Type 0 where
   pub address : List ℕ
   pub branch : Option (List ℕ)
@@ -9,15 +10,15 @@ pub record Repository : Type 0 where
   pub rev : Option (List ℕ)
   pub version : Option (List ℕ)
 
--- where a crate comes from: a registry or a folder, each with the requirement, a repository, or the entry
--- of the workspace (Cargo reference, "Specifying Dependencies")
+-- a source: a registry or a folder, each with the version requirement, a Git repository, or the entry of the
+-- workspace (Cargo reference, "Specifying Dependencies")
 pub data Origin : Type 0 where
   from_registry : List ℕ → Origin
   from_path : List ℕ → Option (List ℕ) → Origin
   from_git : Repository → Origin
   from_workspace : Origin
 
--- what a dependency says, without the features that its crate has (own)
+-- the model of a dependency, without the features that its crate defines (own)
 pub record EntryRecord : Type 0 where
   pub name : List ℕ
   pub optional : Option Bool
@@ -28,8 +29,9 @@ pub record EntryRecord : Type 0 where
   pub registry : Option (List ℕ)
   pub rename : Option (List ℕ)
 
--- why an entry has no record: a member of a wrong type, with the type that was found, the member's name, the
--- type that was expected and the entry's key; each other error with the entry's key alone (own)
+-- the errors of reading an entry: a value of a wrong type, with the type that was found, the key of the
+-- value, the type that was expected and the key of the entry; any other error with the key of the entry
+-- (own)
 pub data Refusal : Type 0 where
   wrong_type : List ℕ → List ℕ → List ℕ → List ℕ → Refusal
   workspace_false : List ℕ → Refusal
@@ -37,7 +39,7 @@ pub data Refusal : Type 0 where
   old_default_features : List ℕ → Refusal
   unknown_entry : List ℕ → Refusal
 
--- a record with a name and a source alone (own)
+-- a dependency with a name and a source and nothing else (own)
 abbrev pub bare_record : List ℕ → Origin → EntryRecord
 bare_record dep origin = record {
   name = dep;
@@ -50,12 +52,12 @@ bare_record dep origin = record {
   rename = None;
 }
 
--- the key of an entry: its own, or the crate's name
--- (Cargo reference, "Specifying Dependencies", renaming dependencies)
+-- the key of an entry: its rename, or else the crate's name (Cargo reference, "Specifying Dependencies",
+-- renaming dependencies)
 abbrev pub key_of : EntryRecord → List ℕ
 key_of r = unwrap_or r.rename r.name
 
--- the requirement of a source, where it has one (own)
+-- the version requirement of a source, if it has one (own)
 abbrev pub origin_version : Origin → Option (List ℕ)
 origin_version (from_registry v) = Some v
 origin_version (from_path path v) = v

@@ -1,4 +1,4 @@
--- Records of entries and errors of reading them, as the code has them, and the texts of these errors.
+-- The models of dependencies and of the errors of reading them, and the messages of these errors.
 use Rattle.std.specs.Prelude.{◌≡◌, ◌⊎◌, ℕ, List, ◌++◌, map, option_map, Option, Some, None, Result, Err, codes, String, string_bytes, Vec}
 use Rattle.std.specs.declared.alloc.Global.{Global}
 use Rattle.edit_base.specs.Errors.{IsMemory}
@@ -19,11 +19,11 @@ use Rattle.edit_record.specs.declared.dependency.sources.Source.TheVariants.{Reg
 
 -- ---- sources
 
--- a folder, by its texts (own)
+-- the model of a path source (own)
 abbrev pub path_view : PathSource → Origin
 path_view s = from_path (string_bytes s.path) (option_map string_bytes s.version)
 
--- a repository, by its texts (own)
+-- the model of a Git source (own)
 abbrev pub repository_view : GitSource → Repository
 repository_view s = record {
   address = string_bytes s.git;
@@ -33,40 +33,40 @@ repository_view s = record {
   version = option_map string_bytes s.version;
 }
 
--- a source, by its texts (own)
+-- the model of a source (own)
 abbrev pub source_view : Source → Origin
 source_view (Registry s) = from_registry (string_bytes s.version)
 source_view (Path s) = path_view s
 source_view (Git s) = from_git (repository_view s)
 source_view (Workspace s) = from_workspace
 
--- the registry's version, where the source is one (own)
+-- the registry source, if this is one (own)
 abbrev pub registry_in : Source → Option RegistrySource
 registry_in (Registry s) = Some s
 registry_in _ = None
 
--- the folder, where the source is one (own)
+-- the path source, if this is one (own)
 abbrev pub path_in : Source → Option PathSource
 path_in (Path s) = Some s
 path_in _ = None
 
--- the repository, where the source is one (own)
+-- the Git source, if this is one (own)
 abbrev pub git_in : Source → Option GitSource
 git_in (Git s) = Some s
 git_in _ = None
 
--- the workspace's entry, where the source is one (own)
+-- the workspace source, if this is one (own)
 abbrev pub workspace_in : Source → Option WorkspaceSource
 workspace_in (Workspace s) = Some s
 workspace_in _ = None
 
 -- ---- dependencies
 
--- a list of texts (own)
+-- the model of a list of strings (own)
 abbrev pub texts_view : Vec (String Global) Global → List (List ℕ)
 texts_view v = map string_bytes v.items
 
--- a dependency, by its texts; the features that its crate has aside (own)
+-- the model of a dependency, without the features that its crate defines (own)
 abbrev pub record_view : Dependency → EntryRecord
 record_view d = record {
   name = string_bytes d.name;
@@ -79,19 +79,19 @@ record_view d = record {
   rename = option_map string_bytes d.rename;
 }
 
--- the features that the crate has, each with what it turns on, in the order of the map (own)
+-- the features that the crate defines, each with the features that it enables, in the order of the map (own)
 abbrev pub available_view : Dependency → List (List ℕ × List (List ℕ))
 available_view d = map (λ e. (string_bytes e.0, texts_view e.1)) d.available_features.entries
 
 -- ---- entries
 
--- what stands at and below an item (own)
+-- the tree at and below an item (own)
 abbrev pub shown_at : Item → Tree
 shown_at i = below (tree_of (document_of i)) (place_of i)
 
 -- ---- errors
 
--- the error is of this kind and names these texts (own)
+-- the error has the variant and the texts of this model (own)
 abbrev pub Tells : Refusal → Error → Type 0
 Tells (wrong_type found name expected dep) (error.InvalidType a k x d) =
     (string_bytes a ≡ found) × (string_bytes k ≡ name) × (string_bytes x ≡ expected) × (string_bytes d ≡ dep)
@@ -101,11 +101,11 @@ Tells (old_default_features dep) (error.OldDefaultFeatures k) = string_bytes k �
 Tells (unknown_entry dep) (error.UnknownEntry k) = string_bytes k ≡ dep
 Tells r e = ⊥
 
--- the error is the one of this result, or memory ran out (own)
+-- the error is that of this result, or lack of memory (own)
 abbrev pub IsRefused : {A : Type 0} → Result A Refusal → Error → Type 0
 IsRefused told e = IsMemory e ⊎ ((r : Refusal) × (told ≡ Err r) × Tells r e)
 
--- the text of an error (own)
+-- the message of an error (own)
 abbrev pub refusal_text : Refusal → List ℕ
 refusal_text (wrong_type found name expected dep) =
     codes "Found " ++ (found ++ (codes " for " ++ (name ++ (codes " when " ++ (expected

@@ -1,35 +1,36 @@
--- The path of a dependency as its entry has it; the rules are this project's own, after those of cargo-edit.
+-- The value of `path` in an entry; the rules are this project's own, after those of cargo-edit.
 use Rattle.std.specs.Prelude.{ℕ, Bool, not, ◌||◌, ◌==◌, if◌then◌else◌, List, [], ◌∷◌, ◌++◌, map, length, filter, replicate, codes}
 use Rattle.std.specs.List.{join_by}
 use Rattle.edit_base.specs.Paths.{parts_of}
 use Rattle.edit_tree.specs.Assertions.{same_bytes}
 
--- a part of a path that is neither empty nor `.`; `..` counts as a name (own)
+-- a segment of a path that is neither empty nor `.`; `..` counts as a name (own)
 abbrev pub is_kept : List ℕ → Bool
 is_kept part = not (same_bytes part [] || same_bytes part (codes "."))
 
--- the parts of a path that are neither empty nor `.` (own)
+-- the segments of a path that are neither empty nor `.` (own)
 abbrev pub names_of : List ℕ → List (List ℕ)
 names_of path = filter is_kept (parts_of path)
 
--- the steps from some names to others: up past all but their longest front in common, and then down (own)
+-- the relative path between two lists of segments: `..` for each segment after the longest common prefix,
+-- then down (own)
 abbrev pub steps_between : List (List ℕ) → List (List ℕ) → List (List ℕ)
 steps_between (d ∷ down) (u ∷ up) =
     if same_bytes d u then steps_between down up else replicate (length (u ∷ up)) (codes "..") ++ d ∷ down
 steps_between down up = replicate (length up) (codes "..") ++ down
 
--- a path as seen from a folder: the one text of which `IsRelative` holds (own)
+-- a path relative to a folder: the only text for which `IsRelative` holds (own)
 abbrev pub relative_of : List ℕ → List ℕ → List ℕ
 relative_of to from = join_by (λ step. step) (codes "/") (steps_between (names_of to) (names_of from))
 
--- a backslash becomes a slash (own)
+-- a slash for a backslash (own)
 abbrev pub slash_for : ℕ → ℕ
 slash_for b = if b == 92 then 47 else b
 
--- a text with slashes alone (own)
+-- a text with each backslash replaced by a slash (own)
 abbrev pub slashed : List ℕ → List ℕ
 slashed text = map slash_for text
 
--- a path as it is written: as seen from the root, with slashes alone (own)
+-- the value of `path`: relative to the root, with slashes only (own)
 abbrev pub path_field : List ℕ → List ℕ → List ℕ
 path_field root path = slashed (relative_of path root)

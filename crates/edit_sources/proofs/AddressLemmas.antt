@@ -1,4 +1,4 @@
--- The address of a registry is one, and a file says one thing or nothing.
+-- A registry has a single URL, and a file has a single configuration or none.
 use Rattle.std.proofs.Common.{◌≡◌, ℕ, List, [], ◌∷◌, ◌++◌, Option, Some, None, Result, Ok, refl, ap, sym, ◌∙◌, subst}
 use Rattle.url.specs.Parser.{parse_url}
 use Rattle.url.specs.Parts.{Parts}
@@ -33,14 +33,14 @@ further ds [] h s t key same names is = (ap (λ x. x.replace_with) same ∙ name
 further ds (k ∷ keys) h s t key (first, (u, found, rest)) names is =
     (first, (u, found, further ds keys u s t key rest names is))
 
--- a source that follows from the head
+-- a source that can be reached from the first key
 record FromHead (ds : List Definition) (registry : Option (List ℕ)) (t : Source) : Type 0 where
   begin : Source
   is : head_source ds registry ≡ Some begin
   keys : List (List ℕ)
   follows : Follows ds keys begin t
 
--- a chain is followed from its head
+-- a chain is followed from its first key
 from_head : (ds : List Definition) (registry : Option (List ℕ)) (used : List (List ℕ)) (s : Source)
     → Reaches ds registry used s → FromHead ds registry s
 from_head ds registry used s (head s' is) = record { begin = s'; is = is; keys = []; follows = refl }
@@ -53,7 +53,7 @@ from_head ds registry used t (next before s t' key reaches names unused is) =
       follows = further ds h.keys h.begin s t' key h.follows names is;
     }
 
--- one source follows where no other replaces it
+-- two chains from one source that both reach a last source reach the same one
 one_last : (ds : List Definition) (ks ls : List (List ℕ)) (h s t : Source)
     → Follows ds ks h s → Follows ds ls h t → s.replace_with ≡ None → t.replace_with ≡ None → s ≡ t
 one_last ds [] [] h s t a b last end = sym a ∙ b
@@ -75,27 +75,27 @@ one_end ds registry s t a b =
     one_last ds h.keys k.keys h.begin s t h.follows
     (subst (λ x. Follows ds k.keys x t) same k.follows) a.last b.last
 
--- the address of a registry is one
+-- a registry has a single address
 pub one_address : (ds : List Definition) (registry : Option (List ℕ)) (a b : List ℕ) → Address ds registry a
     → Address ds registry b → a ≡ b
 one_address ds registry a b x y =
     some_one a b (sym x.given ∙ ap (λ s. s.registry) (one_end ds registry x.source y.source x.ends y.ends) ∙
     y.given)
 
--- the URL of a registry is one
+-- a registry has a single URL
 pub one_url : (configs : List Config) (registry : Option (List ℕ)) (a b : Parts)
     → HasAddress configs registry a → HasAddress configs registry b → a ≡ b
 one_url configs registry a b x y =
     let text = one_address (all_definitions configs) registry x.text y.text x.address y.address in
     read_one (parse_url None x.text) a b x.reads (ap (parse_url None) text ∙ y.reads)
 
--- what a file says is one thing
+-- a file has a single configuration
 pub one_saying : (bytes : List ℕ) (a b : Configuration) → Says bytes a → Says bytes b → a ≡ b
 one_saying bytes a b x y =
     let members = some_one x.members y.members (sym x.toml ∙ y.toml) in
     some_one a b (sym x.reads ∙ ap configuration_of members ∙ y.reads)
 
--- a file that says something is none that says nothing
+-- a file with a configuration is not malformed
 pub says_or_nothing : (bytes : List ℕ) (said : Configuration) → Says bytes said → SaysNothing bytes → ⊥
 says_or_nothing bytes said s (not_utf8 other) = other s.utf8
 says_or_nothing bytes said s (not_toml none) = some_none s.members (sym s.toml ∙ none)

@@ -1,4 +1,4 @@
--- Chains of sources that have an end: they use no key twice, and lead to one address.
+-- Chains of sources that end: they use no key twice, and lead to a single URL.
 use Rattle.std.proofs.Common.{◌≡◌, ◌<◌, ℕ, zero, suc, List, [], ◌∷◌, ◌++◌, Bool, true, false, cond, Option, Some, None, inl, inr, ⊎_elim, refl, ap, sym, ◌∙◌, subst, arith}
 use Rattle.std.specs.Prelude.{◌||◌, ◌⊎◌, unwrap_or}
 use Rattle.std.specs.Str.{bytes_eq}
@@ -28,7 +28,7 @@ only : (b : Bool) → (b || false) ≡ true → b ≡ true
 only true h = refl
 only false h = h
 
--- a key that stands in a list with one more stands in the list, or is that one
+-- a key in a list with one more is in the list, or is that one
 pub among : (used : List (List ℕ)) (last key : List ℕ) → is_used (used ++ last ∷ []) key ≡ true
     → (is_used used key ≡ true) ⊎ (last ≡ key)
 among used last key h =
@@ -40,7 +40,7 @@ among used last key h =
 
 -- ---- the head
 
--- an address that stands where none is given leaves the replacement
+-- the default URL leaves the replacement unchanged
 keeps : (b : Bool) (x : said.Source) → (cond b (with_default x) x).replace_with ≡ x.replace_with
 keeps true x = refl
 keeps false x = refl
@@ -49,7 +49,7 @@ some_cond : (b : Bool) (x y : said.Source) → cond b (Some x) (Some y) ≡ Some
 some_cond true x y = refl
 some_cond false x y = refl
 
--- the head of a chain and the source at its key have one replacement
+-- the first source of a chain and the source at its key have the same replacement
 alike : (registry : Option (List ℕ)) (key : List ℕ) (o : Option said.Source) (s u : said.Source)
     → head_source_of registry o ≡ Some s → addressed key o ≡ Some u → u.replace_with ≡ s.replace_with
 alike registry key None s u begins at = absurd (none_some u at)
@@ -62,7 +62,7 @@ alike registry key (Some x) s u begins at =
     ap (λ (y : said.Source). y.replace_with) (sym source) ∙ keeps c x ∙ sym (keeps b x)
     ∙ ap (λ (y : said.Source). y.replace_with) begun
 
--- a registry that is not the default one begins at a key that is not the default address
+-- a registry other than the default one starts at a key other than the default URL
 apart : (registry : Option (List ℕ)) → is_default registry ≡ false
     → bytes_eq (head_key registry) crates_io_index ≡ false
 apart None h = absurd (true_false h)
@@ -84,7 +84,7 @@ leads_too ds address zero b c x h (last, given) =
     (keeps b x ∙ sym (keeps c x) ∙ last, addressed_last b c x address h given)
 leads_too ds address (suc n) b c x h (key, names, rest) = (key, keeps b x ∙ sym (keeps c x) ∙ names, rest)
 
--- where the source at the key of a head leads to an address, the head leads there
+-- if the source at the first key of a chain leads to a URL, the first source leads there
 pub head_leads : (ds : List Definition) (registry : Option (List ℕ)) (address : List ℕ) (n : ℕ)
     (o : Option said.Source) (u : said.Source)
     → addressed (head_key registry) o ≡ Some u → Leads ds address n u
@@ -105,7 +105,7 @@ leads_alike : (ds : List Definition) (address : List ℕ) (n : ℕ) (s u : said.
     → u.replace_with ≡ s.replace_with → Leads ds address (suc n) s → Leads ds address (suc n) u
 leads_alike ds address n s u same (key, names, rest) = (key, same ∙ names, rest)
 
--- the source at a key that was used leads on for as long as the last one, at least
+-- the source at a key that was used leads on for at least as long as the last one
 again : (ds : List Definition) (registry : Option (List ℕ)) (key address : List ℕ) (u : said.Source)
     (used : List (List ℕ)) (s : said.Source) → Reaches ds registry used s → (n : ℕ)
     → is_used used key ≡ true → named ds key ≡ Some u → Leads ds address (suc n) s
@@ -132,7 +132,7 @@ again ds registry key address u used s (next before s' t last reaches names unus
     ))
     (among before last key there)
 
--- the number of links to an end is one
+-- the number of replacements up to the end is unique
 one_length : (ds : List Definition) (a b : List ℕ) (n m : ℕ) (s : said.Source) → Leads ds a n s
     → Leads ds b m s → n ≡ m
 one_length ds a b zero zero s x y = refl
@@ -145,7 +145,7 @@ one_length ds a b (suc n) (suc m) s (key, names, (t, is, leads)) (other, also, (
     let source : t ≡ v = some_one t v (sym is ∙ ap (named ds) same ∙ found) in
     ap (λ k. suc k) (one_length ds a b n m t leads (subst (Leads ds b m) (sym source) leads'))
 
--- a chain that has an end uses no key twice
+-- a chain that ends uses no key twice
 unused : (ds : List Definition) (registry : Option (List ℕ)) (used : List (List ℕ)) (s t : said.Source)
     (key address : List ℕ) (n : ℕ) → Reaches ds registry used s → s.replace_with ≡ Some key
     → named ds key ≡ Some t → Leads ds address n t → is_used used key ≡ false
@@ -156,7 +156,7 @@ unused ds registry used s t key address n reaches names is leads =
     let same = one_length ds address address n r.0 t leads r.2 in
     omega (arith, r.1, same))
 
--- from any source of a chain that leads to an address, the registry has that address
+-- if a source of the chain leads to a URL, the registry has that URL
 pub arrives : (ds : List Definition) (registry : Option (List ℕ)) (address : List ℕ) (n : ℕ)
     (used : List (List ℕ)) (s : said.Source) → Reaches ds registry used s → Leads ds address n s
     → Address ds registry address

@@ -1,4 +1,4 @@
--- One entry of a table after another.
+-- The entries of a table, one at a time.
 use Rattle.std.proofs.Common.{◌≡◌, ℕ, List, [], ◌∷◌, ◌++◌, map, Option, Some, None, option_map, String, Global, string_bytes, ap, sym, ◌∙◌, refl}
 use Rattle.std.proofs.lemmas.List.{map_push, append_assoc}
 use Rattle.toml.specs.Data.{Data}
@@ -6,7 +6,7 @@ use Rattle.toml.specs.View.{view, members_view}
 use Rattle.toml.specs.declared.value.Value.{Value}
 use Rattle.edit_sources.specs.Configuration.{both, entries_of}
 
--- what is read so far, and one entry more
+-- the entries that were read so far, and one more
 pushed : {A : Type 0} (done : List (List ℕ × A)) (key : List ℕ) (x : A) (rest : Option (List (List ℕ × A)))
     → option_map (λ r. done ++ r) (both (λ y ys. (key, y) ∷ ys) (Some x) rest)
     ≡ option_map (λ r. (done ++ (key, x) ∷ []) ++ r) rest

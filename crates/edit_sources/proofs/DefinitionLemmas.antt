@@ -1,4 +1,5 @@
--- What definitions keep while chains are followed: a walk passes keys that are left, and leads on to an end.
+-- Invariants of the definitions while chains are followed: only keys that are left are passed, and they lead
+-- to the end.
 use Rattle.std.proofs.Common.{◌≡◌, ℕ, suc, List, [], ◌∷◌, ◌++◌, Bool, true, false, cond, Option, Some, None, option_map, String, Global, string_bytes, inl, inr, ⊎_elim, refl, ap, sym, ◌∙◌, subst}
 use Rattle.std.specs.Prelude.{◌||◌, ◌⊎◌}
 use Rattle.std.specs.Str.{bytes_eq}
@@ -18,10 +19,10 @@ use Rattle.edit_sources.specs.declared.registry.definitions.Definitions.{Definit
 use Rattle.edit_sources.proofs.ChainLemmas.{among, arrives, head_leads, some_none, some_one}
 use Rattle.edit_sources.proofs.KeyLemmas.{held, one_more, same_ends}
 
--- ---- a walk
+-- ---- following a chain
 
--- the chain was followed to this source, past these keys after the first one: what is left has the first
--- definition of each other key, and where the source leads to an address, so do the keys
+-- the chain was followed to this source, past these keys after the first one: every other key has its first
+-- definition left, and if the source leads to a URL, so do the keys
 pub record IsWalk (configs : List Config) (registry : Option (List ℕ)) (d : Definitions)
     (keys : List (List ℕ)) (s : said.Source) : Type 0 where
   pub reaches : Reaches (all_definitions configs) registry (head_key registry ∷ keys) s
@@ -32,13 +33,13 @@ pub record IsWalk (configs : List Config) (registry : Option (List ℕ)) (d : De
   pub leads : (address : List ℕ) (n : ℕ) → Leads (all_definitions configs) address n s
       → (q : List ℕ) → is_used keys q ≡ true → LeadsTo (all_definitions configs) q address
 
--- what is found is not used, and is the first definition
+-- a key whose definition is left was not used
 fresh : (key : List ℕ) (b : Bool) (o : Option said.Source) (s : said.Source)
     → addressed key (cond b None o) ≡ Some s → (b ≡ false) × (addressed key o ≡ Some s)
 fresh key true o s h = absurd (some_none s (sym h))
 fresh key false o s h = (refl, h)
 
--- what is not found is used or not defined
+-- a key without a definition left was used or is not defined
 missing : {A : Type 0} (b : Bool) (o : Option A) → cond b None o ≡ None → (b ≡ true) ⊎ (o ≡ None)
 missing true o h = inl refl
 missing false o h = inr h
@@ -58,7 +59,7 @@ right_true false b h = h
 false_true : false ≡ true → ⊥
 false_true h = cc
 
--- a walk that has passed no key leads nowhere yet
+-- the chain at its first source
 pub walk_start : (configs : List Config) (registry : Option (List ℕ)) (key : List ℕ) (d : Definitions)
     (o : Option Source) (s : said.Source)
     → key ≡ head_key registry → Defines configs d → end_at d (head_key registry) ≡ None
@@ -72,7 +73,7 @@ walk_start configs registry key d o s is defines unknown value got = record {
   leads = λ address n leads q h. absurd (false_true h);
 }
 
--- one source more
+-- the chain with one source more
 pub walk_next : (configs : List Config) (registry : Option (List ℕ)) (beginning key : List ℕ)
     (old new : Definitions) (keys : List (List ℕ)) (s t : said.Source)
     → beginning ≡ head_key registry → IsWalk configs registry old keys s → s.replace_with ≡ Some key
@@ -97,7 +98,7 @@ walk_next configs registry beginning key old new keys s t is w names unknown tak
           (record { source = t; is = here.1; links = n; leads = leads })) (among keys key q used);
     }
 
--- a key with an address that is kept
+-- the chain at a key whose URL is stored
 pub walk_meets : (configs : List Config) (registry : Option (List ℕ)) (key address : List ℕ)
     (d : Definitions) (keys : List (List ℕ)) (s : said.Source)
     → IsWalk configs registry d keys s → s.replace_with ≡ Some key → end_at d key ≡ Some address
@@ -105,7 +106,7 @@ pub walk_meets : (configs : List Config) (registry : Option (List ℕ)) (key add
 walk_meets configs registry key address d keys s w names kept =
     let k = w.ends key address kept in (suc k.links, (key, names, (k.source, k.is, k.leads)))
 
--- the address of the registry
+-- the URL of the registry
 pub walk_arrives : (configs : List Config) (registry : Option (List ℕ)) (address : List ℕ)
     (d : Definitions) (keys : List (List ℕ)) (s : said.Source)
     → IsWalk configs registry d keys s → (n : ℕ) × Leads (all_definitions configs) address n s
@@ -123,7 +124,7 @@ kept_none : (b : Bool) (o : Option (List ℕ)) (address : List ℕ) → cond b (
 kept_none true o address h = absurd (some_none address h)
 kept_none false o address h = (refl, h)
 
--- the address is kept for each key that was passed
+-- the URL is stored for each key that was passed
 pub walk_keeps : (configs : List Config) (registry : Option (List ℕ)) (address : List ℕ)
     (old new : Definitions) (keys : List (List ℕ)) (s : said.Source)
     → IsWalk configs registry old keys s → (n : ℕ) × Leads (all_definitions configs) address n s
@@ -142,9 +143,9 @@ walk_keeps configs registry address old new keys s w leads same kept =
           ap (λ m. found m key) same ∙ w.left key x.1 ∙ ap (λ b. cond b None (first key ds)) x.0;
     }
 
--- ---- refusals, and the head alone
+-- ---- errors, and the first key alone
 
--- the address of a registry whose head has one that is kept
+-- the URL of a registry whose first key has a stored one
 pub head_arrives : (configs : List Config) (registry : Option (List ℕ)) (address : List ℕ)
     (d : Definitions) → Defines configs d → end_at d (head_key registry) ≡ Some address
     → Address (all_definitions configs) registry address
@@ -159,13 +160,13 @@ head_by : (b : Bool) (registry : List ℕ) (s : said.Source) (o : Option said.So
 head_by true registry s o h = absurd (some_none s h)
 head_by false registry s o h = refl
 
--- a registry whose head is not defined is that key
+-- a registry whose first key is not defined is that key
 head_is : (registry : Option (List ℕ)) (o : Option said.Source) → head_source_of registry o ≡ None
     → registry ≡ Some (head_key registry)
 head_is None o h = absurd (cc)
 head_is (Some registry) o h = head_by (bytes_eq registry crates_io_index) registry _ o h
 
--- a head that is not left
+-- the first key has no definition left
 pub walk_fails : (configs : List Config) (registry : Option (List ℕ)) (key : List ℕ) (d : Definitions)
     (o : Option Source) → key ≡ head_key registry → Defines configs d
     → end_at d (head_key registry) ≡ None → o ≡ held key d.left
@@ -180,7 +181,7 @@ walk_fails configs registry key d o is defines unknown value got =
       undefined = none;
     }
 
--- a key that was used or is not defined
+-- the chain leads to a key that was used or is not defined
 pub walk_breaks : (configs : List Config) (registry : Option (List ℕ)) (beginning key : List ℕ)
     (d : Definitions) (keys : List (List ℕ)) (s : said.Source)
     → beginning ≡ head_key registry → IsWalk configs registry d keys s → s.replace_with ≡ Some key
@@ -199,7 +200,7 @@ walk_breaks configs registry beginning key d keys s is w names unknown lacks =
           (missing b (first key ds) (sym (w.left key unknown) ∙ none))) lacks;
     }
 
--- a last source that has no address
+-- the last source of the chain has no URL
 pub walk_ends : (configs : List Config) (registry : Option (List ℕ)) (d : Definitions)
     (keys : List (List ℕ)) (s : said.Source) → IsWalk configs registry d keys s → s.replace_with ≡ None
     → s.registry ≡ None → HasNoAddress (all_definitions configs) registry
@@ -210,11 +211,11 @@ walk_ends configs registry d keys s w last none =
       none = none;
     }
 
--- why a registry has no URL, of any files of which these are the definitions
+-- the error of a registry, for all configurations with these definitions
 abbrev pub Refuses : Definitions → Option (List ℕ) → Error → Type 0
 Refuses d registry e = (configs : List Config) → Defines configs d → HasNoUrl configs registry e
 
--- the refusal of a head
+-- the error of the first key
 pub refused_head : (registry : Option (List ℕ)) (key : List ℕ) (d : Definitions) (e : Error)
     → IsMemory e ⊎ ((name : String Global) × (e ≡ RegistryNotFound name) × (string_bytes name ≡ key))
     → ((configs : List Config) → Defines configs d → HasNoHead (all_definitions configs) registry key)
@@ -224,7 +225,7 @@ refused_head registry key d e h none =
     subst (HasNoUrl configs registry) (sym r.1)
     (no_head r.0 (subst (HasNoHead (all_definitions configs) registry) (sym r.2) (none configs defines))))) h
 
--- the refusal of a source further on
+-- the error of a later key
 pub refused_next : (registry : Option (List ℕ)) (key : List ℕ) (d : Definitions) (e : Error)
     → IsMemory e ⊎ ((name : String Global) × (e ≡ SourceNotFound name) × (string_bytes name ≡ key))
     → ((configs : List Config) → Defines configs d → BreaksAt (all_definitions configs) registry key)

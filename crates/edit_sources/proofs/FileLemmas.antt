@@ -1,4 +1,4 @@
--- Files that are read one after another.
+-- Configuration files that are read one after another.
 use Rattle.std.proofs.Common.{◌≡◌, ℕ, ◌+◌, ◌<◌, ◌≤◌, List, [], ◌∷◌, ◌++◌, length, map, take, drop, get_or, Bool, Option, Some, None, option_map, String, Global, string_bytes, refl, ap, sym, ◌∙◌, subst, inl, inr, ⊎_elim, arith}
 use Rattle.std.specs.Prelude.{codes}
 use Rattle.std.specs.List.{AllZip, cons_option}
@@ -19,11 +19,11 @@ raised_later a b c le (inl lt) = inl (omega arith)
 raised_later a b c le (inr ends) = ⊎_elim (λ same. inr (same ∙ ends.0, ends.1)) (λ lt. inl (omega arith))
     (eq-or-lt_of_le le)
 
--- a failure that is counted from earlier on
+-- a failure counts from an earlier state on
 pub failed_later : (a b c : ℕ) (e : Error) → a ≤ b → HasFailed b c e → HasFailed a c e
 failed_later a b c e le h = record { is = h.is; counted = raised_later a b c le h.counted }
 
--- a file that is read as nothing does not stand
+-- a file that reads as none does not exist
 pub absent : (o : Option (List ℕ × List ℕ)) → IsReadOf o None → o ≡ None
 absent None h = refl
 absent (Some file) h = absurd h
@@ -40,7 +40,7 @@ file_in-same old new place same =
     ∙ ap (or_else (standing old (joined place (codes "config"))))
     (standing-same old new (joined place (codes "config.toml")) same)
 
--- where `config` does not stand, `config.toml` counts
+-- if `config` does not exist, `config.toml` counts
 pub file_in-second : (old new : Files) (place first second : List ℕ) → first ≡ joined place (codes "config")
     → second ≡ joined place (codes "config.toml") → SameFiles old new → IsReadOf (standing old first) None
     → standing new second ≡ file_in old place
@@ -60,7 +60,7 @@ zip_more (Some file) (Some config) files configs all h =
 zip_more None (Some config) files configs all h = absurd h
 zip_more (Some file) None files configs all h = absurd h
 
--- one place more
+-- one folder more
 pub files_more : (files : Files) (places : List (String Global)) (i : ℕ) (place : String Global)
     (found : Option Config) (old new : List Config)
     → i < length places → place ≡ get_or places i place
@@ -81,7 +81,7 @@ files_more files places i place found old new within is all read items =
     (file_in files (string_bytes place)) []) cs) (sym items)
     (zip_more (file_in files (string_bytes place)) found _ old all read))
 
--- a file that fails among places
+-- a folder whose file fails
 pub place_fails : (tells told : Bool) (old new : Files) (places : List (String Global)) (i : ℕ)
     (place : String Global) (text : List ℕ) (e : Error)
     → i < length places → place ≡ get_or places i place → text ≡ string_bytes place → told ≡ tells

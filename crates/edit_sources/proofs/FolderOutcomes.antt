@@ -1,4 +1,4 @@
--- A look in a folder of registries has one outcome, where the store tells its files.
+-- A lookup in a folder of registries has a single result, if the contents of the store's files are known.
 use Rattle.std.proofs.Common.{◌≡◌, ℕ, List, true, false, Some, None, Ok, Err, refl, ap, sym, ◌∙◌, subst, inl, inr}
 use Rattle.url.specs.Parts.{Parts}
 use Rattle.edit_version.specs.IndexEntry.{IndexEntry}
@@ -9,12 +9,12 @@ use Rattle.edit_sources.specs.Names.{is_crate_name}
 use Rattle.edit_store.specs.Store.{StoreView}
 use Rattle.edit_sources.specs.DirIndex.{DirGives, HasBadLine, HasEntries}
 
--- a name is one that an index may have, or not
+-- a crate name is valid or not
 not_named : {A : Type 0} (name : List ℕ) (e : LookupError) (named : is_crate_name name ≡ true)
     → (e ≡ bad_name name) × (is_crate_name name ≡ false) → A
 not_named name e named bad = let isnt = bad.1 in cc
 
--- lines do not both say entries and have a bad one
+-- lines do not both have entries and a malformed line
 not_both : (folder : List ℕ) (store : StoreView) (address : Parts) (name : List ℕ) (es : List IndexEntry)
     (line : ℕ) → store.tells ≡ true → HasEntries folder store address name es
     → HasBadLine folder store address name line → ⊥
@@ -23,7 +23,7 @@ not_both folder store address name es line tells x y =
     let same : x.bytes ≡ y.bytes = cc in
     none_said (lines_of y.bytes) es line (subst (λ t. LinesSay (lines_of t) es) same x.say) y.bad
 
--- the first bad line that is told is one
+-- the first malformed line is unique
 pub one_dir_line : (folder : List ℕ) (store : StoreView) (address : Parts) (name : List ℕ) (m n : ℕ)
     → store.tells ≡ true → HasBadLine folder store address name m → HasBadLine folder store address name n
     → m ≡ n
@@ -32,7 +32,7 @@ one_dir_line folder store address name m n tells x y =
     let same : x.bytes ≡ y.bytes = cc in
     one_bad_line (lines_of y.bytes) m n (subst (λ t. IsBadLine (lines_of t) m) same x.bad) y.bad
 
--- a folder of registries that its store tells gives one outcome for an address and a name
+-- a lookup of a name at an address has a single result, if the contents of the store's files are known
 pub one_dir_outcome : (folder : List ℕ) (store : StoreView) (address : Parts) (name : List ℕ) (a b : Outcome)
     → store.tells ≡ true
     → DirGives folder store address name a → DirGives folder store address name b → a ≡ b

@@ -1,4 +1,4 @@
--- What a cache of configurations keeps.
+-- Invariants of the cache of configurations.
 use Rattle.std.proofs.Common.{◌≡◌, ℕ, List, Option, Some, true, sym, subst, inl, inr}
 use Rattle.std.specs.Option.{IfSome}
 use Rattle.std.specs.Map.{update}
@@ -11,7 +11,7 @@ use Rattle.edit_sources.specs.KeptConfigs.{AreKept, found_at}
 use Rattle.edit_sources.specs.declared.config.Config.{Config}
 use Rattle.edit_sources.specs.declared.config.cache.ConfigCache.{ConfigCache}
 
--- one place more
+-- one folder more
 pub kept_more : (seen : StoreView) (old new : ConfigCache) (at : List ℕ) (found : Option Config)
     → ((place : List ℕ) → found_at new place ≡ update bytes_eq (found_at old) at (Some found) place)
     → AreKept seen old → (seen.tells ≡ true → IsReadOf (file_in seen.file_at at) found)

@@ -1,4 +1,4 @@
--- The maps of definitions at the texts of keys: what is left, and the addresses at the ends of chains.
+-- The maps of definitions by keys: the definitions that are left, and the URLs at the ends of chains.
 use Rattle.std.proofs.Common.{◌≡◌, ◌<◌, ◌+◌, ℕ, length, take, get_or, List, [], ◌∷◌, ◌++◌, Bool, true, false, cond, Option, Some, None, option_map, BTreeMap, Bor, refl, ap, sym, ◌∙◌}
 use Rattle.std.specs.Prelude.{◌||◌}
 use Rattle.std.specs.Str.{bytes_eq}
@@ -19,7 +19,7 @@ use Rattle.edit_sources.specs.declared.registry.chain.Source.{Source}
 use Rattle.edit_sources.specs.declared.registry.definitions.Definitions.{Definitions}
 use Rattle.edit_sources.proofs.ChainLemmas.{some_none}
 
--- what a map of sources holds at a key
+-- the source of a key in a map of sources
 abbrev pub held : List ℕ → BTreeMap (Bor (List ℕ)) Source → Option Source
 held key sources = get_by (λ k. slice_cmp nat_cmp key k.now) sources
 
@@ -35,7 +35,7 @@ cond_cond true false x o = refl
 cond_cond false true x o = refl
 cond_cond false false x o = refl
 
--- a map of sources after a key was taken out
+-- a map of sources after a key was removed
 pub left_out : (key : List ℕ) (old new : BTreeMap (Bor (List ℕ)) Source)
     → UpdatesBy (λ x y. slice_cmp nat_cmp x.now y.now) (λ k. slice_cmp nat_cmp key k.now) old new None
     → (q : List ℕ) → found new q ≡ cond (bytes_eq key q) None (found old q)
@@ -43,19 +43,19 @@ left_out key old new updates q =
     ap (option_map source_texts) (btree_map_updates_str key old new None updates q)
     ∙ map_cond source_texts (bytes_eq key q) None (held q old)
 
--- a look-up among passed keys with one more
+-- a lookup among used keys with one more
 pub one_more : {A : Type 0} (used : List (List ℕ)) (key q : List ℕ) (x o : Option A)
     → cond (bytes_eq key q) x (cond (is_used used q) x o) ≡ cond (is_used (used ++ key ∷ []) q) x o
 one_more used key q x o = cond_cond (is_used used q) (bytes_eq key q) x o
     ∙ ap (λ b. cond b x o) (sym (list_any-append (λ u. bytes_eq u q) used (key ∷ [])))
 
--- the addresses at the ends do not depend on what is left
+-- the stored URLs do not depend on the definitions that are left
 pub same_ends : (old new : Definitions) → new.ends ≡ old.ends → (q : List ℕ) → end_at new q ≡ end_at old q
 same_ends old new same q =
     ap (λ (m : BTreeMap (Bor (List ℕ)) (Bor (List ℕ))). option_map (λ (a : Bor (List ℕ)). a.now)
     (get_by (λ k. slice_cmp nat_cmp q k.now) m)) same
 
--- the address of one key more is kept
+-- the URL of one key more is stored
 pub kept_more : (start old new : Definitions) (keys : List (Bor (List ℕ))) (i : ℕ) (d address : Bor (List ℕ))
     → i < length keys
     → ((q : List ℕ) → end_at old q
@@ -74,7 +74,7 @@ kept_more start old new keys i d address within so_far updates q =
     ∙ one_more (texts (take i keys)) key q (Some address.now) (end_at start q)
     ∙ ap (λ us. cond (is_used us q) (Some address.now) (end_at start q)) (sym more)
 
--- definitions of which none was followed
+-- definitions before any chain is followed
 pub fresh_defines : (configs : List Config) (d : Definitions) → d.ends.entries ≡ []
     → ((key : List ℕ) → found d.left key ≡ first key (all_definitions configs)) → Defines configs d
 fresh_defines configs d empty all =

@@ -1,11 +1,11 @@
--- The walk over the lines of a text: the lines before the place that it has reached, and what is left.
+-- The loop over the lines of a text: the lines before the current position, and the rest.
 use Rattle.std.proofs.Common.{Option, Some, None, ◌≡◌, ℕ, ◌+◌, ◌≤◌, List, [], ◌∷◌, ◌++◌, length, Bor, refl, ap, sym, ◌∙◌, subst, arith, append_assoc, append-nil}
 use Rattle.std.proofs.lemmas.List.{length_push}
 use Rattle.edit_version.specs.IndexEntry.{IndexEntry}
 use Rattle.edit_sources.specs.IndexLines.{LinesSay, length_left, lines_left, lines_of}
 use Rattle.edit_sources.specs.IndexLines.LinesSay.{none}
 
--- some lines have been read, which say these entries, and the rest has not
+-- these lines have been read and have these entries, and the rest has not been read
 pub record HasRead (text : List ℕ) (count : ℕ) (rest : Option (Bor (List ℕ))) (entries : List IndexEntry)
     : Type 0 where
   pub lines : List (List ℕ)

@@ -1,4 +1,4 @@
--- The letters of a name that an index may have are of ASCII.
+-- A valid crate name is ASCII.
 use Rattle.std.proofs.Common.{◌≡◌, ℕ, ◌<◌, List, [], ◌∷◌, map, Bool, true, false, ◌&&◌, refl, arith}
 use Rattle.std.specs.Prelude.{All}
 use Rattle.std.specs.List.{list_all}
@@ -26,7 +26,7 @@ small_bytes (b ∷ name) h = All-cons (λ b. b < 128) (to_ascii_lowercase b) (ma
     (small_byte b (left (is_name_byte b) (list_all is_name_byte name) h))
     (small_bytes name (right (is_name_byte b) (list_all is_name_byte name) h))
 
--- a name that an index may have is of ASCII by small letters too
+-- a valid crate name in lower case is ASCII too
 pub small_name : (name : List ℕ) → is_crate_name name ≡ true
     → All (λ b. b < 128) (map to_ascii_lowercase name)
 small_name name h = small_bytes name (right _ _ (right _ _ h))

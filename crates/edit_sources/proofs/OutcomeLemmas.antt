@@ -1,4 +1,4 @@
--- An index gives one outcome for an address and a name.
+-- A lookup of a name at an address has a single result.
 use Rattle.std.proofs.Common.{◌≡◌, ℕ, ◌+◌, ◌<◌, List, [], ◌∷◌, ◌++◌, Bool, true, false, cond, Option, Some, None, Ok, Err, length, length-append, get_or, refl, ap, sym, ◌∙◌, subst, arith, inl, inr}
 use Rattle.std.specs.Prelude.{◌⊎◌, option_and_then, codes}
 use Rattle.std.specs.List.{All, flat_map}
@@ -20,16 +20,16 @@ use Rattle.edit_sources.specs.Names.{layout}
 use Rattle.edit_store.specs.Store.{Files, StoreView}
 use Rattle.edit_sources.specs.declared.file_index.FileIndex.{FileIndex}
 
--- ---- lines say their entries
+-- ---- the entries of lines
 
--- an entry of its four parts, where each is said
+-- an entry, given its four fields
 abbrev entry_by : Option (List ℕ) → Option (List ℕ) → Option Bool → Option (Option (List ℕ))
     → Option IndexEntry
 entry_by (Some n) (Some v) (Some y) (Some r) =
     Some (record { name = n; version = v; yanked = y; rust_version = r })
 entry_by _ _ _ _ = None
 
--- the entry that a value says
+-- the entry of a JSON value, as a function
 abbrev entry_in : Data → Option IndexEntry
 entry_in d = entry_by (option_and_then as_str (get (codes "name") d))
     (option_and_then as_str (get (codes "vers") d)) (yanked_of (get (codes "yanked") d))
@@ -38,7 +38,7 @@ entry_in d = entry_by (option_and_then as_str (get (codes "name") d))
 entry_is : (d : Data) (e : IndexEntry) → SaysEntry d e → entry_in d ≡ Some e
 entry_is d e h = λ i. entry_by (h.name i) (h.version i) (h.yanked i) (h.rust_version i)
 
--- the entries that a line says
+-- the entries of a line, as a function: none if it is blank
 abbrev said : List ℕ → List IndexEntry
 said line = cond (is_blank line) [] (option_to_list (option_and_then entry_in (read line)))
 
@@ -52,7 +52,7 @@ said-entry line e is h =
     entry_is h.value e h.says in
     λ i. cond (is i) [] (option_to_list (reads i)) ++ []
 
--- lines say the entries of each in turn
+-- lines have the entries of each of them, in order
 all_said : (lines : List (List ℕ)) (entries : List IndexEntry) → LinesSay lines entries
     → flat_map said lines ≡ entries
 all_said lines entries none = refl
@@ -67,9 +67,9 @@ pub one_reading : (lines : List (List ℕ)) (a b : List IndexEntry) → LinesSay
     → a ≡ b
 one_reading lines a b x y = sym (all_said lines a x) ∙ all_said lines b y
 
--- ---- a bad line stands among no good ones
+-- ---- lines before a malformed one are valid
 
--- a line that is blank or says an entry
+-- a line that is blank or valid
 abbrev IsGood : List ℕ → Type 0
 IsGood line = (is_blank line ≡ true) ⊎ ((e : IndexEntry) × IsIndexLine line e)
 
@@ -83,13 +83,13 @@ not_good : (lines : List (List ℕ)) (n : ℕ) (b : IsBadLine lines n) → IsGoo
 not_good lines n b (inl is) = cc
 not_good lines n b (inr h) = b.bad h.0 h.1
 
--- the line at the place of a bad one
+-- the line at the index of a malformed one
 there : (lines : List (List ℕ)) (n : ℕ) (b : IsBadLine lines n)
     → get_or lines (length b.before) b.line ≡ b.line
 there lines n b = ap (λ ls. get_or ls (length b.before) b.line) b.whole ∙
     get_or_at b.before b.line b.after b.line (length b.before) refl
 
--- a bad line is not past another one
+-- a malformed line does not come after another one
 not_later : (lines : List (List ℕ)) (m n : ℕ) (a : IsBadLine lines m) (b : IsBadLine lines n)
     → length a.before < length b.before → ⊥
 not_later lines m n a b lt =
@@ -104,14 +104,14 @@ not_later lines m n a b lt =
 even : (m n : ℕ) → (m < n → ⊥) → (n < m → ⊥) → m ≡ n
 even m n a b = omega arith
 
--- the first bad line has one number
+-- the number of the first malformed line is unique
 pub one_bad_line : (lines : List (List ℕ)) (m n : ℕ) → IsBadLine lines m → IsBadLine lines n → m ≡ n
 one_bad_line lines m n a b =
     let same : length a.before ≡ length b.before = even (length a.before) (length b.before)
     (not_later lines m n a b) (not_later lines n m b a) in
     a.place ∙ ap (λ k. k + 1) same ∙ sym b.place
 
--- lines with a bad one say no entries
+-- lines with a malformed one have no entries
 pub none_said : (lines : List (List ℕ)) (entries : List IndexEntry) (n : ℕ) → LinesSay lines entries
     → IsBadLine lines n → ⊥
 none_said lines entries n says b =
@@ -120,7 +120,7 @@ none_said lines entries n says b =
     not_good lines n b (subst IsGood (there lines n b)
     (All-get_or IsGood lines (length b.before) b.line within (each_good lines entries says)))
 
--- ---- a name has one path at an address
+-- ---- the path of a crate's file is unique
 
 one_path : (address : Parts) (name p q : List ℕ) → IsIndexPath address name p → IsIndexPath address name q
     → p ≡ q
@@ -128,7 +128,7 @@ one_path address name p q a b =
     let folder : a.folder ≡ b.folder = a.folder_of.path ∙ sym b.folder_of.path in
     a.is ∙ ap (λ f. below f (layout name)) folder ∙ sym b.is
 
--- or none, for one reason
+-- a crate's file does not have both a path and an error
 no_path : (address : Parts) (name p : List ℕ) (n : LookupError) → IsIndexPath address name p
     → HasNoIndexPath address name n → ⊥
 no_path address name p n a (inl h) = h.1 a.scheme
@@ -147,14 +147,14 @@ one_reason address name m n (inr (inr a)) (inl b) = absurd (b.1 a.1)
 one_reason address name m n (inr (inr a)) (inr (inl b)) = absurd (b.2 a.2.0.0 a.2.0.1)
 one_reason address name m n (inr (inr a)) (inr (inr b)) = a.0 ∙ sym b.0
 
--- ---- one outcome
+-- ---- results
 
--- the text of the file of a name is one text
+-- the contents of a crate's file are unique
 one_text : (files : Files) (address : Parts) (name p q : List ℕ) (a b : Option (List ℕ))
     → IsIndexPath address name p → IsIndexPath address name q → files p ≡ a → files q ≡ b → a ≡ b
 one_text files address name p q a b at also x y = sym x ∙ ap files (one_path address name p q at also) ∙ y
 
--- lines do not both say entries and have a bad one
+-- lines do not both have entries and a malformed line
 not_both : (store : StoreView) (address : Parts) (name : List ℕ) (es : List IndexEntry) (line : ℕ)
     → store.tells ≡ true
     → HasEntries store address name es → HasBadLine store address name line → ⊥
@@ -164,7 +164,7 @@ not_both store address name es line tells x y =
     let same : x.bytes ≡ y.bytes = cc in
     none_said (lines_of y.bytes) es line (subst (λ t. LinesSay (lines_of t) es) same x.say) y.bad
 
--- the first bad line that is told is one
+-- the first malformed line is unique
 pub one_line : (store : StoreView) (address : Parts) (name : List ℕ) (m n : ℕ) → store.tells ≡ true
     → HasBadLine store address name m → HasBadLine store address name n → m ≡ n
 one_line store address name m n tells x y =
@@ -173,7 +173,8 @@ one_line store address name m n tells x y =
     let same : x.bytes ≡ y.bytes = cc in
     one_bad_line (lines_of y.bytes) m n (subst (λ t. IsBadLine (lines_of t) m) same x.bad) y.bad
 
--- an index in files that its store tells gives one outcome for an address and a name
+-- a lookup in an index of one file per crate has a single result, if the contents of the store's files are
+-- known
 pub one_local_outcome : (store : StoreView) (address : Parts) (name : List ℕ) (a b : Outcome)
     → store.tells ≡ true
     → LocalGives store address name a → LocalGives store address name b → a ≡ b
@@ -217,7 +218,7 @@ one_local_outcome store address name (Err m) (Err n) tells (inr (line, named, x)
 one_local_outcome store address name (Err m) (Err n) tells (inr a) (inr b) =
     ap Err (a.1 ∙ ap bad_line (one_line store address name a.0 b.0 tells a.2 b.2) ∙ sym b.1)
 
--- an index of one file gives one outcome for a name
+-- a lookup in an index in a single file has a single result
 pub one_file_outcome : (index : FileIndex) (name : List ℕ) (a b : Outcome) → FileGives index name a
     → FileGives index name b → a ≡ b
 one_file_outcome index name a b (inl x) (inl y) = x.1 ∙ sym y.1

@@ -33,21 +33,21 @@ module _ (name q : List ℕ) where
       (All-head (λ v. string_bytes v.name ≡ name) x xs h) ∙
       ap (λ t. cond t (x ∷ with_name q xs) (with_name q xs)) e
 
-  -- a test of names keeps all entries of one name
+  -- a test of names keeps every entry of one name
   pub with_name-all : bytes_eq q name ≡ true → (xs : List IndexVersion) → AreNamed name xs
       → with_name q xs ≡ xs
   with_name-all e [] h = refl
   with_name-all e (x ∷ xs) h = with_name-step true e x xs h ∙
       ap (λ t. x ∷ t) (with_name-all e xs (All-tail (λ v. string_bytes v.name ≡ name) x xs h))
 
-  -- or none of them
+  -- a test of names drops every entry of one name
   pub with_name-none : bytes_eq q name ≡ false → (xs : List IndexVersion) → AreNamed name xs
       → with_name q xs ≡ []
   with_name-none e [] h = refl
   with_name-none e (x ∷ xs) h = with_name-step false e x xs h ∙
       with_name-none e xs (All-tail (λ v. string_bytes v.name ≡ name) x xs h)
 
-  -- so the test keeps all or none
+  -- a test of names keeps every entry of one name, or drops every one
   pub with_name-is : (xs : List IndexVersion) → AreNamed name xs
       → ((bytes_eq q name ≡ true) × (with_name q xs ≡ xs))
       ⊎ ((bytes_eq q name ≡ false) × (with_name q xs ≡ []))
@@ -87,7 +87,7 @@ continued [] x h name named = absurd (false≢true h)
 continued (e ∷ es) x h name named = sym ((bytes_eq-Decides (string_bytes e.name) (string_bytes x.name)).0 h) ∙
     All-head (λ v. string_bytes v.name ≡ name) e es named
 
--- entries stand in the groups, but for the last ones, which are of one name
+-- all entries except the last ones, which are of one name, are in the groups
 abbrev pub HasGrouped : Groups → List IndexVersion → List IndexVersion → Type 0
 HasGrouped groups run entries = ((q : List ℕ) → group_of groups q ++ with_name q run ≡ with_name q entries)
     × ((name : List ℕ) × AreNamed name run)

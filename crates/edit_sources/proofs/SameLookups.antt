@@ -1,4 +1,4 @@
--- What a lookup gives rests on the files that the store tells.
+-- The result of a lookup depends only on the contents of the store's files.
 use Rattle.std.proofs.Common.{◌≡◌, List, ℕ, Some, None, Ok, Err, sym, ◌∙◌, inl, inr}
 use Rattle.url.specs.Parts.{Parts}
 use Rattle.edit_store.specs.Store.{SameFiles, StoreView}
@@ -30,7 +30,7 @@ gives_along old new told same address name (Err e) (inr (line, is, h)) = inr (
   },
 )
 
--- the same files give the same outcomes
+-- the same files give the same results
 pub same_lookups : (old new : StoreView) → new.tells ≡ old.tells → SameFiles old.file_at new.file_at
     → SameOutcomes (LocalGives old) (LocalGives new)
 same_lookups old new told same = λ address name outcome. (

@@ -1,4 +1,4 @@
--- The first definition of a key, in lists and in the map of a walk.
+-- The first definition of a key, in lists and in the map of a chain.
 use Rattle.std.proofs.Common.{◌≡◌, ◌<◌, ◌+◌, ℕ, length, map, take, get_or, List, [], ◌∷◌, ◌++◌, Bool, true, false, cond, Option, Some, None, option_map, BTreeMap, Bor, refl, ap, sym, ◌∙◌}
 use Rattle.std.specs.Str.{bytes_eq}
 use Rattle.std.proofs.lemmas.Bool.Decides.{same_from_decides}

@@ -1,75 +1,74 @@
--- What a configuration file says of registries and sources
--- (Cargo reference, "Configuration", registries and source).
+-- The registries and sources of a configuration file (Cargo reference, "Configuration", registries and
+-- source).
 use Rattle.std.specs.Prelude.{◌≡◌, ℕ, List, [], ◌∷◌, Option, Some, None, codes, option_map, option_and_then}
 use Rattle.std.specs.Str.{IsUtf8}
 use Rattle.toml.specs.Data.{Data, Members, no_members, member, get_member, as_str, as_table}
 use Rattle.toml.specs.Parse.{parse_document}
 
--- what a file says of a source: the address of its registry, and
--- the key of the source that replaces it ("Source Replacement")
+-- an entry of `source`: the URL of its registry, and the key of the source that replaces it ("Source
+-- Replacement")
 pub record Source : Type 0 where
   pub registry : Option (List ℕ)
   pub replace_with : Option (List ℕ)
 
--- what a file says: the index of each key of `registries`, and each source
--- of `source`, in the order of the keys in the table that `toml` reads
+-- the model of a configuration file: the keys of `registries` with their indexes, and the entries of
+-- `source`, in the order of the keys in the table that `toml` reads
 pub record Configuration : Type 0 where
   pub registries : List (List ℕ × Option (List ℕ))
   pub sources : List (List ℕ × Source)
 
--- two things that are both said, as one (own)
+-- combines two values that are both there (own)
 abbrev pub both : {A B C : Type 0} → (A → B → C) → Option A → Option B → Option C
 both f (Some x) (Some y) = Some (f x y)
 both f _ _ = None
 
--- a text that need not be there; a value of another type says nothing (own)
+-- a string that may be absent; a value of another type is malformed (own)
 abbrev pub optional_text : Option Data → Option (Option (List ℕ))
 optional_text None = Some None
 optional_text (Some value) = option_map (λ text. Some text) (as_str value)
 
--- the text at a key of a table (own)
+-- the string of a key, which may be absent (own)
 abbrev pub text_at : List ℕ → Members → Option (Option (List ℕ))
 text_at key members = optional_text (get_member key members)
 
--- what a table below `registries` says: its `index` (Cargo
--- reference, "Configuration", registries.<name>.index)
+-- the `index` of an entry of `registries` (Cargo reference, "Configuration", registries.<name>.index)
 abbrev pub index_of : Data → Option (Option (List ℕ))
 index_of value = option_and_then (text_at (codes "index")) (as_table value)
 
--- what a table below `source` says: its `registry` and its
--- `replace-with` (Cargo reference, "Configuration", source.<name>)
+-- the `registry` and the `replace-with` of an entry of `source` (Cargo reference, "Configuration",
+-- source.<name>)
 abbrev pub source_in : Members → Option Source
 source_in members = both (λ r w. record { registry = r; replace_with = w })
     (text_at (codes "registry") members) (text_at (codes "replace-with") members)
 
--- the same of a value, which says nothing where it is no table (own)
+-- the source of an entry of `source`, which has to be a table (own)
 abbrev pub source_of : Data → Option Source
 source_of value = option_and_then source_in (as_table value)
 
--- what each entry of a table says, beside its key, where all of them say something (own)
+-- the entries of a table, each key with its value read; none where one is malformed (own)
 abbrev pub entries_of : {A : Type 0} → (Data → Option A) → Members → Option (List (List ℕ × A))
 entries_of read no_members = Some []
 entries_of read (member key value rest) = both (λ x xs. (key, x) ∷ xs) (read value) (entries_of read rest)
 
--- the same of a table that need not be there (own)
+-- the entries of a table that may be absent (own)
 abbrev pub table_of : {A : Type 0} → (Data → Option A) → Option Data → Option (List (List ℕ × A))
 table_of read None = Some []
 table_of read (Some value) = option_and_then (entries_of read) (as_table value)
 
--- the keys of `registries` with their indexes (Cargo reference, "Configuration", registries)
+-- the entries of `registries`, each key with its index (Cargo reference, "Configuration", registries)
 abbrev pub registries_in : Members → Option (List (List ℕ × Option (List ℕ)))
 registries_in document = table_of index_of (get_member (codes "registries") document)
 
--- the keys of `source` with their sources (Cargo reference, "Configuration", source)
+-- the entries of `source`, each key with its source (Cargo reference, "Configuration", source)
 abbrev pub sources_in : Members → Option (List (List ℕ × Source))
 sources_in document = table_of source_of (get_member (codes "source") document)
 
--- what a document says; all else in it is ignored (own)
+-- the configuration of a document; everything else in it is ignored (own)
 abbrev pub configuration_of : Members → Option Configuration
 configuration_of document =
     both (λ r s. record { registries = r; sources = s }) (registries_in document) (sources_in document)
 
--- the bytes are UTF-8, a TOML document, and say this (own)
+-- the bytes are UTF-8 and a TOML document with this configuration (own)
 pub record Says (bytes : List ℕ) (said : Configuration) : Type 0 where
   pub utf8 : IsUtf8 bytes
   pub members : Members
@@ -77,7 +76,7 @@ pub record Says (bytes : List ℕ) (said : Configuration) : Type 0 where
   pub reads : configuration_of members ≡ Some said
 
 -- the bytes are not UTF-8, are no TOML document, or have a `registries` or `source` that is no table of
--- tables, or an `index`, a `registry` or a `replace-with` that is no text (own)
+-- tables, or an `index`, a `registry` or a `replace-with` that is no string (own)
 pub data SaysNothing (bytes : List ℕ) : Type 0 where
   not_utf8 : (IsUtf8 bytes → ⊥) → SaysNothing bytes
   not_toml : parse_document bytes ≡ None → SaysNothing bytes

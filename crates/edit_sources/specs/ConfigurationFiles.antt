@@ -1,5 +1,5 @@
--- Which configuration files count, the first one first (Cargo
--- reference, "Configuration", Hierarchical structure).
+-- The configuration files that cargo reads, the first one first (Cargo reference, "Configuration",
+-- Hierarchical structure).
 use Rattle.std.specs.Prelude.{◌≡◌, ◌⊎◌, ℕ, List, [], ◌∷◌, ◌++◌, map, Option, Some, None, option_map, Bool, true, codes, ⊤, string_bytes}
 use Rattle.std.specs.List.{filter_map, AllZip}
 use Rattle.std.specs.Option.{option_to_list}
@@ -15,7 +15,7 @@ use Rattle.edit_sources.specs.Configured.{configuration, IsConfigRefusal, HasAdd
 use Rattle.edit_sources.specs.Sources.{or_else}
 use Rattle.edit_sources.specs.declared.config.Config.{Config}
 
--- the folders of a file, from its own upwards to the root (own)
+-- the folders above a file, from its own up to the root (own)
 pub record IsUpwards (path : List ℕ) (folders : List (List ℕ)) : Type 0 where
   pub start : List ℕ
   pub own : IsFolderOf path start
@@ -23,54 +23,54 @@ pub record IsUpwards (path : List ℕ) (folders : List (List ℕ)) : Type 0 wher
   pub climbs : Climbs start passed (codes "/")
   pub all : folders ≡ passed ++ codes "/" ∷ []
 
--- where files may stand: `.cargo` in each folder from the manifest's upwards, and then the home of cargo
--- (Cargo reference, "Configuration", Hierarchical structure)
+-- the folders to search: `.cargo` in each folder from the manifest's upwards, and then cargo's home (Cargo
+-- reference, "Configuration", Hierarchical structure)
 pub record IsSearched (manifest : List ℕ) (home : Option (List ℕ)) (places : List (List ℕ)) : Type 0 where
   pub folders : List (List ℕ)
   pub upwards : IsUpwards manifest folders
   pub all : places ≡ map (λ folder. joined folder (codes ".cargo")) folders ++ option_to_list home
 
--- a file that stands: its path and its bytes (own)
+-- the file at a path, if it exists: its path and its bytes (own)
 abbrev pub standing : Files → List ℕ → Option (List ℕ × List ℕ)
 standing files path = option_map (λ bytes. (path, bytes)) (files path)
 
--- the file that counts in a place: `config`, else `config.toml`
--- (Cargo reference, "Configuration", Hierarchical structure)
+-- the configuration file in a folder: `config`, else `config.toml` (Cargo reference, "Configuration",
+-- Hierarchical structure)
 abbrev pub file_in : Files → List ℕ → Option (List ℕ × List ℕ)
 file_in files place = or_else (standing files (joined place (codes "config")))
     (standing files (joined place (codes "config.toml")))
 
--- the files that count in these places, in their order (own)
+-- the configuration files in these folders, in their order (own)
 abbrev pub files_in : Files → List (List ℕ) → List (List ℕ × List ℕ)
 files_in files places = filter_map (file_in files) places
 
--- a configuration is what its file says (own)
+-- the configuration is that of the file (own)
 pub record IsReadFrom (file : List ℕ × List ℕ) (config : Config) : Type 0 where
   pub path : string_bytes config.path ≡ file.0
   pub said : Says file.1 (configuration config)
 
--- a configuration where a file stands, none where none does (own)
+-- the configuration is that of the file if it exists, and there is none otherwise (own)
 abbrev pub IsReadOf : Option (List ℕ × List ℕ) → Option Config → Type 0
 IsReadOf None None = ⊤
 IsReadOf (Some file) (Some config) = IsReadFrom file config
 IsReadOf _ _ = ⊥
 
--- the refusal of a file that says nothing (own)
+-- the error of a malformed file (own)
 pub record IsUnread (file : List ℕ × List ℕ) (e : Error) : Type 0 where
   pub named : IsConfigRefusal file.0 e
   pub nothing : SaysNothing file.1
 
--- the device failed at a file (own)
+-- the device failed while a file was read (own)
 pub record HasFailed (before now : ℕ) (e : Error) : Type 0 where
   pub is : e ≡ Device Read
   pub counted : raised before now
 
--- the path of the configuration file in a place, by one of its two names
--- (Cargo reference, "Configuration", Hierarchical structure)
+-- the path of the configuration file in a folder, by one of its two names (Cargo reference, "Configuration",
+-- Hierarchical structure)
 abbrev pub IsConfigPath : List ℕ → List ℕ → Type 0
 IsConfigPath place path = (path ≡ joined place (codes "config")) ⊎ (path ≡ joined place (codes "config.toml"))
 
--- why no file is read: the one that counts, at such a path, says nothing (own)
+-- the error of a folder: its configuration file, at such a path, is malformed (own)
 pub record FileFails (tells : Bool) (IsAt : List ℕ → Type 0) (counts : Option (List ℕ × List ℕ)) (e : Error)
     : Type 0 where
   pub file : List ℕ × List ℕ
@@ -78,14 +78,14 @@ pub record FileFails (tells : Bool) (IsAt : List ℕ → Type 0) (counts : Optio
   pub stands : tells ≡ true → counts ≡ Some file
   pub unread : IsUnread file e
 
--- the configurations of a manifest: what each file that counts says, in order (own)
+-- the configurations of a manifest: that of each file that is found, in order (own)
 pub record AreConfigs (files : Files) (manifest : List ℕ) (home : Option (List ℕ))
     (configs : List Config) : Type 0 where
   pub places : List (List ℕ)
   pub searched : IsSearched manifest home places
   pub each : AllZip IsReadFrom (files_in files places) configs
 
--- why files are not read: one that counts says nothing (own)
+-- the error of these folders: the configuration file in one of them is malformed (own)
 pub record PlaceFails (tells : Bool) (files : Files) (places : List (List ℕ)) (e : Error) : Type 0 where
   pub place : List ℕ
   pub before : List (List ℕ)
@@ -93,21 +93,21 @@ pub record PlaceFails (tells : Bool) (files : Files) (places : List (List ℕ)) 
   pub within : places ≡ before ++ place ∷ after
   pub fails : FileFails tells (IsConfigPath place) (file_in files place) e
 
--- why the configurations of a manifest are not read (own)
+-- the error of the configurations of a manifest (own)
 pub record ConfigsFail (tells : Bool) (files : Files) (manifest : List ℕ) (home : Option (List ℕ))
     (e : Error) : Type 0 where
   pub places : List (List ℕ)
   pub searched : IsSearched manifest home places
   pub fails : PlaceFails tells files places e
 
--- the URL of a registry under the configurations of a manifest (own)
+-- the URL of a registry with the configurations of a manifest (own)
 pub record ConfiguredUrl (files : Files) (manifest : List ℕ) (home registry : Option (List ℕ))
     (url : Parts) : Type 0 where
   pub configs : List Config
   pub read : AreConfigs files manifest home configs
   pub address : HasAddress configs registry url
 
--- why a registry has no URL under the configurations of a manifest (own)
+-- the error of a registry that has no URL with the configurations of a manifest (own)
 pub record HasNoConfiguredUrl (tells : Bool) (files : Files) (manifest : List ℕ)
     (home registry : Option (List ℕ)) (e : Error) : Type 0 where
   pub configs : List Config

@@ -1,4 +1,4 @@
--- Configurations as contracts see them, and the refusal of a configuration file.
+-- The models of configurations, and the error of a malformed configuration file.
 use Rattle.std.specs.Prelude.{◌≡◌, ℕ, List, Option, None, Ok, Err, map, option_map, String, string_bytes}
 use Rattle.std.specs.declared.alloc.Global.{Global}
 use Rattle.edit_base.specs.declared.errors.Error.{Error}
@@ -12,7 +12,7 @@ use Rattle.edit_sources.specs.SourceReplacement as chain
 use Rattle.edit_sources.specs.declared.config.Config.{Config}
 use Rattle.edit_sources.specs.declared.config.ConfigSource.{ConfigSource}
 
--- the texts of a source (own)
+-- the model of a source (own)
 abbrev pub source_view : ConfigSource → said.Source
 source_view s =
     record {
@@ -20,45 +20,45 @@ source_view s =
       replace_with = option_map string_bytes s.replace_with;
     }
 
--- a key of `registries` and its index (own)
+-- an entry of `registries`: its key and its index (own)
 abbrev pub registry_entry : String Global × Option (String Global) → List ℕ × Option (List ℕ)
 registry_entry r = (string_bytes r.0, option_map string_bytes r.1)
 
--- a key of `source` and its source (own)
+-- an entry of `source`: its key and its source (own)
 abbrev pub source_entry : String Global × ConfigSource → List ℕ × said.Source
 source_entry s = (string_bytes s.0, source_view s.1)
 
--- what a configuration holds (own)
+-- the model of a configuration (own)
 abbrev pub configuration : Config → said.Configuration
 configuration c =
     record { registries = map registry_entry c.registries.items; sources = map source_entry c.sources.items }
 
--- the refusal that names this path (own)
+-- the error is `Config` with this path (own)
 abbrev pub IsConfigRefusal : List ℕ → Error → Type 0
 IsConfigRefusal path e = (named : String Global) × (e ≡ refusal.Config named) × (string_bytes named ≡ path)
 
--- what files define (own)
+-- the definitions of these configurations (own)
 abbrev pub all_definitions : List Config → List chain.Definition
 all_definitions configs = chain.definitions (map configuration configs)
 
--- a registry that need not be given (own)
+-- the text of an optional argument (own)
 abbrev pub given : Option (Bor (List ℕ)) → Option (List ℕ)
 given registry = option_map (λ text. text.now) registry
 
--- the URL is the one that the address of the registry is (own)
+-- the URL is the address of the registry, parsed (own)
 pub record HasAddress (configs : List Config) (registry : Option (List ℕ)) (url : Parts) : Type 0 where
   pub text : List ℕ
   pub address : chain.Address (all_definitions configs) registry text
   pub reads : parse_url None text ≡ Ok url
 
--- an address that is no URL, and its refusal (URL Standard, "URL parsing")
+-- the error of an address that is no URL (URL Standard, "URL parsing")
 pub record IsNoUrl (address : List ℕ) (e : Error) : Type 0 where
   pub is : e ≡ refusal.InvalidUrl
   pub fault : ParseError
   pub reads : parse_url None address ≡ Err fault
 
--- why a registry has no URL: its key is not defined, its chain
--- breaks, has no address at its end, or one that is no URL (own)
+-- the error of a registry without a URL: its key is not defined, its chain breaks, has no address at its
+-- end, or one that is no URL (own)
 pub data HasNoUrl (configs : List Config) (registry : Option (List ℕ)) : Error → Type 0 where
   no_head : (key : String Global) → chain.HasNoHead (all_definitions configs) registry (string_bytes key)
       → HasNoUrl configs registry (refusal.RegistryNotFound key)

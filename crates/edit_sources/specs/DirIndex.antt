@@ -1,4 +1,4 @@
--- What a look in a folder of registries gives (Cargo reference, "Registries", index format).
+-- The results of a lookup in a folder of registries (Cargo reference, "Registries", index format).
 use Rattle.std.specs.Prelude.{◌≡◌, ℕ, List, Some, None, Ok, Err, true, false, ◌⊎◌, string_bytes}
 use Rattle.url.specs.Parts.{Parts}
 use Rattle.edit_version.specs.IndexEntry.{IndexEntry}
@@ -10,7 +10,7 @@ use Rattle.edit_store.specs.Store.{StoreView}
 use Rattle.edit_sources.specs.Folders.{entry_path}
 use Rattle.edit_sources.specs.declared.index_dir.dir_index.DirIndex.{DirIndex}
 
--- the store that an index stands on (own)
+-- the store that holds the index (own)
 abbrev pub store_of : {S : Type 0} → DirIndex S → S
 store_of index = index.store
 
@@ -18,12 +18,12 @@ store_of index = index.store
 abbrev pub folder_of : {S : Type 0} → DirIndex S → List ℕ
 folder_of index = string_bytes index.folder
 
--- a name has no file in the folder of a registry (own)
+-- the crate has no file in the folder of the registry (own)
 pub record HasNoFile (folder : List ℕ) (store : StoreView) (address : Parts) (name : List ℕ) : Type 0 where
   pub named : is_crate_name name ≡ true
   pub absent : store.tells ≡ true → store.file_at (entry_path folder address name) ≡ None
 
--- the lines of the file of a name say these entries (own)
+-- the lines of the crate's file have these entries (own)
 pub record HasEntries (folder : List ℕ) (store : StoreView) (address : Parts) (name : List ℕ)
     (entries : List IndexEntry) : Type 0 where
   pub bytes : List ℕ
@@ -31,7 +31,7 @@ pub record HasEntries (folder : List ℕ) (store : StoreView) (address : Parts) 
   pub stands : StandsIn store (entry_path folder address name) bytes
   pub say : LinesSay (lines_of bytes) entries
 
--- the first bad line of the file of a name has this number (own)
+-- this is the number of the first malformed line of the crate's file (own)
 pub record HasBadLine (folder : List ℕ) (store : StoreView) (address : Parts) (name : List ℕ) (line : ℕ)
     : Type 0 where
   pub bytes : List ℕ
@@ -39,14 +39,14 @@ pub record HasBadLine (folder : List ℕ) (store : StoreView) (address : Parts) 
   pub stands : StandsIn store (entry_path folder address name) bytes
   pub bad : IsBadLine (lines_of bytes) line
 
--- what a lookup gives: no file, the entries of its lines, a name that no index may have, or the number of the
--- first bad line (own)
+-- the results of a lookup: no file, the entries of its lines, an invalid crate name, or the number of the
+-- first malformed line (own)
 abbrev pub DirGives : List ℕ → StoreView → Parts → List ℕ → Outcome → Type 0
 DirGives folder store address name (Ok None) = HasNoFile folder store address name
 DirGives folder store address name (Ok (Some entries)) = HasEntries folder store address name entries
 DirGives folder store address name (Err e) =
     ((e ≡ bad_name name) × (is_crate_name name ≡ false)) ⊎ ((line : ℕ) × (e ≡ bad_line line) × HasBadLine folder store address name line)
 
--- an index over a folder of a store: its looks fail as the store does (own)
+-- the model of an index in a folder of a store: its lookups fail with the store (own)
 abbrev pub dir_view : List ℕ → StoreView → IndexView
 dir_view folder store = record { gives = DirGives folder store; faults = store.faults }

@@ -1,4 +1,4 @@
--- What a look in an index of one file gives (own).
+-- The results of a lookup in an index in a single file (own).
 use Rattle.std.specs.Prelude.{◌≡◌, ℕ, List, [], ◌∷◌, ◌++◌, Option, Some, None, Ok, Err, true, false, map, ◌⊎◌, String, Vec, string_bytes}
 use Rattle.std.specs.List.{All, filter}
 use Rattle.std.specs.Option.{option_map_or}
@@ -12,11 +12,11 @@ use Rattle.edit_sources.specs.IndexLines.{LinesSay, lines_of}
 use Rattle.edit_sources.specs.Names.{is_crate_name}
 use Rattle.edit_sources.specs.declared.file_index.FileIndex.{FileIndex}
 
--- the entries of a name, in the order of the lines (own)
+-- the entries of a crate, in the order of the lines (own)
 abbrev pub named : FileIndex → List ℕ → List IndexEntry
 named index name = map entry_of (option_map_or (λ g. g.items) (get_by_text index.groups name) [])
 
--- the lines of a file say entries, and each name has those of equal name, in order (own)
+-- the lines of a file have entries, and each name has those of that name, in order (own)
 pub record HoldsLines (index : FileIndex) (bytes : List ℕ) : Type 0 where
   pub entries : List IndexEntry
   pub say : LinesSay (lines_of bytes) entries
@@ -29,11 +29,11 @@ GroupsByName groups entries =
     → option_map_or (λ g. g.items) (get_by_text groups name) []
     ≡ filter (λ e. bytes_eq name (string_bytes e.name)) entries
 
--- entries are of one name (own)
+-- all entries are of this name (own)
 abbrev pub AreNamed : List ℕ → List IndexVersion → Type 0
 AreNamed name entries = All (λ e. string_bytes e.name ≡ name) entries
 
--- each name has its entries among these behind those that it had (own)
+-- each name has its entries among the new ones after those that it had (own)
 abbrev pub IsAdded : BTreeMap (String Global) (Vec IndexVersion Global) → List IndexVersion
     → BTreeMap (String Global) (Vec IndexVersion Global) → Type 0
 IsAdded before entries after =
@@ -42,17 +42,18 @@ IsAdded before entries after =
     ≡ option_map_or (λ g. g.items) (get_by_text before name) []
     ++ filter (λ e. bytes_eq name (string_bytes e.name)) entries
 
--- none where there are none (own)
+-- the list if it is not empty (own)
 abbrev pub if_any : List IndexEntry → Option (List IndexEntry)
 if_any [] = None
 if_any (e ∷ es) = Some (e ∷ es)
 
--- what a lookup gives at every address: a name that no index may have, else the entries of equal name (own)
+-- the results of a lookup, for every address: an error for an invalid crate name, else the entries of that
+-- name (own)
 abbrev pub FileGives : FileIndex → List ℕ → Outcome → Type 0
 FileGives index name outcome =
     ((is_crate_name name ≡ false) × (outcome ≡ Err (bad_name name)))
     ⊎ ((is_crate_name name ≡ true) × (outcome ≡ Ok (if_any (named index name))))
 
--- an index of one file, which never fails (own)
+-- the model of an index in a single file, which never fails (own)
 abbrev pub file_view : FileIndex → IndexView
 file_view index = record { gives = λ _ name outcome. FileGives index name outcome; faults = 0 }

@@ -1,4 +1,4 @@
--- What a look in an index may give (Cargo reference, "Registries", index format).
+-- The results of a lookup in an index (Cargo reference, "Registries", index format).
 use Rattle.std.specs.Prelude.{◌≡◌, ℕ, ◌≤◌, ◌⊎◌, ◌↔◌, List, map, Option, option_map, Result, Err, IfErr, string_bytes}
 use Rattle.url.specs.Parts.{Parts}
 use Rattle.edit_base.specs.declared.errors.Error.{Error}
@@ -8,17 +8,16 @@ use Rattle.edit_version.specs.IndexEntry.{IndexEntry, entry_of}
 use Rattle.edit_store.specs.Store.{raised}
 use Rattle.edit_sources.specs.declared.index.IndexKrate.{IndexKrate}
 
--- the entries of an answer (own)
+-- the entries of a crate (own)
 abbrev pub entries_of : IndexKrate → List IndexEntry
 entries_of krate = map entry_of krate.versions.items
 
--- an answer by its entries; none where the index has no such name (own)
+-- the entries of a crate; none where the index has no crate of that name (own)
 abbrev pub answer_of : Option IndexKrate → Option (List IndexEntry)
 answer_of krate = option_map entries_of krate
 
--- an error as a lookup gives it: a scheme that the index does not serve, an address that names no folder, a
--- name that no index may have, the number of a line that says no entry, or any other error by its number
--- (own)
+-- the model of an error of a lookup: a scheme that the index does not support, a URL that names no folder,
+-- an invalid crate name, the number of a malformed line, or any other error by its number (own)
 pub data LookupError : Type 0 where
   bad_scheme : List ℕ → LookupError
   bad_address : List ℕ → LookupError
@@ -26,7 +25,7 @@ pub data LookupError : Type 0 where
   bad_line : ℕ → LookupError
   another : ℕ → LookupError
 
--- an error as a lookup gives it, with the text or the line that it names (own)
+-- the model of an error, with its text or its line (own)
 abbrev pub lookup_error : Error → LookupError
 lookup_error (Scheme scheme) = bad_scheme (string_bytes scheme)
 lookup_error (IndexPath address) = bad_address (string_bytes address)
@@ -34,40 +33,41 @@ lookup_error (BadCrateName name) = bad_name (string_bytes name)
 lookup_error (IndexLine line) = bad_line line
 lookup_error e = another (number_of e)
 
--- what a lookup gives: an answer, or an error (own)
+-- the result of a lookup: entries, none, or an error (own)
 abbrev pub Outcome : Type 0
 Outcome = Result (Option (List IndexEntry)) LookupError
 
--- which outcomes a look for a name at an address may have (own)
+-- the possible results of a lookup of a name at an address (own)
 abbrev pub Outcomes : Type 1
 Outcomes = Parts → List ℕ → Outcome → Type 0
 
--- an index as contracts see it: the outcomes that its looks may have, and its count of faults (own)
+-- the model of an index: the possible results of its lookups, and its count of faults (own)
 pub record IndexView : Type 1 where
   pub gives : Outcomes
   pub faults : ℕ
 
--- the numbers of the refusals that an index gives: 27 to 30 (own)
+-- the numbers of the errors `Scheme`, `IndexPath`, `BadCrateName` and `IndexLine` (own)
 abbrev pub IsLookRefusal : ℕ → Type 0
 IsLookRefusal n = (27 ≤ n) × (n ≤ 30)
 
--- the same outcomes at each address and name (own)
+-- the same possible results for each address and name (own)
 abbrev pub SameOutcomes : Outcomes → Outcomes → Type 0
 SameOutcomes old new =
     (address : Parts) (name : List ℕ) (outcome : Outcome)
     → new address name outcome ↔ old address name outcome
 
--- a refusal that an index gives for what is asked and what stands in it (own)
+-- an error that depends only on the arguments of the lookup and the contents of the index (own)
 abbrev pub IsGivenRefusal : Outcomes → Parts → List ℕ → Error → Type 0
 IsGivenRefusal gives address name e = IsLookRefusal (number_of e) × gives address name (Err (lookup_error e))
 
--- why a look is refused: want of memory, what the index gives, or a fault of the device below, counted (own)
+-- the errors of a lookup: lack of memory, one that the index gives, or a fault of the device, which is
+-- counted (own)
 abbrev pub RefusesLook : IndexView → IndexView → Parts → List ℕ → Error → Type 0
 RefusesLook old new address name e =
     IsMemory e
     ⊎ (IsGivenRefusal old.gives address name e ⊎ ((number_of e ≡ 3) × raised old.faults new.faults))
 
--- the count of faults never falls, and a look is refused only for such a cause (own)
+-- the count of faults never falls, and a lookup fails only for one of these reasons (own)
 pub record HasLookCause {T : Type 0} (old new : IndexView) (address : Parts) (name : List ℕ)
     (result : Result T Error) : Type 0 where
   pub later : old.faults ≤ new.faults

@@ -14,7 +14,7 @@ use Rattle.edit_base.specs.declared.errors.Error.TheVariants.{IndexLine}
 use Rattle.edit_base.specs.Errors.{IsMemory}
 use Rattle.edit_version.specs.IndexEntry.{IndexEntry}
 
--- whether a version is yanked: not where nothing says so (Cargo reference, "Registries", yanked)
+-- whether a version is yanked: false where the key is absent (Cargo reference, "Registries", yanked)
 abbrev pub yanked_of : Option Data → Option Bool
 yanked_of None = Some false
 yanked_of (Some null) = None
@@ -24,7 +24,7 @@ yanked_of (Some (string s)) = None
 yanked_of (Some (array ds)) = None
 yanked_of (Some (object ms)) = None
 
--- the Rust version that a version asks for, if it asks for one (Cargo reference, "Registries", rust_version)
+-- the `rust_version` of a version, if it has one (Cargo reference, "Registries", rust_version)
 abbrev pub rust_version_of : Option Data → Option (Option (List ℕ))
 rust_version_of None = Some None
 rust_version_of (Some null) = Some None
@@ -34,25 +34,25 @@ rust_version_of (Some (string s)) = Some (Some s)
 rust_version_of (Some (array ds)) = None
 rust_version_of (Some (object ms)) = None
 
--- the entry that a JSON value says (Cargo reference, "Registries", name, vers)
+-- the entry of a JSON value (Cargo reference, "Registries", name, vers)
 pub record SaysEntry (d : Data) (e : IndexEntry) : Type 0 where
   pub name : option_and_then as_str (get (codes "name") d) ≡ Some e.name
   pub version : option_and_then as_str (get (codes "vers") d) ≡ Some e.version
   pub yanked : yanked_of (get (codes "yanked") d) ≡ Some e.yanked
   pub rust_version : rust_version_of (get (codes "rust_version") d) ≡ Some e.rust_version
 
--- a line of an index: one JSON object in UTF-8 (Cargo reference, "Registries", index files)
+-- a valid line of an index: one JSON object in UTF-8 (Cargo reference, "Registries", index files)
 pub record IsIndexLine (line : List ℕ) (e : IndexEntry) : Type 0 where
   pub value : Data
   pub utf8 : IsUtf8 line
   pub reads : read line ≡ Some value
   pub says : SaysEntry value e
 
--- a line of spaces, tabs and carriage returns (own)
+-- whether a line consists of spaces, tabs and carriage returns (own)
 abbrev pub is_blank : List ℕ → Bool
 is_blank line = list_all (λ b. (b == 32) || ((b == 9) || (b == 13))) line
 
--- lines, and the entries that they say in order, blank lines aside (own)
+-- lines with their entries in order; blank lines have none (own)
 pub data LinesSay : List (List ℕ) → List IndexEntry → Type 0 where
   none : LinesSay [] []
   blank : (lines : List (List ℕ)) (entries : List IndexEntry) (line : List ℕ)
@@ -61,19 +61,19 @@ pub data LinesSay : List (List ℕ) → List IndexEntry → Type 0 where
       → LinesSay lines entries → is_blank line ≡ false → IsIndexLine line e
       → LinesSay (lines ++ line ∷ []) (entries ++ e ∷ [])
 
--- the lines of a file, which end with a line feed (own)
+-- the lines of a file, separated by line feeds (own)
 abbrev pub lines_of : List ℕ → List (List ℕ)
 lines_of bytes = slice_split (λ b. b == 10) bytes
 
--- the lines of what is left of a file, of which nothing is left behind its last line (own)
+-- the lines of the rest of a file; none after its last line (own)
 abbrev pub lines_left : Option (Bor (List ℕ)) → List (List ℕ)
 lines_left rest = option_map_or (λ text. lines_of text.now) rest []
 
--- how long what is left of a file is, counted with the line feed before it (own)
+-- the length of the rest of a file, with the line feed before it (own)
 abbrev pub length_left : Option (Bor (List ℕ)) → ℕ
 length_left rest = option_map_or (λ text. length text.now + 1) rest 0
 
--- the number, from 1, of the first line that says no entry and is not blank (own)
+-- the number, from 1, of the first line that is neither blank nor valid (own)
 pub record IsBadLine (lines : List (List ℕ)) (number : ℕ) : Type 0 where
   pub before : List (List ℕ)
   pub line : List ℕ
@@ -85,14 +85,14 @@ pub record IsBadLine (lines : List (List ℕ)) (number : ℕ) : Type 0 where
   pub some : is_blank line ≡ false
   pub bad : (e : IndexEntry) → IsIndexLine line e → ⊥
 
--- why a line is refused: want of memory, or it says no entry; the refusal has its number (own)
+-- the errors of a line: lack of memory, or `IndexLine` with its number where it is malformed (own)
 abbrev pub RefusesLine : List ℕ → ℕ → Error → Type 0
 RefusesLine line n e = IsMemory e ⊎ ((e ≡ IndexLine n) × ((x : IndexEntry) → IsIndexLine line x → ⊥))
 
--- what a value that need not be there says (own)
+-- the model of a value that may be absent (own)
 abbrev pub shown : Option (Bor Value) → Option Data
 shown value = option_map (λ v. view v.now) value
 
--- why the lines of a file are refused: want of memory, or the first bad line (own)
+-- the errors of a file: lack of memory, or `IndexLine` for the first malformed line (own)
 abbrev pub RefusesLines : List (List ℕ) → Error → Type 0
 RefusesLines lines e = IsMemory e ⊎ ((n : ℕ) × (e ≡ IndexLine n) × IsBadLine lines n)

@@ -1,4 +1,4 @@
--- What a cache of configurations keeps: a finite map from places to what was found there (own).
+-- The model of the cache of configurations: a finite map from folders to what was found there (own).
 use Rattle.std.specs.Prelude.{◌≡◌, ℕ, List, Option, true, IfSome}
 use Rattle.std.specs.BTreeMap.{get_by_text}
 use Rattle.edit_store.specs.Store.{StoreView}
@@ -6,11 +6,12 @@ use Rattle.edit_sources.specs.ConfigurationFiles.{IsReadOf, file_in}
 use Rattle.edit_sources.specs.declared.config.Config.{Config}
 use Rattle.edit_sources.specs.declared.config.cache.ConfigCache.{ConfigCache}
 
--- what is kept of a place, if it was looked into: a configuration, or none where no file stands (own)
+-- the cached result for a folder, if it was searched: a configuration, or none where no file exists (own)
 abbrev pub found_at : ConfigCache → List ℕ → Option (Option Config)
 found_at cache place = get_by_text cache.found place
 
--- what is kept of each place is what the file that counts there says, where the store tells its files (own)
+-- each cached result is the configuration in its folder, if the contents of the store's files are known
+-- (own)
 abbrev pub AreKept : StoreView → ConfigCache → Type 0
 AreKept seen cache = seen.tells ≡ true → (place : List ℕ)
     → IfSome (found_at cache place) (IsReadOf (file_in seen.file_at place))

@@ -1,11 +1,11 @@
--- What the fields of an index line are, after some of its members were read.
+-- The model of the fields of an index line after some of its members were read.
 use Rattle.std.specs.Prelude.{◌≡◌, Some, option_and_then, option_map, codes}
 use Rattle.serde_json.specs.Data.{Members}
 use Rattle.serde_json.specs.Find.{get_member, as_str}
 use Rattle.edit_sources.specs.IndexLines.{yanked_of, rust_version_of}
 use Rattle.edit_sources.specs.declared.line_reader.Fields.{Fields}
 
--- the fields hold what the members that were read so far say
+-- the fields are those of the members that were read so far
 pub record Shows (f : Fields) (ms : Members) : Type 0 where
   pub name : option_and_then as_str (get_member (codes "name") ms) ≡ option_map (λ s. s.now) f.name
   pub version : option_and_then as_str (get_member (codes "vers") ms) ≡ option_map (λ s. s.now) f.version

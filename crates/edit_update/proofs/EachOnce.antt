@@ -1,4 +1,4 @@
--- Texts, each once at its first place, and a set that has those that were taken.
+-- Lists without duplicates, and the set of the texts that were taken.
 use Rattle.std.proofs.Common.{◌≡◌, ℕ, Bool, true, false, cond, not, ◌&&◌, ◌||◌, List, [], ◌∷◌, ◌++◌, BTreeSet, Bor, refl, sym, ap, ◌∙◌, if◌then◌else◌, append_assoc, append-nil, inl, inr, Option, Result}
 use Rattle.std.proofs.lemmas.List.Folds.{list_any-append}
 use Rattle.std.proofs.lemmas.Map.Text.{is_eq-slice_cmp}

@@ -1,4 +1,4 @@
--- One step more of a loop over a list.
+-- One more iteration of a loop over a list.
 use Rattle.std.proofs.Common.{◌≡◌, ◌∷◌, ◌++◌, ◌<◌, ◌≤◌, ◌+◌, refl, suc, length, get_or, take, drop, drop-cons, [], List, ℕ, map, ap, ◌∙◌, sym, add-one}
 use Rattle.std.specs.List.{flat_map, join_by}
 use Rattle.std.proofs.lemmas.List.{drop_all, map-append, take-append-drop, take_more}

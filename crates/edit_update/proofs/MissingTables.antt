@@ -1,4 +1,4 @@
--- The first name that leads to no table, name by name; and tables without members.
+-- The first key that leads to no table, key by key; and empty tables.
 use Rattle.std.proofs.Common.{◌≡◌, ℕ, suc, length, arith, true, false, ◌&&◌, ◌==◌, cond, List, [], ◌∷◌, Some, refl, ap, ◌∙◌}
 use Rattle.edit_tree.specs.Assertions.{Place, at, key}
 use Rattle.edit_document.specs.Items.{count_in, is_tabular}
@@ -6,7 +6,7 @@ use Rattle.edit_tree.specs.Tree.{View, string, truth, whole, fractional, moment,
 use Rattle.edit_update.specs.RemovedEntries.{is_bare, missing_below}
 use Rattle.edit_manifest.specs.Tables.{Tree, is_table_like}
 
--- a table stands there, so the search goes on below it
+-- the key leads to a table, so the search goes on below it
 pub missing_next : (t : Tree) (place : Place) (names : List (List ℕ)) (name : List ℕ) (rest : List (List ℕ))
     → names ≡ name ∷ rest → is_table_like (t (at place (key name))) ≡ true
     → missing_below t place names ≡ missing_below t (at place (key name)) rest
@@ -14,7 +14,7 @@ missing_next t place names name rest e is =
     ap (missing_below t place) e
     ∙ ap (λ b. cond b (missing_below t (at place (key name)) rest) (Some name)) is
 
--- none stands there
+-- the key leads to no table
 pub missing_here : (t : Tree) (place : Place) (names : List (List ℕ)) (name : List ℕ) (rest : List (List ℕ))
     → names ≡ name ∷ rest → is_table_like (t (at place (key name))) ≡ false
     → missing_below t place names ≡ Some name
@@ -26,7 +26,7 @@ missing_here t place names name rest e is =
 pub more_than_none : (n : ℕ) → (suc n == 0) ≡ false
 more_than_none n = grind arith
 
--- a table is bare where it counts no members
+-- a table is empty exactly if it counts no keys
 pub bare_count : (v : View) → (is_tabular v && (count_in v == 0)) ≡ is_bare (Some v)
 bare_count (string s) = refl
 bare_count (truth b) = refl

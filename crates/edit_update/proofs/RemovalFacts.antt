@@ -1,4 +1,4 @@
--- What is removed, as the definitions compute it.
+-- Examples of removed features and tables.
 use Rattle.std.proofs.Common.{◌≡◌, [], refl}
 use Rattle.std.specs.Prelude.{ℕ, true, false, List, ◌∷◌, ◌++◌, Some, None, codes}
 use Rattle.edit_tree.specs.Assertions.{Place, Step, at, key, index}

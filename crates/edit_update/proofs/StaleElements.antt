@@ -1,4 +1,5 @@
--- The strings of an array that go, from its last element on; and whether some table passes a test.
+-- The elements of an array that refer to a removed dependency, from the last one on; and whether some table
+-- passes a test.
 use Rattle.std.proofs.Common.{◌≡◌, ℕ, suc, Bool, true, false, ◌||◌, cond, List, [], ◌∷◌, ◌++◌, Option, Some, refl, sym, ap, ◌∙◌, append_assoc}
 use Rattle.std.specs.List.{filter, list_any, starts_with}
 use Rattle.std.specs.Option.{option_map_or}
@@ -35,7 +36,7 @@ module _ (t : Tree) (held : Bool) (name : List ℕ) (array : Place) where
       ∙ ap (λ b. cond b (at array (index m) ∷ stale_back t held name array m)
       (stale_back t held name array m)) h
 
-  -- one that goes is told, and then those before it
+  -- an element that is removed is listed, and then those before it
   pub told_goes : (n m : ℕ) (xs new : List (Vec WrittenStep)) (x : Vec WrittenStep) (all : List Place)
       → n ≡ suc m
       → goes held name (t (at array (index m))) ≡ true → new ≡ xs ++ x ∷ []
@@ -50,7 +51,7 @@ module _ (t : Tree) (held : Bool) (name : List ℕ) (array : Place) where
       ∙ ap (λ q. places_seen xs ++ q ∷ before) is
       ∙ sym (ap (λ l. places_seen xs ++ l) (back_goes n m e h)) ∙ told
 
-  -- one that stays is not
+  -- an element that stays is not listed
   pub told_stays : (n m : ℕ) (xs : List (Vec WrittenStep)) (all : List Place) → n ≡ suc m
       → goes held name (t (at array (index m))) ≡ false
       → places_seen xs ++ stale_back t held name array n ≡ all

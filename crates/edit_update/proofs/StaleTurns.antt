@@ -1,4 +1,4 @@
--- The strings of features that go are each where they were, once those before them are gone.
+-- The places of the elements to remove are unchanged after those before them are removed.
 use Rattle.std.proofs.Common.{◌≡◌, ℕ, zero, suc, ◌<◌, ◌-◌, Bool, true, false, ◌&&◌, ◌==◌, nat_lt, cond, List, [], ◌∷◌, ◌++◌, Option, None, Some, refl, sym, ap, ◌∙◌, true≢false, arith}
 use Rattle.std.specs.Prelude.{slice_get, codes}
 use Rattle.std.specs.List.{AllByRecursion, filter, flat_map}
@@ -201,7 +201,7 @@ module _ (t : Tree) (held : Bool) (name : List ℕ) where
       (all_weaker (IsOf n) (λ x. AllByRecursion (Outlives x) (of_names ns)) (λ q b. behind n q b ns d.0)
       (stale_in t held name (of_feature n)) (stale_own n))
 
-  -- what goes is a string
+  -- what is removed is a string
   string_goes : (o : Option View) → goes held name o ≡ true → (text : List ℕ) × (o ≡ Some (string text))
   string_goes None e = absurd cc
   string_goes (Some (string s)) e = (s, refl)
@@ -241,7 +241,7 @@ feature_names form t shows = rw (shows features) (go (view_at form features)
     go None h = tt
     go (Some v) h = distinct (names_in v) h
 
--- so the strings that go are each where they were, once those before them are gone
+-- each place of an element to remove is unchanged after those before it are removed
 pub stale_turns : (form : Text) (t : Tree) (name : List ℕ) → ((p : Place) → t p ≡ view_at form p)
     → AreInTurn (stale_strings t name)
 stale_turns form t name shows = go (is_offered t name) (is_plain (t features))
@@ -253,7 +253,7 @@ stale_turns form t name shows = go (is_offered t name) (is_plain (t features))
         (feature_names form t shows)
     go false false = tt
 
--- and they are strings
+-- the elements to remove are strings
 pub stale_are_strings : (t : Tree) (name : List ℕ) → AreStrings t (stale_strings t name)
 stale_are_strings t name = go (is_offered t name) (is_plain (t features))
   where

@@ -1,4 +1,4 @@
--- A string stands where it stood, once an item is removed that it is not in and that it does not move for.
+-- A string stays at its place when an item is removed that neither contains it nor moves it.
 use Rattle.std.proofs.Common.{◌≡◌, ℕ, List, Option, Some, sym, ap, ◌∙◌}
 use Rattle.edit_syntax.specs.Grammar.{Text}
 use Rattle.edit_tree.specs.Assertions.{Place}

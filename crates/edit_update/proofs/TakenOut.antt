@@ -1,4 +1,4 @@
--- An entry that was removed, and its table where no member was left.
+-- A removed entry, and its table if that was left empty.
 use Rattle.std.proofs.Common.{◌≡◌, ◌==◌, length, ℕ, true, false, cond, List, [], ◌∷◌, Option, None, Some, refl, sym, ap, ◌∙◌, ◌⊎◌, inl, inr, subst, true≢false}
 use Rattle.std.specs.Prelude.{is_some}
 use Rattle.edit_base.specs.declared.errors.Error.{Error}
@@ -34,13 +34,13 @@ member_keyed : (n : List ℕ) (ns : List (List ℕ)) → is_member (keyed (n ∷
 member_keyed n [] = refl
 member_keyed n (m ∷ ns) = member_keyed m ns
 
--- a member that was removed is not there
+-- a key that was removed is not there
 pub member_gone : (p : Place) (n : List ℕ) (form : Text) (old new : Tree)
     → Removed form (at p (key n)) old new → new (at p (key n)) ≡ None
 member_gone p n form old new removed = removed.nothing_there (member_at p n) (at p (key n))
     (inside_self (at p (key n)))
 
--- nor is what stood in a table that was
+-- a key of a table that was removed is not there
 pub inner_gone : (path : List (List ℕ)) (p : Place) (n : List ℕ) (form : Text) (old new : Tree)
     → p ≡ keyed path → (p ≡ [] → ⊥) → Removed form p old new → new (at p (key n)) ≡ None
 inner_gone [] p n form old new e inner removed = absurd (inner e)
@@ -48,7 +48,7 @@ inner_gone (m ∷ ms) p n form old new e inner removed =
     removed.nothing_there (ap is_member e ∙ member_keyed m ms) (at p (key n))
     (inside_more p p (key n ∷ []) (inside_self p))
 
--- whether a place is the root is told by its steps
+-- whether a place is the root depends on its steps
 pub root_is : (steps : List WrittenStep) → (length steps == 0) ≡ true → place_seen steps ≡ []
 root_is [] e = refl
 root_is (s ∷ ss) e = absurd (true≢false (sym e ∙ more_than_none (length ss)))
@@ -57,7 +57,7 @@ pub root_not : (steps : List WrittenStep) → (length steps == 0) ≡ false → 
 root_not [] e f = true≢false e
 root_not (s ∷ ss) e f = cc
 
--- what is found stands there
+-- the item that was found is at its place
 pub found_stands : (d : Shown) (p : Place) (r : Option Item) → Finds d p r → is_some r ≡ true
     → tree_of d p ≡ None → ⊥
 found_stands d p None found e absent = true≢false (sym e)
@@ -66,9 +66,9 @@ found_stands d p (Some i) found e absent = never (sym absent ∙ found.2)
     never : None ≡ Some (view_of i) → ⊥
     never is = cc
 
--- ---- bare tables
+-- ---- empty tables
 
--- whether a table is bare is told by what stands there
+-- whether a table is empty depends on its item
 pub bare_same : (t u : Tree) (p : Place) → t p ≡ u p → bare_table t p ≡ bare_table u p
 bare_same t u [] e = refl
 bare_same t u (s ∷ ss) e = ap (λ o. cond (is_bare o) ((s ∷ ss) ∷ []) []) e

@@ -1,4 +1,4 @@
--- What becomes of entries that are to say what records say, as the definitions compute it.
+-- Examples of updates of entries.
 use Rattle.std.proofs.Common.{◌≡◌, [], refl}
 use Rattle.std.specs.Prelude.{ℕ, true, false, List, ◌∷◌, ◌++◌, Some, None, codes, map}
 use Rattle.edit_tree.specs.Assertions.{key}
@@ -17,20 +17,20 @@ dep = bare_record (codes "dep") (from_registry (codes "1.0"))
 abbrev root : List ℕ
 root = codes "/"
 
--- removals, in this order; one of what is not there changes nothing
+-- removals, in this order; removing a key that is not there changes nothing
 abbrev gone : List (List ℕ) → List Change
 gone names = map removes names
 
--- the members of an entry that a record without options takes away, behind those of its source
+-- the keys that a dependency without options removes, after those of its source
 abbrev options : List (List ℕ)
 options = codes "default-features" ∷ codes "features" ∷ codes "optional" ∷ []
 
--- the members of other sources than a registry
+-- the keys of sources other than a registry
 abbrev not_registry : List (List ℕ)
 not_registry =
     codes "path" ∷ codes "git" ∷ codes "branch" ∷ codes "tag" ∷ codes "rev" ∷ codes "workspace" ∷ []
 
--- ---- replaced whole
+-- ---- entries that are replaced
 
 -- `x = "1"`, update to registry `2`, optional true: `{ version = "2", optional = true }`
 pub string_replaced : update_of (one_string (codes "1")) true root
@@ -45,13 +45,13 @@ pub dotted_replaced : update_of (node_at (([], table (key (codes "version") ∷ 
     ≡ replaced_by (a_table true ((codes "workspace", a_truth true) ∷ []))
 dotted_replaced = refl
 
--- the section of one member is no statement of its own: its member is written
+-- a table header with one key is not a single key/value pair: its key is written
 pub section_stays : update_of (entry (says (codes "version") (codes "1") ∷ [])) false root dep
     ≡ changed_by (writes (codes "version") (a_string (codes "1.0"))
     ∷ gone (not_registry ++ codes "registry" ∷ options))
 section_stays = refl
 
--- ---- member by member
+-- ---- entries that are edited key by key
 
 -- `{ git = "u", branch = "b" }`, update to git `u`, tag `t`: the branch goes
 pub branch_to_tag : update_of (entry (says (codes "git") (codes "u") ∷ says (codes "branch") (codes "b")

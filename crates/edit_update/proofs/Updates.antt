@@ -1,4 +1,4 @@
--- Edits of members one after the other, where they stop, and what an entry becomes.
+-- Sequences of edits of keys, where they stop, and the updated entry.
 use Rattle.std.proofs.Common.{◌≡◌, ℕ, ◌+◌, ◌<◌, suc, Bool, true, false, ◌&&◌, List, [], ◌∷◌, ◌++◌, Option, Some, None, length, map, get_or, take, drop, drop-cons, refl, sym, ap, ◌∙◌, subst, append_assoc, append-nil, ◌⊎◌, inl, inr}
 use Rattle.std.specs.List.{cons_option, filter_map}
 use Rattle.std.specs.Prelude.{is_some, option_map, MatchBool}
@@ -135,7 +135,7 @@ stops_behind entry cs ds old mid done h = record {
   fails = h.fails;
 }
 
--- ---- one step of a loop over the ends of members
+-- ---- one iteration of a loop over the final values of keys
 
 module _ (f : End → Option Change) (entry : Place) (xs : List WrittenEnd) (i : ℕ) (x : WrittenEnd)
     (within : i < length xs) (here : x ≡ get_or xs i x) where
@@ -158,7 +158,7 @@ module _ (f : End → Option Change) (entry : Place) (xs : List WrittenEnd) (i :
       ∙ ap (filter_map f) (map-append end_seen (take i xs) (x ∷ drop (suc i) xs))
       ∙ filter_map-append f (map end_seen (take i xs)) (map end_seen (x ∷ drop (suc i) xs))
 
-  -- an end that asks for no edit
+  -- a final value without an edit
   pub none_asked : (old mid : List ℕ) → f (end_seen x) ≡ None
       → Changed entry (filter_map f (ends_seen (take i xs))) old mid
       → Changed entry (filter_map f (ends_seen (take (i + 1) xs))) old mid
@@ -168,7 +168,7 @@ module _ (f : End → Option Change) (entry : Place) (xs : List WrittenEnd) (i :
       ∙ append-nil (filter_map f (ends_seen (take i xs))) in
       subst (λ cs. Changed entry cs old mid) (sym same) h
 
-  -- an end that asks for one, which was made
+  -- a final value with an edit that succeeded
   pub one_made : (c : Change) (old mid new : List ℕ) → f (end_seen x) ≡ Some c
       → Changed entry (filter_map f (ends_seen (take i xs))) old mid
       → ((form : Text) × IsDocument mid form)
@@ -181,7 +181,7 @@ module _ (f : End → Option Change) (entry : Place) (xs : List WrittenEnd) (i :
       subst (λ cs. Changed entry cs old new) (sym same)
       (one_more entry (filter_map f (ends_seen (take i xs))) c old mid new h reads by tree)
 
-  -- an end that asks for one, which was refused
+  -- a final value with an edit that failed
   pub one_refused : (c : Change) (old mid : List ℕ) (e : Error) → f (end_seen x) ≡ Some c
       → Changed entry (filter_map f (ends_seen (take i xs))) old mid
       → IsMemory e ⊎ ((e ≡ EditRefused) × ChangeFails entry c mid)
@@ -208,7 +208,7 @@ pub is_kept : (name : List ℕ) (o : Option WrittenValue) → is_some o ≡ true
 is_kept name None is = absurd cc
 is_kept name (Some v) is = refl
 
--- ---- what an entry becomes
+-- ---- the updated entry
 
 -- a new entry can be written
 entry_by : (root : List ℕ) (r : EntryRecord) (o : Option Origin) (b : Bool) → IsEntry (item_by root r o b)
@@ -245,7 +245,7 @@ is_changed d form place root r es shows is same =
     ∙ rw (ap (λ p. is_one_statement form place && is_slight (tree_of d p)) (append-nil place) ∙ is) refl
     ∙ ap (λ l. changed_by (changes l)) (sym same)
 
--- the ends of the members that an item's tree asks for are those of the entry's place
+-- the final values for an item's tree are those for the entry's place
 entry_ends : (i : Item) (d : Shown) (place : Place) (root : List ℕ) (r : EntryRecord) (es : List End)
     → document_of i ≡ d → place_of i ≡ place → es ≡ ends (shown_at i) root r
     → es ≡ ends (below (tree_of d) place) root r

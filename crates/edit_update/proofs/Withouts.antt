@@ -1,4 +1,4 @@
--- Items removed one after the other: one more, and the one that cannot be.
+-- Items removed one after the other: one more, and the one that cannot be removed.
 use Rattle.std.proofs.Common.{◌≡◌, ℕ, List, [], ◌∷◌, ◌++◌, Some, refl, sym, subst, ◌∙◌}
 use Rattle.std.specs.List.{AllByRecursion}
 use Rattle.edit_tree.specs.Assertions.{IsDocument, Place}
@@ -50,7 +50,7 @@ first_stays place more old fails = record {
   fails = fails;
 }
 
--- the strings that are left stand where they stood
+-- the strings that are left are at the same places
 pub strings_left : (form : Text) (gone : Place) (places : List Place) (old new : Tree)
     → Removed form gone old new → AllByRecursion (Outlives gone) places
     → AreStrings old places → AreStrings new places

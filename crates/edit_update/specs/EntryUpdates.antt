@@ -1,5 +1,5 @@
--- What becomes of an entry that is to say what a record says; the table of its members is this project's own,
--- after that of cargo-edit.
+-- The update of an entry from a `Dependency`; the table of its keys is this project's own, after that of
+-- cargo-edit.
 use Rattle.std.specs.Prelude.{ℕ, Bool, true, false, not, ◌&&◌, ◌||◌, ◌==◌, if◌then◌else◌, List, [], ◌∷◌, ◌++◌, map, filter, filter_map, Option, Some, None, is_some, option_map, Result, Ok, codes}
 use Rattle.std.specs.List.{list_any}
 use Rattle.edit_tree.specs.Assertions.{same_bytes}
@@ -12,19 +12,19 @@ use Rattle.edit_record.specs.NewEntries.{item_of, written_name}
 use Rattle.edit_record.specs.ReadEntries.{Tree, member_in, features_at}
 use Rattle.edit_record.specs.RelativePaths.{path_field}
 
--- ---- how the members end
+-- ---- final values of keys
 
--- a member of an entry and how it ends: with a value, or not there (own)
+-- a key of an entry with its final value; none where the key is removed (own)
 abbrev pub End : Type 0
 End = List ℕ × Option NewValue
 
--- the members of entries that name a source (own)
+-- the keys of all kinds of sources (own)
 abbrev pub source_names : List (List ℕ)
 source_names =
     codes "version" ∷ codes "path" ∷ codes "git" ∷ codes "branch" ∷ codes "tag" ∷ codes "rev"
     ∷ codes "workspace" ∷ []
 
--- the keys of a source and how each ends (own)
+-- the keys of a source with their final values (own)
 abbrev pub own_ends : List ℕ → Origin → List End
 own_ends root (from_registry version) = (codes "version", Some (a_string version)) ∷ []
 own_ends root (from_path path version) =
@@ -36,46 +36,47 @@ own_ends root (from_git g) =
     ∷ (codes "version", option_map a_string g.version) ∷ []
 own_ends root from_workspace = (codes "workspace", Some (a_truth true)) ∷ []
 
--- the keys that name a source and are not among these are removed (own)
+-- the keys of other kinds of sources are removed (own)
 abbrev pub other_ends : List End → List End
 other_ends own =
     map (λ n. (n, None)) (filter (λ n. not (list_any (λ e. same_bytes e.0 n) own)) source_names)
 
--- the keys of all sources and how each ends; none where the record has no source: the entry's keys stay (own)
+-- the keys of all kinds of sources with their final values; without a source in the dependency they are
+-- unchanged (own)
 abbrev pub source_ends : List ℕ → Option Origin → List End
 source_ends root None = []
 source_ends root (Some origin) = own_ends root origin ++ other_ends (own_ends root origin)
 
--- the record takes its source from the workspace (own)
+-- the source is the workspace (own)
 abbrev pub is_from_workspace : Option Origin → Bool
 is_from_workspace (Some from_workspace) = true
 is_from_workspace other = false
 
--- the member of this name is removed where the source is the workspace, and else stays as it is (own)
+-- the key is removed if the source is the workspace, and is unchanged otherwise (own)
 abbrev pub workspace_end : List ℕ → Option Origin → List End
 workspace_end name origin = if is_from_workspace origin then (name, None) ∷ [] else []
 
--- the entry ends with a member `version` (own)
+-- the entry finally has a key `version` (own)
 abbrev pub ends_with_version : Tree → Option Origin → Bool
 ends_with_version t None = is_some (member_in t (codes "version"))
 ends_with_version t (Some origin) = is_some (origin_version origin)
 
--- `package` is written where the entry has another key than the crate's name; else it is removed where the
--- source is the workspace, and stays as it is where not (own)
+-- `package` is written if the key differs from the crate's name; else it is removed if the source is the
+-- workspace, and is unchanged otherwise (own)
 abbrev pub package_ends : Option (List ℕ) → Option Origin → List End
 package_ends (Some name) origin = (codes "package", Some (a_string name)) ∷ []
 package_ends None origin = workspace_end (codes "package") origin
 
--- a list of texts that was read; empty where no list is there, or where reading it failed (own)
+-- a list of strings that was read; empty where it is absent or malformed (own)
 abbrev pub texts_or_none : Result (Option (List (List ℕ))) Refusal → List (List ℕ)
 texts_or_none (Ok (Some ss)) = ss
 texts_or_none other = []
 
--- the features of the entry and then those of the record (own)
+-- the features of the entry followed by those of the dependency, without duplicates (own)
 abbrev pub joined_features : Tree → List (List ℕ) → NewValue
 joined_features t new = a_list (each_once (texts_or_none (features_at t []) ++ new))
 
--- how the members of an entry end, in their order; any other member stays as it is (own)
+-- the keys of an entry with their final values, in their order; any other key is unchanged (own)
 abbrev pub ends : Tree → List ℕ → EntryRecord → List End
 ends t root r =
     source_ends root r.origin
@@ -88,36 +89,36 @@ ends t root r =
 
 -- ---- the edits
 
--- one edit of a member: it is written or removed (own)
+-- an edit of a key: it is written or removed (own)
 pub data Change : Type 0 where
   writes : List ℕ → NewValue → Change
   removes : List ℕ → Change
 
--- a member that ends with a value is written (own)
+-- a key with a final value is written (own)
 abbrev pub write_of : End → Option Change
 write_of e = option_map (writes e.0) e.1
 
--- a member that ends without a value is removed (own)
+-- a key without a final value is removed (own)
 abbrev pub removal_of : End → Option Change
 removal_of (name, None) = Some (removes name)
 removal_of (name, Some v) = None
 
--- the edits of the members of an entry: all that is written, then all that is removed (own)
+-- the edits of the keys of an entry: all writes, then all removals (own)
 abbrev pub changes : List End → List Change
 changes es = filter_map write_of es ++ filter_map removal_of es
 
--- what an entry becomes: another one, or its own with other members (own)
+-- the update of an entry: it is replaced, or its keys are edited (own)
 pub data Update : Type 0 where
   replaced_by : NewItem → Update
   changed_by : List Change → Update
 
--- a string, or a table of one member (own)
+-- a string, or a table with a single key (own)
 abbrev pub is_slight : Option View → Bool
 is_slight None = false
 is_slight (Some v) = is_string v || (is_tabular v && (count_in v == 1))
 
--- what the entry of a tree becomes: a string or a table of one member is replaced by a new entry, where `one`
--- says that one statement alone names it, and any other entry gets other members (own)
+-- the update of an entry: a string or a table with a single key is replaced, if a single key/value pair
+-- defines it (`one`), and any other entry is edited key by key (own)
 abbrev pub update_of : Tree → Bool → List ℕ → EntryRecord → Update
 update_of t one root r =
     if one && is_slight (t []) then replaced_by (item_of root r) else changed_by (changes (ends t root r))

@@ -1,4 +1,4 @@
--- An entry that is removed from its table, and the table with it where no member is left.
+-- Removing an entry from its table, and the table with it if that leaves it empty.
 use Rattle.std.specs.Prelude.{◌≡◌, ◌⊎◌, ℕ, Bool, true, false, if◌then◌else◌, List, [], ◌∷◌, Option, Some, None, codes, string_bytes}
 use Rattle.std.specs.List.{join_by}
 use Rattle.edit_base.specs.declared.errors.Error.{Error}
@@ -13,13 +13,13 @@ use Rattle.edit_manifest.specs.Tables.{Tree, is_table_like, keyed}
 
 -- ---- tables
 
--- the first of these names, one below the other, at which no table and no inline table stands
+-- the first of these keys, starting at a place, that does not lead to a table or an inline table
 abbrev pub missing_below : Tree → Place → List (List ℕ) → Option (List ℕ)
 missing_below t place [] = None
 missing_below t place (name ∷ names) =
     if is_table_like (t (at place (key name))) then missing_below t (at place (key name)) names else Some name
 
--- the same from the root
+-- the first of these keys, starting at the root, that does not lead to a table or an inline table
 abbrev pub missing_table : Tree → List (List ℕ) → Option (List ℕ)
 missing_table t path = missing_below t [] path
 
@@ -27,20 +27,20 @@ missing_table t path = missing_below t [] path
 abbrev pub entry_of : List (List ℕ) → List ℕ → Place
 entry_of path name = at (keyed path) (key name)
 
--- a table or an inline table without members
+-- an empty table or inline table
 abbrev pub is_bare : Option View → Bool
 is_bare (Some (table [])) = true
 is_bare (Some (inline_table [])) = true
 is_bare _ = false
 
--- the place of a table that has no members; the root stays
+-- the place of a table if it is empty; the root never counts
 abbrev pub bare_table : Tree → Place → List Place
 bare_table t [] = []
 bare_table t (s ∷ ss) = if is_bare (t (s ∷ ss)) then (s ∷ ss) ∷ [] else []
 
 -- ---- entries
 
--- The entry stood in its table and was removed, and then the table, where it had no members any more.
+-- The entry existed and was removed, and then its table, if that left it empty.
 pub record TakesOut (path : List (List ℕ)) (name : List ℕ) (old new : Shown) : Type 0 where
   pub tables : missing_table (tree_of old) path ≡ None
   pub stood : tree_of old (entry_of path name) ≡ None → ⊥
@@ -50,34 +50,34 @@ pub record TakesOut (path : List (List ℕ)) (name : List ℕ) (old new : Shown)
   pub reads : IsDocument between form
   pub emptied : Without (bare_table (view_at form) (keyed path)) between new.bytes
 
--- ---- refusals
+-- ---- errors
 
--- the entry cannot be removed, or once it is, the table cannot that has no members any more
+-- the entry cannot be removed, or the table that is left empty cannot
 pub data StaysIn (path : List (List ℕ)) (name : List ℕ) (old : List ℕ) : Type 0 where
   entry_stays : OneStays (entry_of path name ∷ []) old → StaysIn path name old
   table_stays : (between : List ℕ) (form : Text) → Without (entry_of path name ∷ []) old between
       → IsDocument between form → OneStays (bare_table (view_at form) (keyed path)) between
       → StaysIn path name old
 
--- the refusal for want of a table, which names the step at which it is missing
+-- the error is `NoTable` with this key
 abbrev pub NamesStep : List ℕ → Error → Type 0
 NamesStep step (NoTable named) = string_bytes named ≡ step
 NamesStep step other = ⊥
 
--- the refusal for want of an entry, which names it, and the path of its table with dots
+-- the error is `NoDependency` with this entry and the path of its table, joined by dots
 abbrev pub NamesEntry : List (List ℕ) → List ℕ → Error → Type 0
 NamesEntry path name (NoDependency named dotted) =
     (string_bytes named ≡ name) × (string_bytes dotted ≡ join_by (λ (step : List ℕ). step) (codes ".") path)
 NamesEntry path name other = ⊥
 
--- why an entry is not removed, by the first step that is missing and by what stands at the entry's place: no
--- table or no entry is there, or an edit is refused
+-- the error of removing an entry, given the first key that leads to no table and the item of the entry:
+-- there is no table, no entry, or an edit fails
 abbrev pub IsKept : List (List ℕ) → List ℕ → List ℕ → Option (List ℕ) → Option View → Error → Type 0
 IsKept path name old (Some step) entry e = NamesStep step e
 IsKept path name old None None e = NamesEntry path name e
 IsKept path name old None (Some view) e = (e ≡ EditRefused) × StaysIn path name old
 
--- memory ran out, or there is such a reason
+-- the errors: lack of memory, or one of these
 abbrev pub IsNotTakenOut : List (List ℕ) → List ℕ → Shown → Error → Type 0
 IsNotTakenOut path name d e = IsMemory e
     ⊎ IsKept path name d.bytes (missing_table (tree_of d) path) (tree_of d (entry_of path name)) e

@@ -224,7 +224,8 @@ fn ends_with_version(dependency: &Dependency, entry: Item<'_>) -> bool
     }
 }
 
-/// Appends the key `registry`, which stays only with a version.
+/// Appends the key `registry`: its value is that of the dependency if the entry finally has a version;
+/// otherwise the key is removed.
 fn push_registry(
     dependency: &Dependency,
     ends: &mut Vec<End>,

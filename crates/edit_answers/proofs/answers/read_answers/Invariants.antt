@@ -5,7 +5,7 @@ use Rattle.edit_answers.specs.Answers.{AreFirst}
 use Rattle.edit_answers.proofs.TableLemmas.{IsRest}
 use Rattle.edit_answers.proofs.answers.read_answers.Given as goal
 
--- each answer so far is the first, and each that was said in front of the rest is found
+-- each outcome so far is the first one, and each that comes before the rest is found
 abbrev pub invariant-loop-line : goal.invariant-loop-line
 invariant-loop-line l =
     shadow (Utf8 l.rest) × (length l.table.items ≡ l.count) × AreFirst l.text l.table.items

@@ -6,7 +6,7 @@ use Rattle.edit_answers.specs.Followed.{AllFollow}
 use Rattle.edit_answers.specs.Outcomes.{PutsOne, PutsSome}
 use Rattle.edit_answers.proofs.lookups.settle_all.Given as goal
 
--- the outcomes of the lookups so far, what was written for them, and that they follow from the answers
+-- the results of the lookups so far, the writes for them, and that they follow from the outcomes
 abbrev pub invariant-loop-i : goal.invariant-loop-i
 invariant-loop-i g l =
     (length l.outcomes.items ≡ l.i)

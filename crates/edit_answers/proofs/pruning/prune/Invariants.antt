@@ -5,7 +5,7 @@ use Rattle.edit_answers.specs.Aging.{staying}
 use Rattle.edit_answers.proofs.PruneLemmas.{stays_at}
 use Rattle.edit_answers.proofs.pruning.prune.Given as goal
 
--- the files that are to stay do so, and where the device did not fail, the others of the first ones went
+-- the files that have to stay do so and, if the device did not fail, the other files so far are removed
 abbrev pub invariant-loop-i : goal.invariant-loop-i
 invariant-loop-i g l =
     let old = g.S.AgingStore.aging l.fn.cache in

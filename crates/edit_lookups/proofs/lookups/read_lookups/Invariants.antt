@@ -6,7 +6,7 @@ use denote.Shadow.{shadow}
 use Rattle.edit_lookups.specs.Lookups.{IsLookup, LookupText, SaysLookups, lookup_line, lookup_text}
 use Rattle.edit_lookups.proofs.lookups.read_lookups.Given as goal
 
--- the text is the lines of the lookups so far and the rest; where it says lookups, the rest does so too
+-- the text is the lines of the lookups so far and the rest; if the text is valid, so is the rest
 abbrev pub invariant-loop-line : goal.invariant-loop-line
 invariant-loop-line l =
     shadow (Utf8 l.rest)

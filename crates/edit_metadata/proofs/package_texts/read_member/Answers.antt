@@ -9,7 +9,7 @@ use Rattle.edit_json.proofs.PutMemberLemmas.{at_key, off_key, not_key}
 use Rattle.edit_metadata.specs.Metadata.{maybe_text}
 use Rattle.edit_metadata.proofs.package_texts.read_member.Goals as goal
 
--- a text or null, as a value that says it
+-- a string or null, given the value that holds it
 said : (o : Option (Bor (List ℕ))) (A : Data → Type 0) → MatchOption o (A null) (λ s. A (string s.now))
     → (d : Data) × A d × (maybe_text (Some d) ≡ Some (option_map (λ s. s.now) o))
 said None A x = (null, x, refl)

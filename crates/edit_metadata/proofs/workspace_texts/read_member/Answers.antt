@@ -15,12 +15,12 @@ lift : {A : Type 0} {P Q : A → Type 0} (r : Option A) → ((a : A) → P a →
 lift None f x = x
 lift (Some a) f x = f a x
 
--- a text stays where what stands at its name stays
+-- a string is unchanged if the value of its name is
 text-stays : (r : Option (Bor (List ℕ))) (o q : Option Data) → q ≡ o
     → IfSome r (λ s. option_and_then as_str o ≡ Some s.now) → IfSome r (λ s. option_and_then as_str q ≡ Some s.now)
 text-stays r o q same = lift r (λ s is. ap (option_and_then as_str) same ∙ is)
 
--- the elements of an array stay where what stands at its name stays
+-- the elements of an array are unchanged if the value of its name is
 list-stays : {A : Type 0} (Fits : A → List Data → Type 0) (r : Option A) (o q : Option Data) → q ≡ o
     → IfSome r (λ v. (ds : List Data) × (option_map values (option_and_then as_array o) ≡ Some ds) × Fits v ds)
     → IfSome r (λ v. (ds : List Data) × (option_map values (option_and_then as_array q) ≡ Some ds) × Fits v ds)

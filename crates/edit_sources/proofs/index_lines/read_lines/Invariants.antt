@@ -4,7 +4,7 @@ use Rattle.edit_sources.specs.IndexLines.{length_left}
 use Rattle.edit_sources.proofs.LineLemmas.{HasRead}
 use Rattle.edit_sources.proofs.index_lines.read_lines.Given as goal
 
--- the lines so far say the entries so far
+-- the lines so far have the entries so far
 abbrev pub invariant-lines : goal.invariant-lines
 invariant-lines l = HasRead l.bytes l.number l.rest (map entry_of l.entries.items)
 

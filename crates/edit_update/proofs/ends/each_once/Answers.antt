@@ -14,7 +14,7 @@ old-text : (a b : Bool) → a ≡ not b → a ≡ false → b ≡ true
 old-text a true added is = refl
 old-text a false added is = cc (sym added ∙ is)
 
--- a text that is new joins the others, one that is old does not
+-- a text that is new is appended, a duplicate is not
 joined-new : (done : List (List ℕ)) (text : List ℕ) → is_old done text ≡ false
     → joins done text ≡ done ++ text ∷ []
 joined-new done text new = rw new refl
@@ -22,7 +22,7 @@ joined-new done text new = rw new refl
 joined-old : (done : List (List ℕ)) (text : List ℕ) → is_old done text ≡ true → joins done text ≡ done
 joined-old done text old = rw old refl
 
--- the texts that are taken after a turn
+-- the texts that are taken after one iteration
 kept : (c : goal.Joined-added) → texts_view c.if-added.once ≡ joins (texts_view c.texts.once)
     c.as_str.result.now
 kept c =

@@ -3,7 +3,7 @@ use Rattle.edit_base.specs.Paths.{texts}
 use Rattle.edit_update.specs.EndViews.{ends_seen}
 use Rattle.edit_update.proofs.ends.push_gone.Given as goal
 
--- the members that go so far
+-- the keys that are removed so far
 abbrev pub invariant-names : goal.invariant-names
 invariant-names l =
     ends_seen l.ends.items

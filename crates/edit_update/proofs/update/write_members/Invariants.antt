@@ -6,7 +6,7 @@ use Rattle.edit_update.specs.EntryUpdates.{write_of}
 use Rattle.edit_update.specs.UpdatedTexts.{Changed}
 use Rattle.edit_update.proofs.update.write_members.Given as goal
 
--- what the edits so far have led to
+-- the effect of the edits so far
 abbrev pub invariant-ends : goal.invariant-ends
 invariant-ends l =
     Changed (place_seen l.entry) (filter_map write_of (ends_seen (take l.end-index l.ends)))

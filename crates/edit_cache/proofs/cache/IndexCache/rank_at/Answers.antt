@@ -2,7 +2,7 @@ use Rattle.std.proofs.Common.{arith}
 use Rattle.std.proofs.lemmas.Map.Text.{text_keys}
 use Rattle.edit_cache.proofs.cache.IndexCache.rank_at.Goals as goal
 
--- the answer is the one that was, and so is each other
+-- the cached result is the one that was, and so is every other
 pub returns-in-Some-get_mut-clause-kept : goal.returns-in-Some-get_mut-clause-kept
 returns-in-Some-get_mut-clause-kept g c = λ address name. grind (arith, text_keys)
 

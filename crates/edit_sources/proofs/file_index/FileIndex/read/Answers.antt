@@ -12,7 +12,7 @@ map-cond : (b : Bool) (x : IndexVersion) (xs : List IndexVersion) (es : List Ind
 map-cond true x xs es h = ap (λ t. entry_of x ∷ t) h
 map-cond false x xs es h = h
 
--- the entries of the kept are the kept entries
+-- the entries of a filtered list are the filtered entries
 map-filter : (q : List ℕ) (xs : List IndexVersion)
     → map entry_of (filter (λ v. bytes_eq q (string_bytes v.name)) xs)
     ≡ filter (λ e. bytes_eq q e.name) (map entry_of xs)
