@@ -1,4 +1,4 @@
--- What an upgrade reads, plans and writes.
+-- The files that an upgrade reads and writes, and its plan.
 use Rattle.std.specs.Prelude.{◌≡◌, ℕ, List, Bool, not, ◌==◌, Option, Some, None, length, option_map, ⊤}
 use Rattle.edit_lock.specs.LockFile.{Package}
 use Rattle.std.specs.Option.{option_map_or}
@@ -20,22 +20,23 @@ use Rattle.edit_program.specs.LockRead.{IsLockRead}
 use Rattle.edit_program.specs.Run.{Run}
 use Rattle.edit_program.specs.Said.{said}
 
--- what the words name was read
+-- the given files were read
 abbrev pub IsRead : UpgradeWords → List ℕ → Option (List ℕ) → Files → Sources → Type 0
 IsRead words current home files s = AreRead files current home (asking words) s
 
--- the plan for what was read, over its index
+-- the plan for the files that were read, over their index
 abbrev pub IsPlannedFor : UpgradeWords → Sources → StoreView → UpgradePlan → Type 0
 IsPlannedFor words s local plan =
     IsPlanned words.options s.target.inputs.items (lists_for s.configs) (index_view s.index local) plan
 
--- the absolute path of a file that is named; none where none is
+-- the absolute path of a given file; none where none is given
 abbrev pub IsPathOf : List ℕ → Option (List ℕ) → Option (List ℕ) → Type 0
 IsPathOf current None None = ⊤
 IsPathOf current (Some named) (Some path) = IsAbsoluteOf current named path
 IsPathOf current _ _ = ⊥
 
--- the folder that diffs name files from: the workspace's root, where one is known, else the current folder
+-- the folder that paths in diffs are relative to: the workspace's root, where there is one, else the
+-- current folder
 abbrev pub diff_root : List ℕ → Option WorkspaceSaid → List ℕ
 diff_root current workspace = option_map_or (λ w. w.root) workspace current
 
