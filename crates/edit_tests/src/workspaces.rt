@@ -1,5 +1,5 @@
 //! Tests of workspaces, of the files that an upgrade reads, and of the places of errors, by the public
-//! calls of `edit_metadata`, `edit_steps` and `edit_manifest`.
+//! calls of `edit_metadata` and `edit_steps`.
 
 mod inputs;
 mod places;
