@@ -1,4 +1,4 @@
-//! Calls that are lent a cache.
+//! Calls that borrow a cache.
 ghost use Rattle.std.specs.Prelude.{◌≡◌, IfOk, length};
 ghost use Rattle.edit_metadata.specs.Inputs.{HaveOwnPaths};
 ghost use Rattle.edit_steps.specs.Shared.{HasLists};
@@ -21,13 +21,13 @@ use std::alloc::Global;
 use std::cell::Cell;
 use url::Url;
 
-/// The name that a cache has an answer for before the call.
+/// The name whose answer is cached before the call.
 const HELD: &str = "held";
 
-/// A cache over an index of one file, whose lookups are counted.
+/// A cache over an index in one file, whose lookups are counted.
 type Cache<'a> = IndexCache<CountedIndex<'a, FileIndex>>;
 
-/// A call: what is called, for which name of which registry, and the count of its index's lookups.
+/// A call: the function, the crate's name and registry, and the count of lookups.
 #[derive(Clone, Copy)]
 struct CacheCall<'a> {
     what: &'a str,
@@ -36,7 +36,7 @@ struct CacheCall<'a> {
     lookups: &'a Cell<u64>,
 }
 
-/// How many entries of a name a cache has.
+/// The number of cached entries of a name.
 fn count_of(cache: &Cache<'_>, registry: &Url, name: &str) -> usize {
     match cache.shown(registry, name) {
         Some(krate) => krate.versions.len(),
@@ -45,8 +45,8 @@ fn count_of(cache: &Cache<'_>, registry: &Url, name: &str) -> usize {
 }
 
 impl<'a> CacheCall<'a> {
-    /// Prints how many entries a cache has after want of memory: of the name that it had an answer for before
-    /// the call, and of the name of the call.
+    /// Prints the numbers of cached entries after memory ran out: of the name that was cached before the
+    /// call, and of the name of the call.
     fn show_cached(self, rt: &HostRuntime, cache: &Cache<'_>) {
         let held = count_of(cache, self.registry, HELD);
         let cached = count_of(cache, self.registry, self.name);
@@ -56,13 +56,13 @@ impl<'a> CacheCall<'a> {
         );
     }
 
-    /// Prints how many lookups were made.
+    /// Prints the number of lookups.
     fn show_lookups(self, rt: &HostRuntime) {
         let lookups = self.lookups.get();
         say(rt, format_args!("{lookups} lookups\n"));
     }
 
-    /// Prints the three first versions of a ranking.
+    /// Prints the first three versions of a ranking.
     fn ranking(self, rt: &HostRuntime, cache: &mut Cache<'_>) -> CargoResult<()> {
         if let Some(ranked) = cache.ranked(rt.alloc(), self.registry, self.name)? {
             for n in 0..3 {
@@ -105,7 +105,7 @@ impl<'a> CacheCall<'a> {
         }
     }
 
-    /// Makes the call over a cache that holds an answer, and again where memory ran out.
+    /// Makes the call with a cache that has one answer, and again where memory ran out.
     fn twice(
         self,
         rt: &HostRuntime,
@@ -128,7 +128,7 @@ impl<'a> CacheCall<'a> {
     }
 }
 
-/// The options of an upgrade without arguments.
+/// The options of an upgrade whose command line has no arguments.
 fn usual(alloc: Global) -> Options {
     Options {
         compatible: true,
@@ -144,7 +144,7 @@ fn usual(alloc: Global) -> Options {
     }
 }
 
-/// Plans an upgrade, and prints what it would write.
+/// Plans an upgrade, and prints its outputs.
 fn upgrade(
     rt: &HostRuntime,
     cache: &mut Cache<'_>,
@@ -171,7 +171,7 @@ fn upgrade(
     Ok(())
 }
 
-/// Reads what a call rests on from a folder.
+/// Reads the files that a call needs from a folder.
 fn sources_of(rt: &HostRuntime, folder: &str) -> CargoResult<Sources>
     ensures { IfOk result MayBePlanned }
 {
@@ -192,7 +192,7 @@ fn sources_of(rt: &HostRuntime, folder: &str) -> CargoResult<Sources>
     }
 }
 
-/// Makes a call over the files of a folder.
+/// Makes a call with the files of a folder.
 fn over_files(rt: &HostRuntime, folder: &str, call: CacheCall<'_>) -> CargoResult<()> {
     let sources = sources_of(rt, folder)?;
     let Sources {
@@ -208,7 +208,7 @@ fn over_files(rt: &HostRuntime, folder: &str, call: CacheCall<'_>) -> CargoResul
     call.twice(rt, &mut cache, &target.inputs, &configs)
 }
 
-/// Makes a call over the files of a folder: `ranked` or `krate` for a name of the usual registry, or an
+/// Makes a call with the files of a folder: `ranked` or `krate` for a name of the default registry, or an
 /// upgrade.
 pub(crate) fn over_cache(
     rt: &HostRuntime,

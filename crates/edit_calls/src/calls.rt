@@ -1,4 +1,5 @@
-//! Edits by words. Each tells whether it was made: not where its conditions do not hold.
+//! Edits described by arguments. Each returns whether it was made: false where its preconditions do not
+//! hold.
 ghost use Rattle.edit_tree.specs.NewItems.{IsEntry};
 ghost use Rattle.edit_document.specs.NewItemViews.{item_seen};
 
@@ -10,10 +11,10 @@ use edit_record::{Dependency, RegistrySource, Source};
 use edit_update::{DependencyExt, ManifestExt};
 use std::alloc::Global;
 
-/// The folder that paths of entries are seen from.
+/// The folder that paths of entries are relative to.
 const ROOT: &str = "/";
 
-/// That an edit was made.
+/// Maps success to true: the edit was made.
 fn made(answer: CargoResult<()>) -> CargoResult<bool> {
     match answer {
         Ok(()) => Ok(true),
@@ -21,7 +22,7 @@ fn made(answer: CargoResult<()>) -> CargoResult<bool> {
     }
 }
 
-/// Inserts a member; where no table stands the call refuses it.
+/// Inserts a key; an error where there is no table at the place.
 fn insert(
     alloc: Global,
     document: &mut Document,
@@ -74,7 +75,7 @@ fn set_literal(
     made(document.set_literal(alloc, place, text))
 }
 
-/// Sets a string that the words hold as a value.
+/// Sets a string, given as a value in the arguments.
 fn set_string(
     alloc: Global,
     document: &mut Document,
@@ -87,7 +88,7 @@ fn set_string(
     }
 }
 
-/// Puts a copy in the place of a document.
+/// Replaces a document by its copy.
 fn copy(alloc: Global, document: &mut Document) -> CargoResult<bool> {
     *document = document.try_clone(alloc)?;
     Ok(true)
@@ -108,7 +109,7 @@ fn replace_by(
     made(document.replace_entry(alloc, place, item))
 }
 
-/// Replaces an entry by that of the words.
+/// Replaces an entry by the one in the arguments.
 fn replace_entry(
     alloc: Global,
     document: &mut Document,
@@ -119,7 +120,7 @@ fn replace_entry(
     replace_by(alloc, document, place, &item)
 }
 
-/// The record of the entry at a place.
+/// The entry at a place as a `Dependency`.
 fn record(alloc: Global, document: &Document, place: &[Step]) -> CargoResult<Dependency> {
     match (place.last(), document.item(place)) {
         (Some(Step::Key(key)), Some(item)) => {
@@ -129,7 +130,7 @@ fn record(alloc: Global, document: &Document, place: &[Step]) -> CargoResult<Dep
     }
 }
 
-/// Replaces an entry by what a record says.
+/// Replaces an entry by one written from a `Dependency`.
 fn rewrite_by(
     alloc: Global,
     document: &mut Document,
@@ -140,13 +141,13 @@ fn rewrite_by(
     replace_by(alloc, document, place, &item)
 }
 
-/// Replaces an entry by what its own record says.
+/// Replaces an entry by one written from its own `Dependency`.
 fn rewrite(alloc: Global, document: &mut Document, place: &[Step]) -> CargoResult<bool> {
     let dependency = record(alloc, document, place)?;
     rewrite_by(alloc, document, place, &dependency)
 }
 
-/// Updates an entry with a record.
+/// Updates an entry from a `Dependency`.
 fn update_with(
     alloc: Global,
     document: &mut Document,
@@ -159,7 +160,7 @@ fn update_with(
     made(dependency.update_toml(alloc, ROOT, document, place))
 }
 
-/// Gives a record more features, and updates an entry with it.
+/// Adds features to a `Dependency`, and updates an entry from it.
 fn update_with_features(
     alloc: Global,
     document: &mut Document,
@@ -171,7 +172,7 @@ fn update_with_features(
     update_with(alloc, document, place, &dependency)
 }
 
-/// Updates an entry with its record, where that has another source and more features, and is optional.
+/// Updates an entry from its `Dependency` with another source, more features, and `optional` set.
 fn update_to(
     alloc: Global,
     document: &mut Document,
@@ -185,7 +186,7 @@ fn update_to(
     update_with_features(alloc, document, place, dependency, features)
 }
 
-/// The same by words.
+/// Updates an entry as the arguments describe.
 fn update(
     alloc: Global,
     document: &mut Document,
@@ -197,12 +198,12 @@ fn update(
     update_to(alloc, document, place, source, features)
 }
 
-/// Takes a key out of the features.
+/// Removes a dependency from the features.
 fn gc_dep(alloc: Global, manifest: &mut Manifest, key: &str) -> CargoResult<bool> {
     made(manifest.gc_dep(alloc, key))
 }
 
-/// Removes an entry, and its table where that has no other.
+/// Removes an entry, and its table where that becomes empty.
 fn remove_from_table(
     alloc: Global,
     manifest: &mut Manifest,
@@ -234,7 +235,7 @@ fn edit_at(
     }
 }
 
-/// Makes the edit that the words name.
+/// Makes the edit that the arguments describe.
 fn edit(alloc: Global, manifest: &mut Manifest, words: &mut Words<'_>) -> CargoResult<bool> {
     let call = words.take();
     let place = words.take_place(alloc)?;
@@ -245,7 +246,7 @@ fn edit(alloc: Global, manifest: &mut Manifest, words: &mut Words<'_>) -> CargoR
     }
 }
 
-/// Makes the edits of the words, with `&` between two of them, up to the first that is not made.
+/// Makes the edits that the arguments describe, separated by `&`, up to the first that is not made.
 pub(crate) fn edits(alloc: Global, manifest: &mut Manifest, words: &[String]) -> CargoResult<bool> {
     let mut taken = Words::new(words);
     for _ in words {

@@ -5,7 +5,7 @@ use std::alloc::Global;
 use std::cell::Cell;
 use url::Url;
 
-/// An index that answers as another one does, and counts the lookups.
+/// An index that forwards to another one, and counts the lookups.
 #[derive(Drop)]
 pub(crate) struct CountedIndex<'a, I> {
     index: I,
@@ -13,7 +13,7 @@ pub(crate) struct CountedIndex<'a, I> {
 }
 
 impl<'a, I: Index> CountedIndex<'a, I> {
-    /// An index over another one, with a count that its owner can read.
+    /// Wraps an index, with a counter that its owner can read.
     pub(crate) fn new(index: I, lookups: &'a Cell<u64>) -> CountedIndex<'a, I> {
         CountedIndex { index, lookups }
     }

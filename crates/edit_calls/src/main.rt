@@ -70,7 +70,7 @@ use std::io::Write;
 use std::process::ExitCode;
 use views::{show_pieces, show_views};
 
-/// Prints a refusal and the text that stands then. Tells whether memory ran out.
+/// Prints an error and the document's current text. Returns whether memory ran out.
 fn refused(rt: &HostRuntime, manifest: &Manifest, error: &Error) -> bool {
     let number = error.number();
     say(
@@ -80,7 +80,7 @@ fn refused(rt: &HostRuntime, manifest: &Manifest, error: &Error) -> bool {
     number == 46
 }
 
-/// Makes the edits, and prints what is answered and the text that stands then. Tells whether memory ran out.
+/// Makes the edits, and prints the result and the document's current text. Returns whether memory ran out.
 fn edited(rt: &HostRuntime, manifest: &mut Manifest, words: &[String]) -> bool {
     let said = match edits(rt.alloc(), manifest, words) {
         Ok(true) => "done",
@@ -91,7 +91,7 @@ fn edited(rt: &HostRuntime, manifest: &mut Manifest, words: &[String]) -> bool {
     false
 }
 
-/// The manifest of a file.
+/// Reads a manifest from a file.
 fn manifest_of(rt: &HostRuntime, path: &str) -> CargoResult<Manifest> {
     let mut files = HostStore::new(rt.clone()?);
     match files.read(rt.alloc(), path)? {
@@ -100,7 +100,7 @@ fn manifest_of(rt: &HostRuntime, path: &str) -> CargoResult<Manifest> {
     }
 }
 
-/// Makes the edits of the words, and again where memory ran out.
+/// Makes the edits in the arguments, and again where memory ran out.
 fn answer_on(rt: &HostRuntime, manifest: &mut Manifest, words: &[String]) {
     if edited(rt, manifest, words) {
         show_views(rt, &manifest.document);
@@ -108,7 +108,7 @@ fn answer_on(rt: &HostRuntime, manifest: &mut Manifest, words: &[String]) {
     }
 }
 
-/// The same on the manifest of a file.
+/// Makes the edits in the arguments on the manifest in a file.
 fn answer_to(rt: &HostRuntime, path: &str, words: &[String]) -> CargoResult<()> {
     let mut manifest = manifest_of(rt, path)?;
     match words {
@@ -127,7 +127,7 @@ fn answer_to(rt: &HostRuntime, path: &str, words: &[String]) -> CargoResult<()> 
     }
 }
 
-/// Answers the words of the call.
+/// Runs the call in the arguments.
 fn answer(rt: &HostRuntime) -> CargoResult<()> {
     let words: Vec<String> = env::args(rt)?.skip(1).collect(rt.alloc())?;
     if let Some(call) = planned_call(&words) {

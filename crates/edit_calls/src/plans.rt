@@ -21,7 +21,7 @@ pub(crate) fn show(rt: &HostRuntime, text: &[u8]) {
     say(rt, "\n");
 }
 
-/// Prints the texts of outputs, each behind its path.
+/// Prints the texts of outputs, each after its path.
 pub(crate) fn show_outputs(rt: &HostRuntime, outputs: &[Output]) {
     for output in outputs {
         show(rt, output.path.as_bytes());
@@ -53,7 +53,7 @@ fn plan_for(alloc: Global, read: &ReadWorkspace) -> CargoResult<SetVersionPlan>
     plan_set_version(alloc, &target, &all, &read.workspace, &read.inputs)
 }
 
-/// Makes the plan for a workspace, and writes its outputs or prints them.
+/// Plans for a workspace, and writes the outputs or prints them.
 fn planned(rt: &HostRuntime, read: &ReadWorkspace, writes: bool) -> CargoResult<()>
     requires inputs { AreInputsOf (workspace_said read.now.workspace) read.now.inputs.items }
     requires folders { HasOwnFolders (workspace_said read.now.workspace) }
@@ -88,7 +88,7 @@ fn workspace_of(rt: &HostRuntime, folder: &str) -> CargoResult<ReadWorkspace>
     }
 }
 
-/// Plans for the workspace of a folder.
+/// Plans new versions for the workspace in a folder.
 pub(crate) fn set_versions(rt: &HostRuntime, folder: &str, writes: bool) -> CargoResult<()> {
     let read = workspace_of(rt, folder)?;
     planned(rt, &read, writes)

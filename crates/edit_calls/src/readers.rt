@@ -1,4 +1,4 @@
-//! Calls of plans, rankings and readers by words.
+//! Calls of plans, rankings and readers, described by arguments.
 
 use crate::cached::over_cache;
 use crate::plans::{set_versions, show};
@@ -18,20 +18,20 @@ fn bytes_of(rt: &HostRuntime, path: &str) -> CargoResult<Vec<u8>> {
     }
 }
 
-/// Prints the name in a word.
+/// Prints the crate name in a `NAME@REQUIREMENT` argument.
 fn show_name(rt: &HostRuntime, word: &str) -> CargoResult<()> {
     let spec = CrateSpec::resolve(rt.alloc(), word)?;
     show(rt, spec.name.as_bytes());
     Ok(())
 }
 
-/// Prints the name in the word that a file holds.
+/// Prints the crate name in the `NAME@REQUIREMENT` text of a file.
 fn word(rt: &HostRuntime, path: &str) -> CargoResult<()> {
     let bytes = bytes_of(rt, path)?;
     show_name(rt, str::from_utf8(&bytes).unwrap_or(""))
 }
 
-/// A call: what is called, over which folder or file, and for which name, if for one.
+/// A call: the function, the folder or file, and a name where the function needs one.
 #[derive(Clone, Copy)]
 pub(crate) struct Call<'a> {
     what: &'a str,
@@ -40,7 +40,7 @@ pub(crate) struct Call<'a> {
 }
 
 impl<'a> Call<'a> {
-    /// Makes the call, which prints what it answers.
+    /// Makes the call, which prints its result.
     fn make(self, rt: &HostRuntime) -> CargoResult<()> {
         match self.what {
             "upgrade" | "ranked" | "krate" => over_cache(rt, self.what, self.at, self.name),
@@ -50,7 +50,7 @@ impl<'a> Call<'a> {
         }
     }
 
-    /// Makes the call, and prints whether it was refused.
+    /// Makes the call, and prints whether it failed.
     pub(crate) fn show(self, rt: &HostRuntime) {
         match self.make(rt) {
             Ok(()) => say(rt, "done\n"),
@@ -59,7 +59,7 @@ impl<'a> Call<'a> {
     }
 }
 
-/// The call in words, where they ask for one.
+/// The call that the arguments describe, if any.
 pub(crate) fn planned_call(words: &[String]) -> Option<Call<'_>> {
     let what = words.first()?.as_str();
     if !matches!(

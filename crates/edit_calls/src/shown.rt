@@ -1,14 +1,14 @@
-//! What stands at a place of a document, or of a new entry.
+//! Prints the item at a place of a document, or of a new entry.
 use crate::said::say;
 use crate::words::Words;
 use edit_document::{CargoResult, Document, Item, Step};
 
-/// The word for a truth.
+/// `true` or `false`.
 fn word(truth: bool) -> &'static str {
     if truth { "true" } else { "false" }
 }
 
-/// What stands one step further.
+/// The item one step below.
 fn stepped<'a>(item: Item<'a>, step: &Step) -> Option<Item<'a>> {
     match step {
         Step::Key(key) => item.get(key.as_str()),
@@ -16,7 +16,7 @@ fn stepped<'a>(item: Item<'a>, step: &Step) -> Option<Item<'a>> {
     }
 }
 
-/// What stands at a place below an item, reached step by step.
+/// The item at a place below an item, reached step by step.
 fn walked<'a>(root: Item<'a>, place: &[Step]) -> Option<Item<'a>> {
     let mut item = root;
     for step in place {
@@ -25,7 +25,7 @@ fn walked<'a>(root: Item<'a>, place: &[Step]) -> Option<Item<'a>> {
     Some(item)
 }
 
-/// Prints the type of an item, how many members or elements it has, and which views.
+/// Prints the type of an item, the number of its members or elements, and the views that it has.
 fn show_kind(rt: &HostRuntime, item: Item<'_>) {
     let array = item.as_array().map_or("-", |array| array.type_name());
     let truth = item.as_bool().map_or("-", word);
@@ -51,7 +51,7 @@ fn show_keys(rt: &HostRuntime, item: Item<'_>) {
     }
 }
 
-/// Prints what an item shows, its string last.
+/// Prints all that an item gives access to, its string last.
 fn show_item(rt: &HostRuntime, item: Item<'_>) {
     show_kind(rt, item);
     show_keys(rt, item);
@@ -60,14 +60,14 @@ fn show_item(rt: &HostRuntime, item: Item<'_>) {
     }
 }
 
-/// Prints what stands at a place below an item; nothing where nothing stands.
+/// Prints the item at a place below an item; nothing where there is none.
 fn show_below(rt: &HostRuntime, root: Item<'_>, place: &[Step]) {
     if let Some(item) = walked(root, place) {
         show_item(rt, item);
     }
 }
 
-/// Prints what a document tells of a place as a whole, and then what stands there.
+/// Prints what a document reports of a place, and then the item there.
 fn show_place(rt: &HostRuntime, document: &Document, place: &[Step]) {
     let item = document.item(place).map_or("-", |item| item.type_name());
     let one = word(document.one_statement(place));
@@ -77,21 +77,21 @@ fn show_place(rt: &HostRuntime, document: &Document, place: &[Step]) {
     }
 }
 
-/// Prints what stands at a place of the entry that the words name.
+/// Prints the item at a place of the entry in the arguments.
 fn show_entry(rt: &HostRuntime, place: &[Step], words: &mut Words<'_>) -> CargoResult<()> {
     let item = words.take_item(rt.alloc())?;
     show_below(rt, item.view(), place);
     Ok(())
 }
 
-/// Prints how the entry of the words is written.
+/// Prints how the entry in the arguments is written.
 pub(crate) fn show_written(rt: &HostRuntime, words: &[String]) -> CargoResult<()> {
     let item = Words::new(words).take_item(rt.alloc())?;
     say(rt, item.text(rt.alloc())?);
     Ok(())
 }
 
-/// Prints what stands at the place of the words, in the document or in the entry behind the place.
+/// Prints the item at the place in the arguments, in the document or in the entry given after the place.
 pub(crate) fn show_words(
     rt: &HostRuntime,
     document: &Document,

@@ -1,8 +1,8 @@
-//! What a document shows.
+//! Prints the views of a document.
 use crate::said::say;
 use edit_document::{CargoResult, Document, Item};
 
-/// Prints the name and the kind of each member of a table.
+/// Prints the key and the kind of each member of a table.
 fn show_members(rt: &HostRuntime, table: Item<'_>) {
     for key in table.keys() {
         if let Some(item) = table.get(key) {
@@ -24,8 +24,8 @@ pub(crate) fn show_views(rt: &HostRuntime, document: &Document) {
     }
 }
 
-/// Prints how many pieces a document keeps its text in, the text, and each piece, also one behind the last
-/// if there is one: each behind a byte 0, which no document holds.
+/// Prints the number of pieces of a document's text, the text, and each piece, also one past the last if
+/// there is one: each after a byte 0, which no document contains.
 pub(crate) fn show_pieces(rt: &HostRuntime, document: &Document) -> CargoResult<()> {
     let text = document.text(rt.alloc())?;
     let count = document.pieces();

@@ -1,4 +1,4 @@
-//! The words of a call: steps, values and entries.
+//! The arguments of a call: steps, values and entries.
 ghost use Rattle.std.specs.Prelude.{IfOk};
 ghost use Rattle.edit_tree.specs.NewItems.{IsEntry};
 ghost use Rattle.edit_document.specs.NewItemViews.{item_seen};
@@ -6,7 +6,7 @@ ghost use Rattle.edit_document.specs.NewItemViews.{item_seen};
 use edit_document::{NewItem, NewValue, Step};
 use std::alloc::{AllocError, Global};
 
-/// Words that are taken one by one.
+/// Arguments that are consumed one by one.
 #[derive(Drop)]
 pub(crate) struct Words<'a> {
     words: &'a [String],
@@ -14,12 +14,12 @@ pub(crate) struct Words<'a> {
 }
 
 impl<'a> Words<'a> {
-    /// All of these words.
+    /// An iterator over these arguments.
     pub(crate) fn new(words: &'a [String]) -> Words<'a> {
         Words { words, next: 0 }
     }
 
-    /// The next word, empty behind the last one.
+    /// The next argument, empty after the last one.
     pub(crate) fn take(&mut self) -> &'a str {
         match self.words.get(self.next) {
             Some(word) => {
@@ -30,12 +30,12 @@ impl<'a> Words<'a> {
         }
     }
 
-    /// The number that the next word is, 0 where it is none.
+    /// The next argument as a number, 0 where it is none.
     fn take_number(&mut self) -> usize {
         self.take().parse().unwrap_or(0)
     }
 
-    /// The steps up to a word `=`: `.NAME` leads to a member, `#INDEX` to an element.
+    /// The steps up to an argument `=`: `.NAME` is a key, `#INDEX` an element.
     pub(crate) fn take_place(&mut self, alloc: Global) -> Result<Vec<Step>, AllocError> {
         let mut place = Vec::new(alloc);
         for _ in 0..self.words.len() {
@@ -51,7 +51,7 @@ impl<'a> Words<'a> {
         Ok(place)
     }
 
-    /// A number and so many texts.
+    /// A number, and as many texts.
     pub(crate) fn take_texts(&mut self, alloc: Global) -> Result<Vec<String>, AllocError> {
         let mut texts = Vec::new(alloc);
         for _ in 0..self.take_number() {
@@ -60,8 +60,8 @@ impl<'a> Words<'a> {
         Ok(texts)
     }
 
-    /// A value of a kind: `text` and a text, `zeros` and a text with `␀` for each byte 0, which no word
-    /// holds, `truth` and `true` or `false`, `list`, a number and so many texts.
+    /// A value of a kind: `text` and a text; `zeros` and a text with `␀` for each byte 0, which no argument
+    /// can contain; `truth` and `true` or `false`; `list`, a number and as many texts.
     fn take_value_of(&mut self, alloc: Global, kind: &str) -> Result<NewValue, AllocError> {
         match kind {
             "truth" => Ok(NewValue::Bool(self.take() == "true")),
@@ -71,13 +71,13 @@ impl<'a> Words<'a> {
         }
     }
 
-    /// A value, behind its kind.
+    /// A value, after its kind.
     pub(crate) fn take_value(&mut self, alloc: Global) -> Result<NewValue, AllocError> {
         let kind = self.take();
         self.take_value_of(alloc, kind)
     }
 
-    /// A number and so many names, each with a value behind it.
+    /// A number, and as many names, each followed by a value.
     fn take_members(&mut self, alloc: Global) -> Result<Vec<(String, NewValue)>, AllocError> {
         let mut members = Vec::new(alloc);
         for _ in 0..self.take_number() {
@@ -103,7 +103,7 @@ impl<'a> Words<'a> {
     }
 }
 
-/// The entry of the one member `workspace`, true.
+/// The entry `{ workspace = true }`, written as a dotted key.
 fn dotted_item(alloc: Global) -> Result<NewItem, AllocError>
     ensures { IfOk result (λ item. IsEntry (item_seen item)) }
 {

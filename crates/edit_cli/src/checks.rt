@@ -1,4 +1,4 @@
-//! What can be wrong with the paths on the command line, as it is known before anything is read.
+//! Checks of the paths on the command line, before anything is read.
 
 use clap::ArgMatches;
 use edit_base::CargoResult;
@@ -8,7 +8,7 @@ use std::fs;
 use std::fs::Metadata;
 use std::os::unix::fs::MetadataExt;
 
-/// The options that name a file that is read.
+/// The options that give a file to read.
 const READ: [&str; 6] = [
     "manifest-path",
     "metadata-json",
@@ -18,7 +18,7 @@ const READ: [&str; 6] = [
     "default-config",
 ];
 
-/// The names of files that cargo reads or writes: wherever such a file stands, no calls are written over it.
+/// The names of files that cargo reads or writes: calls are never written over a file of these names.
 const CARGO_NAMES: [&str; 4] = [
     "/Cargo.toml",
     "/Cargo.lock",
@@ -26,26 +26,25 @@ const CARGO_NAMES: [&str; 4] = [
     "/.cargo/config",
 ];
 
-/// The names of a configuration in the home of cargo.
+/// The names of a configuration file in the home folder of cargo.
 const HOME_NAMES: [&str; 2] = ["config.toml", "config"];
 
-/// The paths of a run start here.
+/// The folders that the paths of a run are relative to.
 #[derive(Clone, Copy)]
 pub(crate) struct Folders<'a> {
     pub(crate) current: &'a str,
-    /// The home of cargo, where there is one.
+    /// The home folder of cargo, where there is one.
     pub(crate) home: Option<&'a str>,
 }
 
 impl<'a> Folders<'a> {
-    /// The current folder, and the home of cargo where there is one.
+    /// The current folder, and the home folder of cargo where there is one.
     pub(crate) fn new(current: &'a str, home: Option<&'a str>) -> Folders<'a> {
         Folders { current, home }
     }
 }
 
-/// The folder of an index that is looked in: not where an index file is named too, which is another usage
-/// error.
+/// The index folder that is read: `None` where an index file is given too, which is another usage error.
 fn index_folder<'a>(arguments: &ArgMatches<'a>) -> Option<&'a str> {
     match arguments.get_str("index-file") {
         Some(_) => None,
@@ -53,7 +52,7 @@ fn index_folder<'a>(arguments: &ArgMatches<'a>) -> Option<&'a str> {
     }
 }
 
-/// What is wrong with the paths that the arguments of `upgrade` name; none where nothing is.
+/// What is wrong with the paths in the arguments of `upgrade`; `None` where nothing is.
 pub(crate) fn fault_of(
     rt: &HostRuntime,
     arguments: &ArgMatches<'_>,
@@ -74,7 +73,7 @@ pub(crate) fn fault_of(
     }
 }
 
-/// What is wrong with the file for the calls, at the path where it would be written.
+/// What is wrong with the path of the file for the calls.
 fn calls_fault(
     rt: &HostRuntime,
     arguments: &ArgMatches<'_>,
@@ -98,7 +97,8 @@ fn calls_fault(
     Ok(Some(fault))
 }
 
-/// Whether the path of the workspace has a line end: the file has one argument of a call a line.
+/// Whether the path of the workspace contains a line end, which the file cannot represent: it has one
+/// argument a line.
 fn is_parted(arguments: &ArgMatches<'_>, current: &str) -> bool {
     match arguments.get_str("manifest-path") {
         Some(path) if path.starts_with('/') => path.contains('\n'),
@@ -107,7 +107,7 @@ fn is_parted(arguments: &ArgMatches<'_>, current: &str) -> bool {
     }
 }
 
-/// What is wrong with what stands at the path of the file for the calls.
+/// What is wrong with an existing file or folder at the path of the file for the calls.
 fn place_fault(
     rt: &HostRuntime,
     arguments: &ArgMatches<'_>,
@@ -126,7 +126,7 @@ fn place_fault(
     Ok(None)
 }
 
-/// Whether a file is one that cargo or this run reads or writes, by whatever name.
+/// Whether a file is one that cargo or this run reads or writes, under any name.
 fn is_input(
     rt: &HostRuntime,
     arguments: &ArgMatches<'_>,
@@ -147,7 +147,7 @@ fn is_input(
     }
 }
 
-/// Whether an option names this file as one to be read.
+/// Whether an option gives this file as one to read.
 fn is_named(
     rt: &HostRuntime,
     arguments: &ArgMatches<'_>,
@@ -165,7 +165,7 @@ fn is_named(
     Ok(false)
 }
 
-/// Whether this file is a configuration in the home of cargo.
+/// Whether this file is a configuration file in the home folder of cargo.
 fn is_of_home(rt: &HostRuntime, home: Option<&str>, found: &Metadata) -> CargoResult<bool> {
     let Some(home) = home else {
         return Ok(false);
@@ -179,7 +179,7 @@ fn is_of_home(rt: &HostRuntime, home: Option<&str>, found: &Metadata) -> CargoRe
     Ok(false)
 }
 
-/// Whether a path without links leads into the folder that is named.
+/// Whether a path without symbolic links is in the given folder.
 fn is_below(rt: &HostRuntime, current: &str, named: &str, real: &str) -> CargoResult<bool> {
     let path = join(rt.alloc(), current, named)?;
     let mut index = real_path(rt, path.as_str())?;
@@ -187,7 +187,7 @@ fn is_below(rt: &HostRuntime, current: &str, named: &str, real: &str) -> CargoRe
     Ok(real.starts_with(index.as_str()))
 }
 
-/// Whether this file stands at a path, links followed: the same inode of the same device.
+/// Whether this file is at a path, after symbolic links are followed: the same inode of the same device.
 fn is_at(rt: &HostRuntime, path: &str, found: &Metadata) -> bool {
     match fs::metadata(rt, path) {
         Ok(other) => other.dev() == found.dev() && other.ino() == found.ino(),
@@ -195,7 +195,7 @@ fn is_at(rt: &HostRuntime, path: &str, found: &Metadata) -> bool {
     }
 }
 
-/// Whether a folder stands at a path, links followed.
+/// Whether there is a folder at a path, after symbolic links are followed.
 fn is_folder(rt: &HostRuntime, path: &str) -> bool {
     match fs::metadata(rt, path) {
         Ok(found) => found.is_dir(),
@@ -203,7 +203,7 @@ fn is_folder(rt: &HostRuntime, path: &str) -> bool {
     }
 }
 
-/// A path without links; the path itself where the machine does not know it.
+/// A path without symbolic links; unchanged where it cannot be resolved.
 fn real_path(rt: &HostRuntime, path: &str) -> CargoResult<String> {
     if let Ok(real) = fs::canonicalize(rt, path) {
         if let Some(text) = real.as_path().to_str() {

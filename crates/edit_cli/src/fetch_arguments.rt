@@ -10,22 +10,22 @@ use std::io::Write;
 pub(crate) struct FetchArguments<'a> {
     /// The folder of the cache.
     pub cache: &'a str,
-    /// The folder that the transfers of this run use.
+    /// The folder for the transfers of this run.
     pub room: &'a str,
-    /// Whether nothing is to be fetched.
+    /// Whether nothing may be fetched.
     pub offline: bool,
     /// The arguments of the upgrade whose index entries are fetched.
     pub upgrade: &'a [&'a str],
 }
 
-/// The argument after the first one with a name.
+/// The argument after the first occurrence of a name.
 fn value_of<'a>(options: &[&'a str], name: &str) -> Option<&'a str> {
     let place = options.iter().position(|option| *option == name)?;
     let value = options.get(place + 1)?;
     Some(*value)
 }
 
-/// Reads options up to `--`; none where an option is unknown, has no value or is missing.
+/// Reads options up to `--`; `None` where an option is unknown, has no value or is missing.
 pub(crate) fn read_arguments<'a>(arguments: &'a [&'a str]) -> Option<FetchArguments<'a>> {
     let end = arguments.iter().position(|argument| *argument == "--")?;
     let options = arguments.get(..end)?;
@@ -45,7 +45,7 @@ pub(crate) fn read_arguments<'a>(arguments: &'a [&'a str]) -> Option<FetchArgume
     })
 }
 
-/// Prints the usage of a subcommand around `curl`, and answers the status of a usage error.
+/// Prints the usage of a subcommand around `curl`, and returns the exit status of a usage error.
 pub(crate) fn print_usage<E: Write>(name: &str, err: &mut E) -> u8 {
     let _ = writeln!(
         err,
@@ -54,8 +54,8 @@ pub(crate) fn print_usage<E: Write>(name: &str, err: &mut E) -> u8 {
     2
 }
 
-/// The arguments of an upgrade as `clap` reads them, or the status after what it says in their place. The
-/// first of the words is `upgrade`.
+/// The parsed arguments of an upgrade, or the exit status after the message of `clap`. The first argument
+/// is `upgrade`.
 pub(crate) fn upgrade_matches<'a, E: Write>(
     rt: &HostRuntime,
     words: &'a [&'a str],
@@ -67,13 +67,13 @@ pub(crate) fn upgrade_matches<'a, E: Write>(
     }
 }
 
-/// The names of crates that are not upgraded; none where the arguments name none.
+/// The excluded names; `None` where `--exclude` is not given.
 pub(crate) fn excluded_names<'m, 'a>(matches: &'m ArgMatches<'a>) -> Option<&'m [&'a str]> {
     let (_, upgrade) = matches.subcommand()?;
     upgrade.get_strs("exclude")
 }
 
-/// The file with the metadata of the workspace, where one is named.
+/// The metadata file of the workspace, where one is given.
 pub(crate) fn metadata_file<'a>(matches: &ArgMatches<'a>) -> Option<&'a str> {
     let (_, upgrade) = matches.subcommand()?;
     upgrade.get_str("metadata-json")

@@ -1,4 +1,4 @@
-//! The subcommand `fetch-plan`: which index entries are to be fetched, as a configuration of curl.
+//! The subcommand `fetch-plan`: writes a configuration of curl that fetches index entries.
 
 mod configurations;
 mod environment;
@@ -24,8 +24,8 @@ use std::str;
 use tokens::registry_tokens;
 use unread::unread_error;
 
-/// Runs `fetch-plan` with these arguments, and answers its status: that of `looks` where that is not 0, 1 for
-/// registries of which no entry can be had, and 2 for a usage error.
+/// Runs `fetch-plan`, and returns the exit status: that of `looks` where that is not 0, 1 for registries
+/// whose entries cannot be fetched, and 2 for a usage error.
 pub(crate) fn fetch_plan<E: Write>(
     rt: &HostRuntime,
     arguments: &[&str],
@@ -44,7 +44,7 @@ pub(crate) fn fetch_plan<E: Write>(
     plan_upgrade(rt, &arguments, &matches, current, home, err)
 }
 
-/// Plans the transfers of an upgrade, and answers the status.
+/// Plans the transfers of an upgrade, and returns the exit status.
 fn plan_upgrade<E: Write>(
     rt: &HostRuntime,
     arguments: &FetchArguments<'_>,
@@ -81,7 +81,8 @@ fn plan_upgrade<E: Write>(
     print_count(rt, count, err)
 }
 
-/// Runs `looks` with the arguments of the upgrade, and answers its status; what it prints is added to `text`.
+/// Runs `looks` with the arguments of the upgrade, appends its output to `text`, and returns the exit
+/// status.
 fn lookups_text<E: Write>(
     rt: &HostRuntime,
     arguments: &FetchArguments<'_>,
@@ -109,7 +110,7 @@ fn lookups_text<E: Write>(
     ))
 }
 
-/// Plans the transfers of lookups, and answers their count; none where the lookups cannot be read.
+/// Plans the transfers of lookups, and returns their number; `None` where the lookups cannot be parsed.
 fn plan_lookups(
     rt: &HostRuntime,
     files: &mut HostStore<HostRuntime>,
@@ -137,7 +138,7 @@ fn plan_lookups(
     edit_fetch::fetch_plan(rt.alloc(), files, &plan, text)
 }
 
-/// Prints the count of transfers, and answers the status; none is an error.
+/// Prints the number of transfers, and returns the exit status; `None` is an error.
 fn print_count<E: Write>(rt: &HostRuntime, count: Option<usize>, err: &mut E) -> CargoResult<u8> {
     match count {
         Some(count) => match writeln!(rt.stdout(), "{count}") {

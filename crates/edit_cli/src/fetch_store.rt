@@ -12,8 +12,8 @@ use edit_base::{CargoResult, DeviceCall, Error};
 use std::io::Write;
 use std::{fs, process};
 
-/// Runs `fetch-store` with these arguments, and answers its status: 1 where entries are neither fetched nor
-/// cached, and 2 for a usage error.
+/// Runs `fetch-store`, and returns the exit status: 1 where entries are neither fetched nor cached, and 2
+/// for a usage error.
 pub(crate) fn fetch_store<E: Write>(
     rt: &HostRuntime,
     arguments: &[&str],
@@ -35,8 +35,8 @@ pub(crate) fn fetch_store<E: Write>(
     store(rt, &arguments, &options, current, err)
 }
 
-/// Stores the answers of a run, says what was not had, removes what was not used for a long time, and answers
-/// the status.
+/// Stores the answers of a run, reports missing entries, removes entries unused for long, and returns the
+/// exit status.
 fn store<E: Write>(
     rt: &HostRuntime,
     arguments: &FetchArguments<'_>,
@@ -58,7 +58,7 @@ fn store<E: Write>(
     let mut files = CacheStore::new(rt.clone()?, process::id(rt.process()));
     match store_answers(rt.alloc(), &mut files, &places, options) {
         Ok(report) => {
-            // (an entry that stays does no harm)
+            // (an entry that is not removed does no harm)
             let _ = prune(rt.alloc(), &mut CacheFolder::new(rt.clone()?, cache));
             Ok(print_report(&report, err))
         }
@@ -70,7 +70,7 @@ fn store<E: Write>(
     }
 }
 
-/// Prints what is said of a run, and answers the status.
+/// Prints the report of a run, and returns the exit status.
 fn print_report<E: Write>(report: &Report, err: &mut E) -> u8 {
     let _ = err.write_all(report.warnings.as_bytes());
     match &report.error {
@@ -82,8 +82,8 @@ fn print_report<E: Write>(report: &Report, err: &mut E) -> u8 {
     }
 }
 
-/// Runs `check-curl TEXT`, where TEXT is what `curl --version` prints, and answers its status: 1, with an
-/// error, where that curl is too old or there is none.
+/// Runs `check-curl TEXT`, where TEXT is the output of `curl --version`, and returns the exit status: 1,
+/// with an error, where curl is missing or too old.
 pub(crate) fn check_curl<E: Write>(arguments: &[&str], err: &mut E) -> u8 {
     let text = arguments.first().copied().unwrap_or("");
     if is_new_enough(text) {

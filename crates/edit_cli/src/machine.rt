@@ -1,11 +1,11 @@
-//! What the program asks the machine.
+//! Queries of the operating system.
 
 use edit_base::{CargoResult, Error};
 use std::env::VarError;
 use std::io::ErrorKind;
 use std::{env, io};
 
-/// A variable of the environment, where it is there and not empty.
+/// An environment variable, where it is set and not empty.
 pub(crate) fn variable(rt: &HostRuntime, name: &str) -> CargoResult<Option<String>> {
     match env::var(rt, name) {
         Ok(text) if text.is_empty() => Ok(None),
@@ -16,7 +16,7 @@ pub(crate) fn variable(rt: &HostRuntime, name: &str) -> CargoResult<Option<Strin
     }
 }
 
-/// An error of the machine.
+/// Converts an error of the operating system.
 pub(crate) fn machine_error(error: io::Error) -> Error {
     if error.kind() == ErrorKind::OutOfMemory {
         Error::Memory

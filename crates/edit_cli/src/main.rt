@@ -27,16 +27,16 @@ use std::process::ExitCode;
 use std::{env, process};
 use streams::{errors, output};
 
-/// The folders of a run that asks for no file.
+/// The folders of a run that needs no file.
 const NO_FOLDERS: Folders<'static> = Folders {
     current: "/",
     home: None,
 };
 
-/// What is said where there is no current folder.
+/// The message where there is no current folder.
 const NO_CURRENT: &str = "the current folder is not there, or its path is not UTF-8";
 
-/// What is said where the home of cargo cannot be named.
+/// The message where the home folder of cargo cannot be determined.
 const NO_HOME: &str = "the environment variable CARGO_HOME or HOME is not UTF-8";
 
 fn main(rt: HostRuntime) -> ExitCode {
@@ -49,7 +49,7 @@ fn main(rt: HostRuntime) -> ExitCode {
     }
 }
 
-/// What an error is about that arose outside of a subcommand, where it is one place.
+/// The place of an error that arose outside of a subcommand, where there is one.
 fn place_of(error: &Error) -> Option<&'static str> {
     match error {
         Error::Output => Some("standard output"),
@@ -58,7 +58,7 @@ fn place_of(error: &Error) -> Option<&'static str> {
     }
 }
 
-/// Prints the error that ends the program, with its place; where there is no memory for its stream, that.
+/// Prints the error that ends the program, with its place; where memory runs out for that, `Error::Memory`.
 fn print_start_error(rt: &HostRuntime, error: &Error) {
     match errors(rt) {
         Ok(mut err) => {
@@ -73,14 +73,15 @@ fn print_start_error(rt: &HostRuntime, error: &Error) {
     }
 }
 
-/// Prints what is wrong with the arguments or their surroundings, and answers the status of a usage error.
+/// Prints what is wrong with the arguments or the environment, and returns the exit status of a usage
+/// error.
 fn refuse_usage(rt: &HostRuntime, fault: &str) -> CargoResult<u8> {
     let mut err = errors(rt)?;
     let _ = writeln!(err, "error: {fault}\n\nFor more information, try '--help'.");
     Ok(2)
 }
 
-/// Runs the program's arguments, and answers the status.
+/// Runs the program with its arguments, and returns the exit status.
 fn start(rt: &HostRuntime) -> CargoResult<u8> {
     let words = match env::args(rt) {
         Ok(words) => words,
@@ -94,7 +95,7 @@ fn start(rt: &HostRuntime) -> CargoResult<u8> {
     start_with(rt, &texts)
 }
 
-/// Runs these arguments. Those that ask for no file, as `--help`, need no current folder and no environment.
+/// Runs these arguments. Those that need no file, as `--help`, need no current folder and no environment.
 fn start_with(rt: &HostRuntime, words: &[&str]) -> CargoResult<u8> {
     match words.first().copied() {
         Some("check-curl" | "shell-options") => return run_fileless(rt, words),
@@ -105,7 +106,7 @@ fn start_with(rt: &HostRuntime, words: &[&str]) -> CargoResult<u8> {
     start_parsed(rt, words, filled.as_slice())
 }
 
-/// Runs the arguments of a subcommand of `edit_program`. `filled` has the same with all their values.
+/// Runs a subcommand of `edit_program`. `filled` are the arguments with defaults inserted.
 fn start_parsed(rt: &HostRuntime, words: &[&str], filled: &[&str]) -> CargoResult<u8> {
     let command = command(rt.alloc())?;
     let matches = match command.try_get_matches_from(filled) {
@@ -115,7 +116,8 @@ fn start_parsed(rt: &HostRuntime, words: &[&str], filled: &[&str]) -> CargoResul
     start_in(rt, words, matches.subcommand())
 }
 
-/// Runs these arguments in the current folder. `matches` is what a subcommand of `edit_program` was given.
+/// Runs these arguments in the current folder. `matches` are the parsed arguments of a subcommand of
+/// `edit_program`.
 fn start_in(
     rt: &HostRuntime,
     words: &[&str],
@@ -132,7 +134,7 @@ fn start_in(
     }
 }
 
-/// The same in a folder.
+/// Runs these arguments in a given folder.
 fn start_at(
     rt: &HostRuntime,
     words: &[&str],
@@ -148,7 +150,7 @@ fn start_at(
     dispatch(rt, words, Folders::new(current, home), matches)
 }
 
-/// The same with the home of cargo, where there is one.
+/// Runs these arguments in a given folder, with the home folder of cargo where there is one.
 fn dispatch(
     rt: &HostRuntime,
     words: &[&str],
@@ -161,7 +163,7 @@ fn dispatch(
     }
 }
 
-/// Runs these arguments as a subcommand of `edit_program`, unless something is wrong with a path.
+/// Runs a subcommand of `edit_program`, after its paths are checked.
 fn run_checked(
     rt: &HostRuntime,
     words: &[&str],
@@ -178,7 +180,7 @@ fn run_checked(
     run_at(rt, words, folders, is_for_people)
 }
 
-/// Runs the arguments of a subcommand for the scripts that needs no file. The first of them names it.
+/// Runs a subcommand for the scripts that needs no file. The first argument is its name.
 fn run_fileless(rt: &HostRuntime, words: &[&str]) -> CargoResult<u8> {
     let Some((first, arguments)) = words.split_first() else {
         return Ok(2);
@@ -191,7 +193,7 @@ fn run_fileless(rt: &HostRuntime, words: &[&str]) -> CargoResult<u8> {
     }
 }
 
-/// Runs the arguments of a subcommand for the scripts that reads files. The first of them names it.
+/// Runs a subcommand for the scripts that reads files. The first argument is its name.
 fn run_own(rt: &HostRuntime, words: &[&str], folders: Folders<'_>) -> CargoResult<u8> {
     let Some((first, arguments)) = words.split_first() else {
         return Ok(2);
@@ -217,8 +219,7 @@ fn next_call_at<E: Write>(
     Ok(next_call(rt.alloc(), arguments, current, &mut files, &mut out, err))
 }
 
-/// Runs these arguments as a subcommand of `edit_program`. What it prints on standard output is for people,
-/// or else for programs.
+/// Runs a subcommand of `edit_program`. Its standard output is for people, or else for programs.
 fn run_at(
     rt: &HostRuntime,
     words: &[&str],
@@ -248,7 +249,8 @@ fn run_at(
     }
 }
 
-/// The home of cargo: `CARGO_HOME`, else `.cargo` in `HOME`, else none. An empty variable counts as absent.
+/// The home folder of cargo: `CARGO_HOME`, else `.cargo` in `HOME`, else none. An empty variable counts as
+/// unset.
 fn cargo_home(rt: &HostRuntime) -> CargoResult<Option<String>> {
     if let Some(home) = variable(rt, "CARGO_HOME")? {
         return Ok(Some(home));

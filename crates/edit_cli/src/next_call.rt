@@ -14,19 +14,19 @@ use edit_store::Store;
 use std::alloc::{AllocError, Global};
 use std::io;
 
-/// What the arguments say: the file of calls, the lock files, and how many calls were made.
+/// The arguments: the file of calls, the lock files, and the number of calls made.
 #[derive(Clone, Copy)]
 struct Next<'a> {
     calls: &'a str,
-    /// The lock file as it was before the first call.
+    /// The lock file before the first call.
     before: &'a str,
     lock: &'a str,
-    /// The number of the call before the next one, from 1; 0 before the first call.
+    /// The number of the previous call, from 1; 0 before the first call.
     after: usize,
     offline: bool,
 }
 
-/// An option with a value, which has to be given.
+/// A required option with a value.
 fn required<'a>(alloc: Global, id: &'a str, value: &'a str, help: &'a str) -> Arg<'a> {
     Arg::new(alloc, id)
         .long(id)
@@ -37,7 +37,7 @@ fn required<'a>(alloc: Global, id: &'a str, value: &'a str, help: &'a str) -> Ar
         .required(true)
 }
 
-/// The flag of a call that fetches nothing.
+/// The flag for calls that must not fetch anything.
 fn offline<'a>(alloc: Global) -> Arg<'a> {
     Arg::new(alloc, "offline")
         .long("offline")
@@ -75,7 +75,7 @@ fn command<'a>(alloc: Global) -> Result<Command<'a>, AllocError> {
         .arg(offline(alloc))
 }
 
-/// What matched arguments say; `None` where the number is none.
+/// The parsed arguments; `None` where the number is invalid.
 fn next_of<'a>(matches: &ArgMatches<'a>) -> Option<Next<'a>> {
     Some(Next {
         calls: matches.get_str("calls")?,
@@ -86,7 +86,7 @@ fn next_of<'a>(matches: &ArgMatches<'a>) -> Option<Next<'a>> {
     })
 }
 
-/// Reads a lock file, which has no packages where no file stands.
+/// Reads a lock file; without packages where there is no such file.
 fn read_lock<S: Store>(
     alloc: Global,
     current: &str,
@@ -124,8 +124,8 @@ fn read_file<S: Store>(
     Ok(read_calls(alloc, text)?)
 }
 
-/// Prints a call for a shell: its number, and the arguments that cargo gets. A status says so where the call
-/// differs from the one in the file, which was printed before.
+/// Prints a call for a shell: its number, and the arguments for cargo. Where the call differs from the one
+/// in the file, which was printed before, a status line shows it.
 fn print_call<O: io::Write, E: io::Write>(
     alloc: Global,
     number: usize,
@@ -150,8 +150,8 @@ fn print_call<O: io::Write, E: io::Write>(
     }
 }
 
-/// Prints the first call behind `next.after` of which a package is still locked, and nothing where there is
-/// none. A status says so of each call that is left out.
+/// Prints the first call after `next.after` of which a package is still locked, and nothing where there is
+/// none. A status line is printed for each call that is skipped.
 fn print_next<S: Store, O: io::Write, E: io::Write>(
     alloc: Global,
     next: &Next<'_>,
@@ -176,7 +176,7 @@ fn print_next<S: Store, O: io::Write, E: io::Write>(
     Ok(())
 }
 
-/// Runs the arguments behind `next-call`.
+/// Runs `next-call` with these arguments.
 fn answer<S: Store, O: io::Write, E: io::Write>(
     alloc: Global,
     arguments: &[&str],
@@ -202,8 +202,8 @@ fn answer<S: Store, O: io::Write, E: io::Write>(
     }
 }
 
-/// Runs the arguments behind `next-call`, and answers the status: 0 done; 1 for an error, which is printed
-/// with its place where it is known; 2 for a fault of the command line.
+/// Runs `next-call` with these arguments, and returns the exit status: 0 done; 1 for an error, which is
+/// printed with its place where that is known; 2 for a usage error.
 pub(crate) fn next_call<S: Store, O: io::Write, E: io::Write>(
     alloc: Global,
     arguments: &[&str],

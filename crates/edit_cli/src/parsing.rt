@@ -7,7 +7,7 @@ use edit_words::{command, filled_words};
 use std::alloc::{AllocError, Global};
 use std::io;
 
-/// The words of a command line with their values, for `parse_words`.
+/// The arguments of a command line with defaults inserted, for `parse_words`.
 pub(crate) fn words_of<'a>(
     alloc: Global,
     subcommand: &'a str,
@@ -21,7 +21,7 @@ pub(crate) fn words_of<'a>(
     filled_words(alloc, &words)
 }
 
-/// Parses words that begin with a subcommand of `cargo-edit`.
+/// Parses arguments that begin with a subcommand of `cargo-edit`.
 pub(crate) fn parse_words<'a>(
     alloc: Global,
     words: &'a [&'a str],
@@ -30,7 +30,7 @@ pub(crate) fn parse_words<'a>(
     command.try_get_matches_from(words)
 }
 
-/// Prints what `clap` says in place of matches, and answers its status: 0 for a help and a version, else 2.
+/// Prints the message of a `clap` error, and returns the exit status: 0 for help and the version, else 2.
 pub(crate) fn print_parse_error<O: io::Write, E: io::Write>(
     error: &clap::Error,
     out: &mut O,

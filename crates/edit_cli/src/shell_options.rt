@@ -1,5 +1,5 @@
-//! The subcommand `shell-options`: what the scripts of `bin/` have to know of their arguments, as text that a
-//! shell evaluates.
+//! The subcommand `shell-options`: the arguments of the scripts in `bin/`, parsed, as text for a shell to
+//! evaluate.
 
 use crate::parsing::{parse_words, print_parse_error, words_of};
 use clap::ArgMatches;
@@ -10,15 +10,16 @@ use edit_steps::{Refusal, RunResult, print_error};
 use std::alloc::{AllocError, Global};
 use std::io;
 
-/// What is printed for arguments that are not those of `shell-options`.
+/// The usage message for wrong arguments of `shell-options`.
 const USAGE: &str = "Usage: cargo-edit shell-options upgrade|set-version ARGUMENTS..";
 
 /// What a script does with its arguments.
 #[derive(Clone, Copy)]
 enum Action {
-    /// It calls cargo, and `cargo-edit` with what cargo says.
+    /// It calls cargo, and then `cargo-edit` with the output of cargo.
     Run,
-    /// It hands them to `cargo-edit`, since they name the metadata or an index, or ask for the version.
+    /// It passes them to `cargo-edit` unchanged, since they give metadata or an index, or request the
+    /// version.
     Program,
     /// It prints its help.
     Help,
@@ -35,7 +36,7 @@ impl Action {
     }
 }
 
-/// What a script does with matched arguments.
+/// What a script does with parsed arguments.
 fn action_of(matches: &ArgMatches<'_>) -> Action {
     let files = ["metadata-json", "index-file", "index-dir"];
     let names_file = files
@@ -48,12 +49,12 @@ fn action_of(matches: &ArgMatches<'_>) -> Action {
     }
 }
 
-/// A flag as the script hands it on to cargo; empty where it is not given.
+/// A flag as the script passes it to cargo; empty where it is not given.
 fn flag_text(is_given: bool, flag: &'static str) -> &'static str {
     if is_given { flag } else { "" }
 }
 
-/// Adds the assignments of matched arguments.
+/// Appends the assignments of parsed arguments.
 fn push_options(text: &mut Vec<u8>, matches: &ArgMatches<'_>) -> Result<(), AllocError> {
     let dry = matches.get_flag("dry-run") || matches.get_flag("check");
     push_assignment(text, "action", action_of(matches).text())?;
@@ -95,7 +96,7 @@ fn with_metadata<'a>(
     Ok(all)
 }
 
-/// Writes the assignments for the arguments of a subcommand, and answers the status.
+/// Writes the assignments for the arguments of a subcommand, and returns the exit status.
 fn write_options<O: io::Write, E: io::Write>(
     alloc: Global,
     subcommand: &str,
@@ -126,8 +127,8 @@ fn write_options<O: io::Write, E: io::Write>(
     }
 }
 
-/// Runs the arguments behind `shell-options`, and answers the status: 0 done, 1 for an error, and 2 where the
-/// arguments are not those of the subcommand that the first of them names.
+/// Runs `shell-options` with these arguments, and returns the exit status: 0 done, 1 for an error, and 2
+/// where the arguments are not valid for the subcommand that the first of them names.
 pub(crate) fn shell_options<O: io::Write, E: io::Write>(
     alloc: Global,
     arguments: &[&str],

@@ -1,4 +1,4 @@
-//! Standard output and standard error, as messages go to them.
+//! Standard output and standard error of the program.
 
 use crate::machine::machine_error;
 use edit_base::CargoResult;
@@ -7,13 +7,13 @@ use either::Either;
 use std::alloc::Global;
 use std::io::{IsTerminal, LineWriter, Stderr, Stdout, Write};
 
-/// A stream that a line is written to at once; on a terminal no character of a message makes it act.
+/// A line-buffered stream; for a terminal, characters that it would interpret are escaped.
 pub(crate) type Stream<W> = Either<TerminalWriter<LineWriter<W>>, LineWriter<W>>;
 
-/// How many bytes of a line are held until it is whole: a longer line is written in parts.
+/// The size in bytes of the line buffer: a longer line is written in parts.
 const LINE: usize = 8192;
 
-/// A stream to a writer, which may be a terminal for people.
+/// A stream over a writer; its text is escaped where it is shown on a terminal.
 fn stream<W: Write + Drop>(alloc: Global, to: W, is_shown: bool) -> CargoResult<Stream<W>> {
     let lines = LineWriter::with_capacity(alloc, LINE, to).map_err(machine_error)?;
     if is_shown {
@@ -23,7 +23,7 @@ fn stream<W: Write + Drop>(alloc: Global, to: W, is_shown: bool) -> CargoResult<
     }
 }
 
-/// Standard output. What is for programs, as messages in JSON, goes to a terminal as it is.
+/// Standard output. Output for programs, such as JSON messages, is not escaped for a terminal.
 pub(crate) fn output(rt: &HostRuntime, is_for_people: bool) -> CargoResult<Stream<Stdout>> {
     let to = rt.stdout();
     let is_shown = is_for_people && to.is_terminal();

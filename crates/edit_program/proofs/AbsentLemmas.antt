@@ -1,4 +1,4 @@
--- Names as a note has them.
+-- Names as a note lists them.
 use Rattle.std.proofs.Common.{◌≡◌, ◌≤◌, ◌-◌, ◌∙◌, ℕ, Bool, false, List, [], ◌∷◌, ◌++◌, ap, arith, le-leb, length, map, refl, sym, take}
 use Rattle.std.specs.Prelude.{String, ◌&&◌, ◌==◌, codes, decimal, if◌then◌else◌, is_none, not, string_bytes}
 use Rattle.std.specs.List.{join_by}

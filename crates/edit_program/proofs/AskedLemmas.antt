@@ -1,4 +1,4 @@
--- What the matches say of an option.
+-- The values of an option in parsed arguments.
 use Rattle.std.proofs.Common.{◌≡◌, ℕ, List, Option, Some, None, Result, Ok, Err, Bor, ap, map, refl, subst, ◌∙◌, sym}
 use Rattle.std.specs.Prelude.{[], IfErr, IsErrAnd, is_some, option_map, unwrap_or}
 use Rattle.clap.specs.Words.{Text, first_value, first_of, found_of, matched_of, raw_values, rows_of}

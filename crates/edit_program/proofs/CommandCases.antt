@@ -1,4 +1,4 @@
--- What a command comes to, for the matches that ask for it, and by the subcommand's name.
+-- The result of a command, from its parsed arguments and the subcommand's name.
 use Rattle.std.proofs.Common.{ℕ, List, inl, inr}
 use Rattle.std.specs.Prelude.{◌⊎◌}
 use Rattle.clap.specs.Words.{Row}

@@ -1,4 +1,4 @@
--- What the matches of the command line say of its words.
+-- Parsed arguments, from the rules of the command line.
 use Rattle.std.proofs.Common.{◌≡◌, ◌∙◌, ℕ, List, [], Option, Some, None, true, ap, ap₂, inl, inr, refl, subst, sym}
 use Rattle.std.specs.Prelude.{option_map}
 use Rattle.clap.specs.Words.{App, HasKind, HasMatchesOf, IsAmong, Kinds, Row, Text, fault_of, found_of, is_simple, kind_of, rows_of, subcommand_name_of, subcommand_of, subcommand_rows_of, takes}

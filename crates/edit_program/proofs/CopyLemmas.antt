@@ -1,4 +1,4 @@
--- Texts that were copied so far.
+-- The texts copied so far by a loop.
 use Rattle.std.proofs.Common.{◌≡◌, ◌∙◌, ◌<◌, ◌+◌, ◌++◌, ◌∷◌, ℕ, List, [], ap, ap₂, length, map, sym, take, get_or}
 use Rattle.std.proofs.lemmas.List.{map-append, take_more}
 

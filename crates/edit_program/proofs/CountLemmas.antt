@@ -1,4 +1,4 @@
--- Which errors are the device's, and that those are counted.
+-- Which errors are device errors, and that these are counted.
 use Rattle.std.proofs.Common.{List, Option, [], ap, arith, inl, inr, length, subst, sym, ℕ, ◌∙◌, ◌≡◌, ◌≤◌}
 use Rattle.std.proofs.Math.Nat.{eq-or-lt_of_le}
 use Rattle.std.specs.Global.{Vec}

@@ -1,4 +1,4 @@
--- A delivery, from its steps.
+-- Printing and writing a plan, from its steps.
 use Rattle.std.proofs.Common.{◌≡◌, ◌∙◌, ◌+◌, ◌≤◌, ℕ, suc, Bor, List, [], ◌∷◌, ◌++◌, Option, Some, Bool, true, false, ap, append-nil, arith, inl, inr, length, map, option_map, refl, subst, sym, ⊎_elim, Vec, String, Global}
 use Rattle.std.proofs.Math.Nat.{eq-or-lt_of_le}
 use Rattle.std.specs.Prelude.{◌≢◌, ◌⊎◌, ◌||◌, ◌==◌, ℤ, pos, int_le, if◌then◌else◌, not, slice_get, string_bytes}

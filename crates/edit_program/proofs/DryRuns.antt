@@ -1,4 +1,4 @@
--- At a dry run each file stays as it was.
+-- With a dry run no file changes.
 use Rattle.std.proofs.Common.{◌≡◌, ◌∙◌, ◌∷◌, List, [], Option, None, ap, arith, map, refl, true, ℕ}
 use Rattle.std.specs.Prelude.{◌||◌, if◌then◌else◌}
 use Rattle.edit_upgrade.specs.declared.decision.options.Options.{Options}

@@ -1,4 +1,4 @@
--- The device's error of a plan over an index: that of the store below the index, or none.
+-- Device errors of a plan over an index: those of the store below the index, or none.
 use Rattle.std.proofs.Common.{Result, arith, inl, inr, refl, subst, ℕ, ◌≡◌}
 use Rattle.std.proofs.lemmas.Result.{IfErr-weaker}
 use Rattle.std.specs.Prelude.{IfErr}

@@ -1,4 +1,4 @@
--- Reading a lock file, and what is read behind it.
+-- Reading a lock file, and the files that are read after it.
 use Rattle.std.proofs.Common.{◌≡◌, ℕ, List, Option, Some, inl, inr, refl, subst, sym, true, ◌∙◌}
 use Rattle.std.specs.Prelude.{◌⊎◌}
 use Rattle.edit_base.specs.Errors.{IsMemory}

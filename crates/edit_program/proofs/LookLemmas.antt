@@ -1,4 +1,4 @@
--- The looks that an upgrade needs, and why they are not told.
+-- The lookups that an upgrade needs, and the errors of printing them.
 use Rattle.std.proofs.Common.{◌≡◌, ◌∙◌, ℕ, List, [], Option, Some, None, Ok, true, ap, get_or, inl, inr, sym, true≢false}
 use Rattle.std.specs.Prelude.{◌⊎◌, not, string_bytes}
 use Rattle.std.specs.Global.{Vec}

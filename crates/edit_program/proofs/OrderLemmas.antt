@@ -1,4 +1,4 @@
--- The rows and the warnings of a plan stand in the order of its inputs.
+-- The rows and the warnings of a plan are in the order of its inputs.
 use Rattle.std.proofs.Common.{◌≡◌, ◌∙◌, ◌<◌, ◌≤◌, ◌-◌, ◌++◌, ◌∷◌, ℕ, zero, suc, List, [], Bool, true, false, ap, append-nil, arith, get_or, length, map, refl, sym, subst}
 use Rattle.std.specs.List.{flat_map}
 use Rattle.std.specs.List.Sorted.{IsNonDecreasingBy}

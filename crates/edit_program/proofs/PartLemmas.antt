@@ -1,4 +1,4 @@
--- The part of a list that is of an input, where the list stands in the order of its inputs.
+-- The slice of a list that belongs to an input, where the list is in the order of its inputs.
 use Rattle.std.proofs.Common.{◌≡◌, ◌∙◌, ◌≤◌, ℕ, zero, suc, Bool, true, false, List, [], ◌∷◌, ◌++◌, ◌+◌, ◌-◌, ap, arith, cond, drop, leb, length, ltb, refl, subst, sym, take}
 use Rattle.std.specs.Prelude.{◌==◌, filter, slice_index_or}
 use Rattle.std.specs.List.{AllWithin, flat_map}

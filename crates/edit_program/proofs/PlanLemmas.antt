@@ -1,4 +1,4 @@
--- A plan over a cache that kept nothing before.
+-- A plan over an empty cache.
 use Rattle.std.proofs.Common.{◌≡◌, ◌∙◌, [], ℕ, List, None, Result, Ok, Err, ap, inl, inr, length, option_map, subst, sym}
 use Rattle.std.proofs.Math.Path.{fun_ext}
 use Rattle.std.specs.Global.{Vec}

@@ -1,4 +1,4 @@
--- What a subcommand comes to is what the words that name it come to.
+-- The result of a run is that of the subcommand that its arguments name.
 use Rattle.std.proofs.Common.{◌≡◌, ◌≤◌, ◌≢◌, ℕ, zero, suc, List, Result, Ok, Err, arith, codes, inl, inr, refl, true}
 use Rattle.std.specs.Prelude.{◌⊎◌, IfErr, IfOk, OnErr}
 use Rattle.clap.specs.Words.{Row, Text}

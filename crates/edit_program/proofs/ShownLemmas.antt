@@ -1,4 +1,4 @@
--- What is printed in place of matches answers the words.
+-- Help, version and errors of `clap` as the result of a run.
 use Rattle.std.proofs.Common.{◌≡◌, ◌≤◌, ◌≢◌, ℕ, List, Option, Result, Ok, Err, true, arith, inl, inr, refl, subst, sym}
 use Rattle.std.specs.Prelude.{◌⊎◌, IfErr, IfOk, IsErrAnd}
 use Rattle.clap.specs.Words.{App, HasKind, Text, fault_of, kind_of, takes}

@@ -1,4 +1,4 @@
--- Outputs that are written behind steps that only read.
+-- Outputs that are written after steps that only read.
 use Rattle.std.proofs.Common.{◌≡◌, ◌∙◌, List, [], ◌∷◌, append-nil, arith, inl, inr, sym}
 use Rattle.edit_report.specs.Applied.{AreWritten, HasStopped}
 use Rattle.edit_report.specs.declared.output.Output.{Output}

@@ -1,4 +1,4 @@
--- Two of three flags, as code finds them.
+-- Two of three flags are given, as the program tests it.
 use Rattle.std.proofs.Common.{◌≡◌, ◌&&◌, ◌||◌, Bool, false, refl, sym, true}
 
 pub twice_all : (a w p : Bool) → p ≡ true → a ≡ true → true ≡ ((a && w) || (p && (a || w)))

@@ -1,4 +1,4 @@
--- The note on crates for which an index has no entry (own).
+-- The note on crates that an index does not have (own).
 use Rattle.std.specs.Prelude.{ℕ, ◌-◌, List, [], ◌∷◌, ◌++◌, Bool, false, ◌&&◌, ◌==◌, codes, decimal, if◌then◌else◌, is_none, length, map, nat_le, not, string_bytes, take}
 use Rattle.std.specs.List.{flat_map, join_by}
 use Rattle.edit_report.specs.Messages.{message_text}
@@ -7,27 +7,27 @@ use Rattle.edit_upgrade.specs.declared.decision.options.Options.{Options}
 use Rattle.edit_upgrade.specs.declared.upgrade.Look.{Look}
 use Rattle.edit_upgrade.specs.declared.upgrade.UpgradePlan.{UpgradePlan}
 
--- whether the index has no entry for a crate whose name does not pass the test for an excluded one (own)
+-- whether the index has no entry for a crate, and its name is not excluded (own)
 abbrev pub is_absent : (List ℕ → Bool) → Look → Bool
 is_absent is_excluded look = is_none look.answer && not (is_excluded (string_bytes look.name))
 
--- the name of a crate, where the index has no entry for it and it is not excluded (own)
+-- the name of a crate that the index does not have and that is not excluded, as a list (own)
 abbrev pub absent_at : (List ℕ → Bool) → Look → List (List ℕ)
 absent_at is_excluded look = if is_absent is_excluded look then string_bytes look.name ∷ [] else []
 
--- the names of the crates that are not excluded and for which the index has no entry, in the order in which
--- they were looked up (own)
+-- the names of the crates that the index does not have and that are not excluded, in the order of the
+-- lookups (own)
 abbrev pub absent : (List ℕ → Bool) → List Look → List (List ℕ)
 absent is_excluded looks = flat_map (absent_at is_excluded) looks
 
--- names as the note has them: at most five, and how many follow (own)
+-- names as the note lists them: at most five, and the number of the others (own)
 abbrev pub listed : List (List ℕ) → List ℕ
 listed names =
     if nat_le (length names) 5 then join_by (λ name. name) (codes ", ") names
     else join_by (λ name. name) (codes ", ") (take 5 names)
     ++ (codes " and " ++ (decimal (length names - 5) ++ codes " more"))
 
--- the word for so many crates (own)
+-- `crate` or `crates`, by their number (own)
 abbrev pub crates_word : ℕ → List ℕ
 crates_word count = if count == 1 then codes "crate" else codes "crates"
 
@@ -37,12 +37,13 @@ absent_text names =
     codes "no index entry was found for "
     ++ (decimal (length names) ++ (codes " " ++ (crates_word (length names) ++ (codes ": " ++ listed names))))
 
--- the note on crates of these names, where there are some (own)
+-- the note on crates of these names, where there are any (own)
 abbrev pub names_note : List (List ℕ) → List ℕ
 names_note [] = []
 names_note (name ∷ names) = message_text false (codes "note") (absent_text (name ∷ names))
 
--- the note on a plan; offline there is none, since what fills the index says which entries it has not (own)
+-- the note on a plan; offline there is none, since the tool that fills the index reports the missing
+-- entries (own)
 abbrev pub absent_note : UpgradePlan → Options → Bool → List ℕ
 absent_note plan options offline =
     if offline then []

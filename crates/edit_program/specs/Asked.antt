@@ -1,15 +1,15 @@
--- What matched words ask for, by the values of their options.
+-- The options that parsed arguments give.
 use Rattle.std.specs.Prelude.{◌≡◌, ◌⊎◌, ◌||◌, ◌-◌, ℕ, ℤ, Bool, List, [], Option, Some, None, true, false, codes, if◌then◌else◌, min, nat_lt, negsuc, option_map, pos, unwrap_or}
 use Rattle.std.specs.Str.{bytes_eq}
 use Rattle.clap.specs.Words.{Row, Text, all_of, count_of, first_of}
 use Rattle.edit_upgrade.specs.declared.decision.options.Options.{Options}
 use Rattle.edit_upgrade.specs.Words.{excluded_of, words_of}
 
--- the value of an option among the matches of `upgrade`, or this other one where it has none
+-- the value of an option of `upgrade`, or this default where it has none
 abbrev pub value_of : Text → Text → List Row → Text
 value_of id other rows = unwrap_or (first_of id rows) other
 
--- the values of an option, of all its uses
+-- the values of all occurrences of an option
 abbrev pub values_of : Text → List Row → List Text
 values_of id rows = unwrap_or (all_of id rows) []
 
@@ -17,11 +17,11 @@ values_of id rows = unwrap_or (all_of id rows) []
 abbrev pub is_given : Text → List Row → Bool
 is_given id rows = bytes_eq (value_of id [] rows) (codes "true")
 
--- whether nothing is to be written: at a dry run, and where a plan is only checked
+-- whether no file is written: with `--dry-run`, and with `--check`
 abbrev pub is_dry : List Row → Bool
 is_dry rows = is_given (codes "dry-run") rows || is_given (codes "check") rows
 
--- what a value says of what may be upgraded: that it is allowed or ignored, or nothing
+-- whether a value allows or ignores a kind of upgrade; none for other values
 abbrev pub status_of_value : Text → Option Bool
 status_of_value text =
     if bytes_eq text (codes "allow") then Some true
@@ -29,15 +29,15 @@ status_of_value text =
     else (if bytes_eq text (codes "ignore") then Some false
     else (if bytes_eq text (codes "false") then Some false else None)))
 
--- what the value of an option says
+-- whether the value of an option allows or ignores a kind of upgrade
 abbrev pub status_of : Text → List Row → Option Bool
 status_of id rows = status_of_value (value_of id [] rows)
 
--- how much is reported, by how often more and less of it are asked for
+-- the verbosity, from the numbers of `--verbose` and `--quiet`
 abbrev pub verbosity_of : ℕ → ℕ → ℤ
 verbosity_of more less = if nat_lt more less then negsuc 0 else pos (min (more - less) 4)
 
--- the options that the matches of `upgrade` ask for
+-- the options of `upgrade` that parsed arguments give
 pub record AskForOptions (rows : List Row) (o : Options) : Type 0 where
   pub compatible : status_of (codes "compatible") rows ≡ Some o.compatible
   pub incompatible : status_of (codes "incompatible") rows ≡ Some o.incompatible
@@ -52,7 +52,7 @@ pub record AskForOptions (rows : List Row) (o : Options) : Type 0 where
   pub packages : words_of o ≡ values_of (codes "package") rows
   pub exclusions : excluded_of o ≡ values_of (codes "exclude") rows
 
--- one of the values is none that its option has
+-- one of the options has an invalid value
 abbrev pub HasBadStatus : List Row → Type 0
 HasBadStatus rows =
     (status_of (codes "compatible") rows ≡ None)

@@ -6,27 +6,27 @@ use Rattle.edit_report.specs.Applied.{path_of}
 use Rattle.edit_report.specs.declared.output.Output.{Output}
 use Rattle.edit_upgrade.specs.UpdateCalls.{Call}
 
--- a word on a line
+-- an argument as a line
 abbrev pub word_line : List ℕ → List ℕ
 word_line word = word ++ 10 ∷ []
 
--- a call: one word a line, and an empty line behind them
+-- a call: one argument a line, then an empty line
 abbrev pub call_lines : Call → List ℕ
 call_lines call = flat_map word_line call ++ 10 ∷ []
 
--- calls, one behind another
+-- calls, one after another
 abbrev pub calls_text : List Call → List ℕ
 calls_text calls = flat_map call_lines calls
 
--- the path of the file of the calls, where files are to be written
+-- the path of the file of the calls, where files are written
 abbrev pub due_path : Options → Option (List ℕ) → Option (List ℕ)
 due_path o path = if o.dry_run || o.locked then None else path
 
--- the file of the calls: its path, and what it holds
+-- the file of the calls: its path and its bytes
 abbrev pub calls_files : Option (List ℕ) → List Call → List (List ℕ × List ℕ)
 calls_files None calls = []
 calls_files (Some path) calls = (path, calls_text calls) ∷ []
 
--- an output as a file: its path, and what it holds
+-- an output as a file: its path and its bytes
 abbrev pub file_of : Output → List ℕ × List ℕ
 file_of output = (path_of output, output.bytes.items)

@@ -1,4 +1,4 @@
--- What each subcommand leaves of files and streams, by its matches.
+-- The effect of each subcommand on files and streams, by its parsed arguments.
 use Rattle.std.specs.Prelude.{◌≡◌, ◌≢◌, ◌⊎◌, ℕ, Bool, List, Option, codes}
 use Rattle.clap.specs.Words.{Row, Text}
 use Rattle.edit_base.specs.declared.errors.Error.{Error}
@@ -15,8 +15,8 @@ use Rattle.edit_program.specs.Run.{Run}
 use Rattle.edit_program.specs.UpgradeAsked.{AskForUpgrade, HaveUpgradeFault}
 use Rattle.edit_program.specs.VersionWords.{AskForVersions, HaveVersionFault}
 
--- the manifests that the matches name were upgraded, behind what is shown and said of the plan; the status is
--- 1 where they ask to check that and the plan has an output
+-- the selected manifests are upgraded, after the plan is printed; the status is 1 where `--check` is given
+-- and the plan has an output
 pub record HasUpgraded (rows : List Row) (status : ℕ) (Shows Says : List ℕ → Type 0) (run : Run)
     : Type 0 where
   pub asked : UpgradeWords
@@ -25,19 +25,19 @@ pub record HasUpgraded (rows : List Row) (status : ℕ) (Shows Says : List ℕ �
   pub upgraded : IsUpgraded due Shows Says asked run
   pub ends : status ≡ status_after rows due
 
--- the upgrade of the manifests that the matches name was refused, at a write or behind all of them
+-- the upgrade of the selected manifests failed, at a write or after all of them
 pub record HasBroken (rows : List Row) (Shows : List ℕ → Type 0) (run : Run) : Type 0 where
   pub asked : UpgradeWords
   pub asks : AskForUpgrade rows asked
   pub broken : IsBroken Shows asked run
 
--- why the upgrade that the matches ask for ended with an error
+-- the cause of an error of `upgrade` with these arguments
 pub record HasUpgradeCause (rows : List Row) (Shows : List ℕ → Type 0) (run : Run) (e : Error) : Type 0 where
   pub asked : UpgradeWords
   pub asks : AskForUpgrade rows asked
   pub cause : IsUpgradeCause Shows asked run e
 
--- the lookups of the upgrade that the matches ask for were printed, and each file is as it was
+-- the lookups that the upgrade needs are printed, and each file is unchanged
 pub record HasLooked (rows : List Row) (Shows : List ℕ → Type 0) (current : List ℕ) (home : Option (List ℕ))
     (old new : StoreView) : Type 0 where
   pub asked : UpgradeWords
@@ -45,7 +45,7 @@ pub record HasLooked (rows : List Row) (Shows : List ℕ → Type 0) (current : 
   pub looked : AreLooksShown Shows asked current home old.file_at
   pub unchanged : SameFiles old.file_at new.file_at
 
--- why the lookups of the upgrade that the matches ask for were not printed; each file is as it was
+-- the cause of an error of `looks` with these arguments; each file is unchanged
 pub record HasLooksCause (rows : List Row) (current : List ℕ) (home : Option (List ℕ)) (old new : StoreView)
     (e : Error) : Type 0 where
   pub asked : UpgradeWords
@@ -53,8 +53,8 @@ pub record HasLooksCause (rows : List Row) (current : List ℕ) (home : Option (
   pub cause : IsLooksCause asked current home old new e
   pub unchanged : SameFiles old.file_at new.file_at
 
--- the versions that the matches ask for were set, behind what is shown and told of them; the status is 1
--- where they ask to check that and the plan has an output
+-- the requested versions are set, after the plan is printed; the status is 1 where `--check` is given and
+-- the plan has an output
 pub record HasSetVersions (rows : List Row) (status : ℕ) (Shows Tells : List ℕ → Type 0) (current : List ℕ)
     (old new : StoreView) : Type 0 where
   pub asked : SetVersionWords
@@ -63,27 +63,27 @@ pub record HasSetVersions (rows : List Row) (status : ℕ) (Shows Tells : List �
   pub set : AreVersionsSet Shows Tells asked current due old new
   pub ends : status ≡ status_after rows due
 
--- the same, but the writing stopped at an output
+-- the requested versions are planned and printed, but writing stopped at an output
 pub record HasStoppedSetting (rows : List Row) (Shows Tells : List ℕ → Type 0) (current : List ℕ)
     (old new : StoreView) : Type 0 where
   pub asked : SetVersionWords
   pub asks : AskForVersions rows asked
   pub stopped : IsCutShort Shows Tells asked current old new
 
--- why the setting of the versions that the matches ask for ended with an error
+-- the cause of an error of `set-version` with these arguments
 pub record HasSetVersionCause (rows : List Row) (current : List ℕ) (old new : StoreView) (e : Error)
     : Type 0 where
   pub asked : SetVersionWords
   pub asks : AskForVersions rows asked
   pub cause : IsSetVersionCause asked current old new e
 
--- a subcommand of another name than those of the program
+-- a subcommand that the program does not have
 pub record IsAnother (name : Text) : Type 0 where
   pub no_upgrade : name ≢ codes "upgrade"
   pub no_looks : name ≢ codes "looks"
   pub no_set_version : name ≢ codes "set-version"
 
--- a subcommand is none of the program, or what its matches ask for does not go together or is not read
+-- a subcommand that the program does not have, or arguments that cannot be used
 abbrev pub IsAtFault : Text → List Row → Type 0
 IsAtFault name rows =
     IsAnother name
@@ -91,20 +91,20 @@ IsAtFault name rows =
     ⊎ (((name ≡ codes "looks") × HaveUpgradeFault rows)
     ⊎ ((name ≡ codes "set-version") × HaveVersionFault rows)))
 
--- a subcommand has done what its matches ask for, with this status
+-- a subcommand succeeded, with this exit status
 abbrev pub IsDoneBy : Text → List Row → ℕ → (List ℕ → Type 0) → (List ℕ → Type 0) → Run → Type 0
 IsDoneBy name rows status Shows Tells run =
     ((name ≡ codes "upgrade") × HasUpgraded rows status Shows Tells run)
     ⊎ (((name ≡ codes "looks") × (status ≡ 0) × HasLooked rows Shows run.current run.home run.old run.new)
     ⊎ ((name ≡ codes "set-version") × HasSetVersions rows status Shows Tells run.current run.old run.new))
 
--- a subcommand was refused at one of its writes, or behind all of them
+-- a subcommand failed at a write, or after all of them
 abbrev pub IsBrokenBy : Text → List Row → (List ℕ → Type 0) → (List ℕ → Type 0) → Run → Type 0
 IsBrokenBy name rows Shows Tells run =
     ((name ≡ codes "upgrade") × HasBroken rows Shows run)
     ⊎ ((name ≡ codes "set-version") × HasStoppedSetting rows Shows Tells run.current run.old run.new)
 
--- why a subcommand ends with an error, but for want of memory, and what that leaves of the files
+-- the cause of an error of a subcommand, other than out of memory, and its effect on the files
 abbrev pub IsCauseBy : Text → List Row → (List ℕ → Type 0) → Run → Error → Type 0
 IsCauseBy name rows Shows run e =
     ((name ≡ codes "upgrade") × HasUpgradeCause rows Shows run e)

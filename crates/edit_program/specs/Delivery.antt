@@ -1,4 +1,4 @@
--- What is delivered: a plan for inputs, and how it is told.
+-- A plan for inputs, and how it is printed and written.
 use Rattle.std.specs.Prelude.{ℕ, Bool, List, [], Option, Some, None, option_map}
 use Rattle.std.specs.Option.{option_map_or}
 use Rattle.edit_upgrade.specs.declared.decision.options.Options.{Options}
@@ -18,14 +18,14 @@ use Rattle.edit_program.specs.declared.upgrade_told.task.DeliveryTask.{DeliveryT
 abbrev pub calls_of : UpgradePlan → Options → Option WorkspaceSaid → List Call
 calls_of plan options workspace = option_map_or (update_calls (asked_by plan options)) workspace []
 
--- calls as they are right against the lock file with these packages, where there is one; `offline` says
--- that they fetch nothing
+-- calls adapted to the lock file with these packages, where there is one; with `offline` calls that are
+-- valid for it fetch nothing
 abbrev pub calls_against : Option (List Package) → Bool → List Call → List Call
 calls_against None offline calls = calls
 calls_against (Some packages) offline calls = standing_calls (changes packages packages) offline calls
 
--- a plan for inputs by its options, and how it is told: in which folder, in what form, the calls that follow,
--- and the path of the file that they go to
+-- a plan for inputs with its options, the folder and the format that it is printed in, the calls that
+-- follow, and the path of the file for them
 pub record Delivery : Type 0 where
   pub plan : UpgradePlan
   pub inputs : List Input
@@ -36,7 +36,7 @@ pub record Delivery : Type 0 where
   pub calls_path : Option (List ℕ)
   pub offline : Bool
 
--- what a task is to deliver
+-- the plan of a task, and how it is printed and written
 abbrev pub delivery_of : DeliveryTask → Delivery
 delivery_of task = record {
   plan = task.plan.now;

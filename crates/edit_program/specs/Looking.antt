@@ -18,8 +18,8 @@ use Rattle.edit_steps.specs.declared.upgrade_read.sources.Sources.{Sources}
 use Rattle.edit_program.specs.Planned.{IsPlanned, asking_for_looks}
 use Rattle.edit_program.specs.declared.upgrade_run.words.UpgradeWords.{UpgradeWords}
 
--- the lines of the lookups that a plan for these inputs makes over an index that has no name, in the order in
--- which the inputs need them: one for each address and name that is needed
+-- the lines of the lookups that a plan for these inputs makes over an empty index, in the order in which
+-- the inputs need them: one for each pair of address and name
 pub record AreLinesOf (o : Options) (inputs : List Input) (configs : List (Vec Config)) (text : List ℕ)
     : Type 0 where
   pub plan : UpgradePlan
@@ -28,7 +28,7 @@ pub record AreLinesOf (o : Options) (inputs : List Input) (configs : List (Vec C
   pub in_order : LooksInOrder inputs configs plan
   pub is : text ≡ flat_map look_line plan.looks.items
 
--- what the arguments name was read, but for an index, and the lines of the lookups that it needs are shown
+-- the given files were read, but no index, and the lines of the lookups are printed
 pub record AreLooksShown (Shows : List ℕ → Type 0) (words : UpgradeWords) (current : List ℕ)
     (home : Option (List ℕ)) (files : Files) : Type 0 where
   pub sources : Sources

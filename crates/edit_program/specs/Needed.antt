@@ -4,7 +4,7 @@ use Rattle.url.specs.Parts.{serialize}
 use Rattle.edit_upgrade.specs.Looks.{AreApart, look_at}
 use Rattle.edit_upgrade.specs.declared.upgrade.Look.{Look}
 
--- each address and name that is needed, no other, and each once (own)
+-- each pair of address and name that is needed, no other, and without duplicates (own)
 pub record AreNeeded (Needed : List ℕ → List ℕ → Type 0) (looks : List Look) : Type 0 where
   pub complete : (address name : List ℕ) → Needed address name → IsSome (look_at looks address name)
   pub needed : All (λ look. Needed (serialize look.registry) (string_bytes look.name)) looks

@@ -1,15 +1,15 @@
--- What a look gives in an index that has no name (own).
+-- The answers of an empty index (own).
 use Rattle.std.specs.Prelude.{◌≡◌, ℕ, List, Some, None, Ok, Err, true, false}
 use Rattle.url.specs.Parts.{Parts}
 use Rattle.edit_sources.specs.Index.{IndexView, Outcome, bad_name}
 use Rattle.edit_sources.specs.Names.{is_crate_name}
 
--- no such crate, or the error of a name that no index may have, which names it (own)
+-- "no such crate", or the error of an invalid name, with that name (own)
 abbrev pub NoneGives : Parts → List ℕ → Outcome → Type 0
 NoneGives address name (Ok None) = is_crate_name name ≡ true
 NoneGives address name (Ok (Some entries)) = ⊥
 NoneGives address name (Err e) = (e ≡ bad_name name) × (is_crate_name name ≡ false)
 
--- an index that has no name: it never fails (own)
+-- an empty index, which never fails (own)
 abbrev pub no_view : IndexView
 no_view = record { gives = NoneGives; faults = 0 }

@@ -1,4 +1,4 @@
--- What an upgrade asks for, and its plan over what was read.
+-- The files that an upgrade reads, and its plan over them.
 use Rattle.std.specs.Prelude.{ℕ, List, None, string_bytes}
 use Rattle.std.specs.Global.{Vec}
 use Rattle.edit_base.specs.declared.errors.Error.{Error}
@@ -22,7 +22,7 @@ use Rattle.edit_steps.specs.declared.upgrade_read.index.IndexSource.{IndexSource
 use Rattle.edit_steps.specs.declared.upgrade_read.index.IndexSource.TheVariants as source
 use Rattle.edit_program.specs.declared.upgrade_run.words.UpgradeWords.{UpgradeWords}
 
--- what the words ask to read
+-- the files to read, from the arguments
 abbrev pub asking : UpgradeWords → Asking
 asking words = record {
   manifest = given words.manifest_path;
@@ -34,7 +34,7 @@ asking words = record {
   rust = asked_rust words.rust;
 }
 
--- the same without an index
+-- the files to read where only the lookups are requested: no index
 abbrev pub asking_for_looks : UpgradeWords → Asking
 asking_for_looks words = record {
   manifest = given words.manifest_path;
@@ -46,35 +46,35 @@ asking_for_looks words = record {
   rust = asked_rust words.rust;
 }
 
--- the index of an upgrade: the lines of the file that was read, the folder that is named, or the one in
--- files; the last two stand in the same files
+-- the index of an upgrade: the lines of the index file, the index folder, or the index in files; the last
+-- two use the same files
 abbrev pub index_view : IndexSource → StoreView → IndexView
 index_view source.Files local = local_view local
 index_view (source.Lines index) local = file_view index
 index_view (source.Folder folder) local = dir_view (string_bytes folder) local
 
--- no answer is kept
+-- an empty cache
 abbrev pub nothing_kept : Kept
 nothing_kept address name = None
 
--- an index and the answers that are kept over it
+-- the view of a cache: an index, and cached answers
 abbrev pub over : IndexView → Kept → CacheView
 over view kept = record { gives = view.gives; faults = view.faults; kept = kept }
 
--- the plan for inputs with their configurations over an index, of which no answer was kept before
+-- the plan for inputs with their configurations over an index, with an empty cache
 pub record IsPlanned (o : Options) (inputs : List Input) (configs : List (Vec Config)) (view : IndexView)
     (plan : UpgradePlan) : Type 0 where
   pub kept : Kept
   pub is : IsPlan o inputs configs (over view nothing_kept) (over view kept) plan
 
--- a plan is stopped by the first input that is no manifest, or that has an entry whose registry has no
--- address or whose look is refused
+-- the error of a plan at the first input that is no manifest, or that has an entry whose registry has no
+-- address or whose lookup fails
 pub record IsPlanStopped (inputs : List Input) (configs : List (Vec Config)) (view : IndexView) (e : Error)
     : Type 0 where
   pub kept : Kept
   pub faults : ℕ
   pub cause : IsCause inputs configs view.gives nothing_kept kept view.faults faults e
 
--- why there is no plan: for the options, or for an input
+-- the cause of an error of a plan: its options, or an input
 abbrev pub IsPlanCause : Options → List Input → List (Vec Config) → IndexView → Error → Type 0
 IsPlanCause o inputs configs view e = IsRefusedFor o (IsPlanStopped inputs configs view) e

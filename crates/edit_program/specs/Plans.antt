@@ -1,4 +1,4 @@
--- The plan of new versions that a run of `set-version` rests on, by what `plan_set_version` promises.
+-- The plan of `set-version`, as `plan_set_version` guarantees it.
 use Rattle.std.specs.Prelude.{List, All}
 use Rattle.edit_metadata.specs.Metadata.{WorkspaceSaid}
 use Rattle.edit_metadata.specs.declared.input.Input.{Input}
@@ -12,7 +12,7 @@ use Rattle.edit_version.specs.Laws.{IsReadable}
 -- a plan of new versions for a workspace and its inputs
 pub record IsVersionPlan (t : Target) (a : Asked) (w : WorkspaceSaid) (inputs : List Input)
     (plan : SetVersionPlan) : Type 0 where
-  -- the versions of the packages can be read
+  -- the versions of the packages can be parsed
   pub readable : All (λ p. IsReadable p.version) w.packages
-  -- outputs, lines and all else over one project
+  -- outputs and lines are those of one project
   pub is : HasProject w inputs (IsPlan t a inputs plan)

@@ -1,4 +1,4 @@
--- How a plan is printed, by the words of `upgrade` and `set-version`.
+-- The output format of a plan, from the arguments of `upgrade` and `set-version`.
 use Rattle.std.specs.Prelude.{◌&&◌, ℕ, Bool, List, [], Option, Some, None, codes, false, if◌then◌else◌}
 use Rattle.std.specs.Str.{bytes_eq}
 use Rattle.clap.specs.Words.{Row, Text}
@@ -6,18 +6,18 @@ use Rattle.edit_shown.specs.declared.presentation.MessageFormat.TheVariants.{Hum
 use Rattle.edit_shown.specs.declared.presentation.Presentation.{Presentation}
 use Rattle.edit_program.specs.Asked.{is_given, value_of}
 
--- how a plan is printed, by the format that is named and whether diffs are asked for: none beside JSON
+-- the output format, from `--message-format` and `--diff`, which exclude each other for JSON
 abbrev pub presented_by : Text → Bool → Option Presentation
 presented_by format diff =
     if bytes_eq format (codes "human") then Some (record { format = Human; diff = diff })
     else (if bytes_eq format (codes "json")
     then (if diff then None else Some (record { format = Json; diff = false })) else None)
 
--- how the matches say that a plan is printed
+-- the output format that parsed arguments give
 abbrev pub presentation_of : List Row → Option Presentation
 presentation_of rows =
     presented_by (value_of (codes "message-format") [] rows) (is_given (codes "diff") rows)
 
--- the status behind a plan: 1 where the words ask to check it and it has an output, else 0
+-- the exit status after a plan: 1 where `--check` is given and the plan has an output, else 0
 abbrev pub status_after : List Row → Bool → ℕ
 status_after rows due = if is_given (codes "check") rows && due then 1 else 0

@@ -17,16 +17,16 @@ use Rattle.edit_program.specs.declared.set_version_run.words.SetVersionWords.{Se
 abbrev pub warning_if : Bool → List ℕ → List ℕ
 warning_if due message = if due then message_text false (codes "warning") message else []
 
--- the lines of a plan, each behind its status
+-- the lines of a plan, each as a status line
 abbrev pub statuses : List Told → List ℕ
 statuses lines = flat_map (λ line. message_text true line.0 line.1) lines
 
--- those lines, but where standard output has them as messages
+-- the status lines, unless standard output has the lines as messages
 abbrev pub statuses_in : MessageFormat → List Told → List ℕ
 statuses_in Human lines = statuses lines
 statuses_in Json lines = []
 
--- on standard error: the warning for `--all`, the lines, and the warning at a dry run
+-- on standard error: the warning for `--all`, the lines, and the warning of a dry run
 abbrev pub printed : SetVersionWords → List Told → List ℕ
 printed words lines =
     warning_if words.all (codes "The flag `--all` has been deprecated in favor of `--workspace`")
@@ -38,11 +38,11 @@ abbrev pub messages_in : MessageFormat → List Told → List ℕ
 messages_in Human lines = []
 messages_in Json lines = changes lines
 
--- the changes of the manifests, where they are asked for
+-- the diffs of the manifests, where they are requested
 abbrev pub diffs_if : Bool → List ℕ → List Input → List Output → List ℕ
 diffs_if asked root inputs outputs = if asked then diffs root inputs outputs else []
 
--- on standard output: the lines as messages and the changes of the manifests, each where it is asked for
+-- on standard output: the lines as messages and the diffs of the manifests, where they are requested
 abbrev pub shown : SetVersionWords → List ℕ → List Input → SetVersionPlan → List ℕ
 shown words root inputs plan =
     messages_in words.presentation.format (told_lines plan)

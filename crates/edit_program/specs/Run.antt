@@ -1,9 +1,9 @@
--- A run of the program as contracts see it.
+-- A run of the program.
 use Rattle.std.specs.Prelude.{ℕ, List, Option}
 use Rattle.edit_store.specs.Store.{StoreView}
 
--- a run: the folder that relative paths start from, the folder whose configuration counts last, the files of
--- the index, and the other files before and behind the run
+-- a run: the folder that relative paths start from, the home folder of cargo, the files of the index, and
+-- the other files before and after the run
 pub record Run : Type 0 where
   pub current : List ℕ
   pub home : Option (List ℕ)

@@ -29,38 +29,39 @@ warning message = message_text false (codes "warning") message
 abbrev pub note : List ℕ → List ℕ
 note message = message_text false (codes "note") message
 
--- a report of this verbosity has the warning for this input: one for verbose only at verbosity 1 and up
+-- a report of this verbosity shows the warning, and it is about this input; verbose warnings are shown from
+-- verbosity 1
 abbrev pub is_heard : ℤ → ℕ → Warning → Bool
 is_heard verbosity i w = (not w.verbose || int_le (pos 1) verbosity) && w.input == i
 
--- the warning, where a report of this verbosity has it for this input
+-- the warning, where a report of this verbosity shows it for this input
 abbrev pub warning_on : ℤ → ℕ → Warning → List ℕ
 warning_on verbosity i w = if is_heard verbosity i w then warning (string_bytes w.text) else []
 
--- the warnings on an input
+-- the warnings about an input
 abbrev pub warnings_at : ℕ → List Warning → List Warning
 warnings_at i warnings = filter (λ w. w.input == i) warnings
 
--- the warnings stand in the order of their inputs
+-- the warnings are in the order of their inputs
 abbrev pub AreWarningsInOrder : List Warning → Type 0
 AreWarningsInOrder warnings = IsNonDecreasingBy (λ w. w.input) warnings
 
--- whose dependencies are looked at, and the warnings on them
+-- the status line with the name of an input, and the warnings about it
 abbrev pub check : ℤ → List Warning → ℕ → List ℕ → List ℕ
 check verbosity warnings i name =
     message_text true (codes "Checking") (name ++ codes "'s dependencies")
     ++ flat_map (warning_on verbosity i) warnings
 
--- the same of the input with this number
+-- the status line and the warnings of the input at this index
 abbrev pub check_at : ℤ → List Warning → List Input → ℕ → List ℕ
 check_at verbosity warnings inputs i =
     option_map_or (λ input. check verbosity warnings i (string_bytes input.name)) (slice_get inputs i) []
 
--- the same of so many inputs, one behind another
+-- the status lines and the warnings of the first inputs, as many as this number
 abbrev pub checks : ℤ → List Warning → List Input → ℕ → List ℕ
 checks verbosity warnings inputs n = flat_map (check_at verbosity warnings inputs) (below n)
 
--- a call, as a status with its words
+-- a call, as a status line with its arguments
 abbrev pub run : Call → List ℕ
 run call = message_text true (codes "Run") (join_by (λ word. word) (codes " ") call)
 
@@ -68,44 +69,44 @@ run call = message_text true (codes "Run") (join_by (λ word. word) (codes " ") 
 abbrev pub runs : List Call → List ℕ
 runs calls = flat_map run calls
 
--- a message, where it is due
+-- a message, where the test holds
 abbrev pub when : Bool → List ℕ → List ℕ
 when due message = if due then message else []
 
--- the reasons' texts, in byte order
+-- the reasons' texts, sorted by bytes
 abbrev pub reasons : List (List ℕ)
 reasons = codes "compatible" ∷ codes "excluded" ∷ codes "git" ∷ codes "incompatible" ∷ codes "latest"
     ∷ codes "local" ∷ codes "pinned" ∷ []
 
--- a text of a reason as notes have it: the latest version's is empty in tables
+-- the text of a reason in notes: `latest` where the table has no text
 abbrev pub or_latest : List ℕ → List ℕ
 or_latest [] = codes "latest"
 or_latest (c ∷ cs) = c ∷ cs
 
--- the text of a row's reason as notes have it
+-- the text of a row's reason in notes
 abbrev pub reason_said : Row → List ℕ
 reason_said row = or_latest (reason_text row.reason)
 
--- these names with one more: in byte order, each once
+-- these names with one more, sorted by bytes, without duplicates
 abbrev pub with_name : List (List ℕ) → List ℕ → List (List ℕ)
 with_name names name = insert_key (slice_cmp nat_cmp) names name
 
--- these names with that of a row, where this is its reason
+-- these names with that of a row, where the row has this reason
 abbrev pub add_name : List ℕ → List (List ℕ) → Row → List (List ℕ)
 add_name reason names row =
     if bytes_eq (reason_said row) reason then with_name names (name_text (string_bytes row.name) row.rename)
     else names
 
--- the names of the rows of a reason, as tables have them: in byte order, each once
+-- the names of the rows with a reason, as tables show them: sorted by bytes, without duplicates
 abbrev pub names_of : List ℕ → List Row → List (List ℕ)
 names_of reason rows = fold (add_name reason) [] rows
 
--- names as a line has them: at most three of them, else how many there are
+-- names as a line lists them: at most three, or else only their number
 abbrev pub names_text : List (List ℕ) → List ℕ
 names_text names = if nat_le (length names) 3 then join_by (λ name. name) (codes ", ") names
     else decimal (length names) ++ codes " packages"
 
--- the line of a reason with these names, where there are some
+-- the line of a reason with these names, where there are any
 abbrev pub names_line : List ℕ → List (List ℕ) → List ℕ
 names_line reason [] = []
 names_line reason (name ∷ names) = codes "\n  " ++ (reason ++ (codes ": " ++ names_text (name ∷ names)))
@@ -114,13 +115,13 @@ names_line reason (name ∷ names) = codes "\n  " ++ (reason ++ (codes ": " ++ n
 abbrev pub reason_line : List Row → List ℕ → List ℕ
 reason_line rows reason = names_line reason (names_of reason rows)
 
--- the words before those lines
+-- the first line of the note: which options show the rows
 abbrev pub rerun : ℤ → List ℕ
 rerun verbosity = if int_le (pos 1) verbosity
     then codes "Re-run with `--verbose --verbose` to show more dependencies"
     else codes "Re-run with `--verbose` to show more dependencies"
 
--- how to see rows that are not shown: the words, and a line for each reason
+-- the note on rows that are not shown: which options show them, and a line for each reason
 abbrev pub hidden_text : ℤ → List Row → List ℕ
 hidden_text verbosity rows = rerun verbosity ++ flat_map (reason_line rows) reasons
 
@@ -128,12 +129,13 @@ hidden_text verbosity rows = rerun verbosity ++ flat_map (reason_line rows) reas
 abbrev pub hidden : ℤ → List Row → List Row
 hidden verbosity rows = filter (λ row. not (is_shown verbosity row)) rows
 
--- the note on rows that are not shown, where there are some
+-- the note on rows that are not shown, where there are any
 abbrev pub hidden_note : ℤ → List Row → List ℕ
 hidden_note verbosity [] = []
 hidden_note verbosity (row ∷ rows) = note (hidden_text verbosity (row ∷ rows))
 
--- the notes on a plan, at a dry run that nothing was written, and the crates without an index entry
+-- the notes on a plan, the warning that a dry run wrote nothing, and the note on crates missing in the
+-- index
 abbrev pub notes : UpgradePlan → Options → Bool → List ℕ
 notes plan options offline =
     when plan.pinned_present (note (codes "Re-run with `--pinned` to upgrade pinned version requirements"))
@@ -143,7 +145,7 @@ notes plan options offline =
     ++ (when options.dry_run (warning (codes "aborting upgrade due to dry run"))
     ++ absent_note plan options offline)))
 
--- all that is said of a plan: of each input, the calls, the notes
+-- all that standard error has of a plan: the report on each input, the calls, the notes
 abbrev pub said : Delivery → List ℕ
 said d =
     checks d.options.verbosity d.plan.warnings.items d.inputs (length d.inputs)

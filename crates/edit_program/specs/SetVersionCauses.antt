@@ -1,4 +1,4 @@
--- Why `set-version` ends with an error, and what that leaves of the files.
+-- The causes of errors of `set-version`, and the effect on the files.
 use Rattle.std.specs.Prelude.{◌≡◌, ◌⊎◌, ℕ, List, true}
 use Rattle.edit_base.specs.declared.errors.DeviceCall.TheVariants as call
 use Rattle.edit_base.specs.declared.errors.Error.{Error}
@@ -13,27 +13,27 @@ use Rattle.edit_store.specs.Store.{Files, RefusesCall, SameFiles, StoreView}
 use Rattle.edit_program.specs.SetVersions.{IsRead}
 use Rattle.edit_program.specs.declared.set_version_run.words.SetVersionWords.{SetVersionWords}
 
--- the workspace was read, and there is no plan for it
+-- the workspace was read, and planning fails
 pub record HasNoPlan (words : SetVersionWords) (current : List ℕ) (files : Files) (e : Error) : Type 0 where
   pub workspace : WorkspaceSaid
   pub inputs : List Input
   pub read : IsRead words current files workspace inputs
   pub cause : IsCauseOf (target_of words.target) (asked_of words.selection) workspace inputs e
 
--- what is wrong with the files: the workspace is not read, or there is no plan for it
+-- the cause in the files: reading the workspace fails, or planning does
 abbrev pub IsWrong : SetVersionWords → List ℕ → Files → Error → Type 0
 IsWrong words current files e =
     HasNoWorkspace files current words.metadata_json.now e ⊎ HasNoPlan words current files e
 
--- why nothing is written: memory ran out, the device failed in a read and the count of faults rose, the
--- stream did not take what is printed, or something is wrong with the files
+-- the cause of an error before any write: out of memory, a device error in a read, which is counted, a
+-- failed print, or the files
 abbrev pub IsUnset : SetVersionWords → List ℕ → StoreView → StoreView → Error → Type 0
 IsUnset words current old new e =
     RefusesCall call.Read old new e
     ⊎ ((e ≡ Unwritten) ⊎ (old.tells ≡ true → IsWrong words current old.file_at e))
 
--- why `set-version` ends with an error: memory or the device failed in a write, or nothing is written and
--- each file is as it was
+-- the cause of an error of `set-version`: out of memory or a device error in a write, or nothing is written
+-- and each file is unchanged
 abbrev pub IsSetVersionCause : SetVersionWords → List ℕ → StoreView → StoreView → Error → Type 0
 IsSetVersionCause words current old new e =
     RefusesCall call.Write old new e ⊎ (SameFiles old.file_at new.file_at × IsUnset words current old new e)

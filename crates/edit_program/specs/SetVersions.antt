@@ -15,15 +15,15 @@ use Rattle.edit_program.specs.Plans.{IsVersionPlan}
 use Rattle.edit_program.specs.Printed.{printed, shown}
 use Rattle.edit_program.specs.declared.set_version_run.words.SetVersionWords.{SetVersionWords}
 
--- Rust versions are not asked for
+-- no Rust version is requested
 abbrev pub no_rust : RustAsked
 no_rust = record { given = None; ignored = true }
 
--- the workspace that the words name was read, with its manifests
+-- the given workspace was read, with its manifests
 abbrev pub IsRead : SetVersionWords → List ℕ → Files → WorkspaceSaid → List Input → Type 0
 IsRead words current files w is = IsWorkspaceRead files current words.metadata_json.now no_rust w is
 
--- the outputs that are to be written: none at a dry run
+-- the outputs to write: none with a dry run
 abbrev pub written : SetVersionWords → List Output → List Output
 written words outputs = if words.dry_run then [] else outputs
 
@@ -31,8 +31,7 @@ written words outputs = if words.dry_run then [] else outputs
 abbrev pub has_some : List Output → Bool
 has_some outputs = not (length outputs == 0)
 
--- the workspace was read and a plan made, standard output and standard error have what is printed of it, and
--- this holds of its outputs
+-- the workspace was read, the plan was made and printed, and this holds of its outputs
 pub record IsPlannedTo (Leaves : List Output → StoreView → StoreView → Type 0) (Shows Tells : List ℕ → Type 0)
     (words : SetVersionWords) (current : List ℕ) (old new : StoreView) : Type 0 where
   pub workspace : WorkspaceSaid
@@ -44,7 +43,7 @@ pub record IsPlannedTo (Leaves : List Output → StoreView → StoreView → Typ
   pub tells : Tells (printed words (told_lines plan))
   pub leaves : Leaves plan.outputs.items old new
 
--- outputs are written, none at a dry run, and this says whether there are some
+-- the outputs are written, none with a dry run; the flag is set where there are outputs
 abbrev pub AreDelivered : SetVersionWords → Bool → List Output → StoreView → StoreView → Type 0
 AreDelivered words due outputs old new = AreWritten (written words outputs) old new × (due ≡ has_some outputs)
 
@@ -52,13 +51,14 @@ AreDelivered words due outputs old new = AreWritten (written words outputs) old 
 abbrev pub HasStoppedAt : SetVersionWords → List Output → StoreView → StoreView → Type 0
 HasStoppedAt words outputs old new = HasStopped (written words outputs) old new
 
--- each output of the plan stands in its file, and no other file changed; `due` where the plan has an output
+-- each output of the plan is in its file, and no other file changed; `due` is set where the plan has an
+-- output
 abbrev pub AreVersionsSet : (List ℕ → Type 0) → (List ℕ → Type 0) → SetVersionWords → List ℕ → Bool
     → StoreView → StoreView → Type 0
 AreVersionsSet Shows Tells words current due old new =
     IsPlannedTo (AreDelivered words due) Shows Tells words current old new
 
--- the writing stopped at an output: the files of those before it are whole, and those behind it untouched
+-- writing stopped at an output: the files of those before it are whole, and those after it unchanged
 abbrev pub IsCutShort : (List ℕ → Type 0) → (List ℕ → Type 0) → SetVersionWords → List ℕ
     → StoreView → StoreView → Type 0
 IsCutShort Shows Tells words current old new =

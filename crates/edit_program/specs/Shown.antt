@@ -1,4 +1,4 @@
--- What standard output has of a plan (own).
+-- What is printed of a plan on standard output (own).
 use Rattle.std.specs.Prelude.{ℕ, List, [], ◌++◌, Bool, if◌then◌else◌, length}
 use Rattle.edit_upgrade.specs.declared.decision.options.Options.{Options}
 use Rattle.edit_metadata.specs.declared.input.Input.{Input}
@@ -12,16 +12,16 @@ use Rattle.edit_upgrade.specs.declared.upgrade.UpgradePlan.{UpgradePlan}
 use Rattle.edit_program.specs.Delivery.{Delivery}
 use Rattle.edit_program.specs.Tables.{tables}
 
--- a plan as JSON, where it is to be shown so
+-- a plan as JSON, where that is requested
 abbrev pub messages_as : MessageFormat → UpgradePlan → List Input → Options → List Call → List ℕ
 messages_as Human plan inputs options calls = []
 messages_as Json plan inputs options calls = messages plan inputs options calls
 
--- the changes of manifests, where they are to be shown
+-- the diffs of manifests, where they are requested
 abbrev pub diffs_if : Bool → List ℕ → List Input → List Output → List ℕ
 diffs_if due current inputs outputs = if due then diffs current inputs outputs else []
 
--- the tables, or a plan as JSON; behind them the changes of manifests
+-- the tables, or the plan as JSON; then the diffs of manifests
 abbrev pub shown : Delivery → List ℕ
 shown d =
     tables d.presentation.format d.options.verbosity d.plan.rows.items (length d.inputs)

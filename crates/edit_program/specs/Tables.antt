@@ -1,4 +1,4 @@
--- What an upgrade prints on standard output for people: a table for each input (own, after cargo-edit).
+-- The tables that an upgrade prints on standard output, one for each input (own, after cargo-edit).
 use Rattle.std.specs.Prelude.{ℕ, ℤ, List, [], ◌==◌, filter}
 use Rattle.std.specs.List.{flat_map}
 use Rattle.std.specs.List.Sorted.{IsNonDecreasingBy}
@@ -12,15 +12,15 @@ use Rattle.edit_upgrade.specs.Inputs.{below}
 abbrev pub rows_at : ℕ → List Row → List Row
 rows_at i rows = filter (λ row. row.input == i) rows
 
--- the rows stand in the order of their inputs
+-- the rows are in the order of their inputs
 abbrev pub AreInOrder : List Row → Type 0
 AreInOrder rows = IsNonDecreasingBy (λ row. row.input) rows
 
--- the table of the rows of an input; none where a plan is shown as JSON
+-- the table of the rows of an input; empty where a plan is printed as JSON
 abbrev pub table : MessageFormat → ℤ → List Row → ℕ → List ℕ
 table Human verbosity rows i = report_text verbosity (rows_at i rows)
 table Json verbosity rows i = []
 
--- the tables of so many inputs, one behind another
+-- the tables of the first inputs, as many as this number
 abbrev pub tables : MessageFormat → ℤ → List Row → ℕ → List ℕ
 tables format verbosity rows n = flat_map (table format verbosity rows) (below n)

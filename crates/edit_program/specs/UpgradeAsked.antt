@@ -1,4 +1,4 @@
--- What the words of `upgrade` and of `looks` ask for.
+-- The arguments of `upgrade` and of `looks`.
 use Rattle.std.specs.Prelude.{◌≡◌, ◌⊎◌, ◌&&◌, List, Bool, Option, Some, None, codes, is_some, true, false}
 use Rattle.clap.specs.Words.{Row, Text, first_of}
 use Rattle.edit_sources.specs.Configured.{given}
@@ -10,8 +10,8 @@ use Rattle.edit_version.specs.declared.rust_version.RustVersion.{RustVersion}
 use Rattle.edit_program.specs.Asked.{AskForOptions, HasBadStatus, is_given}
 use Rattle.edit_program.specs.Presented.{presentation_of}
 
--- the versions of Rust that count, by the one that is named and by whether they are ignored: those of the
--- manifests, none, or the one that is named
+-- the Rust versions to plan for, from `--rust-version` and `--ignore-rust-version`: those of the manifests,
+-- none, or the given one
 abbrev pub IsRust : Option Text → Bool → RustChoice → Type 0
 IsRust None false rust = rust ≡ choice.Own
 IsRust None true rust = rust ≡ choice.Ignored
@@ -19,18 +19,18 @@ IsRust (Some text) false rust =
     (version : RustVersion) × (rust_of text ≡ Some (numbers_of version)) × (rust ≡ choice.Given version)
 IsRust (Some text) true rust = ⊥
 
--- it is not said which versions of Rust count: a text names none, or one is named and all are ignored
+-- invalid options for Rust versions: a text is no version, or one is given and all are ignored
 abbrev pub HasNoRust : Option Text → Bool → Type 0
 HasNoRust None ignored = ⊥
 HasNoRust (Some text) false = rust_of text ≡ None
 HasNoRust (Some text) true = Unit {0}
 
--- an index file and an index folder are named
+-- both an index file and an index folder are given
 abbrev pub name_two_indexes : List Row → Bool
 name_two_indexes rows =
     is_some (first_of (codes "index-file") rows) && is_some (first_of (codes "index-dir") rows)
 
--- what the matches of `upgrade` ask for
+-- the options and paths that parsed arguments of `upgrade` give
 pub record AskForUpgrade (rows : List Row) (w : UpgradeWords) : Type 0 where
   pub manifest : given w.manifest_path ≡ first_of (codes "manifest-path") rows
   pub metadata : given w.metadata_json ≡ first_of (codes "metadata-json") rows
@@ -47,8 +47,8 @@ pub record AskForUpgrade (rows : List Row) (w : UpgradeWords) : Type 0 where
   pub lock : given w.lock_file ≡ first_of (codes "lock-file") rows
   pub offline : w.offline ≡ is_given (codes "offline") rows
 
--- two indexes are named, one of the values is none that its option has, it is not said which versions of Rust
--- count, or not how the plan is printed
+-- two indexes are given, an option has an invalid value, or the options for Rust versions or for the output
+-- format are invalid
 abbrev pub HaveUpgradeFault : List Row → Type 0
 HaveUpgradeFault rows =
     (name_two_indexes rows ≡ true)

@@ -1,4 +1,4 @@
--- Why an upgrade or its lookups end with an error, and what that leaves of the files.
+-- The causes of errors of `upgrade` and `looks`, and the effect on the files.
 use Rattle.std.specs.Prelude.{◌≡◌, ◌⊎◌, ℕ, List, Option, true}
 use Rattle.edit_base.specs.Errors.{IsMemory}
 use Rattle.edit_base.specs.declared.errors.DeviceCall.TheVariants as call
@@ -21,23 +21,23 @@ use Rattle.edit_program.specs.Upgrading.{IsPlannedTo}
 use Rattle.edit_program.specs.declared.upgrade_run.words.UpgradeWords.{UpgradeWords}
 use Rattle.edit_program.specs.TellingCauses.{IsStopped}
 
--- what is asked for was read, and there is no plan for it over its index
+-- the given files were read, and planning over their index fails
 pub record HasNoPlan (options : Options) (view : Sources → IndexView) (asked : Asking) (current : List ℕ)
     (home : Option (List ℕ)) (files : Files) (e : Error) : Type 0 where
   pub sources : Sources
   pub read : AreRead files current home asked sources
   pub cause : IsPlanCause options sources.target.inputs.items (lists_for sources.configs) (view sources) e
 
--- there is no plan for what the arguments name: the lock file or something else is not read, or the plan is
--- refused
+-- the cause of an error before there is a plan: reading the lock file or another file fails, or planning
+-- does
 abbrev pub IsUnplanned : UpgradeWords → List ℕ → Option (List ℕ) → StoreView → Files → Error → Type 0
 IsUnplanned words current home local files e =
     HasNoLock files current (given words.lock_file) e
     ⊎ (IsWrong files current home (asking words) e
     ⊎ HasNoPlan words.options (λ s. index_view s.index local) (asking words) current home files e)
 
--- what is wrong with what the arguments name: there is no plan, and each file is as it was; or the plan is
--- not carried out
+-- the cause in the given files: there is no plan, and each file is unchanged; or the plan is not carried
+-- out
 abbrev pub IsUnfit : (List ℕ → Type 0) → UpgradeWords → Run → Error → Type 0
 IsUnfit Shows words run e =
     (SameFiles run.old.file_at run.new.file_at
@@ -45,8 +45,8 @@ IsUnfit Shows words run e =
     ⊎ IsPlannedTo (λ d. IsStopped Shows d run.old run.new e) words run.current run.home run.index_files
     run.old.file_at
 
--- why an upgrade ends with an error: memory ran out; the device failed in a read, and each file is as it was;
--- it failed in a write; a stream did not take what is printed; or what the arguments name is unfit
+-- the cause of an error of `upgrade`: out of memory; a device error in a read, and each file is unchanged;
+-- one in a write; a failed print; or the given files
 abbrev pub IsUpgradeCause : (List ℕ → Type 0) → UpgradeWords → Run → Error → Type 0
 IsUpgradeCause Shows words run e =
     IsMemory e
@@ -54,15 +54,14 @@ IsUpgradeCause Shows words run e =
     ⊎ (RefusesCall call.Write run.old run.new e
     ⊎ ((e ≡ Unwritten) ⊎ (run.old.tells ≡ true → IsUnfit Shows words run e))))
 
--- what is wrong with what the arguments name, where its lookups are asked for: it is not read, or there is no
--- plan for it over an index that has no name, as for a name that no index may have
+-- the cause in the given files where only lookups are requested: reading them fails, or planning over an
+-- empty index does, as for an invalid name
 abbrev pub IsUnfitForLooks : UpgradeWords → List ℕ → Option (List ℕ) → Files → Error → Type 0
 IsUnfitForLooks words current home files e =
     IsWrong files current home (asking_for_looks words) e
     ⊎ HasNoPlan words.options (λ s. no_view) (asking_for_looks words) current home files e
 
--- why lookups are not printed: memory or the device failed, the stream did not take them, or what the
--- arguments name is unfit
+-- the cause of an error of `looks`: out of memory or a device error, a failed print, or the given files
 abbrev pub IsLooksCause : UpgradeWords → List ℕ → Option (List ℕ) → StoreView → StoreView → Error → Type 0
 IsLooksCause words current home old new e =
     IsFailure old new e

@@ -1,4 +1,4 @@
--- What an upgrade reads, plans and writes.
+-- The files that an upgrade reads and writes, and its plan.
 use Rattle.std.specs.Prelude.{◌≡◌, ℕ, List, Bool, not, ◌==◌, Option, Some, None, length, option_map, ⊤}
 use Rattle.edit_lock.specs.LockFile.{Package}
 use Rattle.std.specs.Option.{option_map_or}
@@ -20,27 +20,28 @@ use Rattle.edit_program.specs.LockRead.{IsLockRead}
 use Rattle.edit_program.specs.Run.{Run}
 use Rattle.edit_program.specs.Said.{said}
 
--- what the words name was read
+-- the given files were read
 abbrev pub IsRead : UpgradeWords → List ℕ → Option (List ℕ) → Files → Sources → Type 0
 IsRead words current home files s = AreRead files current home (asking words) s
 
--- the plan for what was read, over its index
+-- the plan for the files that were read, over their index
 abbrev pub IsPlannedFor : UpgradeWords → Sources → StoreView → UpgradePlan → Type 0
 IsPlannedFor words s local plan =
     IsPlanned words.options s.target.inputs.items (lists_for s.configs) (index_view s.index local) plan
 
--- the absolute path of a file that is named; none where none is
+-- the absolute path of a given file; none where none is given
 abbrev pub IsPathOf : List ℕ → Option (List ℕ) → Option (List ℕ) → Type 0
 IsPathOf current None None = ⊤
 IsPathOf current (Some named) (Some path) = IsAbsoluteOf current named path
 IsPathOf current _ _ = ⊥
 
--- the folder that diffs name files from: the workspace's root, where one is known, else the current folder
+-- the folder that paths in diffs are relative to: the workspace's root, where there is one, else the
+-- current folder
 abbrev pub diff_root : List ℕ → Option WorkspaceSaid → List ℕ
 diff_root current workspace = option_map_or (λ w. w.root) workspace current
 
--- a plan for these manifests, as the words ask to tell it, with this path for the file of the calls, which
--- are right against the lock file with these packages, where there is one
+-- a plan for these manifests, as the arguments request it to be printed, with this path for the file of the
+-- calls, which are adapted to the lock file with these packages, where there is one
 abbrev pub delivery_by : UpgradeWords → List ℕ → UpgradePlan → Target → Option (List ℕ) → Option (List Package)
     → Delivery
 delivery_by words current plan target path lock = record {
@@ -55,7 +56,7 @@ delivery_by words current plan target path lock = record {
   offline = words.offline;
 }
 
--- what the words name was read and planned, and this holds of the plan as it is to be told
+-- the given files were read and planned, and this holds of the plan with the request to print and write it
 pub record IsPlannedTo (Ends : Delivery → Type 0) (words : UpgradeWords) (current : List ℕ)
     (home : Option (List ℕ)) (local : StoreView) (files : Files) : Type 0 where
   pub sources : Sources
@@ -72,22 +73,22 @@ pub record IsPlannedTo (Ends : Delivery → Type 0) (words : UpgradeWords) (curr
 abbrev pub has_outputs : UpgradePlan → Bool
 has_outputs plan = not (length plan.outputs.items == 0)
 
--- a plan was delivered, what is said of it was told, and it is answered whether it changes a manifest
+-- a plan is printed and written, and the flag is set where it changes a manifest
 pub record IsAnsweredWith (due : Bool) (Shows Says : List ℕ → Type 0) (old new : StoreView) (d : Delivery)
     : Type 0 where
   pub is : due ≡ has_outputs d.plan
   pub delivered : IsDelivered Shows d old new
   pub says : Says (said d)
 
--- the manifests that the words name were upgraded: each output of the plan that is to be written stands in
--- its file, and behind them the calls in theirs, and no other file changed; the plan is shown, and what is
--- said of it; the answer is whether it changes a manifest
+-- the given manifests are upgraded: each output of the plan is in its file, then the calls are in theirs,
+-- and no other file changed; the plan and the report on it are printed; the flag is set where the plan
+-- changes a manifest
 abbrev pub IsUpgraded : Bool → (List ℕ → Type 0) → (List ℕ → Type 0) → UpgradeWords → Run → Type 0
 IsUpgraded due Shows Says words run =
     IsPlannedTo (IsAnsweredWith due Shows Says run.old run.new) words run.current run.home run.index_files
     run.old.file_at
 
--- an upgrade ended with an error at a write, or behind one
+-- an upgrade failed at a write, or after one
 abbrev pub IsBroken : (List ℕ → Type 0) → UpgradeWords → Run → Type 0
 IsBroken Shows words run =
     IsPlannedTo (λ d. IsCutShort Shows d run.old run.new) words run.current run.home run.index_files

@@ -1,4 +1,4 @@
--- What the words of `set-version` ask for.
+-- The arguments of `set-version`.
 use Rattle.std.specs.Prelude.{◌≡◌, ◌≢◌, ◌⊎◌, ◌&&◌, ◌||◌, List, Bool, Option, Some, None, Ok, Err, codes, is_some, map, option_map, string_bytes, true, false}
 use Rattle.clap.specs.Words.{Row, Text, first_of}
 use Rattle.semver.specs.Parse.{Parts, version_parts}
@@ -11,7 +11,8 @@ use Rattle.edit_program.specs.declared.set_version_run.words.SetVersionWords.{Se
 use Rattle.edit_program.specs.Asked.{is_dry, is_given, value_of, values_of}
 use Rattle.edit_program.specs.Presented.{presentation_of}
 
--- the target that a version and a level name: one of the two alone, or with neither the level `release`
+-- the target, from the arguments for a version and a level: one of the two alone, or with neither the level
+-- `release`
 abbrev pub IsTarget : Option Text → Option Text → Target → Type 0
 IsTarget None None target = target ≡ by_level Release
 IsTarget None (Some word) target =
@@ -20,21 +21,21 @@ IsTarget (Some text) None target =
     (parts : Parts) × (version_parts text ≡ Ok parts) × (target ≡ exactly parts)
 IsTarget (Some text) (Some word) target = ⊥
 
--- a version and a level name no target: the one that is there is not read, or both are there
+-- the arguments for a version and a level are wrong: the given one is invalid, or both are given
 abbrev pub HaveNoTarget : Option Text → Option Text → Type 0
 HaveNoTarget None None = ⊥
 HaveNoTarget None (Some word) = (level : BumpLevel) → word ≢ level_word level
 HaveNoTarget (Some text) None = (e : Error) × (version_parts text ≡ Err e)
 HaveNoTarget (Some text) (Some word) = Unit {0}
 
--- two of the three ways to name members are there: packages, `--all`, `--workspace`
+-- two of `--package`, `--all` and `--workspace` are given
 abbrev pub names_twice : List Row → Bool
 names_twice rows =
     (is_given (codes "all") rows && is_given (codes "workspace") rows)
     || (is_some (first_of (codes "package") rows)
     && (is_given (codes "all") rows || is_given (codes "workspace") rows))
 
--- what the matches of `set-version` ask for
+-- the options and paths that parsed arguments of `set-version` give
 pub record AskForVersions (rows : List Row) (w : SetVersionWords) : Type 0 where
   pub metadata_json : w.metadata_json.now
       ≡ value_of (codes "metadata-json") (codes "metadata.json") rows
@@ -49,7 +50,7 @@ pub record AskForVersions (rows : List Row) (w : SetVersionWords) : Type 0 where
   pub presentation : presentation_of rows ≡ Some w.presentation
   pub named_once : names_twice rows ≡ false
 
--- the matches name members twice, ask for no target, or do not say how the plan is printed
+-- the arguments select members in two ways, give no target, or no valid output format
 abbrev pub HaveVersionFault : List Row → Type 0
 HaveVersionFault rows =
     (names_twice rows ≡ true)

@@ -1,4 +1,4 @@
-//! Runs over the examples in which each call of the files fails in turn, or whose streams take only so many
+//! Runs the examples where each call of the files fails in turn, or where the streams accept only some
 //! bytes.
 use crate::rows::{Outcome, ROOM, faultless, field, kept, must, ran};
 use edit_store::{FaultStore, MemoryStore, Store};
@@ -9,7 +9,7 @@ mod examples;
 
 use examples::{Example, VERSIONS, WORKSPACE};
 
-/// What is printed where a file is looked at, read or written and the device fails.
+/// The messages of a device error when a file is examined, read or written.
 const FAULTS: [&str; 3] = [
     "Error: Failed to look at a path\n",
     "Error: Failed to read a file\n",
@@ -40,7 +40,7 @@ fn laid_out(rt: &impl Abort, alloc: Global, example: Example) -> MemoryStore {
     files
 }
 
-/// How a file stands: `n` with the text afterwards, `o` with the old one, `x` otherwise.
+/// The state of a file: `n` with the new text, `o` with the old one, `x` otherwise.
 fn letter(alloc: Global, files: &mut MemoryStore, row: &str) -> char {
     match files.read(alloc, field(row, 0)) {
         Ok(Some(bytes)) => letter_of(&bytes, field(row, 1), field(row, 2)),
@@ -48,7 +48,7 @@ fn letter(alloc: Global, files: &mut MemoryStore, row: &str) -> char {
     }
 }
 
-/// The letter of bytes.
+/// The letter for these bytes.
 fn letter_of(bytes: &[u8], old: &str, new: &str) -> char {
     if bytes == new.as_bytes() {
         'n'
@@ -59,7 +59,7 @@ fn letter_of(bytes: &[u8], old: &str, new: &str) -> char {
     }
 }
 
-/// How the files of a table stand, each by its letter.
+/// The states of the files of a table, one letter each.
 fn letters(rt: &impl Abort, alloc: Global, files: &mut MemoryStore, table: &str) -> String {
     let mut seen = String::new(alloc);
     for row in table.split('§') {
@@ -68,7 +68,7 @@ fn letters(rt: &impl Abort, alloc: Global, files: &mut MemoryStore, table: &str)
     seen
 }
 
-/// Whether the manifests of an example stand in one of these ways, and its other files as they were.
+/// Whether the manifests of an example are in one of these states, and its other files unchanged.
 fn stand(
     rt: &impl Abort,
     alloc: Global,
@@ -81,7 +81,7 @@ fn stand(
     ways.contains(manifests.as_str()) && "oo".contains(others.as_str())
 }
 
-/// The ways in which manifests may stand behind what a run printed on standard error.
+/// The possible states of manifests, from what a run printed on standard error.
 fn ways(example: Example, err: &str) -> &'static str {
     if err.contains(FAULTS[2]) {
         example.cut
@@ -90,14 +90,14 @@ fn ways(example: Example, err: &str) -> &'static str {
     }
 }
 
-/// Whether a status and what was printed on standard error tell of a fault, or of none.
+/// Whether the exit status and standard error report a device error, or none.
 fn tells(status: u8, err: &str, failed: bool) -> bool {
     let told = FAULTS.iter().any(|fault| err.contains(fault));
     told == failed && status == u8::from(failed)
 }
 
-/// Runs an example: whether a call failed; ends the test where what the run tells or leaves is not as it is
-/// to be.
+/// Runs an example, and returns whether a call failed; ends the test where the run reports or leaves
+/// something else than expected.
 fn has_failed(
     rt: &impl Abort,
     alloc: Global,
@@ -108,7 +108,7 @@ fn has_failed(
 ) -> bool {
     let done = ran(rt, alloc, example.words, files, index, (ROOM, ROOM));
     let (status, err) = (done.status, done.err.as_str());
-    // (the index is the run's own afterwards)
+    // (the run consumed the index)
     let failed = files.faults() > 0 || of_index && status != 0;
     let stands = stand(rt, alloc, &mut files.inner, example, ways(example, err));
     assert!(rt; stands, "manifests behind {err:?}");
@@ -116,7 +116,8 @@ fn has_failed(
     failed
 }
 
-/// Runs an example where a call of the files fails, or of those of the index: whether one failed.
+/// Runs an example where a call of the files, or of the index's files, fails, and returns whether one
+/// failed.
 fn fails_at(rt: &impl Abort, alloc: Global, example: Example, of_index: bool, at: u64) -> bool {
     let (at, index_at) = if of_index {
         (u64::MAX, at)
@@ -128,7 +129,7 @@ fn fails_at(rt: &impl Abort, alloc: Global, example: Example, of_index: bool, at
     has_failed(rt, alloc, example, &mut files, index, of_index)
 }
 
-/// Lets each call fail in turn, of which there are at least so many.
+/// Makes each call fail in turn; there must be at least this number of calls.
 fn in_turn(rt: &impl Abort, alloc: Global, example: Example, of_index: bool, least: u64) {
     let mut calls = 0;
     for at in 0..1000u64 {
@@ -153,7 +154,7 @@ fn each_call_of_the_index_fails(rt: HostRuntime) {
     in_turn(&rt, rt.alloc(), WORKSPACE, true, 5);
 }
 
-/// Runs an example where the streams take so many bytes: what it came to, and how the manifests stand.
+/// Runs an example whose streams accept this number of bytes: the result, and the states of the manifests.
 fn in_room(
     rt: &impl Abort,
     alloc: Global,
@@ -167,8 +168,8 @@ fn in_room(
     (done, manifests)
 }
 
-/// Ends the test where a run in which a stream takes so many bytes has not the status, or does not leave
-/// manifests in one of these ways.
+/// Ends the test where a run whose streams accept this number of bytes has another exit status, or leaves
+/// the manifests in none of these states.
 fn stands_in_room(
     rt: &impl Abort,
     alloc: Global,
@@ -185,7 +186,7 @@ fn stands_in_room(
     );
 }
 
-/// How many bytes an example prints on both streams.
+/// The numbers of bytes that an example prints on both streams.
 fn lengths(rt: &impl Abort, alloc: Global, example: Example) -> (usize, usize) {
     let (done, _) = in_room(rt, alloc, example, (ROOM, ROOM));
     (done.out.len(), done.err.len())
@@ -205,7 +206,7 @@ fn standard_output_fails_at_each_byte(rt: HostRuntime) {
 fn standard_error_fails_at_each_byte(rt: HostRuntime) {
     let (_, length) = lengths(&rt, rt.alloc(), WORKSPACE);
     for room in 0..length {
-        // notes are printed behind the manifests
+        // notes are printed after the manifests are written
         stands_in_room(&rt, rt.alloc(), WORKSPACE, (ROOM, room), (1, "oooo nnnn"));
     }
     stands_in_room(&rt, rt.alloc(), WORKSPACE, (ROOM, length), (0, "nnnn"));
@@ -215,7 +216,7 @@ fn standard_error_fails_at_each_byte(rt: HostRuntime) {
 fn standard_error_fails_at_new_versions(rt: HostRuntime) {
     let (_, length) = lengths(&rt, rt.alloc(), VERSIONS);
     for room in 0..length {
-        // all is told before a manifest is written
+        // everything is printed before a manifest is written
         stands_in_room(&rt, rt.alloc(), VERSIONS, (0, room), (1, "ooo"));
     }
     stands_in_room(&rt, rt.alloc(), VERSIONS, (0, length), (0, "nnn"));

@@ -1,5 +1,5 @@
-//! The program where a call of the files fails, or where standard output has no room. Its other rows stand in
-//! tests/cases.
+//! Tests of the program where a call of the files fails, or where standard output is full. Other tests are
+//! in tests/cases.
 use crate::rows::{ROOM, faultless, field, kept, must, ran, same};
 use edit_store::{FaultStore, MemoryStore, Store};
 use std::alloc::Global;
@@ -39,7 +39,7 @@ fn file(letter: char) -> (&'static str, &'static str) {
     }
 }
 
-/// Words of an upgrade of one manifest.
+/// The arguments of an upgrade of one manifest.
 const WORDS: &str = "upgrade --manifest-path Cargo.toml --index-file index.json";
 
 /// Each row: what it shows, the files, which call of the store fails, the words, the files afterwards, and
@@ -83,7 +83,7 @@ Error: Failed to write updated Cargo.toml
   at /w/metadata.json
 ";
 
-/// What is seen where the table is not taken: the manifest is as it was.
+/// The expected result where the table cannot be printed: the manifest is unchanged.
 const UNWRITTEN: &str = "\
 1 manifest     Checking virtual workspace's dependencies
 Error: Failed to write message
@@ -100,7 +100,7 @@ fn stored(rt: &impl Abort, alloc: Global, letters: &str) -> MemoryStore {
     files
 }
 
-/// Whether a file stands as its letter says.
+/// Whether a file has the contents that its letter means.
 fn stands<S: Store>(alloc: Global, letter: char, files: &mut S) -> bool {
     let (path, text) = file(letter);
     match files.read(alloc, path) {
@@ -109,7 +109,7 @@ fn stands<S: Store>(alloc: Global, letter: char, files: &mut S) -> bool {
     }
 }
 
-/// What words print over files, behind the status.
+/// The output of a run with these arguments, after the exit status.
 fn outcome(rt: &impl Abort, alloc: Global, words: &str, files: &mut FaultStore) -> String {
     let index = faultless(MemoryStore::new(alloc));
     let done = ran(rt, alloc, words, files, index, (ROOM, ROOM));
@@ -119,7 +119,7 @@ fn outcome(rt: &impl Abort, alloc: Global, words: &str, files: &mut FaultStore) 
     )
 }
 
-/// Runs a row: what is printed, and which of its last files do not stand.
+/// Runs a row: the output, and which of its last files have other contents.
 fn seen_of(rt: &impl Abort, alloc: Global, row: &str) -> String {
     let at = field(row, 2).parse().expect(rt, "a number");
     let mut files = FaultStore::new(stored(rt, alloc, field(row, 1)), at, 4);
@@ -132,7 +132,7 @@ fn seen_of(rt: &impl Abort, alloc: Global, row: &str) -> String {
     seen
 }
 
-/// Runs the words of an upgrade where standard output takes five bytes.
+/// Runs an upgrade whose standard output accepts five bytes.
 fn seen_without_room(rt: &impl Abort, alloc: Global) -> String {
     let mut files = faultless(stored(rt, alloc, "mi"));
     let index = faultless(MemoryStore::new(alloc));

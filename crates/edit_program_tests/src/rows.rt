@@ -1,5 +1,5 @@
-//! Rows of tables, runs of the program, and where a test ends at once: at a call that fails though it must
-//! not, and at a row that does not hold.
+//! Rows of tables, runs of the program, and the end of a test at a call that fails unexpectedly or at a row
+//! with another result than expected.
 ghost use Rattle.std.specs.Prelude.{◌≡◌, Ok};
 
 use edit_base::CargoResult;
@@ -9,10 +9,10 @@ use std::alloc::{AllocError, Global};
 use std::process::Abort;
 use std::str;
 
-/// How many bytes the streams of a run take at most.
+/// The greatest number of bytes that a stream of a run accepts.
 pub(crate) const ROOM: usize = 2048;
 
-/// What a run came to: its status, and what stands on its two streams.
+/// The result of a run: its exit status, and the texts of its two streams.
 #[derive(Drop)]
 pub(crate) struct Outcome {
     pub(crate) status: u8,
@@ -20,14 +20,14 @@ pub(crate) struct Outcome {
     pub(crate) err: String,
 }
 
-/// What a call answers, where it must succeed; a test ends here where it does not.
+/// Unwraps the result of a call that must succeed; ends the test where it failed.
 pub(crate) fn must<T: Drop>(rt: &impl Abort, answer: CargoResult<T>) -> T
     ensures { answer ≡ Ok result }
 {
     answer.expect(rt, "an answer")
 }
 
-/// The same of a call that fails for want of memory alone.
+/// Unwraps the result of a call that fails only where memory runs out; ends the test where it failed.
 pub(crate) fn kept<T: Drop>(rt: &impl Abort, answer: Result<T, AllocError>) -> T
     ensures { answer ≡ Ok result }
 {
@@ -39,17 +39,17 @@ pub(crate) fn field(row: &str, n: usize) -> &str {
     row.split('|').nth(n).unwrap_or("")
 }
 
-/// Ends a test where a row does not give what it wants.
+/// Ends a test where a row has another result than expected.
 pub(crate) fn same(rt: &impl Abort, row: &str, seen: &str, want: &str) {
     assert!(rt; seen == want, "{row}: {seen:?} in place of {want:?}");
 }
 
-/// These files, of which no call fails.
+/// A store of these files, no call of which fails.
 pub(crate) fn faultless(files: MemoryStore) -> FaultStore {
     FaultStore::new(files, u64::MAX, 0)
 }
 
-/// The text in the first bytes of a stream's room.
+/// The text in the first bytes of a stream's buffer.
 fn text_in(rt: &impl Abort, alloc: Global, room: &[u8; ROOM], length: usize) -> String {
     let bytes = room.get(..length).expect(rt, "room");
     let text = str::from_utf8(bytes).expect(rt, "UTF-8");

@@ -1,4 +1,4 @@
-//! The status of a run, what it leaves of the manifest, and how standard error ends.
+//! Tests of the exit status of a run, of the manifest after it, and of the end of standard error.
 use crate::rows::{ROOM, faultless, field, must, ran, same};
 use edit_store::{FaultStore, MemoryStore, Store};
 use std::alloc::Global;
@@ -38,7 +38,7 @@ fn laid_out(rt: &impl Abort, alloc: Global) -> FaultStore {
     faultless(files)
 }
 
-/// Whether a text is that of the manifest as it was, raised, or another one.
+/// Whether a text is the unchanged manifest, the raised one, or another one.
 fn text_state(text: &[u8]) -> &'static str {
     if text == MANIFEST.as_bytes() {
         "old"
@@ -49,7 +49,7 @@ fn text_state(text: &[u8]) -> &'static str {
     }
 }
 
-/// Whether the manifest is as it was, raised, or another one.
+/// Whether the manifest is unchanged, raised, or another one.
 fn manifest_state(alloc: Global, files: &mut FaultStore) -> &'static str {
     match files.read(alloc, "/w/Cargo.toml") {
         Ok(Some(bytes)) => text_state(bytes.as_slice()),
@@ -57,7 +57,7 @@ fn manifest_state(alloc: Global, files: &mut FaultStore) -> &'static str {
     }
 }
 
-/// Ends the test where a row does not hold.
+/// Ends the test where a row does not give its expected result.
 fn check_row(rt: &impl Abort, alloc: Global, row: &str) {
     let mut files = laid_out(rt, alloc);
     let index = faultless(MemoryStore::new(alloc));

@@ -1,4 +1,4 @@
--- Tables, worked out.
+-- Worked examples of tables.
 use Rattle.std.proofs.Common.{◌≡◌, [], ◌∷◌, ◌++◌, refl, true, false}
 use Rattle.std.specs.Prelude.{codes}
 use Rattle.edit_report.specs.Table.{columns, headings, lines_text, underlines}

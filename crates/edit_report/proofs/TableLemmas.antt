@@ -1,4 +1,4 @@
--- Tables of rows and of lines, as the program has both.
+-- Tables of rows and of lines, over the specification's and the program's types.
 use Rattle.std.proofs.Common.{◌≡◌, ℕ, List, [], ◌∷◌, ◌++◌, Bool, ◌||◌, map, refl, sym, ◌∙◌, ap, length, ◌<◌, arith}
 use Rattle.std.specs.Prelude.{codes}
 use Rattle.std.specs.List.{flat_map, join_by, list_any}

@@ -1,4 +1,4 @@
--- Bumped crates of a workspace stand in folders of their own.
+-- No two bumped crates of a workspace share a folder.
 use Rattle.std.proofs.Common.{◌≡◌, ◌≢◌, ◌∙◌, ◌<◌, ℕ, zero, suc, arith, List, [], ◌∷◌, ◌++◌, Bool, true, false, Option, Some, None, length, map, not, refl, sym, ap, subst, slice_index_or, inl, inr}
 use Rattle.std.specs.Prelude.{◌&&◌, ◌==◌, AllPairs}
 use Rattle.std.specs.List.{AllByRecursion, AllZip, filter, filter_map}

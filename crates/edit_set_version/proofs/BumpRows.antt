@@ -1,5 +1,5 @@
--- Versions bumped: rows worked out, over the parts of versions (the digits of a number do not compute, so
--- they stand as `decimal`).
+-- Worked examples of bumps, over the parts of versions (the digits of a number do not compute, so they are
+-- given as `decimal`).
 use Rattle.std.proofs.Common.{◌≡◌, ℕ, Bool, true, false, List, [], ◌++◌, Some, None, refl}
 use Rattle.std.specs.Prelude.{codes}
 use Rattle.std.specs.Fmt.{decimal}

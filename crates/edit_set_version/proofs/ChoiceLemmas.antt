@@ -1,4 +1,4 @@
--- Lists of crates, one by one, and the parts that they are chosen from.
+-- Induction over lists of crates, and the subsets that they are chosen from.
 use Rattle.std.proofs.Common.{◌≡◌, ◌∙◌, ◌+◌, ◌<◌, ℕ, zero, suc, arith, List, [], ◌∷◌, ◌++◌, Bool, true, false, Bor, append-nil, length, map, not, take, get_or, refl, ap, sym}
 use Rattle.std.specs.Prelude.{◌&&◌, Contains, Option, if◌then◌else◌, option_to_list}
 use Rattle.std.specs.BTreeSet.{contains_text}

@@ -1,4 +1,4 @@
--- What a plan writes stands neither at nor above what shows a manifest's entries.
+-- The edits of a plan are neither at nor above the places that determine a manifest's entries.
 use Rattle.std.proofs.Common.{◌≡◌, ℕ, Bool, true, false, ◌&&◌, List, [], ◌∷◌, refl, ap, inl, inr}
 use Rattle.std.specs.Prelude.{codes}
 use Rattle.std.proofs.lemmas.Bool.{cases_Bool}

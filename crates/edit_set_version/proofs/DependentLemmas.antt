@@ -1,4 +1,4 @@
--- The requirements on bumped crates, with the numbers of their bumps.
+-- The requirements on bumped crates, with the indices of their bumps.
 use Rattle.std.proofs.Common.{◌≡◌, ◌∙◌, ℕ, zero, arith, List, [], ◌∷◌, ◌++◌, cond, map, Option, Some, None, option_map, refl, ap, sym, subst, inl, inr}
 use Rattle.std.specs.Prelude.{Contains, codes, nat_eq, option_to_list}
 use Rattle.std.specs.declared.collections.BTreeMap.{BTreeMap}

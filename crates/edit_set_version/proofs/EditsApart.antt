@@ -1,4 +1,4 @@
--- What a plan writes into a manifest stands at places that differ, none inside another.
+-- The edits of a plan in a manifest are at distinct places, none inside another.
 use Rattle.std.proofs.Common.{◌≡◌, ◌≢◌, ◌∙◌, ℕ, Bool, true, false, List, [], ◌∷◌, ◌++◌, Option, Some, None, map, refl, ap, ap₂, sym, subst, inl, inr}
 use Rattle.std.specs.Prelude.{codes, option_and_then}
 use Rattle.std.specs.List.{AllByRecursion, filter, filter_map, flat_map}

@@ -1,4 +1,4 @@
--- What stands in an input against what is written into it, or does not.
+-- When the edits of an input are possible, and which error they cause otherwise.
 use Rattle.std.proofs.Common.{◌≡◌, ◌≢◌, ◌∙◌, ℕ, List, [], true, ◌⊎◌, ap, inl, inr, subst, sym}
 use Rattle.std.proofs.Math.Path.{fun_ext}
 use Rattle.std.specs.Prelude.{Contains}

@@ -1,4 +1,4 @@
--- A plan leaves the entries of a manifest where they are.
+-- A plan preserves the places of a manifest's entries.
 use Rattle.std.proofs.Common.{◌≡◌, ℕ, List, [], ◌∷◌, ◌++◌, map, Some, None, refl, ap, ap₂, ◌∙◌, inl, inr}
 use Rattle.std.specs.Prelude.{codes, if◌then◌else◌, option_to_list}
 use Rattle.std.specs.List.{AllByRecursion, flat_map}

@@ -1,4 +1,4 @@
--- The names of a path's normal form are those that a walk along its parts gives.
+-- The components of a normalized path are those that a walk along its parts gives.
 use Rattle.std.proofs.Common.{◌≡◌, ◌≢◌, ◌∙◌, ℕ, List, [], ◌∷◌, ◌++◌, Bool, true, false, refl, sym, ap, inl, inr, reverse}
 use Rattle.std.proofs.lemmas.List.{reverse-append}
 use Rattle.std.specs.Prelude.{codes, ◌||◌, if◌then◌else◌}

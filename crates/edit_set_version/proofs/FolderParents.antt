@@ -1,4 +1,4 @@
--- The folder of a manifest, as the text before the last slash of its normal path and by names.
+-- The folder of a manifest: the text before the last slash of its normalized path, and its components.
 use Rattle.std.proofs.Common.{◌≡◌, ◌∙◌, ◌<◌, ℕ, arith, List, [], ◌∷◌, ◌++◌, Bool, true, false, refl, sym, ap, subst, reverse, cond, length, length-append}
 use Rattle.std.specs.Prelude.{◌||◌, codes, slice_index}
 use Rattle.std.specs.List.{AllByRecursion, flat_map}

@@ -1,4 +1,4 @@
--- Two folders are equal where their texts are.
+-- Two folders are equal if and only if their texts are.
 use Rattle.std.proofs.Common.{◌≡◌, ◌∙◌, ℕ, List, [], ◌∷◌, Bool, true, false, refl, sym, ap, subst, reverse, cond, ◌++◌, Some, None, Option, option_map}
 use Rattle.std.specs.Prelude.{◌&&◌, codes, is_some, if◌then◌else◌}
 use Rattle.std.specs.List.{AllByRecursion}

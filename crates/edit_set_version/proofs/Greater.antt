@@ -1,4 +1,4 @@
--- A version that is taken for its order is greater, whatever its build metadata becomes.
+-- A requested version that is taken is greater, whatever build metadata it gets.
 use Rattle.std.proofs.Common.{◌≡◌, ◌∷◌, [], List, ℕ, Bool, refl, sym, subst, arith, length, inl, inr, eqb-true}
 use Rattle.std.specs.Prelude.{◌==◌, Option, Some, None, nat_lt}
 use Rattle.std.specs.List.{onto_first, slice_split}

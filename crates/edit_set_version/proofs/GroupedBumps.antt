@@ -1,5 +1,5 @@
--- Where bumped crates stand in folders of their own, what depends on one of them alone is what depends on it
--- among all.
+-- Where no two bumped crates share a folder, the requirements on one of them are the same whether it is
+-- bumped alone or with the others.
 use Rattle.std.proofs.Common.{◌≡◌, ◌∙◌, ℕ, suc, List, [], ◌∷◌, ◌++◌, true, false, length, Option, Some, None, option_map, refl, ap, sym, inl, inr}
 use Rattle.std.specs.Prelude.{◌==◌, if◌then◌else◌, option_and_then}
 use Rattle.std.specs.List.{AllByRecursion, cons_option, filter_map}

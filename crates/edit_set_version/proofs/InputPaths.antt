@@ -1,4 +1,4 @@
--- The inputs of a workspace have paths of their own.
+-- The inputs of a workspace have distinct paths.
 use Rattle.std.proofs.Common.{◌≡◌, ◌≢◌, ◌∙◌, ℕ, zero, suc, arith, List, [], ◌∷◌, ap, map, refl, subst, sym}
 use Rattle.std.specs.Prelude.{All, AllPairs, Contains}
 use Rattle.std.specs.List.{AllZip}

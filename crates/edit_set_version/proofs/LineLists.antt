@@ -1,4 +1,4 @@
--- Lists of lines that grow at their ends, by the numbers of bumps.
+-- Lists of lines to which lines are appended, by the index of their bump.
 use Rattle.std.proofs.Common.{◌≡◌, ◌∙◌, ◌+◌, ◌<◌, ℕ, zero, suc, arith, List, [], ◌∷◌, ◌++◌, false, Some, None, refl, sym, ap, ap₂, inl, inr, length, map, get_or, slice_set, ◌≤◌}
 use Rattle.std.specs.Prelude.{◌==◌}
 use Rattle.std.specs.List.{filter_map}

@@ -1,4 +1,4 @@
--- The lists of lines that are filled while the manifests are walked hold the lines of the bumps.
+-- The lists of lines collected while the manifests are walked are the lines of the bumps.
 use Rattle.std.proofs.Common.{◌≡◌, ◌∙◌, ℕ, suc, arith, List, [], ◌∷◌, ◌++◌, length, length-append, map, refl, sym, ap, subst}
 use Rattle.std.specs.List.{filter_map, flat_map}
 use Rattle.std.proofs.lemmas.List.{append_assoc}

@@ -1,4 +1,4 @@
--- Why a version is not made, where build metadata are to be set then.
+-- The errors of making a version before its build metadata is set.
 use Rattle.std.proofs.Common.{List, ℕ, Bool, true, false, Option, Some, None}
 use Rattle.std.specs.Prelude.{if◌then◌else◌}
 use Rattle.semver.specs.Grammar.{is_build}

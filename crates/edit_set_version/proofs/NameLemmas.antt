@@ -1,4 +1,4 @@
--- Names, one by one: which are among them, and which are missing.
+-- Induction over names: which are in a list, and which are missing.
 use Rattle.std.proofs.Common.{◌≡◌, ◌≢◌, ◌==◌, ℕ, ◌+◌, ◌<◌, List, [], ◌∷◌, ◌++◌, Bool, true, false, cond, length, map, not, take, get_or, refl, ap, sym, true≢false, ◌∙◌}
 use Rattle.std.specs.Prelude.{◌||◌, if◌then◌else◌}
 use Rattle.std.specs.List.{filter, list_any}

@@ -1,4 +1,4 @@
--- The outputs of inputs, one input after another.
+-- The outputs of inputs, in the order of the inputs.
 use Rattle.std.proofs.Common.{All, ◌≡◌, ◌≢◌, ◌∙◌, ◌+◌, ◌<◌, ℕ, List, [], ◌∷◌, ◌++◌, Bool, true, false, Option, append-nil, cond, get_or, length, map, not, refl, ap, ap₂, subst, sym, take, inl, inr}
 use Rattle.std.specs.Prelude.{◌==◌, string_bytes}
 use Rattle.std.specs.List.{AllByRecursion, AllZip, filter, flat_map}

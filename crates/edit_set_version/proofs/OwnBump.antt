@@ -1,4 +1,4 @@
--- The one bump whose own version is written into a manifest.
+-- The one bump whose version is written into a manifest.
 use Rattle.std.proofs.Common.{◌≡◌, ◌∙◌, ◌<◌, ℕ, zero, suc, arith, List, [], ◌∷◌, ◌++◌, Bool, true, false, Option, Some, None, cond, get_or, length, map, option_map, refl, ap, sym, subst, inl, inr}
 use Rattle.std.specs.Prelude.{◌&&◌, String, codes}
 use Rattle.std.specs.declared.alloc.Global.{Global}

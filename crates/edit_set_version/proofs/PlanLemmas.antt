@@ -1,4 +1,4 @@
--- What a plan promises, by what its steps give.
+-- The guarantees of a plan, from those of its steps.
 use Rattle.std.proofs.Common.{◌≡◌, ◌≢◌, ◌⊎◌, ◌∙◌, ℕ, zero, suc, arith, List, [], ◌∷◌, ◌++◌, Bool, true, false, Bor, Option, Ok, Err, Some, None, not, ap, ap₂, inl, inr, length, map, option_map, refl, slice_index_or, subst, sym}
 use Rattle.std.specs.Prelude.{◌==◌, ◌&&◌, All, Contains, IfErr, IfOk, IfSome, OnOk, if◌then◌else◌, option_and_then, option_copied, option_to_list, Result}
 use Rattle.std.specs.List.{AllZip, filter, flat_map}

@@ -1,4 +1,4 @@
--- What a plan of new versions is, part by part.
+-- The parts of the definition of a plan of new versions.
 use Rattle.std.proofs.Common.{◌≡◌, List, Ok, Err}
 use Rattle.std.specs.Prelude.{All, IfOk, Result}
 use Rattle.edit_base.specs.declared.errors.Error.{Error}

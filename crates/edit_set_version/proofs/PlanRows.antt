@@ -1,5 +1,5 @@
--- Set-version plans at small workspaces: who is chosen, which requirements are on bumped crates, and what is
--- written.
+-- Worked set-version plans for small workspaces: which members are chosen, which requirements are on bumped
+-- crates, and which edits are made.
 use Rattle.std.proofs.Common.{◌≡◌, ℕ, List, [], ◌∷◌, None, refl, false, true}
 use Rattle.std.specs.Prelude.{codes, map}
 use Rattle.semver.specs.Parse.{Parts}

@@ -1,4 +1,4 @@
--- Set-version plans at small workspaces: what is written and reported, as texts.
+-- Worked set-version plans for small workspaces: the new texts and the lines of the report.
 use Rattle.std.proofs.Common.{◌≡◌, [], ◌∷◌, None, refl, false}
 use Rattle.std.specs.Prelude.{codes}
 use Rattle.std.specs.Fmt.{digits}

@@ -1,4 +1,4 @@
--- The requirements on bumped crates are those of the path dependencies that lead to one.
+-- The requirements on bumped crates are those of the path dependencies whose paths name one.
 use Rattle.std.proofs.Common.{◌≡◌, ℕ, List, [], ◌∷◌, ◌++◌, map, Option, Some, None, refl, ap, ◌∙◌, sym}
 use Rattle.std.specs.Prelude.{option_and_then, option_map, option_to_list}
 use Rattle.std.specs.List.{cons_option, filter_map, flat_map}

@@ -1,4 +1,4 @@
--- The members of a project are the crates that stand beside their inputs and manifests.
+-- The members of a project are the packages zipped with their inputs and manifests.
 use Rattle.std.proofs.Common.{◌≡◌, ◌∙◌, ℕ, zero, suc, ◌+◌, Bor, List, [], ◌∷◌, ◌++◌, ap, arith, drop, length, length-append, map, refl, subst, sym}
 use Rattle.std.specs.Prelude.{Contains}
 use Rattle.std.specs.List.{AllZip}

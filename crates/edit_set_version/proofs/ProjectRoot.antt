@@ -1,4 +1,4 @@
--- The root of a workspace stands among its inputs.
+-- The root of a workspace is among its inputs.
 use Rattle.std.proofs.Common.{◌≡◌, ◌∙◌, ℕ, zero, suc, ◌<◌, List, [], ◌∷◌, arith, get_or, length, subst, sym}
 use Rattle.std.specs.Prelude.{Contains, string_bytes}
 use Rattle.std.specs.List.{AllZip}

@@ -1,5 +1,4 @@
--- The normal form of a path spells the folder that it leads to, and folders that differ are spelled
--- otherwise.
+-- A normalized path determines its folder, and different folders have different normalized paths.
 use Rattle.std.proofs.Common.{◌≡◌, ◌∙◌, ℕ, List, [], ◌∷◌, ◌++◌, Bool, true, false, refl, sym, ap, inl, inr, reverse, cond}
 use Rattle.std.specs.Prelude.{◌==◌, ◌||◌, codes}
 use Rattle.std.specs.List.{AllByRecursion, flat_map, onto_first}

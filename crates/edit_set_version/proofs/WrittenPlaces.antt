@@ -1,4 +1,4 @@
--- What stands at a place after a plan wrote into a manifest.
+-- The item at a place after the edits of a plan.
 use Rattle.std.proofs.Common.{◌≡◌, ℕ, Bool, true, false, List, [], ◌∷◌, ◌++◌, Option, Some, None, refl, sym, ap, ap₂, ◌∙◌, subst, ◌⊎◌, inl, inr}
 use Rattle.std.specs.Prelude.{codes, option_and_then, option_map}
 use Rattle.std.specs.List.{AllByRecursion, filter_map}

@@ -1,4 +1,4 @@
--- The changes of manifests, one input after the other.
+-- The diffs of manifests, one input after the other.
 use Rattle.std.proofs.Common.{◌≡◌, ◌∙◌, ℕ, ◌≤◌, List, [], ◌∷◌, true, ap, arith, get_or, length, sym}
 use Rattle.std.specs.Prelude.{if◌then◌else◌}
 use Rattle.edit_metadata.specs.declared.input.Input.{Input}

@@ -1,4 +1,4 @@
--- The lines of a diff that are kept or removed are the old text, those that are kept or added the new one.
+-- The unchanged and removed lines of a diff are the old text, the unchanged and added lines the new one.
 use Rattle.std.proofs.Common.{◌≡◌, ℕ, ◌+◌, ◌≤◌, zero, suc, max, List, [], ◌∷◌, ◌++◌, Bool, true, false, cond, Option, Some, None, length, take, refl, ap, sym, ◌∙◌, ⊎_elim, arith}
 use Rattle.std.specs.Prelude.{◌==◌, slice_get}
 use Rattle.std.specs.List.{concat, flat_map, range_with_len}

@@ -1,4 +1,4 @@
--- A text is cut behind its first line.
+-- Splitting a text after its first line.
 use Rattle.std.proofs.Common.{◌≡◌, ℕ, ◌+◌, ◌<◌, suc, List, [], ◌∷◌, length, take, drop, get_or, true, false, ap, sym, ◌∙◌, ⊎_elim, arith, length-drop}
 use Rattle.std.specs.Prelude.{◌==◌}
 use Rattle.std.proofs.lemmas.Bool.{cond-true, cond-false, cases_Bool}

@@ -1,4 +1,4 @@
--- Lists that are made number by number.
+-- Lists that are built index by index.
 use Rattle.std.proofs.Common.{◌≡◌, ℕ, ◌+◌, ◌<◌, ◌≤◌, suc, Bool, List, [], ◌∷◌, ◌++◌, map, true, false, cond, length, take, drop, get_or, refl, ap, sym, ◌∙◌, ⊎_elim, add-zero, arith}
 use Rattle.std.specs.List.{count_by, flat_map, range_with_len}
 use Rattle.std.proofs.Math.ListN.{drop_of_length-le}

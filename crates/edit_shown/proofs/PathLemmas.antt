@@ -1,4 +1,4 @@
--- What stands of a path behind a folder, from the standard call that takes a text from the front.
+-- The rest of a path after a folder, by `strip_prefix`.
 use Rattle.std.proofs.Common.{◌≡◌, ◌∙◌, ℕ, List, None, true, false, ap, drop, length, subst, sym}
 use Rattle.std.specs.Prelude.{codes, if◌then◌else◌, nat_eq}
 use Rattle.std.specs.List.{starts_with}

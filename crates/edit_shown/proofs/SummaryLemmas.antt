@@ -1,4 +1,4 @@
--- The members of the last message, from the calls as they are seen.
+-- The members of the summary, from the calls' texts.
 use Rattle.std.proofs.Common.{◌≡◌, ◌∙◌, List, [], ◌∷◌, ap, map, refl}
 use Rattle.std.specs.Prelude.{String, Vec, codes, string_bytes}
 use Rattle.std.specs.declared.alloc.Global.{Global}

@@ -1,4 +1,4 @@
--- The parts of a diff as the program has their lines.
+-- The hunks of a diff, over the program's lines.
 use Rattle.std.proofs.Common.{◌≡◌, ℕ, List, ap, ◌∙◌}
 use Rattle.edit_shown.specs.Hunks.{parts_text}
 use Rattle.edit_shown.specs.Lines.{lines_of}

@@ -1,4 +1,4 @@
--- Texts that differ pairwise.
+-- Pairwise distinct texts.
 use Rattle.std.proofs.Common.{◌≡◌, ◌≢◌, ℕ, zero, suc, ◌<◌, List, [], ◌∷◌, Bool, length, map, sym, subst, arith}
 use Rattle.std.specs.Prelude.{All, AllPairs, filter, slice_index_or, string_bytes}
 use Rattle.std.proofs.lemmas.List.Elements.{All-cons, All-nil}

@@ -1,4 +1,4 @@
--- The manifest that is found, where no file is read at its path.
+-- Finding the manifest where no file is read at its path.
 use Rattle.std.proofs.Common.{◌≡◌, ◌∙◌, ℕ, List, true, false, Option, None, sym, subst, inl, inr}
 use Rattle.std.specs.Prelude.{is_some}
 use Rattle.edit_base.specs.declared.errors.Error.{Error}

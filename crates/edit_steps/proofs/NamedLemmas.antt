@@ -1,4 +1,4 @@
--- Configuration files that are named, and the configurations of a manifest with them.
+-- Given configuration files, and the configurations of a manifest with them.
 use Rattle.std.proofs.Common.{◌≡◌, ◌∙◌, ◌++◌, ℕ, List, Option, Some, None, true, ap, inl, inr, refl, subst, sym}
 use Rattle.std.proofs.lemmas.List.{append_assoc}
 use Rattle.std.specs.Borrow.{Bor}

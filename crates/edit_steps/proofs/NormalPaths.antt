@@ -1,4 +1,4 @@
--- A path has one normal form, and a text one folder.
+-- A path has exactly one normalized form, and a text names exactly one folder.
 use Rattle.std.proofs.Common.{◌≡◌, ◌≢◌, ◌∙◌, ℕ, zero, suc, ◌<◌, List, [], ◌∷◌, ◌++◌, false, Option, Some, None, length, refl, sym, ap, inl, inr, reverse, arith}
 use Rattle.std.specs.Prelude.{◌==◌, codes, if◌then◌else◌}
 use Rattle.std.specs.Str.{bytes_eq}

@@ -1,4 +1,4 @@
--- What was read, one part after another, and why a part is not read.
+-- Reading one file after another, and the errors of each.
 use Rattle.std.proofs.Common.{◌≡◌, ◌∙◌, ◌<◌, ◌^◌, ◌+◌, ◌++◌, ◌∷◌, ℕ, List, [], Option, None, Some, true, ap, arith, refl, get_or, inl, inr, length, sym, subst, take}
 use Rattle.std.specs.Global.{Vec}
 use Rattle.std.specs.List.{AllZip}

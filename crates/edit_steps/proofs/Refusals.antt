@@ -1,4 +1,4 @@
--- What is known of a refusal that was made of another.
+-- The fields of an error that is made from another.
 use Rattle.std.proofs.Common.{◌≡◌, Result, Ok, Err, subst, sym}
 use Rattle.std.specs.Prelude.{IfErr, IsErrAnd, OnErr}
 use Rattle.edit_base.specs.declared.errors.Error.{Error}

@@ -1,4 +1,4 @@
--- The inputs of a workspace whose members stand in folders of their own, and files that were only read.
+-- The inputs of a workspace whose members have distinct folders, and files that were only read.
 use Rattle.std.proofs.Common.{◌≡◌, ◌≢◌, ◌∙◌, ℕ, zero, suc, ◌<◌, ◌^◌, List, [], ◌∷◌, length, map, true, Some, ap, sym, subst, inl, inr, arith}
 use Rattle.std.specs.Prelude.{◌⊎◌, All, Contains, slice_index_or, string_bytes}
 use Rattle.std.specs.List.{AllZip}

@@ -1,4 +1,4 @@
--- Files that were read before outputs are written to them.
+-- Files that are read before outputs are written to them.
 use Rattle.std.proofs.Common.{◌∙◌, ◌++◌, List, [], ap, append-nil, arith, map, sym}
 use Rattle.edit_report.proofs.ApplyLemmas.{stopped_since}
 use Rattle.edit_report.specs.Applied.{AreWritten, HasStopped, path_of}

@@ -1,4 +1,4 @@
--- What an upgrade is asked to rest on, as contracts see it.
+-- The files that an upgrade is requested to read.
 use Rattle.std.specs.Prelude.{ℕ, List, Option, Some, None, false, true}
 use Rattle.edit_metadata.specs.Inputs.{RustAsked}
 use Rattle.edit_sources.specs.Configured.{given}
@@ -7,13 +7,13 @@ use Rattle.edit_steps.specs.declared.upgrade_read.asked.Asked.{Asked}
 use Rattle.edit_steps.specs.declared.upgrade_read.asked.RustChoice.{RustChoice}
 use Rattle.edit_steps.specs.declared.upgrade_read.asked.RustChoice.TheVariants.{Given, Ignored, Own}
 
--- what is asked of Rust versions
+-- the request for Rust versions
 abbrev pub asked_rust : RustChoice → RustAsked
 asked_rust Own = record { given = None; ignored = false }
 asked_rust Ignored = record { given = None; ignored = true }
 asked_rust (Given version) = record { given = Some (numbers_of version); ignored = false }
 
--- what is named, as it is written, and what is asked of Rust versions
+-- the given paths, as they are written, and the request for Rust versions
 pub record Asking : Type 0 where
   pub manifest : Option (List ℕ)
   pub metadata : Option (List ℕ)
@@ -23,7 +23,7 @@ pub record Asking : Type 0 where
   pub default_config : Option (List ℕ)
   pub rust : RustAsked
 
--- what is asked for
+-- the request of the program's type
 abbrev pub asking_of : Asked → Asking
 asking_of asked = record {
   manifest = given asked.manifest_path;

@@ -1,4 +1,4 @@
--- Why what an upgrade rests on is not read.
+-- The causes of errors of reading the files that an upgrade depends on.
 use Rattle.std.specs.Prelude.{◌≡◌, ◌⊎◌, ℕ, List, Option, Some, None, Contains, string_bytes, true}
 use Rattle.std.specs.Global.{Vec}
 use Rattle.edit_base.specs.declared.errors.DeviceCall.TheVariants as call
@@ -19,11 +19,11 @@ use Rattle.edit_steps.specs.Asking.{Asking}
 use Rattle.edit_steps.specs.Named.{AreConfigured, ArePairRead, HasNoFile, Pair}
 use Rattle.edit_steps.specs.Sources.{AreInputsRead}
 
--- memory ran out, or the device failed at a look or a read and the count of faults rose
+-- out of memory, or a device error in a read, which is counted
 abbrev pub IsFailure : StoreView → StoreView → Error → Type 0
 IsFailure old new e = RefusesCall call.Kind old new e ⊎ RefusesCall call.Read old new e
 
--- where the manifest would be, a folder stands
+-- a folder is at the path of the manifest
 pub record IsFolderThere (files : Files) (current : List ℕ) (named : Option (List ℕ)) (e : Error)
     : Type 0 where
   pub path : List ℕ
@@ -40,13 +40,14 @@ pub record IsNoManifest (files : Files) (current : List ℕ) (named : Option (Li
   pub is : files path ≡ Some bytes
   pub bad : IsBadManifest bytes e
 
--- why the manifest is not read: none is found, a folder stands there, or its bytes are none
+-- the cause of an error of reading the manifest: none is found, a folder is there, or its bytes are no
+-- manifest
 abbrev pub IsManifestCause : Files → List ℕ → Option (List ℕ) → Error → Type 0
 IsManifestCause files current named e =
     HasNoManifest files current e named
     ⊎ (IsFolderThere files current named e ⊎ IsNoManifest files current named e)
 
--- why there are no manifests to plan for: the one that is to be found, or the workspace that is named, is not
+-- the cause of an error of reading the manifests: the nearest manifest, or the given workspace, cannot be
 -- read
 pub data HasNoTarget (files : Files) (current : List ℕ) (asking : Asking) (e : Error) : Type 0 where
   no_manifest : asking.metadata ≡ None → IsManifestCause files current asking.manifest e
@@ -54,7 +55,7 @@ pub data HasNoTarget (files : Files) (current : List ℕ) (asking : Asking) (e :
   no_workspace : (named : List ℕ) → asking.metadata ≡ Some named → HasNoWorkspace files current named e
       → HasNoTarget files current asking e
 
--- a configuration is not read: that of a file that is named, or one of an input's own
+-- a configuration cannot be read: that of a given file, or one of an input
 pub data IsUnconfigured (files : Files) (home : Option (List ℕ)) (pair : Pair) (inputs : List Input)
     (e : Error) : Type 0 where
   of_named : (file : List ℕ × List ℕ) → (pair.first ≡ Some file) ⊎ (pair.last ≡ Some file) → IsUnread file e
@@ -63,37 +64,37 @@ pub data IsUnconfigured (files : Files) (home : Option (List ℕ)) (pair : Pair)
       → ConfigsFail true files (string_bytes input.path) home e
       → IsUnconfigured files home pair inputs e
 
--- why no index is read: there is no file, or a line of it is refused
+-- the cause of an error of an index file: it is missing, or one of its lines is invalid
 abbrev pub IsUnindexed : Option (List ℕ) → Error → Type 0
 IsUnindexed None e = e ≡ NoPath
 IsUnindexed (Some bytes) e = RefusesLines (lines_of bytes) e
 
--- why the index file that is named is not read
+-- the cause of an error of reading the given index file
 pub record IsIndexCause (files : Files) (current named : List ℕ) (e : Error) : Type 0 where
   pub path : List ℕ
   pub at : IsAbsoluteOf current named path
   pub unindexed : IsUnindexed (files path) e
 
--- an index file is named, and it is not read
+-- an index file is given, and it cannot be read
 pub record HasNoIndex (files : Files) (current : List ℕ) (index : Option (List ℕ)) (e : Error)
     : Type 0 where
   pub named : List ℕ
   pub is : index ≡ Some named
   pub cause : IsIndexCause files current named e
 
--- a configuration file that is named is not there
+-- a given configuration file is missing
 abbrev pub LacksNamed : Files → List ℕ → Asking → Error → Type 0
 LacksNamed files current asking e =
     HasNoFile files current asking.config e ⊎ HasNoFile files current asking.default_config e
 
--- the manifests were read, and a configuration file that is named is not there
+-- the manifests were read, and a given configuration file is missing
 pub record StopsAtNamed (files : Files) (current : List ℕ) (asking : Asking) (e : Error) : Type 0 where
   pub workspace : Option Workspace
   pub inputs : List Input
   pub read : AreInputsRead files current asking workspace inputs
   pub cause : LacksNamed files current asking e
 
--- the manifests were read, and a configuration is not
+-- the manifests were read, and a configuration cannot be read
 pub record StopsAtConfigs (files : Files) (current : List ℕ) (home : Option (List ℕ)) (asking : Asking)
     (e : Error) : Type 0 where
   pub workspace : Option Workspace
@@ -103,7 +104,7 @@ pub record StopsAtConfigs (files : Files) (current : List ℕ) (home : Option (L
   pub named : ArePairRead files current asking pair
   pub cause : IsUnconfigured files home pair inputs e
 
--- the manifests and their configurations were read, and the index is not
+-- the manifests and their configurations were read, and the index cannot be read
 pub record StopsAtIndex (files : Files) (current : List ℕ) (home : Option (List ℕ)) (asking : Asking)
     (e : Error) : Type 0 where
   pub workspace : Option Workspace
@@ -115,14 +116,14 @@ pub record StopsAtIndex (files : Files) (current : List ℕ) (home : Option (Lis
   pub configured : AreConfigured files home pair inputs configs
   pub cause : HasNoIndex files current asking.index e
 
--- what is wrong with the files: with the manifests or metadata, else a configuration file that is named, else
--- a configuration, else the index
+-- the cause in the files: the manifests or metadata, else a given configuration file, else a configuration,
+-- else the index
 abbrev pub IsWrong : Files → List ℕ → Option (List ℕ) → Asking → Error → Type 0
 IsWrong files current home asking e =
     HasNoTarget files current asking e ⊎ (StopsAtNamed files current asking e
     ⊎ (StopsAtConfigs files current home asking e ⊎ StopsAtIndex files current home asking e))
 
--- why what an upgrade rests on is not read: memory or the device failed, or something is wrong with the files
+-- the cause of an error: out of memory, a device error, or the files
 abbrev pub IsReadCause : List ℕ → Option (List ℕ) → Asking → StoreView → StoreView → Error → Type 0
 IsReadCause current home asking old new e =
     IsFailure old new e ⊎ (old.tells ≡ true → IsWrong old.file_at current home asking e)

@@ -1,9 +1,9 @@
--- The device's error, also of a store that does not tell its files (own).
+-- Device errors, which are counted for every store (own).
 use Rattle.std.specs.Prelude.{◌≡◌}
 use Rattle.edit_base.specs.declared.errors.Error.{Error}
 use Rattle.edit_base.specs.Errors.{number_of}
 use Rattle.edit_store.specs.Store.{StoreView, raised}
 
--- the error is the device's only where the count of faults rose (own)
+-- a device error implies that the count of faults rose (own)
 abbrev pub CountsFault : StoreView → StoreView → Error → Type 0
 CountsFault old new e = number_of e ≡ 3 → raised old.faults new.faults

@@ -1,4 +1,4 @@
--- Configuration files that the command line names, and the configurations of a manifest with them.
+-- Configuration files that the command line gives, and the configurations of a manifest with them.
 use Rattle.std.specs.Prelude.{◌≡◌, ℕ, List, ◌++◌, Option, Some, None, ⊤, option_map, string_bytes}
 use Rattle.std.specs.Borrow.{Bor}
 use Rattle.std.specs.Global.{Vec}
@@ -23,18 +23,18 @@ PathAndBytes = List ℕ × List ℕ
 abbrev pub path_and_bytes : NamedFile → PathAndBytes
 path_and_bytes file = (string_bytes file.path, file.bytes.items)
 
--- the same, of a file that need not be there
+-- the path and the bytes of an optional file that was read
 abbrev pub seen : Option (Bor NamedFile) → Option PathAndBytes
 seen file = option_map (λ f. path_and_bytes f.now) file
 
--- the file that is named stands at its absolute path, with these bytes; where none is named there is none
+-- the given file is at its absolute path, with these bytes; none where no file is given
 abbrev pub IsNamedRead : Files → List ℕ → Option (List ℕ) → Option PathAndBytes → Type 0
 IsNamedRead files current None None = ⊤
 IsNamedRead files current (Some named) (Some file) =
     IsAbsoluteOf current named file.0 × (files file.0 ≡ Some file.1)
 IsNamedRead files current _ _ = ⊥
 
--- the two files that may be named: the one that counts before all others, and the one that counts after them
+-- the two files that may be given: with the highest and with the lowest precedence
 pub record Pair : Type 0 where
   pub first : Option PathAndBytes
   pub last : Option PathAndBytes
@@ -46,21 +46,22 @@ pair_of named = record {
   last = option_map path_and_bytes named.last;
 }
 
--- both were read
+-- both files were read, where they are given
 pub record ArePairRead (files : Files) (current : List ℕ) (asking : Asking) (pair : Pair) : Type 0 where
   pub first : IsNamedRead files current asking.config pair.first
   pub last : IsNamedRead files current asking.default_config pair.last
 
--- what these files say
+-- the configurations in a file, none without a file
 abbrev pub AreSaid : Option PathAndBytes → List Config → Type 0
 AreSaid file configs = AllZip IsReadFrom (option_to_list file) configs
 
--- a file that says no configuration, and its error
+-- a file that is no configuration, and the error
 abbrev pub IsUnreadFile : Option PathAndBytes → Error → Type 0
 IsUnreadFile None e = ⊥
 IsUnreadFile (Some file) e = IsUnread file e
 
--- the configurations of a manifest: that of the first file, its own, and that of the last file
+-- the configurations of a manifest in order of precedence: that of the first file, its own, and that of the
+-- last file
 pub record AreGathered (files : Files) (home : Option (List ℕ)) (pair : Pair) (manifest : List ℕ)
     (configs : List Config) : Type 0 where
   pub before : List Config
@@ -76,7 +77,7 @@ abbrev pub AreConfigured : Files → Option (List ℕ) → Pair → List Input �
 AreConfigured files home pair inputs configs =
     AllZip (λ input own. AreGathered files home pair (string_bytes input.path) own.items) inputs configs
 
--- a file is named, and there is none
+-- a file is given, and it is missing
 pub record HasNoFile (files : Files) (current : List ℕ) (named : Option (List ℕ)) (e : Error) : Type 0 where
   pub name : List ℕ
   pub is : named ≡ Some name

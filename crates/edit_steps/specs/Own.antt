@@ -1,4 +1,4 @@
--- What a manifest says of itself.
+-- The name and the Rust version of a manifest.
 use Rattle.std.specs.Prelude.{◌≡◌, ℕ, List, [], Option, Some, None, codes, option_and_then, option_map, string_bytes, unwrap_or}
 use Rattle.edit_document.specs.Items.{string_in}
 use Rattle.edit_manifest.specs.Located.{IsManifestPath}
@@ -11,7 +11,7 @@ use Rattle.edit_tree.specs.Assertions.{IsDocument, at, key}
 use Rattle.edit_tree.specs.Tree.{view_at}
 use Rattle.edit_version.specs.RustVersions.{Numbers, numbers_of, rust_of}
 
--- what is read of something that stands, nothing where nothing does
+-- the second value where there is a first one
 abbrev pub when_there : {A B : Type 0} → Option A → Option B → Option B
 when_there None b = None
 when_there (Some a) b = b
@@ -24,16 +24,15 @@ package_text t name =
     (when_there (t (at [] package_place))
     (option_and_then string_in (t (at (at [] package_place) (key name)))))
 
--- what reports call the manifest
+-- the name of the manifest in reports
 abbrev pub own_name : Tree → List ℕ
 own_name t = unwrap_or (package_text t (codes "name")) (codes "virtual workspace")
 
--- the manifest's own Rust version, where it names one
+-- the manifest's own Rust version, where it has a valid one
 abbrev pub own_rust : Tree → Option Numbers
 own_rust t = option_and_then rust_of (package_text t (codes "rust-version"))
 
--- an input has the name that its bytes say, and the Rust version that is asked for, else the one that they
--- say
+-- an input has the name in its bytes, and the requested Rust version, else the one in its bytes
 pub record SaysOfItself (asked : RustAsked) (input : Input) : Type 0 where
   pub form : Text
   pub manifest : IsDocument input.bytes.items form
@@ -41,7 +40,7 @@ pub record SaysOfItself (asked : RustAsked) (input : Input) : Type 0 where
   pub rust_version : option_map numbers_of input.rust_version
       ≡ rust_version_for asked (own_rust (view_at form))
 
--- the manifest that is named was read, or the nearest one where none is
+-- the given manifest was read, or the nearest one where none is given
 pub record IsManifestRead (files : Files) (current : List ℕ) (named : Option (List ℕ)) (asked : RustAsked)
     (input : Input) : Type 0 where
   pub at : IsManifestPath files current named (string_bytes input.path)

@@ -17,7 +17,7 @@ lists_for shared = filter_map (slice_get shared.lists.items) shared.which.items
 abbrev pub HasLists : SharedConfigs → Type 0
 HasLists shared = All (λ j. j < length shared.lists.items) shared.which.items
 
--- the list of one more input: one that was there and has the same files, or its own, which is new (own)
+-- the list of the next input: an existing one of the same files, or its own, which is new (own)
 pub data AddsList (own : Vec Config) (old new : SharedConfigs) : Type 0 where
   again : (list : Vec Config) → Contains old.lists.items list → paths_of list.items ≡ paths_of own.items
       → new.lists.items ≡ old.lists.items → lists_for new ≡ lists_for old ++ list ∷ []

@@ -1,4 +1,4 @@
--- What an upgrade rests on, as it was read.
+-- The files that an upgrade depends on, as they were read.
 use Rattle.std.specs.Prelude.{◌≡◌, ◌⊎◌, ℕ, List, [], ◌∷◌, Option, Some, None, ⊤, length, map, string_bytes}
 use Rattle.edit_metadata.specs.Workspaces.{workspace_said}
 use Rattle.edit_metadata.specs.declared.input.Input.{Input}
@@ -19,8 +19,7 @@ use Rattle.edit_steps.specs.declared.upgrade_read.index.IndexSource.TheVariants 
 use Rattle.edit_steps.specs.declared.upgrade_read.sources.Sources.{Sources}
 use Rattle.edit_steps.specs.declared.upgrade_read.target.Target.{Target}
 
--- the manifests to plan for were read: the one that is found, or those of the workspace whose metadata are
--- named
+-- the manifests to plan for were read: the nearest one, or those of the workspace whose metadata are given
 pub data AreInputsRead (files : Files) (current : List ℕ) (asking : Asking)
     : Option Workspace → List Input → Type 0 where
   found : (input : Input) → asking.metadata ≡ None
@@ -30,17 +29,17 @@ pub data AreInputsRead (files : Files) (current : List ℕ) (asking : Asking)
       → IsWorkspaceRead files current named asking.rust (workspace_said w) inputs
       → AreInputsRead files current asking (Some w) inputs
 
--- the same, of a target
+-- the manifests of a target were read
 abbrev pub IsTargetRead : Files → List ℕ → Asking → Target → Type 0
 IsTargetRead files current asking target =
     AreInputsRead files current asking target.workspace target.inputs.items
 
--- no documents, or those that the bytes of the inputs are
+-- the documents are empty, or those parsed from the inputs' bytes
 abbrev pub AreDocuments : List Shown → List Input → Type 0
 AreDocuments documents inputs =
     (documents ≡ []) ⊎ (map (λ d. d.bytes) documents ≡ map (λ input. input.bytes.items) inputs)
 
--- the index in the file that is named was read
+-- the given index file was read
 pub record IsIndexAt (files : Files) (current named : List ℕ) (index : FileIndex) : Type 0 where
   pub path : List ℕ
   pub bytes : List ℕ
@@ -48,19 +47,19 @@ pub record IsIndexAt (files : Files) (current named : List ℕ) (index : FileInd
   pub is : files path ≡ Some bytes
   pub holds : HoldsLines index bytes
 
--- the index that is named, by its file and by its folder: the file was read where one is named, else the
--- folder has this path where one is, else it is the index in files
+-- the given index: the index file was read where one is given, else the index folder has this path where
+-- one is given, else it is the index in files
 abbrev pub IsIndexOf : Files → List ℕ → Option (List ℕ) → Option (List ℕ) → IndexSource → Type 0
 IsIndexOf files current (Some named) dir (source.Lines index) = IsIndexAt files current named index
 IsIndexOf files current None (Some dir) (source.Folder path) = IsAbsoluteOf current dir (string_bytes path)
 IsIndexOf files current None None source.Files = ⊤
 IsIndexOf files current _ _ _ = ⊥
 
--- the same, of what is asked for
+-- the requested index was read
 abbrev pub IsIndexRead : Files → List ℕ → Asking → IndexSource → Type 0
 IsIndexRead files current asking index = IsIndexOf files current asking.index asking.index_dir index
 
--- all that an upgrade rests on was read: its manifests, the configuration files that are named, the
+-- all files that an upgrade depends on were read: its manifests, the given configuration files, the
 -- configurations of each manifest, and the index
 pub record AreRead (files : Files) (current : List ℕ) (home : Option (List ℕ)) (asking : Asking)
     (s : Sources) : Type 0 where
@@ -70,7 +69,7 @@ pub record AreRead (files : Files) (current : List ℕ) (home : Option (List ℕ
   pub configured : AreConfigured files home pair s.target.inputs.items (lists_for s.configs)
   pub indexed : IsIndexRead files current asking s.index
 
--- a plan may be made: each input has a path of its own, and a list of configurations
+-- the requirements of a plan hold: each input has a distinct path, and a list of configurations
 pub record MayBePlanned (s : Sources) : Type 0 where
   pub paths : HaveOwnPaths s.target.inputs.items
   pub each : length s.configs.which.items ≡ length s.target.inputs.items

@@ -1,4 +1,4 @@
--- The workspace that a command is for, read from a file of metadata and from manifests (own).
+-- The workspace of a command, read from a metadata file and from manifests (own).
 use Rattle.std.specs.Prelude.{◌≡◌, ◌⊎◌, ℕ, List, All, Option, Some, None}
 use Rattle.edit_base.specs.declared.errors.Error.{Error}
 use Rattle.edit_base.specs.declared.errors.Error.TheVariants.{NoManifest, NoPath}
@@ -9,7 +9,7 @@ use Rattle.edit_metadata.specs.declared.input.Input.{Input}
 use Rattle.edit_store.specs.Store.{Files}
 use Rattle.edit_steps.specs.Absolute.{IsAbsoluteOf}
 
--- the file that is named was read, and its metadata say this workspace
+-- the given file was read, and its metadata describe this workspace
 pub record AreMetadataRead (files : Files) (current named : List ℕ) (w : WorkspaceSaid) : Type 0 where
   pub path : List ℕ
   pub bytes : List ℕ
@@ -24,25 +24,25 @@ pub record IsWorkspaceRead (files : Files) (current named : List ℕ) (asked : R
   pub are : AreInputs asked w inputs
   pub bytes : All (IsReadFrom files) inputs
 
--- why no metadata are read: there is no file, or its bytes say no workspace
+-- the cause of an error of metadata: the file is missing, or its bytes are no metadata
 abbrev pub IsUnsaid : Option (List ℕ) → Error → Type 0
 IsUnsaid None e = e ≡ NoPath
 IsUnsaid (Some bytes) e = IsNoWorkspace bytes e
 
--- why the metadata that are named are not read
+-- the cause of an error of reading the given metadata
 pub record HasNoMetadata (files : Files) (current named : List ℕ) (e : Error) : Type 0 where
   pub path : List ℕ
   pub at : IsAbsoluteOf current named path
   pub unsaid : IsUnsaid (files path) e
 
--- the metadata were read, and no file stands where they say that a manifest does
+-- the metadata were read, and the file of one of their manifests is missing
 pub record LacksManifest (files : Files) (current named : List ℕ) (e : Error) : Type 0 where
   pub workspace : WorkspaceSaid
   pub metadata : AreMetadataRead files current named workspace
   pub is : e ≡ NoManifest
   pub lacks : LackFile files (manifests workspace)
 
--- what is wrong with the files of a workspace that is not read
+-- the cause in the files of a workspace that cannot be read
 abbrev pub HasNoWorkspace : Files → List ℕ → List ℕ → Error → Type 0
 HasNoWorkspace files current named e =
     HasNoMetadata files current named e ⊎ LacksManifest files current named e

@@ -1,4 +1,4 @@
-//! Diffs of texts that no edit makes of one another. The others are in `tests/cases/upgrade/diffs.toml`.
+//! Tests of diffs of arbitrary texts. Those of edited manifests are in `tests/cases/upgrade/diffs.toml`.
 use crate::rows::{TILDES, rows_hold};
 use crate::stop::{must, text};
 use edit_shown::diff::diff_text;

@@ -11,10 +11,10 @@ use std::process::Abort;
 /// The text of a document.
 const TEXT: &str = "a = [\"é\\t\"]\n";
 
-/// What is printed of the document.
+/// The `Debug` text of the document.
 const DOCUMENT: &str = r#"Document("a = [\"é\\t\"]\n")"#;
 
-/// What is printed of new entries: of a list, and of a table.
+/// The `Debug` texts of new entries: of a list, and of a table.
 const LIST: &str = r#"Value(Strings(["\"", ""]))"#;
 
 const TABLE: &str =
@@ -34,13 +34,13 @@ Item { source: Part(EntryPart { item: @, part: Whole }) }|table|
 Item { source: Part(EntryPart { item: @, part: Member(("o", Bool(true))) }) }|table|o
 Item { source: Part(EntryPart { item: @, part: MemberElement(("f", Strings(["s"])), 0) }) }|table|f 0"#;
 
-/// What is printed of a value, with `@` for a text in it.
+/// The `Debug` text of a value, with `@` for a text in it.
 fn printed<D: Debug>(rt: &impl Abort, alloc: Global, value: &D, part: &str) -> String {
     let all = kept(rt, format!(in alloc; "{value:?}"));
     kept(rt, all.replace(alloc, part, "@"))
 }
 
-/// The item one step below an item: an element by its number, or a member by its key.
+/// The item one step below an item: an element by its index, or a member by its key.
 fn stepped<'a>(rt: &impl Abort, item: Item<'a>, step: &str) -> Item<'a> {
     let found = match step.parse() {
         Ok(number) => item.at(number),
@@ -49,7 +49,7 @@ fn stepped<'a>(rt: &impl Abort, item: Item<'a>, step: &str) -> Item<'a> {
     found.expect(rt, "an item")
 }
 
-/// What is printed of the item that so many steps lead to.
+/// The `Debug` text of the item that these steps lead to.
 fn below(rt: &impl Abort, alloc: Global, root: Item<'_>, steps: &str, part: &str) -> String {
     let mut item = root;
     'steps: for step in steps.split_whitespace() {
@@ -58,7 +58,7 @@ fn below(rt: &impl Abort, alloc: Global, root: Item<'_>, steps: &str, part: &str
     printed(rt, alloc, &item, part)
 }
 
-/// What is printed of the keys of an item, the first of which are taken.
+/// The `Debug` text of the keys of an item, after some of them are taken.
 fn keys(rt: &impl Abort, alloc: Global, item: Item<'_>, taken: &str) -> String {
     let mut keys = item.keys();
     if taken == "1" {
@@ -92,7 +92,7 @@ fn table(rt: &impl Abort, alloc: Global) -> NewItem {
     }
 }
 
-/// What is printed of a view of a document.
+/// The `Debug` text of a view of a document.
 fn of_document(rt: &impl Abort, alloc: Global, view: &str, rest: &str) -> String {
     let document = must(rt, Document::read(alloc, TEXT));
     let root = document.item(&[]).expect(rt, "the root");
@@ -103,7 +103,7 @@ fn of_document(rt: &impl Abort, alloc: Global, view: &str, rest: &str) -> String
     }
 }
 
-/// What is printed of a view of a document or of a new entry.
+/// The `Debug` text of a view of a document or of a new entry.
 fn shown(rt: &impl Abort, alloc: Global, view: &str, rest: &str) -> String {
     match view {
         "list" => {

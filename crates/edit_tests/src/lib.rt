@@ -1,8 +1,8 @@
-//! Tests of what the libraries below the program answer, by public calls alone: documents, manifests, paths
-//! and the texts of errors; versions, records, sources and workspaces; plans, reports and diffs. What built
-//! programs can show stands in tests/cases, and the program's own tests in `edit_program_tests`.
+//! Tests of the public calls of the libraries below the program: documents, manifests, paths and the texts
+//! of errors; versions, records, sources and workspaces; plans, reports and diffs. Tests of the built
+//! programs are in tests/cases, and the program's own tests in `edit_program_tests`.
 //!
-//! They stand in a crate of their own, since a crate with tests is proved once more with them.
+//! The tests are in a crate of their own, since a crate with tests is proved a second time with them.
 #![tactic(auto)]
 
 #[cfg(test)]

@@ -1,4 +1,4 @@
-//! Tests of manifests, by those public calls of `edit_manifest` that no program makes, or where one fails.
+//! Tests of those public calls of `edit_manifest` that no program makes, and of calls that fail.
 
 mod found;
 mod kinds;

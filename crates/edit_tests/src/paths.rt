@@ -1,4 +1,4 @@
-//! Rows of paths.
+//! Tests of paths.
 use crate::rows::{LINES, rows_hold};
 use crate::stop::{made, text};
 use edit_base::paths::{folder, join, normal, relative};
@@ -31,7 +31,7 @@ sibling/crate|relative|/sibling/crate /
 ../b|relative|/a/../b /a
 c|relative|/a//b/./c /a/b/";
 
-/// The path that a call gives.
+/// The path that a call returns.
 fn path(rt: &impl Abort, alloc: Global, call: &str, argument: &str) -> String {
     let (first, second) = argument.split_once(' ').unwrap_or((argument, ""));
     match call {

@@ -1,3 +1,3 @@
-//! A test of plans, by the public calls of `cargo_edit` alone.
+//! A test of plans, by the public calls of `cargo_edit`.
 
 mod inputs;

@@ -1,4 +1,4 @@
-//! Tests of records.
+//! Tests of `Dependency`.
 mod built;
 mod entries;
 mod entry_rows;

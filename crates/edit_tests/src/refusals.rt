@@ -1,5 +1,5 @@
-//! Rows of refusals: the number and the text, the number, and what the refusal carries, its parts
-//! between `@`; a row ends at `~`.
+//! Tests of errors. Rows: the number and the message, the number, and the fields of the error, separated by
+//! `@`; a row ends at `~`.
 mod made;
 
 use crate::rows::{TILDES, rows_hold};
@@ -8,7 +8,7 @@ use made::refusal;
 use std::alloc::Global;
 use std::process::Abort;
 
-/// Each refusal, and each form of those that have several.
+/// Each error, and each form of those with several.
 const REFUSALS: &str = "\
 1 Unable to parse Cargo.toml|1|~\
 2 Failed to read manifest contents|2|~\
@@ -70,7 +70,7 @@ Try adding `--workspace`.|38|~\
 48 permission denied|48|~\
 49 Edit would change more than its place|49|";
 
-/// The number and the text of the refusal of a row.
+/// The number and the message of the error of a row.
 fn text(rt: &impl Abort, alloc: Global, number: &str, parts: &str) -> String {
     told(
         rt,

@@ -1,28 +1,28 @@
-//! Tables of rows, in which the tests are written: each table is one text.
+//! Tables of test cases: each table is one text.
 use crate::stop::same;
 use std::alloc::Global;
 use std::process::Abort;
 
-/// The ends of the rows of a table, and of the fields of a row.
+/// The separators of the rows of a table, and of the fields of a row.
 #[derive(Clone, Copy)]
 pub(crate) struct Ends {
     row: char,
     field: char,
 }
 
-/// A row a line, and its fields between bars.
+/// Each row is a line, and its fields are separated by bars.
 pub(crate) const LINES: Ends = Ends {
     row: '\n',
     field: '|',
 };
 
-/// A row ends at a tilde, since its text has lines, and its fields are between bars.
+/// A row ends at a tilde, so that its fields can contain lines; they are separated by bars.
 pub(crate) const TILDES: Ends = Ends {
     row: '~',
     field: '|',
 };
 
-/// The text before the first end of a field, and the text behind it: twice the whole text where it has none.
+/// The text before the first separator, and the text after it; the whole text twice where there is none.
 fn cut(text: &str, end: char) -> (&str, &str) {
     text.split_once(end).unwrap_or((text, text))
 }
@@ -32,8 +32,8 @@ pub(crate) fn field(row: &str, n: usize) -> &str {
     row.split('|').nth(n).unwrap_or("")
 }
 
-/// Ends a test where a row of a table does not give what it wants: a row is what is wanted, the call, and the
-/// argument, which is the rest of the row.
+/// Ends a test at the first row that does not give its expected result. A row is the expected result, the
+/// call, and the argument, which is the rest of the row.
 pub(crate) fn rows_hold<R: Abort, F: Fn(&R, Global, &str, &str) -> String + Drop>(
     rt: &R,
     alloc: Global,

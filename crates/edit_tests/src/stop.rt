@@ -1,51 +1,51 @@
-//! Where a test ends at once: at a call that fails though it must not, and at a row that does not hold.
+//! Ends a test at a call that fails unexpectedly, or at a row with another result than expected.
 ghost use Rattle.std.specs.Prelude.{◌≡◌, ◌++◌, ◌∷◌, [], Ok, string_bytes};
 
 use edit_base::{CargoResult, Error};
 use std::alloc::{AllocError, Global};
 use std::process::Abort;
 
-/// What a call answers, where it must succeed; a test ends here where it does not.
+/// Unwraps the result of a call that must succeed; ends the test where it failed.
 pub(crate) fn must<T: Drop>(rt: &impl Abort, answer: CargoResult<T>) -> T
     ensures { answer ≡ Ok result }
 {
     answer.expect(rt, "an answer")
 }
 
-/// The same of a call that fails for want of memory alone.
+/// Unwraps the result of a call that fails only where memory runs out; ends the test where it failed.
 pub(crate) fn kept<T: Drop>(rt: &impl Abort, answer: Result<T, AllocError>) -> T
     ensures { answer ≡ Ok result }
 {
     answer.expect(rt, "memory")
 }
 
-/// Puts an item behind the others of a list.
+/// Appends an item to a list.
 pub(crate) fn push<T: Drop>(rt: &impl Abort, list: &mut Vec<T>, item: T)
     ensures { list.new.items ≡ list.old.items ++ item ∷ [] }
 {
     list.push(item).ok().expect(rt, "memory");
 }
 
-/// A text of its own.
+/// Allocates a text.
 pub(crate) fn text(rt: &impl Abort, alloc: Global, text: &str) -> String
     ensures { string_bytes result ≡ text.now }
 {
     kept(rt, String::from_str(alloc, text))
 }
 
-/// The lines of a field, which stand with `@` for a line's end.
+/// A field with line ends in place of `@`.
 pub(crate) fn unfolded(rt: &impl Abort, alloc: Global, field: &str) -> String {
     let lines: Vec<&str> = kept(rt, field.split('@').collect(alloc));
     kept(rt, lines.join(alloc, "\n"))
 }
 
-/// A refusal's number and text, with a space between them.
+/// An error's number and message, separated by a space.
 pub(crate) fn told(rt: &impl Abort, alloc: Global, error: Error) -> String {
     let number = error.number();
     kept(rt, format!(in alloc; "{number} {error}"))
 }
 
-/// A word where a call succeeded, or what its refusal says.
+/// A given word where a call succeeded, else the error's number and message.
 pub(crate) fn said<T: Drop>(
     rt: &impl Abort,
     alloc: Global,
@@ -58,7 +58,7 @@ pub(crate) fn said<T: Drop>(
     }
 }
 
-/// A text that a call made, or what its refusal says.
+/// The text that a call returned, else the error's number and message.
 pub(crate) fn made(rt: &impl Abort, alloc: Global, answer: CargoResult<String>) -> String {
     match answer {
         Ok(text) => text,
@@ -66,7 +66,7 @@ pub(crate) fn made(rt: &impl Abort, alloc: Global, answer: CargoResult<String>) 
     }
 }
 
-/// Ends a test where a row does not give what it wants.
+/// Ends a test where a row has another result than expected.
 pub(crate) fn same(rt: &impl Abort, row: &str, seen: &str, want: &str) {
     assert!(rt; seen == want, "{row}: {seen:?} in place of {want:?}");
 }

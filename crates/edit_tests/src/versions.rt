@@ -1,11 +1,11 @@
-//! Copies of targets of new versions, which no program makes.
+//! Tests of copies of `TargetVersion`, which no program makes.
 use crate::stop::{kept, must, same};
 use edit_set_version::TargetVersion;
 use semver::Version;
 use std::alloc::Global;
 use std::process::Abort;
 
-/// The version of a text.
+/// Parses a version.
 fn version_of(rt: &impl Abort, alloc: Global, text: &str) -> Version {
     Version::parse(alloc, text).expect(rt, "a version")
 }

@@ -1,5 +1,5 @@
-//! Tests of workspaces, of what an upgrade reads of them, and of where its refusals arose, by the public
-//! calls of `edit_metadata`, `edit_upgrade_read` and `edit_steps` alone.
+//! Tests of workspaces, of the files that an upgrade reads, and of the places of errors, by the public
+//! calls of `edit_metadata` and `edit_steps`.
 
 mod inputs;
 mod places;

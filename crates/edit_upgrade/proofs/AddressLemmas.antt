@@ -1,4 +1,4 @@
--- The addresses that were resolved, after one more.
+-- The resolved addresses, after one more is resolved.
 use Rattle.std.proofs.Common.{◌≡◌, ℕ, List, [], Bool, true, false, Option, Some, None, String, Global, string_bytes, refl, ap, sym, ◌∙◌, subst}
 use Rattle.std.specs.Prelude.{if◌then◌else◌}
 use Rattle.std.specs.BTreeMap.{get_by_text, is_at}

@@ -1,4 +1,4 @@
--- Why a plan of inputs is refused.
+-- The errors of a plan of inputs.
 use Rattle.std.proofs.Common.{◌≡◌, ◌∷◌, [], List, ℕ, refl, subst, inl, inr, ◌⊎◌, ◌<◌, arith, length, map, take}
 use Rattle.std.specs.Prelude.{All, IfSome, slice_get, IsUtf8}
 use Rattle.std.specs.Global.{Vec}

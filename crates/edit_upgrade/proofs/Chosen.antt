@@ -1,4 +1,4 @@
--- One step more of a loop that keeps the items that a test accepts.
+-- One more step of a loop that filters a list.
 use Rattle.std.proofs.Common.{◌≡◌, ◌∷◌, ◌++◌, ◌<◌, ◌+◌, length, get_or, take, [], List, ℕ, Bool, true, false, cond, map, ap, ◌∙◌, sym, append-nil, append_assoc}
 use Rattle.std.specs.List.{filter}
 use Rattle.std.proofs.lemmas.List.{map-append}

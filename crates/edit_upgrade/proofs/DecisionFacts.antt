@@ -1,4 +1,4 @@
--- Worked decisions, one for each row that can come.
+-- Worked decisions, one for each outcome.
 use Rattle.std.proofs.Common.{◌≡◌, ℕ, List, [], Option, Some, None, true, false, refl}
 use Rattle.std.specs.Prelude.{codes}
 use Rattle.std.specs.Fmt.{digits}

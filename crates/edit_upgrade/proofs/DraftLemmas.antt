@@ -1,4 +1,4 @@
--- A draft of inputs, one input further.
+-- A draft of inputs, after one more input.
 use Rattle.std.proofs.Common.{◌≡◌, ◌≢◌, ◌∷◌, ◌++◌, [], List, ℕ, Some, Bool, true, false, suc, refl, ap, ◌∙◌, sym, subst, inl, inr, ◌⊎◌, ◌<◌, arith, length, map}
 use Rattle.std.specs.Prelude.{All, filter, not, option_map, slice_get, ◌==◌}
 use Rattle.std.specs.Global.{Vec}

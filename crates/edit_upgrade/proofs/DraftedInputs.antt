@@ -1,4 +1,4 @@
--- What is said of a plan of inputs, from what is planned of each.
+-- The properties of a plan of inputs, from those of the plan of each input.
 use Rattle.std.proofs.Common.{◌≡◌, List, ℕ, Some, ◌<◌, ◌∙◌, ap, refl, sym, subst, length, map, arith}
 use Rattle.std.specs.Prelude.{All, option_map, slice_get}
 use Rattle.std.specs.Global.{Vec}

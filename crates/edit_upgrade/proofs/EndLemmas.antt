@@ -1,4 +1,4 @@
--- Lists with one more element at the end, and filters of them.
+-- Lists with one element appended, and filters of them.
 use Rattle.std.proofs.Common.{◌≡◌, ◌∷◌, ◌++◌, [], List, ℕ, Some, Bool, true, false, zero, suc, refl, ap, ◌∙◌, sym, subst, inl, inr, ◌⊎◌, ◌<◌, arith, get_or, length, append-nil, take, drop, Option, None}
 use Rattle.std.specs.Prelude.{All, IfSome, IsSome, filter, slice_get}
 use Rattle.std.specs.List.{flat_map}

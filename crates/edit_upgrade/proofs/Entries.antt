@@ -1,4 +1,4 @@
--- The entries of a map of names, as a look-up and a further word find them.
+-- The entries of a map of names, after a lookup and after one more `--package` argument.
 use Rattle.std.proofs.Common.{Global, ◌≡◌, ◌∷◌, ◌++◌, [], List, ℕ, Bool, true, false, cond, Option, Some, None, map, refl, ap, ◌∙◌, sym}
 use Rattle.std.specs.Prelude.{String, option_and_then, option_map, string_bytes, string_cmp}
 use Rattle.std.specs.BTreeMap.{insert_entry, is_at}

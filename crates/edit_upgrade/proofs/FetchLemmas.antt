@@ -1,4 +1,4 @@
--- What a look leaves in a cache, over the answers as a plan sees them.
+-- The effect of a lookup on a cache.
 use Rattle.std.proofs.Common.{◌≡◌, ◌≢◌, List, ℕ, Option, Some, None, Result, Ok, Err, false, ap, sym, subst, inl, inr, ◌⊎◌, ◌∙◌, refl}
 use Rattle.std.specs.Prelude.{◌&&◌, IfSome, IsSome, OnErr, OnOk, option_map}
 use Rattle.std.proofs.lemmas.Bool.{cases_Bool}

@@ -1,4 +1,4 @@
--- Planned again on what a plan wrote, over the same versions, no row has a change.
+-- Planning the outputs of a plan again, over the same versions, gives rows without a change.
 use Rattle.std.proofs.Common.{◌≡◌, ◌∷◌, ◌+◌, suc, arith, [], List, ℕ, Option, Some, None, Bool, true, false, refl, ap, ◌∙◌, sym, subst, inl, inr}
 use Rattle.std.specs.Prelude.{All, ◌==◌, is_ok, is_some, nat_eq}
 use Rattle.std.specs.Cmp.Lexicographic.{pointwise}

@@ -1,4 +1,4 @@
--- The inputs of a draft, one further.
+-- The inputs of a draft, after one more.
 use Rattle.std.proofs.Common.{zero, suc, Option, None, ◌≡◌, ◌≢◌, ◌∷◌, ◌++◌, [], List, ℕ, Some, false, refl, ap, ◌∙◌, sym, subst, inl, inr, ◌⊎◌, ◌<◌, ◌≤◌, ◌+◌, arith, get_or, length, map, take}
 use Rattle.std.specs.Prelude.{IfSome, slice_get}
 use Rattle.std.specs.Global.{Vec}

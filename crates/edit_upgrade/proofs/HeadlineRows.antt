@@ -1,4 +1,4 @@
--- What holds of each row that was decided.
+-- Properties of each row of a decision.
 use Rattle.std.proofs.Common.{◌≡◌, ◌∷◌, [], List, ℕ, Option, Some, None, true, refl, ap, ◌∙◌, sym, subst, inl, inr}
 use Rattle.std.specs.Prelude.{All, IsOk, IsSome, IsTrue, nat_eq, option_map}
 use Rattle.std.specs.Cmp.Lexicographic.{pointwise}

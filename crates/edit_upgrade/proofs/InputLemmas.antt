@@ -1,4 +1,4 @@
--- A plan of one input, as a plan of inputs: what a caller with one input has.
+-- A plan of one input, as a plan of a list of inputs.
 use Rattle.std.proofs.Common.{◌≡◌, ◌∷◌, [], List, ℕ, Some, Bool, true, false, zero, suc, refl, ap, ◌∙◌, sym, subst, inl, inr, ◌⊎◌, arith, length, map}
 use Rattle.std.specs.Prelude.{if◌then◌else◌, not, slice_get, ◌==◌}
 use Rattle.std.specs.Global.{Vec}

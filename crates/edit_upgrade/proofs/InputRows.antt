@@ -1,4 +1,4 @@
--- The rows, outputs and warnings of an input are its own.
+-- The rows, outputs and warnings of an input do not depend on the other inputs.
 use Rattle.std.proofs.Common.{◌≡◌, ◌∷◌, [], List, ℕ, Option, Some, None, true, false, refl, ap, ◌∙◌, sym, subst, length, map}
 use Rattle.std.specs.Prelude.{All, filter, not, option_and_then, option_map, ◌==◌}
 use Rattle.std.specs.List.{AllZip, cons_option, filter_map}

@@ -1,4 +1,4 @@
--- Packages of a name, and what is said of them.
+-- Packages of a name, and their fields.
 use Rattle.std.proofs.Common.{◌≡◌, ◌∷◌, [], List, ℕ, Bool, true, false, cond, map, refl, ap}
 use Rattle.std.specs.Prelude.{string_bytes}
 use Rattle.std.specs.List.{filter}

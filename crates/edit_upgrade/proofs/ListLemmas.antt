@@ -1,4 +1,4 @@
--- The names that rows give, a row further, texts in a set, and the warnings on entries.
+-- The names in rows after one more row, texts in a set, and the warnings about entries.
 use Rattle.std.proofs.Common.{Global, subst, ◌≡◌, ◌∷◌, ◌++◌, ◌<◌, ◌+◌, [], List, ℕ, Bool, true, false, Option, Some, None, length, get_or, map, take, refl, ap, ◌∙◌, sym, append-nil}
 use Rattle.std.specs.Prelude.{◌||◌, if◌then◌else◌, String, is_some, option_map, string_bytes, string_cmp}
 use Rattle.std.specs.BTreeMap.{is_at}

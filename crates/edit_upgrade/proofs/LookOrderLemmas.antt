@@ -1,4 +1,4 @@
--- The looks of a plan in the order in which entries need them, an entry and an input further.
+-- The lookups of a plan in the order in which entries need them, after one more entry or input.
 use Rattle.std.proofs.Common.{◌≡◌, ◌∷◌, ◌++◌, [], List, ℕ, Some, Bool, true, false, cond, suc, refl, ap, ◌∙◌, sym, subst, inl, inr, ◌⊎◌, ◌<◌, arith, append-nil, length, map}
 use Rattle.std.specs.Prelude.{◌&&◌, ◌||◌, ◌==◌, if◌then◌else◌, filter, not, slice_get, string_bytes}
 use Rattle.std.specs.Global.{Vec}

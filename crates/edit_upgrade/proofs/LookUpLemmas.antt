@@ -1,4 +1,4 @@
--- A walk over names that looks each up, a step further.
+-- A walk over names that looks each of them up, after one more step.
 use Rattle.std.proofs.Common.{◌≡◌, ◌∷◌, ◌++◌, [], List, ℕ, Option, Some, None, Bool, true, false, refl, ap, ◌∙◌, sym, subst, inl, inr, ◌⊎◌, ◌≤◌, arith}
 use Rattle.std.specs.Prelude.{◌&&◌, if◌then◌else◌, Contains, IfSome, IsSome, Ok, Err, find, is_some, string_bytes}
 use Rattle.std.specs.Option.{option_or}

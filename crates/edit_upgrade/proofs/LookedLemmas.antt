@@ -1,4 +1,4 @@
--- What the looks that were made one after another are.
+-- Properties of the lookups made one after another.
 use Rattle.std.proofs.Common.{◌≡◌, ◌∷◌, ◌++◌, [], List, ℕ, Option, Some, None, Bool, true, false, refl, ap, ◌∙◌, sym, subst, inl, inr, ◌⊎◌}
 use Rattle.std.specs.Prelude.{◌&&◌, if◌then◌else◌, All, IsSome, Ok, find, string_bytes}
 use Rattle.std.specs.Option.{option_or}

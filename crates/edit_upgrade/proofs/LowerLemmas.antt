@@ -1,4 +1,5 @@
--- When a version is not lower than another, and what is left of an order whose last steps are left out.
+-- When a version is not lower than another, and the order that remains where its last comparisons are left
+-- out.
 use Rattle.std.proofs.Common.{◌≡◌, ℕ, true, false, refl, ap, ◌∙◌, sym, arith, inl, inr}
 use Rattle.std.specs.Prelude.{◌⊎◌, ◌==◌, nat_le, nat_lt}
 use Rattle.std.specs.Ordering.{is_ge, is_lt, nat_cmp, ordering_reverse, ordering_then}

@@ -1,4 +1,4 @@
--- Names that are known of inputs, of one input more, and those that are missing.
+-- Known names after one more input, and the missing ones.
 use Rattle.std.proofs.Common.{◌≡◌, ◌∷◌, ◌++◌, [], List, ℕ, ◌+◌, ◌<◌, Bool, true, false, cond, not, get_or, length, map, refl, ap, ◌∙◌, sym, subst, take}
 use Rattle.std.specs.Prelude.{◌||◌, ◌&&◌, filter}
 use Rattle.std.specs.List.{AllZip, list_any}

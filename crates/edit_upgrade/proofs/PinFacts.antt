@@ -1,5 +1,5 @@
--- What the definitions of precise versions amount to: the greatest version is the last of the greatest ones,
--- and the last word of a name stands.
+-- Properties of precise versions: of equal greatest versions the last is taken, and the last argument of a
+-- name counts.
 use Rattle.std.proofs.Common.{◌≡◌, ◌∷◌, ◌++◌, ◌∙◌, [], List, ℕ, Bool, true, false, cond, Option, Some, None, ap, append-nil, append_assoc, refl, subst, sym}
 use Rattle.std.specs.Prelude.{option_and_then}
 use Rattle.std.specs.BTreeMap.{insert_entry}

@@ -1,4 +1,4 @@
--- Whether comparators pin an entry, over what `semver` gives and over what a clause sees of it.
+-- Whether comparators pin an entry, over the types of `semver` and over their views.
 use Rattle.std.proofs.Common.{◌≡◌, ◌∷◌, [], List, ℕ, Bool, false, map, refl, ap, ◌∙◌, sym, Ok, Option, Some}
 use Rattle.std.specs.Prelude.{◌||◌, is_ok}
 use Rattle.std.specs.List.{list_any}

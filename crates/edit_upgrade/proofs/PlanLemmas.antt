@@ -1,4 +1,4 @@
--- A plan of a manifest, from its rows and what they write.
+-- The plan of a manifest, from its rows and their edits.
 use Rattle.std.proofs.Common.{◌≡◌, ◌∷◌, ◌++◌, [], List, ℕ, Option, Some, None, map, ap, ◌∙◌, sym, subst}
 use Rattle.std.specs.Prelude.{MatchOption, String, string_bytes}
 use Rattle.edit_tree.specs.Replaces.{Edits, Replaces}

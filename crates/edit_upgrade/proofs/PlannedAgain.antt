@@ -1,4 +1,4 @@
--- What a plan wrote stays, planned again over the same looks.
+-- Planning the outputs of a plan again, over the same lookups, changes nothing.
 use Rattle.std.proofs.Common.{◌≡◌, ◌∷◌, [], List, ℕ, Option, Some, refl, ap, ◌∙◌, sym, subst, inl, inr, ◌⊎◌}
 use Rattle.std.specs.Prelude.{All, Contains}
 use Rattle.std.specs.List.{AllByRecursion, AllZip}

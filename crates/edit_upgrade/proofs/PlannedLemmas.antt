@@ -1,4 +1,4 @@
--- The rows and looks of a manifest, from those of its entries.
+-- The rows and lookups of a manifest, from those of its entries.
 use Rattle.std.proofs.Common.{◌≡◌, [], List, ℕ, Result, Ok, Err, map, ap, ◌∙◌, sym, subst, inl, inr, ◌⊎◌, length}
 use Rattle.std.specs.Prelude.{◌&&◌, ◌||◌, All, Bool, IfErr, IsErrAnd, option_map}
 use Rattle.std.specs.List.{list_any}

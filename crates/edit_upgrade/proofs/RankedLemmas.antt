@@ -1,4 +1,4 @@
--- What is greatest among the versions of an answer, by its ranking.
+-- The greatest among the versions of an answer, by its ranking.
 use Rattle.std.proofs.Common.{◌≡◌, List, Option, Some, None, Bool, false}
 use Rattle.std.specs.Prelude.{option_map}
 use Rattle.std.proofs.lemmas.List.Elements.{All-nil}

@@ -1,4 +1,4 @@
--- What is read of a requirement's text.
+-- Whether a requirement's text can be parsed.
 use Rattle.std.proofs.Common.{◌≡◌, List, ℕ, Some, Ok, Err, ap}
 use Rattle.std.specs.Prelude.{Result}
 use Rattle.std.specs.Result.{result_ok}

@@ -1,4 +1,4 @@
--- What is known of the entries that get a row: where their version literals stand, and what they say.
+-- The places of the version literals of the entries that get a row, and their fields.
 use Rattle.std.proofs.Common.{◌≡◌, ◌∷◌, [], List, ℕ, Option, Some, None, true, false, refl, ap, ◌∙◌, sym, subst, inl, inr, ◌⊎◌}
 use Rattle.std.specs.Prelude.{option_and_then, option_map}
 use Rattle.std.specs.List.{AllByRecursion, cons_option, filter_map}

@@ -1,4 +1,4 @@
--- One step more of a loop that keeps what a function gives of each item.
+-- One more step of a loop that maps a list.
 use Rattle.std.proofs.Common.{◌≡◌, ◌∷◌, ◌++◌, ◌<◌, ◌+◌, suc, length, get_or, take, drop, drop-cons, [], List, ℕ, Option, Some, None, map, ap, ◌∙◌, sym, append-nil}
 use Rattle.std.specs.List.{cons_option, filter_map}
 use Rattle.std.proofs.lemmas.List.{map-append, take-append-drop, take_more}

@@ -1,4 +1,4 @@
--- Which text a decision took, and for which version.
+-- Which candidate text a decision takes, and for which version.
 use Rattle.std.proofs.Common.{◌≡◌, List, ℕ, Option, Some, None, Bool, true, false, refl, inl, inr}
 use Rattle.std.specs.Prelude.{nat_eq, option_and_then}
 use Rattle.std.specs.Cmp.Lexicographic.{pointwise}

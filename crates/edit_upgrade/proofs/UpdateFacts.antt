@@ -1,4 +1,4 @@
--- The calls that follow an upgrade: rows worked out.
+-- Worked examples of the calls that follow an upgrade.
 use Rattle.std.proofs.Common.{◌≡◌, ℕ, List, true, false, [], ◌∷◌, Option, Some, None, refl}
 use Rattle.std.specs.Prelude.{codes}
 use Rattle.std.specs.Fmt.{digits}

@@ -1,4 +1,4 @@
--- A walk over entries, an entry further.
+-- A walk over entries, after one more entry.
 use Rattle.std.proofs.Common.{◌≡◌, ◌∷◌, ◌++◌, [], List, ℕ, Option, Some, None, true, refl, ap, ◌∙◌, get_or, length, map, sym, subst, inl, inr, ◌⊎◌, ◌≤◌, ◌<◌}
 use Rattle.std.specs.Prelude.{All, Contains, IsSome, option_map}
 use Rattle.std.proofs.lemmas.List.Elements.{All-contains_itself, All-head, All-tail, All-weaker, Contains-get_or}

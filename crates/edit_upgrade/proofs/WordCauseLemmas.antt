@@ -1,4 +1,4 @@
--- Why options are refused, from where their reading stopped.
+-- The errors of options, from the argument at which parsing stops.
 use Rattle.std.proofs.Common.{◌≡◌, ◌≢◌, ◌∷◌, [], List, ℕ, ◌<◌, get_or, length, map, refl, ◌∙◌, sym, inl, inr, suc, take, drop, ap, subst, ◌++◌}
 use Rattle.std.specs.Prelude.{All, String, string_bytes}
 use Rattle.std.specs.declared.alloc.Global.{Global}

@@ -1,4 +1,4 @@
--- Package words, one more: which names they have, and which requirements they give.
+-- One more `--package` argument: which names are selected, and which requirements are given.
 use Rattle.std.proofs.Common.{◌≡◌, ◌∷◌, ◌++◌, [], List, ℕ, Option, Some, None, Bool, true, false, not, cond, map, refl, ap, ◌∙◌, sym, subst, append_assoc}
 use Rattle.std.specs.Prelude.{◌||◌, if◌then◌else◌, All, String, filter, find, is_some, option_and_then, option_map, reverse, string_bytes, string_cmp}
 use Rattle.std.specs.BTreeMap.{IsEmpty, Updates, get_by_text, is_at}

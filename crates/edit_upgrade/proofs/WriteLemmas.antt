@@ -1,4 +1,4 @@
--- What rows write, a row further.
+-- The edits of rows, after one more row.
 use Rattle.std.proofs.Common.{◌≡◌, ◌∷◌, ◌++◌, [], List, ℕ, Option, Some, None, length, map, take, get_or, min, refl, ap, ◌∙◌, sym, ◌<◌, ◌+◌}
 use Rattle.std.proofs.lemmas.List.{length-map, length-take}
 use Rattle.edit_tree.specs.Assertions.{Place}

@@ -1,4 +1,4 @@
--- The entries that are seen once their rows were written: the same ones, with the new requirements.
+-- The entries that get a row after the edits: the same ones, with the new requirements.
 use Rattle.std.proofs.Common.{◌≡◌, ◌∷◌, [], List, ℕ, map, Option, Some, None, false, refl, ap, ◌∙◌, sym, inl, inr, ◌⊎◌}
 use Rattle.std.specs.Prelude.{option_and_then, option_map}
 use Rattle.std.specs.List.{AllByRecursion, AllZip, cons_option, filter_map}

@@ -232,7 +232,7 @@ pub fn plan_shared<I: Index>(
 /// planned one after another, each with its own configurations; lookups are shared by all of them. A row is
 /// made for each entry of a dependency table that `Dependency::from_toml` reads, but for those that inherit
 /// all their keys with `workspace = true`; the others get a warning. An entry of a registry is looked up at
-/// the registry's address, once for each address and name, even where it is not selected or excluded; a git
+/// the registry's address, once for each address and name, even where it is excluded or not selected; a git
 /// or path dependency gets a row from its requirement alone, or a row without any.
 pub fn plan_upgrade<I: Index>(
     alloc: Global,

@@ -1,4 +1,4 @@
-//! The configuration files of a run that stand before and after those of the user.
+//! The configuration files that a run adds before and after those of the user.
 
 use crate::fetch_plan::environment::variables;
 use edit_base::CargoResult;
@@ -29,8 +29,8 @@ pub(super) fn write_configurations(
     Config::read(alloc, first.as_str(), &text)
 }
 
-/// The configurations of the current folder, and then those of each member of the workspace of which a file
-/// has the metadata, each configuration file once. What cannot be read is left out: the upgrade says so.
+/// The configurations of the current folder, and then those of each member of the workspace in the metadata
+/// file, without duplicates. Files that cannot be read are skipped: the upgrade reports them.
 pub(super) fn all_configs(
     rt: &HostRuntime,
     files: &mut HostStore<HostRuntime>,
@@ -59,7 +59,7 @@ pub(super) fn all_configs(
     Ok(all)
 }
 
-/// The workspace of which a file has the metadata, where it can be read.
+/// The workspace in the metadata file, where it can be read.
 fn workspace(
     rt: &HostRuntime,
     files: &mut HostStore<HostRuntime>,
@@ -76,7 +76,7 @@ fn workspace(
     }
 }
 
-/// Adds the configurations whose file is not there yet.
+/// Adds the configurations whose file is not among them yet.
 fn add_configs(configs: Vec<Config>, all: &mut Vec<Config>) -> CargoResult<()> {
     for config in configs {
         if !all.iter().any(|earlier| earlier.path == config.path) {

@@ -5,8 +5,8 @@ use edit_store::{HostStore, Store};
 use std::env::VarError;
 use std::{env, str};
 
-/// The name and the value of each variable of the environment. Where one of them is not UTF-8, it is left
-/// out: the others are then those that the kernel gives.
+/// The name and the value of each environment variable. Where one is not UTF-8 it is left out, and the
+/// others are read from the kernel.
 pub(super) fn variables(
     rt: &HostRuntime,
     files: &mut HostStore<HostRuntime>,
@@ -21,7 +21,7 @@ pub(super) fn variables(
     }
 }
 
-/// The variables of this text that are UTF-8, each ended by U+0000.
+/// The variables in this text that are UTF-8, each terminated by U+0000.
 fn readable_variables(rt: &HostRuntime, bytes: &[u8]) -> CargoResult<Vec<(String, String)>> {
     let mut variables = Vec::new(rt.alloc());
     for entry in bytes.split(|byte| *byte == 0) {

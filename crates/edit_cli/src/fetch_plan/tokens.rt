@@ -1,4 +1,4 @@
-//! The tokens of the registries that configuration files and variables name.
+//! The tokens of registries in configuration files and environment variables.
 
 use edit_base::{CargoResult, Error};
 use edit_fetch::{is_header_text, registry_address, token_variable};
@@ -7,7 +7,7 @@ use std::env;
 use std::env::VarError;
 use std::io::Write;
 
-/// What is said of a token that no header can have.
+/// The warning about a token that cannot be sent in a header.
 const UNSENDABLE: &str =
     "is not sent: a token has no control characters, such as a line end, and is UTF-8";
 
@@ -32,7 +32,7 @@ pub(super) fn registry_tokens<E: Write>(
     Ok(tokens)
 }
 
-/// Adds the tokens of the registries of a configuration that none of the earlier ones defines.
+/// Adds the tokens of the registries that a configuration defines and none of the earlier ones does.
 fn add_tokens<E: Write>(
     rt: &HostRuntime,
     config: &Config,
@@ -55,7 +55,7 @@ fn add_tokens<E: Write>(
     Ok(())
 }
 
-/// Whether a configuration file names a registry.
+/// Whether a configuration file defines a registry.
 fn has_registry(config: &Config, name: &str) -> bool {
     config
         .registries
@@ -63,7 +63,7 @@ fn has_registry(config: &Config, name: &str) -> bool {
         .any(|(key, _)| key.as_str() == name)
 }
 
-/// The address of a registry and its token, where that stands in the environment.
+/// The address of a registry and its token, where an environment variable has it.
 fn registry_token<E: Write>(
     rt: &HostRuntime,
     name: &str,
@@ -83,8 +83,8 @@ fn registry_token<E: Write>(
     }
 }
 
-/// The token of a variable, where it is there, not empty, and a text that a header can have; of one that is
-/// not such a text a warning is printed, unless one was.
+/// The token in a variable, where it is not empty and can be sent in a header. Otherwise a warning is
+/// printed, once.
 fn sendable_token<E: Write>(
     rt: &HostRuntime,
     key: String,

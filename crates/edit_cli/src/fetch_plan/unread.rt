@@ -1,4 +1,4 @@
-//! The registries of which no index entry can be had: those that are neither sparse nor a folder.
+//! Registries whose index entries cannot be fetched: those that are neither sparse nor a local folder.
 
 use edit_base::CargoResult;
 use edit_fetch::{AddresslessSource, addressless_sources, registry_address, stand_in_address};
@@ -6,25 +6,25 @@ use edit_lookups::{Lookup, push_escaped, read_lookups, shown_address};
 use edit_sources::Config;
 use std::alloc::AllocError;
 
-/// What is said of a source without a registry.
+/// The message for a source without a registry.
 const VENDORED: &str =
     " (a vendored folder, or another source without a registry: take the replacement out for this run)";
 
-/// The crates of a registry of which no index entry can be had.
+/// A registry whose index entries cannot be fetched, and the crates looked up there.
 #[derive(Debug, Drop)]
 struct Unread<'a> {
     address: &'a str,
     names: Vec<&'a str>,
 }
 
-/// Whether entries of a registry can be had.
+/// Whether the entries of a registry can be read or fetched.
 fn is_read(address: &str) -> bool {
     address.starts_with("sparse+http://")
         || address.starts_with("sparse+https://")
         || address.starts_with("file:")
 }
 
-/// Adds a name to the registry with an address.
+/// Adds a name to the registry at an address.
 fn add_unread<'a>(
     rt: &HostRuntime,
     registries: &mut Vec<Unread<'a>>,
@@ -43,7 +43,7 @@ fn add_unread<'a>(
     Ok(())
 }
 
-/// The registries of lookups of which no entry can be had, in their order, with the crates that are not
+/// The registries among lookups whose entries cannot be fetched, in order, with the crates that are not
 /// excluded.
 fn unread_registries<'a>(
     rt: &HostRuntime,
@@ -60,7 +60,7 @@ fn unread_registries<'a>(
     Ok(registries)
 }
 
-/// Adds what defines something: its kind, its key, and the configuration file.
+/// Appends a definition: its kind, its key, and the configuration file.
 fn push_definition(to: &mut String, kind: &str, key: &str, file: &str) -> Result<(), AllocError> {
     to.push_str(kind)?;
     to.push_str(" `")?;
@@ -69,7 +69,7 @@ fn push_definition(to: &mut String, kind: &str, key: &str, file: &str) -> Result
     push_escaped(to, file)
 }
 
-/// Whether the text of a configuration is an address as lookups have it.
+/// Whether a text in a configuration is the address of a lookup.
 fn is_address(rt: &HostRuntime, text: Option<&str>, address: &str) -> CargoResult<bool> {
     let Some(text) = text else {
         return Ok(false);
@@ -78,7 +78,7 @@ fn is_address(rt: &HostRuntime, text: Option<&str>, address: &str) -> CargoResul
     Ok(found.as_deref() == Some(address))
 }
 
-/// Adds the source without an address that an address stands for, and answers whether there is one.
+/// Appends the source without an address that this address stands for, and returns whether there is one.
 fn push_addressless(
     rt: &HostRuntime,
     to: &mut String,
@@ -95,8 +95,8 @@ fn push_addressless(
     Ok(false)
 }
 
-/// Adds the registry with an address among those of the environment, else the first definition with it among
-/// configuration files, and answers whether there is one.
+/// Appends the registry at an address as defined in the environment, else by the first configuration file
+/// that defines it, and returns whether there is one.
 fn push_defined(
     rt: &HostRuntime,
     to: &mut String,
@@ -127,7 +127,7 @@ fn push_defined(
     Ok(false)
 }
 
-/// Adds the line of a registry: what defines it, its crates, and why they cannot be had.
+/// Appends the line of a registry: its definition, its crates, and why their entries cannot be fetched.
 fn push_unread(
     rt: &HostRuntime,
     to: &mut String,

@@ -45,8 +45,8 @@ fn diff_root<'a>(workspace: Option<&'a Workspace>, current: &'a str) -> &'a str
     }
 }
 
-/// How the plan is printed and written, from the arguments. `update_calls` are made valid for the lock file
-/// where there is one.
+/// How the plan for these manifests is printed and written, from the arguments. `update_calls` is the path
+/// of the file for the calls, which are adapted to the lock file where there is one.
 pub(crate) fn delivery_task<'a>(
     words: &'a UpgradeWords<'_>,
     current: &'a str,

@@ -1,5 +1,5 @@
-//! The examples of examples/workspace and examples/versions, laid out in `/w`, as tables. What their
-//! manifests become was worked out by hand.
+//! The examples of examples/workspace and examples/versions, in `/w`, as tables. The expected manifests
+//! were worked out by hand.
 
 /// A run over an example. Of each file there is a row, the path and the text; of a manifest that is to change
 /// a third field, the text afterwards, and the rows are in the order in which they are written.
@@ -9,9 +9,9 @@ pub(super) struct Example {
     pub(super) manifests: &'static str,
     pub(super) others: &'static str,
     pub(super) index: &'static str,
-    /// How the manifests may stand, each old or new: no one is new behind one that is old.
+    /// The possible states of the manifests, each old or new: none is new after an old one.
     pub(super) whole: &'static str,
-    /// The same where the write of one failed, which may hold anything.
+    /// The possible states of the manifests where the write of one failed, which may have any contents.
     pub(super) cut: &'static str,
 }
 

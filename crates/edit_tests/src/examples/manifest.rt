@@ -1,4 +1,4 @@
-//! A manifest read, asked for an entry, and given another version.
+//! Reads a manifest, looks up an entry, and sets another version.
 use crate::stop::{must, same, text};
 use cargo_edit::document::Step;
 use cargo_edit::{CargoResult, Manifest, get_dep_version};
@@ -16,7 +16,7 @@ version = \"0.1.0\" # ours
 serde = { version = \"1.0\", features = [\"derive\"] }
 ";
 
-/// The text of a manifest with this version of its package; each other byte stays.
+/// The text of a manifest with this version of its package; every other byte is unchanged.
 fn with_version(alloc: Global, text: &str, version: &Version) -> CargoResult<String> {
     let mut manifest = Manifest::read(alloc, text)?;
     manifest.set_package_version(alloc, version)?;

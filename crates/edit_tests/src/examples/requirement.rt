@@ -1,10 +1,10 @@
-//! A requirement raised to a version.
+//! Raises a requirement to a version.
 use crate::stop::{must, same};
 use cargo_edit::{CargoResult, upgrade_requirement};
 use semver::Version;
 use std::alloc::Global;
 
-/// The requirement raised to a version, in its own form; as it was where it need not be raised.
+/// The requirement raised to a version, in its own form; unchanged where it admits the version as it is.
 fn raised(alloc: Global, requirement: &str, version: &Version) -> CargoResult<String> {
     match upgrade_requirement(alloc, requirement, version)? {
         Some(text) => Ok(text),

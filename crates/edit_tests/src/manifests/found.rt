@@ -1,4 +1,4 @@
-//! Rows of manifests that are found, read and written.
+//! Tests of finding, reading and writing manifests.
 use crate::rows::field;
 use crate::stop::{kept, made, must, same, told};
 use edit_base::CargoResult;
@@ -19,7 +19,7 @@ const FILES: &str = "\
 /x/y/z|x
 /w/e/Cargo.toml|";
 
-/// A store of these files, of which a call fails.
+/// A store of these files, whose call number `at` fails.
 fn store_of(rt: &impl Abort, alloc: Global, at: u64) -> FaultStore {
     let mut store = MemoryStore::new(alloc);
     'rows: for row in FILES.lines() {
@@ -32,7 +32,7 @@ fn store_of(rt: &impl Abort, alloc: Global, at: u64) -> FaultStore {
     FaultStore::new(store, at, 0)
 }
 
-/// The text of a manifest, behind its path where it is loaded; or what the refusal says.
+/// The text of a manifest, after its path where it is loaded; or the error.
 fn shown(rt: &impl Abort, alloc: Global, call: &str, local: CargoResult<LocalManifest>) -> String {
     match local {
         Ok(local) if call == "load" => {
@@ -43,8 +43,8 @@ fn shown(rt: &impl Abort, alloc: Global, call: &str, local: CargoResult<LocalMan
     }
 }
 
-/// The text of the manifest that is found, with another version of its package, read again once it is
-/// written; or what the refusal to write it says.
+/// The text of the manifest that is found, with another version of its package, written and read again; or
+/// the error of writing it.
 fn written(
     rt: &impl Abort,
     alloc: Global,
@@ -63,7 +63,7 @@ fn written(
     }
 }
 
-/// What becomes of a row.
+/// The result of a row.
 fn answer(rt: &impl Abort, alloc: Global, store: &mut FaultStore, row: &str) -> String {
     let (call, path, current) = (field(row, 1), field(row, 2), field(row, 3));
     let named = (path != "-").then_some(path);
@@ -80,7 +80,7 @@ fn answer(rt: &impl Abort, alloc: Global, store: &mut FaultStore, row: &str) -> 
     }
 }
 
-/// What is wanted; whether a manifest is found, loaded, written or opened; the path that is specified, `-`
+/// Rows: the expected result; whether a manifest is found, loaded, written or opened; the given path, `-`
 /// for none; the current folder.
 const ROWS: &str = "\
 /w/Cargo.toml [package]|load|-|/w/a
@@ -96,17 +96,18 @@ const ROWS: &str = "\
 2 Failed to read manifest contents|open|/w/e/Cargo.toml|
 package.version = \"0.2.0\" # v|write|-|/v";
 
-/// The same, where the first call fails.
+/// Rows of `ROWS`, where the first call fails.
 const FAULTS: &str = "\
 3 Failed to look at a path|find|-|/w/a
 3 Failed to look at a path|find|a|/w
 3 Failed to look at a path|load|-|/w/a
 3 Failed to read a file|open|/w/Cargo.toml|";
 
-/// The same, where the third call fails.
+/// A row of `ROWS`, where the third call fails.
 const WRITE_FAULTS: &str = "3 Failed to write updated Cargo.toml|write|-|/v";
 
-/// Ends the test where a row of a table does not give what it wants over files of which a call fails.
+/// Ends the test at the first row of a table that does not give its expected result over files whose call
+/// number `at` fails.
 fn hold(rt: &impl Abort, alloc: Global, table: &str, at: u64) {
     'rows: for row in table.lines() {
         let mut store = store_of(rt, alloc, at);

@@ -5,7 +5,7 @@ use edit_manifest::{DepKind, DepTable};
 use std::alloc::Global;
 use std::process::Abort;
 
-/// The kind that a word names.
+/// The dependency kind of this name.
 fn kind_of(word: &str) -> DepKind {
     match word {
         "development" => DepKind::Development,
@@ -42,7 +42,7 @@ fn answer(rt: &impl Abort, alloc: Global, kind: &str, target: &str) -> String {
     shown(rt, alloc, &copy)
 }
 
-/// The name of a kind's table, and the target; the kind and the target.
+/// Rows: the name of the table of a kind, and its target; the kind and the target.
 const KINDS: &str = "\
 dependencies all|normal|
 dev-dependencies all|development|

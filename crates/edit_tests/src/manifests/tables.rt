@@ -1,4 +1,4 @@
-//! Rows of dependency tables, by calls that no program makes.
+//! Tests of dependency tables, by calls that no program makes.
 use crate::rows::{TILDES, rows_hold};
 use crate::stop::{kept, must, push, same, text};
 use edit_document::{Step, copied_place};
@@ -23,7 +23,7 @@ fn shown(rt: &impl Abort, alloc: Global, place: &[Step]) -> String {
     kept(rt, seen.join(alloc, "/"))
 }
 
-/// The dependency table that the members of a workspace share.
+/// The table `workspace.dependencies`.
 fn shared(rt: &impl Abort, alloc: Global, manifest: &Manifest) -> String {
     match must(rt, manifest.get_workspace_dependency_table_mut(alloc)) {
         Some(place) => shown(rt, alloc, &place),
@@ -31,7 +31,7 @@ fn shared(rt: &impl Abort, alloc: Global, manifest: &Manifest) -> String {
     }
 }
 
-/// The dependency tables of a manifest, each with a semicolon behind it.
+/// The dependency tables of a manifest, each followed by a semicolon.
 fn tables(rt: &impl Abort, alloc: Global, manifest: &Manifest) -> String {
     let mut seen = String::new(alloc);
     'places: for place in &must(rt, manifest.get_dependency_tables_mut(alloc)) {
@@ -41,7 +41,7 @@ fn tables(rt: &impl Abort, alloc: Global, manifest: &Manifest) -> String {
     seen
 }
 
-/// The dependency tables of a manifest, or the one that the members of its workspace share.
+/// The dependency tables of a manifest, or the table `workspace.dependencies`.
 fn answer(rt: &impl Abort, alloc: Global, call: &str, source: &str) -> String {
     let manifest = must(rt, Manifest::read(alloc, source));
     match call {

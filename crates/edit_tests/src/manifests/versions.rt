@@ -1,4 +1,4 @@
-//! Rows of versions that a manifest names, by calls that no program makes.
+//! Tests of the versions in manifests, by calls that no program makes.
 use crate::rows::{TILDES, rows_hold};
 use crate::stop::{must, push, said, text, told};
 use edit_document::{Document, Place, Step};
@@ -7,7 +7,7 @@ use semver::Version;
 use std::alloc::Global;
 use std::process::Abort;
 
-/// The place of names with a slash between them.
+/// The place of keys separated by slashes.
 fn place_of(rt: &impl Abort, alloc: Global, names: &str) -> Place {
     let mut place = Vec::new(alloc);
     'names: for name in names.split('/') {
@@ -25,7 +25,7 @@ fn requirement(rt: &impl Abort, alloc: Global, document: &Document, place: &[Ste
     }
 }
 
-/// Sets the requirement of the entry at a place; `done` where it stands there then.
+/// Sets the requirement of the entry at a place; `done` where it has that requirement then.
 fn require(rt: &impl Abort, alloc: Global, document: &mut Document, words: &str) -> String {
     let (names, new) = words.split_once(' ').unwrap_or((words, ""));
     let place = place_of(rt, alloc, names);
@@ -41,12 +41,12 @@ fn require(rt: &impl Abort, alloc: Global, document: &mut Document, words: &str)
     word
 }
 
-/// The version of a text.
+/// Parses a version.
 fn version_of(rt: &impl Abort, alloc: Global, words: &str) -> Version {
     Version::parse(alloc, words).expect(rt, "a version")
 }
 
-/// Sets a version, of the package or of the workspace, or a requirement; what is said of it.
+/// Sets a version, of the package or of the workspace, or a requirement, and returns the result.
 fn set(rt: &impl Abort, alloc: Global, manifest: &mut Manifest, word: &str, rest: &str) -> String {
     if word == "require" {
         return require(rt, alloc, &mut manifest.document, rest);
@@ -68,7 +68,7 @@ fn set(rt: &impl Abort, alloc: Global, manifest: &mut Manifest, word: &str, rest
     }
 }
 
-/// The text of a manifest after a change; or what the refusal says, where the text is as it was then.
+/// The text of a manifest after a change; or the error, where the text is unchanged then.
 fn changed(
     rt: &impl Abort,
     alloc: Global,
@@ -86,7 +86,7 @@ fn changed(
     word
 }
 
-/// What is answered about a copy of a manifest: a requirement, or its text after a change.
+/// The result for a copy of a manifest: a requirement, or its text after a change.
 fn answer(rt: &impl Abort, alloc: Global, call: &str, source: &str) -> String {
     let manifest = must(rt, Manifest::read(alloc, source));
     let mut copy = must(rt, manifest.try_clone(alloc));
@@ -109,7 +109,8 @@ package.version = \"1.0.0-rc.1+b\"\n|package 1.0.0-rc.1+b|package.version = 'x'\
 [workspace.package]\r\nversion = \"1.0.0\"\r\n|workspace 1.0.0|\
 [workspace.package]\r\nversion = \"\"\"0.1.0\"\"\"\r\n";
 
-/// The same of requirements of entries (Cargo reference, "Specifying Dependencies").
+/// Rows of requirements of entries: the result, the call and the text (Cargo reference, "Specifying
+/// Dependencies").
 const REQUIREMENTS: &str = "\
 1|requirement a|a = \"1\"~\
 =1.2|requirement dependencies/a|[dependencies]\na = { version = '=1.2', optional = true }\n~\

@@ -1,4 +1,4 @@
-//! A plan of two manifests of distinct folders.
+//! A plan of two manifests in distinct folders.
 ghost use Rattle.std.specs.Prelude.{◌≡◌, string_bytes};
 
 use crate::stop::{kept, must, push, same, text};
@@ -29,7 +29,7 @@ fn input_at(rt: &impl Abort, alloc: Global, path: &str, bytes: &[u8]) -> Input
     }
 }
 
-/// What an upgrade is asked for without words.
+/// The options of an upgrade whose command line has no arguments.
 fn plain(alloc: Global) -> Options {
     Options {
         compatible: true,
@@ -58,7 +58,7 @@ fn planned(rt: &impl Abort, alloc: Global, index: &mut IndexCache<FileIndex>) ->
     must(rt, plan_upgrade(alloc, &options, &inputs, &configs, index))
 }
 
-/// How much the plan has.
+/// The sizes of the plan's lists.
 fn outcome(rt: &impl Abort, alloc: Global) -> String {
     let lines = must(rt, FileIndex::read(alloc, INDEX.as_bytes()));
     let mut index = IndexCache::new(alloc, lines);
@@ -81,7 +81,7 @@ fn a_crate_that_two_manifests_have(rt: HostRuntime) {
     );
 }
 
-/// A list of one configuration, which gives the registry `r` this address.
+/// A list of one configuration, which defines this address for the registry `r`.
 fn list_at(rt: &impl Abort, alloc: Global, address: &str) -> Vec<Config> {
     let mut registries = Vec::new(alloc);
     let named = (text(rt, alloc, "r"), Some(text(rt, alloc, address)));
@@ -96,7 +96,8 @@ fn list_at(rt: &impl Abort, alloc: Global, address: &str) -> Vec<Config> {
     list
 }
 
-/// The addresses of the lookups of two manifests, of which the first one has the second list.
+/// The addresses of the lookups of two manifests; the first manifest uses the second list of
+/// configurations.
 fn addresses(rt: &impl Abort, alloc: Global, index: &mut IndexCache<FileIndex>) -> String {
     let manifest = b"[dependencies]\nx = { version = \"1.0\", registry = \"r\" }\n";
     let inputs = [

@@ -1,4 +1,4 @@
-//! Rows of what each call of a record gives, of their texts and their order.
+//! Tests of the calls that build a `Dependency`, of its text and its order.
 use super::entry_rows::record_told;
 use super::parts::compared;
 use super::written_rows::record_of;
@@ -34,7 +34,7 @@ x x - - - true -, none|x|default features=true
 x x - - - - -, none|x|inherited features=a
 x x - - - - -, none|x|available features=a";
 
-/// How the records of two calls compare: by fields in their written order, where none is before some.
+/// How two `Dependency` values compare: by fields in their declared order, with `None` first.
 const COMPARED: &str = "\
 equal, one hash|registry=1|registry=1+a
 less, two hashes|registry=1|registry=2
@@ -55,7 +55,7 @@ less, two hashes|available features=a|rename=d
 equal, one hash|available features=a|available features=a
 less, two hashes|bare|available features=a";
 
-/// Which of the four a source is.
+/// The variant of a source.
 fn kind(source: &Source) -> &'static str {
     if source.as_workspace().is_some() {
         "workspace"
@@ -70,14 +70,14 @@ fn kind(source: &Source) -> &'static str {
     }
 }
 
-/// What a record says, and which of the four its source is.
+/// The fields of a `Dependency`, and the variant of its source.
 fn record_shown(rt: &impl Abort, alloc: Global, record: &Dependency) -> String {
     let told = record_told(rt, alloc, record);
     let kind = record.source().map_or("none", kind);
     kept(rt, format!(in alloc; "{told}, {kind}"))
 }
 
-/// What the copy of a record says.
+/// The fields of the copy of a `Dependency`.
 fn copy_told(rt: &impl Abort, alloc: Global, record: &Dependency, copy: &Dependency) -> String {
     if copy == record {
         record_shown(rt, alloc, copy)
@@ -86,7 +86,7 @@ fn copy_told(rt: &impl Abort, alloc: Global, record: &Dependency, copy: &Depende
     }
 }
 
-/// What a copy of the record of a row says.
+/// The fields of a copy of the `Dependency` of a row.
 fn built(rt: &impl Abort, alloc: Global, name: &str, parts: &str) -> String {
     let record = record_of(rt, alloc, name, parts);
     let copy = must(rt, record.try_clone(alloc));
@@ -98,7 +98,7 @@ fn built_records(rt: HostRuntime) {
     rows_hold(&rt, rt.alloc(), BUILT, LINES, built);
 }
 
-/// How the records of these parts compare.
+/// How two `Dependency` values with these parts compare.
 fn compared_parts(rt: &impl Abort, alloc: Global, one: &str, other: &str) -> String {
     let one = record_of(rt, alloc, "x", one);
     let other = record_of(rt, alloc, "x", other);

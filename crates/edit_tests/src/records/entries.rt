@@ -1,4 +1,4 @@
-//! Rows of calls of an index's entry and of Rust versions that no program makes.
+//! Tests of calls of index entries and of Rust versions that no program makes.
 use super::parts::{chosen, compared, shown};
 use crate::rows::{LINES, rows_hold};
 use crate::stop::{kept, must, push, text};
@@ -10,14 +10,14 @@ use semver::{Version, VersionReq};
 use std::alloc::Global;
 use std::process::Abort;
 
-/// What a call gives of an entry that asks for Rust 1.70, and the call.
+/// Rows: the result of a call on an entry that requires Rust 1.70, and the call.
 const FOUND: &str = "\
 x 1.0.0 -|latest
 x 1.0.0 -|compatible
 x 1.0.0 -|depends
 false|suits 1.0.0";
 
-/// That entry.
+/// The entry that requires Rust 1.70.
 fn entry(rt: &impl Abort, alloc: Global) -> IndexVersion {
     IndexVersion {
         name: text(rt, alloc, "x"),
@@ -27,7 +27,7 @@ fn entry(rt: &impl Abort, alloc: Global) -> IndexVersion {
     }
 }
 
-/// The version among entries that a requirement chooses.
+/// The version among entries that is selected for a requirement.
 fn compatible(rt: &impl Abort, alloc: Global, entries: &[IndexVersion]) -> String {
     let req = VersionReq::parse(alloc, "1")
         .ok()
@@ -36,7 +36,7 @@ fn compatible(rt: &impl Abort, alloc: Global, entries: &[IndexVersion]) -> Strin
     chosen(rt, alloc, found)
 }
 
-/// The version that is chosen where an entry is the only one.
+/// The version that is selected where an entry is the only one.
 fn only(rt: &impl Abort, alloc: Global, call: &str, told: IndexVersion) -> String {
     let mut entries = Vec::new(alloc);
     push(rt, &mut entries, told);
@@ -49,7 +49,7 @@ fn only(rt: &impl Abort, alloc: Global, call: &str, told: IndexVersion) -> Strin
     }
 }
 
-/// Whether an entry suits Rust 1.0.0.
+/// Whether an entry supports Rust 1.0.0.
 fn suits(rt: &impl Abort, alloc: Global, told: &IndexVersion) -> String {
     match must(rt, read_candidate(alloc, told)) {
         Some(candidate) => {
@@ -72,7 +72,7 @@ fn copied(rt: &impl Abort, alloc: Global) -> IndexVersion {
     must(rt, entry.try_clone(alloc))
 }
 
-/// What a call gives of the copy of an entry.
+/// The result of a call on the copy of an entry.
 fn found(rt: &impl Abort, alloc: Global, call: &str, _row: &str) -> String {
     let copy = copied(rt, alloc);
     match call {
@@ -101,7 +101,7 @@ greater, two hashes|compare|1.10.0 1.9.9
 greater, two hashes|compare|1.0.10 1.0.9
 less, two hashes|compare|1.2.3 3.2.1";
 
-/// The numbers of a Rust version.
+/// The three numbers of a Rust version.
 fn numbers(rt: &impl Abort, alloc: Global, version: RustVersion) -> String {
     let RustVersion {
         major,
@@ -119,13 +119,13 @@ fn compared_texts(rt: &impl Abort, alloc: Global, texts: &str) -> String {
     compared(rt, alloc, &one, &other)
 }
 
-/// The Rust version of the version of a text.
+/// The Rust version from the version of a text.
 fn from_version(rt: &impl Abort, alloc: Global, text: &str) -> String {
     let version = Version::parse(alloc, text).ok().expect(rt, "a version");
     numbers(rt, alloc, RustVersion::from(&version))
 }
 
-/// What a row asks of Rust versions.
+/// The result of a row about Rust versions.
 fn rust(rt: &impl Abort, alloc: Global, call: &str, text: &str) -> String {
     match call {
         "from" => from_version(rt, alloc, text),

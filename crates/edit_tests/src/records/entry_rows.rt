@@ -1,4 +1,4 @@
-//! Rows of entries of a dependency table, each with its record.
+//! Tests of entries of a dependency table, each read as a `Dependency`.
 use super::parts::record_at;
 use crate::rows::{LINES, rows_hold};
 use crate::stop::{kept, text, unfolded};
@@ -54,7 +54,7 @@ dep@u?tag=t y 3 r f true false|y|\
 [dependencies.y]@package = \"dep\"@git = \"u\"@tag = \"t\"@version = \"3\"\
 @registry = \"r\"@features = [\"f\"]@default-features = true@optional = false";
 
-/// A truth value that an entry may give.
+/// The text of an optional boolean of an entry.
 fn truth(value: Option<bool>) -> &'static str {
     match value {
         Some(true) => "true",
@@ -63,7 +63,7 @@ fn truth(value: Option<bool>) -> &'static str {
     }
 }
 
-/// Features with commas between them, `-` where the entry has none.
+/// Features separated by commas, `-` where the entry has none.
 fn features(rt: &impl Abort, alloc: Global, texts: Option<&Vec<String>>) -> String {
     match texts {
         Some(texts) => kept(rt, texts.as_slice().join(alloc, ",")),
@@ -71,7 +71,7 @@ fn features(rt: &impl Abort, alloc: Global, texts: Option<&Vec<String>>) -> Stri
     }
 }
 
-/// The features of a record, its default features, and whether it is optional.
+/// The features of a `Dependency`, its default features, and whether it is optional.
 fn rest_told(rt: &impl Abort, alloc: Global, record: &Dependency) -> String {
     let features = features(rt, alloc, record.features.as_ref());
     let default_features = truth(record.default_features());
@@ -82,7 +82,7 @@ fn rest_told(rt: &impl Abort, alloc: Global, record: &Dependency) -> String {
     )
 }
 
-/// What a record says.
+/// The fields of a `Dependency`.
 pub(crate) fn record_told(rt: &impl Abort, alloc: Global, record: &Dependency) -> String {
     let rest = rest_told(rt, alloc, record);
     let key = record.toml_key();
@@ -94,7 +94,7 @@ pub(crate) fn record_told(rt: &impl Abort, alloc: Global, record: &Dependency) -
     )
 }
 
-/// What the entry of a row says.
+/// The result of reading the entry of a row.
 fn entry(rt: &impl Abort, alloc: Global, key: &str, entries: &str) -> String {
     let entries = unfolded(rt, alloc, entries);
     let manifest = kept(rt, format!(in alloc; "[dependencies]\n{entries}"));

@@ -105,10 +105,10 @@ x = [], 49 Edit would change more than its place|x = []|registry=2
 [[dependencies.x]]@version = \"1\"@, 49 Edit would change more than its place|\
 [[dependencies.x]]@version = \"1\"@|registry=2";
 
-/// The header above a manifest of entries alone.
+/// The header above a manifest that is only entries.
 const HEADER: &str = "[dependencies]\n";
 
-/// The place of the dependency of a row: of `serde` where its manifest begins with that key, else of `x`.
+/// The place of the dependency of a row: `serde` where its manifest begins with that key, else `x`.
 fn place_of(rt: &impl Abort, alloc: Global, lines: &str) -> Place {
     let key = if lines.starts_with("serde") {
         "serde"
@@ -121,7 +121,7 @@ fn place_of(rt: &impl Abort, alloc: Global, lines: &str) -> Place {
     place
 }
 
-/// Updates the entry at a place, where one stands there.
+/// Updates the entry at a place, where there is one.
 fn update(
     alloc: Global,
     document: &mut Document,
@@ -134,7 +134,7 @@ fn update(
     record.update_toml(alloc, "/foo", document, place)
 }
 
-/// What is left of a manifest, and why it was refused where it was.
+/// The manifest after the update, and the error where there is one.
 fn left(rt: &impl Abort, alloc: Global, document: &Document, refusal: &str) -> String {
     let text = document.as_str();
     let text = text.strip_prefix(HEADER).unwrap_or(text);
@@ -143,7 +143,7 @@ fn left(rt: &impl Abort, alloc: Global, document: &Document, refusal: &str) -> S
     kept(rt, format!(in alloc; "{left}{comma}{refusal}"))
 }
 
-/// The manifest of a row: below a header where it has none.
+/// The manifest of a row: below `[dependencies]` where it has no header.
 fn manifest(rt: &impl Abort, alloc: Global, lines: &str) -> String {
     let is_whole = lines.starts_with('[') || lines.starts_with("dependencies");
     let header = if is_whole { "" } else { HEADER };
@@ -151,7 +151,7 @@ fn manifest(rt: &impl Abort, alloc: Global, lines: &str) -> String {
     kept(rt, format!(in alloc; "{header}{lines}"))
 }
 
-/// What the manifest of a row is after an update of its dependency with a record.
+/// The manifest of a row after an update of its dependency from a `Dependency`.
 fn left_by(rt: &impl Abort, alloc: Global, lines: &str, record: &Dependency) -> String {
     let manifest = manifest(rt, alloc, lines);
     let mut document = must(rt, Document::read(alloc, manifest.as_str()));
@@ -161,7 +161,7 @@ fn left_by(rt: &impl Abort, alloc: Global, lines: &str, record: &Dependency) -> 
     left(rt, alloc, &document, refusal.as_str())
 }
 
-/// The same with the record of the row.
+/// The manifest of a row after an update from the `Dependency` of the row.
 fn updated(rt: &impl Abort, alloc: Global, lines: &str, parts: &str) -> String {
     let record = record(rt, alloc, parts);
     left_by(rt, alloc, lines, &record)

@@ -1,4 +1,4 @@
-//! Rows of calls of versions and of words that no program makes.
+//! Tests of calls of versions and of `NAME@REQUIREMENT` arguments that no program makes.
 use crate::rows::{LINES, rows_hold};
 use crate::stop::{kept, must, text};
 use edit_version::{CrateSpec, VersionExt, cut};
@@ -6,7 +6,7 @@ use semver::Version;
 use std::alloc::Global;
 use std::process::Abort;
 
-/// What a call gives, the call, and a version or a word.
+/// Rows: the result of a call, the call, and a version or an argument.
 const CALLS: &str = "\
 1.2.4|patch|1.2.3-rc.1+b
 true|pre-release|1.1.2-prerelease+meta
@@ -14,7 +14,7 @@ false|pre-release|1.1.2+meta-valid
 1.1.2|cut|1.1.2+meta-valid
 serde 1.0|word|serde@1.0";
 
-/// The version of a text.
+/// Parses a version.
 fn version(rt: &impl Abort, alloc: Global, text: &str) -> Version {
     Version::parse(alloc, text).ok().expect(rt, "a version")
 }
@@ -32,7 +32,7 @@ fn has_prerelease(rt: &impl Abort, alloc: Global, text: &str) -> String {
     kept(rt, format!(in alloc; "{has}"))
 }
 
-/// The name and the requirement of a word.
+/// The name and the requirement of an argument.
 fn named(rt: &impl Abort, alloc: Global, word: &str) -> String {
     let spec = must(rt, CrateSpec::from_str(alloc, word));
     let name = spec.name.as_str();
@@ -40,7 +40,7 @@ fn named(rt: &impl Abort, alloc: Global, word: &str) -> String {
     kept(rt, format!(in alloc; "{name} {req}"))
 }
 
-/// What a call gives.
+/// The result of a call.
 fn given(rt: &impl Abort, alloc: Global, call: &str, argument: &str) -> String {
     match call {
         "patch" => patched(rt, alloc, argument),

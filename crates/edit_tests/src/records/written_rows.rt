@@ -43,7 +43,7 @@ registry=2;features=b a b;optional=false
 features = [\"a\"], optional = true }|/|\
 registry=1;registry name=n;rename=d;default features=true;features=a;optional=true";
 
-/// The words of a text; the empty text has none.
+/// The words of a text, separated by spaces; none for the empty text.
 fn words(rt: &impl Abort, alloc: Global, words: &str) -> Vec<String> {
     let mut all = Vec::new(alloc);
     'words: for word in words.split_terminator(' ') {
@@ -52,7 +52,7 @@ fn words(rt: &impl Abort, alloc: Global, words: &str) -> Vec<String> {
     all
 }
 
-/// A repository with a branch, a tag and a revision in turn, of which the last stays; a bare one has no
+/// A git source with a branch, a tag or a revision set in turn, the last of which counts; without a
 /// version.
 fn repository(rt: &impl Abort, alloc: Global, part: &str, text: &str) -> GitSource {
     let git = must(rt, GitSource::new(alloc, "u"));
@@ -69,7 +69,7 @@ fn repository(rt: &impl Abort, alloc: Global, part: &str, text: &str) -> GitSour
     }
 }
 
-/// The same of a repository that has a version.
+/// A git source with one part more, or with a version.
 fn versioned(rt: &impl Abort, alloc: Global, git: GitSource, part: &str, text: &str) -> GitSource {
     match part {
         "branch" => {
@@ -90,7 +90,7 @@ fn versioned(rt: &impl Abort, alloc: Global, git: GitSource, part: &str, text: &
     }
 }
 
-/// The source that a part names.
+/// The source that a part describes.
 fn source(rt: &impl Abort, alloc: Global, part: &str, text: &str) -> Source {
     match part {
         "registry" => Source::from(must(rt, RegistrySource::new(alloc, text))),
@@ -101,7 +101,7 @@ fn source(rt: &impl Abort, alloc: Global, part: &str, text: &str) -> Source {
     }
 }
 
-/// A folder, with a version or without.
+/// A path source, with or without a version.
 fn path(rt: &impl Abort, alloc: Global, part: &str, text: &str) -> Source {
     let folder = if part == "path version" { "/w/x" } else { text };
     let source = must(rt, PathSource::new(alloc, folder));
@@ -121,7 +121,7 @@ fn features_of(rt: &impl Abort, alloc: Global, name: &str) -> BTreeMap<String, V
     features
 }
 
-/// The record with features.
+/// The `Dependency` with features added.
 fn with_features(
     rt: &impl Abort,
     alloc: Global,
@@ -136,7 +136,7 @@ fn with_features(
     }
 }
 
-/// The record with one part more.
+/// The `Dependency` with one part more.
 fn with_part(
     rt: &impl Abort,
     alloc: Global,
@@ -154,7 +154,7 @@ fn with_part(
     }
 }
 
-/// The same of a part that has several words, or is a source.
+/// The `Dependency` with one part more, which has several values or is a source.
 fn with_values(
     rt: &impl Abort,
     alloc: Global,
@@ -171,7 +171,7 @@ fn with_values(
     }
 }
 
-/// The record of the crate of a name that has these parts.
+/// The `Dependency` of this name with these parts.
 pub(crate) fn record_of(rt: &impl Abort, alloc: Global, name: &str, parts: &str) -> Dependency {
     let mut record = must(rt, Dependency::new(alloc, name));
     'parts: for part in parts.split(';') {
@@ -181,12 +181,12 @@ pub(crate) fn record_of(rt: &impl Abort, alloc: Global, name: &str, parts: &str)
     record
 }
 
-/// The record of the crate `dep` that has these parts.
+/// The `Dependency` of the crate `dep` with these parts.
 pub(crate) fn record(rt: &impl Abort, alloc: Global, parts: &str) -> Dependency {
     record_of(rt, alloc, "dep", parts)
 }
 
-/// How an entry is written: as a value, or by a dotted key.
+/// The text of a new entry: a value, or a dotted key.
 fn told(rt: &impl Abort, alloc: Global, item: &NewItem) -> String {
     match item {
         NewItem::Inline { dotted: true, .. } => text(rt, alloc, ".workspace = true"),
@@ -194,13 +194,13 @@ fn told(rt: &impl Abort, alloc: Global, item: &NewItem) -> String {
     }
 }
 
-/// The entry of a record.
+/// The new entry of a `Dependency`.
 fn entry(rt: &impl Abort, alloc: Global, root: &str, record: &Dependency) -> String {
     let item = must(rt, record.to_toml(alloc, root));
     told(rt, alloc, &item)
 }
 
-/// The entry of what is read of an entry.
+/// The entry written from what is read of an entry.
 fn again(rt: &impl Abort, alloc: Global, root: &str, key: &str, first: &str) -> String {
     let equals = if first.starts_with('.') { "" } else { " = " };
     let manifest = kept(
@@ -211,7 +211,7 @@ fn again(rt: &impl Abort, alloc: Global, root: &str, key: &str, first: &str) -> 
     entry(rt, alloc, root, &record)
 }
 
-/// An entry, and where it is another one the entry of what is read of it.
+/// An entry, and, where it differs, the entry written from what is read of it.
 fn both(rt: &impl Abort, alloc: Global, root: &str, key: &str, first: &str) -> String {
     let again = again(rt, alloc, root, key, first);
     if again.as_str() == first {
@@ -220,7 +220,7 @@ fn both(rt: &impl Abort, alloc: Global, root: &str, key: &str, first: &str) -> S
     kept(rt, format!(in alloc; "{first}, then {again}"))
 }
 
-/// The entry of a row, and where it is another one the entry of what is read of it.
+/// The entry of a row, and, where it differs, the entry written from what is read of it.
 fn written(rt: &impl Abort, alloc: Global, root: &str, parts: &str) -> String {
     let record = record(rt, alloc, parts);
     let first = entry(rt, alloc, root, &record);

@@ -1,4 +1,4 @@
-//! The refusal of a number, with what a row says that it carries.
+//! Builds the error with a number, from the fields in a row.
 use crate::stop::{push, text as text_of};
 use clap::Command;
 use edit_base::{DeviceCall, Error, MergedCommand, MissingKind, MissingNames};
@@ -7,7 +7,7 @@ use std::io;
 use std::io::ErrorKind;
 use std::process::Abort;
 
-/// A refusal that carries nothing.
+/// An error without fields.
 fn bare(number: u32) -> Option<Error> {
     match number {
         2 => Some(Error::NotUtf8),
@@ -32,7 +32,7 @@ fn bare(number: u32) -> Option<Error> {
     }
 }
 
-/// A refusal that carries numbers, or one of a few words.
+/// An error with number fields, or with a constant text.
 fn counted(number: u32, word: &str) -> Option<Error> {
     match number {
         1 => Some(Error::NotToml { at: 3 }),
@@ -55,7 +55,7 @@ fn counted(number: u32, word: &str) -> Option<Error> {
     }
 }
 
-/// A refusal that carries a text.
+/// An error with one text field.
 fn named(number: u32, text: String) -> Option<Error> {
     match number {
         4 => Some(Error::NotAbsolute { path: text }),
@@ -79,7 +79,7 @@ fn named(number: u32, text: String) -> Option<Error> {
     }
 }
 
-/// A refusal that carries two texts.
+/// An error with two text fields.
 fn paired(number: u32, first: String, second: String) -> Option<Error> {
     match number {
         9 => Some(Error::NoDependency {
@@ -106,7 +106,7 @@ fn paired(number: u32, first: String, second: String) -> Option<Error> {
     }
 }
 
-/// A refusal that carries names.
+/// An error with a list of names.
 fn missing(number: u32, names: Vec<String>) -> Option<Error> {
     match number {
         39 => Some(Error::PackagesMissing(MissingNames {
@@ -121,7 +121,7 @@ fn missing(number: u32, names: Vec<String>) -> Option<Error> {
     }
 }
 
-/// The refusal of a command line with an option that the command does not have.
+/// The error of a command line with an unknown option.
 fn command_line(alloc: Global) -> Option<Error> {
     let command = Command::new(alloc, "edit");
     match command.try_get_matches_from(&["edit", "--x"]) {
@@ -130,7 +130,7 @@ fn command_line(alloc: Global) -> Option<Error> {
     }
 }
 
-/// The refusal of a number where a text is expected.
+/// `Error::InvalidType`, where a string is expected.
 fn of_type(rt: &impl Abort, alloc: Global, key: &str, dep: &str) -> Error {
     Error::InvalidType {
         actual: text_of(rt, alloc, "integer"),
@@ -140,7 +140,7 @@ fn of_type(rt: &impl Abort, alloc: Global, key: &str, dep: &str) -> Error {
     }
 }
 
-/// A refusal that carries two texts, or more.
+/// An error with two text fields, or more.
 fn of_parts(
     rt: &impl Abort,
     alloc: Global,
@@ -158,7 +158,7 @@ fn of_parts(
     )
 }
 
-/// The names that a refusal carries.
+/// The names in an error.
 fn names_of(rt: &impl Abort, alloc: Global, parts: &str) -> Vec<String> {
     let mut names = Vec::new(alloc);
     'parts: for name in parts.split('@') {
@@ -167,7 +167,7 @@ fn names_of(rt: &impl Abort, alloc: Global, parts: &str) -> Vec<String> {
     names
 }
 
-/// A refusal that carries one text, or several.
+/// An error with one text field, or several.
 fn told_of(rt: &impl Abort, alloc: Global, number: u32, parts: &str) -> Option<Error> {
     if number == 39 || number == 43 {
         return missing(number, names_of(rt, alloc, parts));
@@ -178,7 +178,7 @@ fn told_of(rt: &impl Abort, alloc: Global, number: u32, parts: &str) -> Option<E
     }
 }
 
-/// The refusal of a number.
+/// The error with a number.
 pub(super) fn refusal(rt: &impl Abort, alloc: Global, number: u32, parts: &str) -> Error {
     let made = match number {
         47 => command_line(alloc),

@@ -1,4 +1,4 @@
-//! Rows of messages to a writer, and of the statuses that programs end with.
+//! Tests of messages to a writer, and of the exit statuses of programs.
 use crate::rows::{LINES, field, rows_hold};
 use crate::stop::{kept, must};
 use edit_base::{CargoResult, CliError, Error};
@@ -7,7 +7,7 @@ use std::alloc::Global;
 use std::process::Abort;
 use std::{io, str};
 
-/// Writes a message by a call's name.
+/// Writes a message with the call of this name.
 fn write_by(out: &mut Vec<u8>, call: &str, first: &str, message: &str) -> CargoResult<()> {
     match call {
         "justified" => shell_print(out, first, message, true),
@@ -17,7 +17,7 @@ fn write_by(out: &mut Vec<u8>, call: &str, first: &str, message: &str) -> CargoR
     }
 }
 
-/// What a writer holds after a message: its status and the message, with `@` for a line's end.
+/// The contents of a writer after a message: its status and the message, with `@` for a line end.
 fn written(rt: &impl Abort, alloc: Global, call: &str, words: &str) -> String {
     let mut out = Vec::new(alloc);
     must(
@@ -42,7 +42,7 @@ fn writes_messages(rt: HostRuntime) {
     rows_hold(&rt, rt.alloc(), MESSAGES, LINES, written);
 }
 
-/// The end that a call's name makes.
+/// The `CliError` that the call of this name makes.
 fn end_by(call: &str) -> CliError {
     match call {
         "new" => CliError::new(Error::Locked, 3),
@@ -52,7 +52,7 @@ fn end_by(call: &str) -> CliError {
     }
 }
 
-/// The status of the end that a call's name makes, and whether it tells an error.
+/// The exit status of that error, and whether it has a message.
 fn status(rt: &impl Abort, alloc: Global, call: &str, _words: &str) -> String {
     let end = end_by(call);
     let told = if end.error.is_some() {

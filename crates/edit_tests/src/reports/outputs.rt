@@ -1,4 +1,4 @@
-//! Outputs written to files in memory, one write of which may fail.
+//! Tests of outputs written to files in memory, where a write may fail.
 ghost use Rattle.std.specs.Prelude.{◌≡◌, string_bytes};
 
 use crate::stop::{kept, must, same, text, told};
@@ -29,7 +29,7 @@ fn applied(rt: &impl Abort, alloc: Global, files: &mut FaultStore) -> CargoResul
     apply(alloc, &outputs, files)
 }
 
-/// The files that stand before, of which the write with this number fails, from 0.
+/// The files before the outputs are written; the write at this index fails.
 fn files_failing(rt: &impl Abort, alloc: Global, at: u64) -> FaultStore {
     let mut files = MemoryStore::new(alloc);
     must(rt, files.write(alloc, "/w/a/Cargo.toml", b"old a"));
@@ -38,13 +38,13 @@ fn files_failing(rt: &impl Abort, alloc: Global, at: u64) -> FaultStore {
     FaultStore::new(files, at, 0)
 }
 
-/// What a file holds.
+/// The contents of a file.
 fn held(rt: &impl Abort, alloc: Global, files: &mut FaultStore, path: &str) -> String {
     let bytes = must(rt, files.read(alloc, path)).expect(rt, "a file");
     text(rt, alloc, str::from_utf8(&bytes).expect(rt, "UTF-8"))
 }
 
-/// How outputs were applied.
+/// The result of applying outputs.
 fn ended(rt: &impl Abort, alloc: Global, answer: CargoResult<()>) -> String {
     match answer {
         Ok(()) => text(rt, alloc, "done"),
@@ -52,8 +52,7 @@ fn ended(rt: &impl Abort, alloc: Global, answer: CargoResult<()>) -> String {
     }
 }
 
-/// How the outputs were applied where the write with this number fails, and what the first and the third
-/// file hold then.
+/// The result where the write at this index fails, and the contents of the first and the third file then.
 fn outcome(rt: &impl Abort, alloc: Global, at: u64) -> String {
     let mut files = files_failing(rt, alloc, at);
     let ended = ended(rt, alloc, applied(rt, alloc, &mut files));

@@ -1,4 +1,4 @@
-//! Calls of an index and of what is kept of its answers, told as texts.
+//! Calls of an index and of its cache, as texts.
 use super::looks::entries;
 use crate::records::parts::chosen;
 use crate::rows::field;
@@ -10,7 +10,7 @@ use std::alloc::Global;
 use std::process::Abort;
 use url::Url;
 
-/// The entries that are kept.
+/// The cached entries.
 fn answer(rt: &impl Abort, alloc: Global, krate: Option<&IndexKrate>) -> String {
     match krate {
         Some(krate) => entries(rt, alloc, krate),
@@ -18,7 +18,7 @@ fn answer(rt: &impl Abort, alloc: Global, krate: Option<&IndexKrate>) -> String 
     }
 }
 
-/// The versions of a ranking, the first four.
+/// The first four versions of a ranking.
 fn ranking(rt: &impl Abort, alloc: Global, ranked: Option<&Ranked>) -> String {
     let Some(ranked) = ranked else {
         return text(rt, alloc, "none");
@@ -40,7 +40,7 @@ fn compatible(rt: &impl Abort, alloc: Global, ranked: &Ranked, req: &str) -> Str
     }
 }
 
-/// What a ranking leads to for a requirement, or to its latest version for none.
+/// The version of a ranking for a requirement, or its latest version without one.
 fn choice(rt: &impl Abort, alloc: Global, ranked: Option<&Ranked>, req: &str) -> String {
     let Some(ranked) = ranked else {
         return text(rt, alloc, "no ranking");
@@ -52,7 +52,7 @@ fn choice(rt: &impl Abort, alloc: Global, ranked: Option<&Ranked>, req: &str) ->
     }
 }
 
-/// What the index is asked for, and what is kept of it.
+/// Queries the index, and returns what is cached of the answer.
 fn asked<I: Index>(
     rt: &impl Abort,
     alloc: Global,
@@ -95,7 +95,7 @@ fn has_version<I: Index>(
     }
 }
 
-/// The ranking of what the index answers.
+/// The ranking of the answer of the index.
 fn ranked<I: Index>(
     rt: &impl Abort,
     alloc: Global,
@@ -109,7 +109,7 @@ fn ranked<I: Index>(
     }
 }
 
-/// A call that gives nothing.
+/// A call without a result.
 fn done<I: Index>(
     rt: &impl Abort,
     alloc: Global,
@@ -126,8 +126,7 @@ fn done<I: Index>(
     said(rt, alloc, done, "done")
 }
 
-/// What a call gives. Its row has a name, the call, the name that is looked for, and a version or a
-/// requirement.
+/// The result of a call. Its row has a name, the call, the crate's name, and a version or a requirement.
 fn call<I: Index>(
     rt: &impl Abort,
     alloc: Global,
@@ -153,7 +152,7 @@ fn call<I: Index>(
     }
 }
 
-/// Makes the calls of a table in turn. Behind what its call needs, a row has what is wanted.
+/// Makes the calls of a table in turn. After the fields of its call, a row has the expected result.
 pub(crate) fn calls<I: Index>(
     rt: &impl Abort,
     alloc: Global,

@@ -1,4 +1,4 @@
-//! Answers and rankings that are kept.
+//! Cached answers and rankings.
 use super::calls::calls;
 use super::looks::files_of;
 use crate::stop::must;
@@ -13,7 +13,7 @@ const TWO: &[u8] =
     b"{\"name\":\"a\",\"vers\":\"1.0.0\"}\r\n \t\n{\"name\":\"b\",\"vers\":\"2.0.0\"}\n\
 {\"name\":\"a\",\"vers\":\"1.1.0\",\"yanked\":true,\"rust_version\":null}\n";
 
-/// The call over them.
+/// A call over these lines.
 const OVER_TWO: &str = "both lines, in order|krate|a||a 1.0.0.a 1.1.0!";
 
 #[test]
@@ -23,13 +23,13 @@ fn a_look_in_one_file(rt: HostRuntime) {
     calls(&rt, rt.alloc(), &mut cache, OVER_TWO);
 }
 
-/// A path, and lines of which the last is cut short.
+/// A path, and lines of which the last is truncated.
 const BROKEN: &str = "/idx/1/a|{\"name\":\"a\",\"vers\":\"1.0.0\"}@{\"na";
 
-/// A name, a call, the name that is looked for, a version or a requirement, and what is wanted.
+/// Rows: a name, a call, the crate's name, a version or a requirement, and the expected result.
 const OVER_BROKEN: &str = "a line cut short|krate|a||30 Invalid index line 2";
 
-/// The same path, and lines that are read.
+/// A path, and lines that are all valid.
 const REPAIRED: &str = "/idx/1/a|{\"name\":\"a\",\"vers\":\"1.0.0\"}@";
 
 /// The calls over them, where the first read fails.
@@ -38,18 +38,18 @@ the device fails|has|a||3 Failed to read a file
 nothing is kept|shown|a||none
 the next look|krate|a||a 1.0.0.";
 
-/// An index in files, one call of whose store fails.
+/// An index in files, over a store whose call number `at` fails.
 fn failing(rt: &impl Abort, alloc: Global, files: &str, at: u64) -> LocalIndex<FaultStore> {
     LocalIndex::new(FaultStore::new(files_of(rt, alloc, files), at, 0))
 }
 
-/// Puts another index below a cache, and tells how often the one before it failed.
+/// Replaces the index of a cache, and returns how often the old one failed.
 fn replace<I: Index + Drop>(cache: &mut IndexCache<I>, index: I) -> u64 {
     cache.replace_index(index).faults()
 }
 
-/// Makes calls over an index with these files, a call of whose store fails. A fault is counted where that is
-/// the first one.
+/// Makes calls over an index with these files, over a store one of whose calls fails. A fault is counted
+/// where that is the first one.
 fn over(
     rt: &impl Abort,
     alloc: Global,
@@ -63,7 +63,8 @@ fn over(
     assert!(rt; (failed == 0) != (at == 0), "another count of faults");
 }
 
-/// Makes calls over one index after the other, each with its files and the call of its store that fails.
+/// Makes calls over one index after the other, each with its files and the number of the store's call that
+/// fails.
 fn over_each(rt: &impl Abort, alloc: Global, indexes: &[(&str, u64, &str)]) {
     let mut cache = IndexCache::new(alloc, failing(rt, alloc, "", 9));
     'indexes: for index in indexes {
@@ -112,7 +113,7 @@ fn a_refused_ranking_is_not_kept(rt: HostRuntime) {
 /// A path, and a line.
 const ONE: &str = "/idx/1/b|{\"name\":\"b\",\"vers\":\"2.0.0\"}@";
 
-/// The call whose answer is kept.
+/// The call whose answer is cached.
 const OVER_ONE: &str = "an answer|fetch|b||done";
 
 /// The calls when the index has no line any more.

@@ -1,11 +1,11 @@
-//! Steps on a store, told as texts.
+//! Calls of a store, as texts.
 use crate::rows::field;
 use crate::stop::{kept, said, same, text, told};
 use edit_store::{Kind, Store};
 use std::alloc::Global;
 use std::process::Abort;
 
-/// What stands at a path.
+/// The kind of file at a path.
 fn kind<S: Store>(rt: &impl Abort, alloc: Global, store: &mut S, path: &str) -> String {
     match store.kind(alloc, path) {
         Ok(Kind::File) => text(rt, alloc, "file"),
@@ -15,7 +15,7 @@ fn kind<S: Store>(rt: &impl Abort, alloc: Global, store: &mut S, path: &str) -> 
     }
 }
 
-/// What a file says.
+/// The contents of a file.
 fn read<S: Store>(rt: &impl Abort, alloc: Global, store: &mut S, path: &str) -> String {
     match store.read(alloc, path) {
         Ok(Some(bytes)) => String::from_utf8(bytes).ok().expect(rt, "a text"),
@@ -24,7 +24,7 @@ fn read<S: Store>(rt: &impl Abort, alloc: Global, store: &mut S, path: &str) -> 
     }
 }
 
-/// What becomes of a write.
+/// The result of a write.
 fn write<S: Store>(rt: &impl Abort, alloc: Global, store: &mut S, path: &str, new: &str) -> String {
     said(
         rt,
@@ -34,7 +34,7 @@ fn write<S: Store>(rt: &impl Abort, alloc: Global, store: &mut S, path: &str, ne
     )
 }
 
-/// What a step gives. Its row has a name, a call, a path and the text that is written.
+/// The result of a call. Its row has a name, a call, a path and the text to write.
 fn step<S: Store>(rt: &impl Abort, alloc: Global, store: &mut S, path: &str, row: &str) -> String {
     match field(row, 1) {
         "kind" => kind(rt, alloc, store, path),
@@ -45,7 +45,7 @@ fn step<S: Store>(rt: &impl Abort, alloc: Global, store: &mut S, path: &str, row
     }
 }
 
-/// Takes the steps of a table in turn. Behind what its step needs, a row has what is wanted.
+/// Makes the calls of a table in turn. After the fields of its call, a row has the expected result.
 pub(crate) fn steps<S: Store>(rt: &impl Abort, alloc: Global, store: &mut S, rows: &str) {
     'rows: for row in rows.lines() {
         let seen = step(rt, alloc, store, field(row, 2), row);

@@ -1,9 +1,9 @@
-//! Stores in memory, a call that fails, and devices of the machine.
+//! Stores in memory, a store whose call fails, and devices of the machine.
 use super::steps::steps;
 use crate::stop::kept;
 use edit_store::{FaultStore, HostStore, MemoryStore};
 
-/// A name, a call, a path, the text that is written, and what is wanted.
+/// Rows: a name, a call, a path, the text to write, and the expected result.
 const MEMORY: &str = "\
 a file|write|/w/Cargo.toml|a|written
 a file below|write|/w/a/lib.rs|b|written
@@ -25,18 +25,18 @@ fn folders_in_memory(rt: HostRuntime) {
     steps(&rt, rt.alloc(), &mut store, MEMORY);
 }
 
-/// What stands before the calls are counted.
+/// The files before the calls are counted.
 const BEFORE: &str = "\
 a file|write|/b|old bytes|written
 another file|write|/c|old|written";
 
-/// The call number 1 fails, and a write leaves 4 bytes.
+/// Call number 1 fails, and its write leaves 4 bytes.
 const FAILS: &str = "\
 call 0|write|/a|new a|written
 call 1|write|/b|new b|3 Failed to write updated Cargo.toml
 counted|faults|||1";
 
-/// What stands below the store then.
+/// The files of the wrapped store then.
 const BELOW: &str = "\
 written|read|/a||new a
 cut short|read|/b||new |

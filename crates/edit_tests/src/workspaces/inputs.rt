@@ -1,4 +1,4 @@
-//! Rows of the manifests of a workspace where the device fails. The others are in
+//! Tests of reading the manifests of a workspace where the device fails. The others are in
 //! `tests/cases/upgrade/workspace_manifests.toml`.
 use crate::rows::{TILDES, rows_hold};
 use crate::stop::{kept, must, said};
@@ -14,7 +14,7 @@ const METADATA: &str = "\
 {\"name\":\"-\",\"id\":\"/w/a/Cargo.toml\",\"version\":\"1.0.0\",\"manifest_path\":\"/w/a/Cargo.toml\",\
 \"rust_version\":\"-\"}]}";
 
-/// The store of its manifests, one call of which fails.
+/// A store of its manifests, whose call number `at` fails.
 fn failing_store(rt: &impl Abort, alloc: Global, at: u64) -> FaultStore {
     let mut files = MemoryStore::new(alloc);
     must(rt, files.write(alloc, "/w/Cargo.toml", b"#13"));
@@ -22,7 +22,7 @@ fn failing_store(rt: &impl Abort, alloc: Global, at: u64) -> FaultStore {
     FaultStore::new(files, at, 0)
 }
 
-/// What becomes of the inputs that are read of a store.
+/// The result of reading the inputs from a store.
 fn inputs(rt: &impl Abort, alloc: Global, store: &mut FaultStore) -> String {
     let workspace = must(rt, Workspace::read(alloc, METADATA.as_bytes()));
     let inputs = workspace_inputs(alloc, store, &workspace, None, false);
@@ -38,7 +38,7 @@ fn failing(rt: &impl Abort, alloc: Global, at: &str, _members: &str) -> String {
     kept(rt, format!(in alloc; "{answer}, {counted}"))
 }
 
-/// What is refused, and how many faults there were; the call that fails; the members.
+/// Rows: the error, and the number of faults; the call that fails; the members.
 const FAILING: &str = "\
 3 Failed to read a file, 1|0|/w/a/Cargo.toml\
 ~3 Failed to read a file, 1|1|/w/a/Cargo.toml";

@@ -1,4 +1,4 @@
-//! Rows of where a refusal arose that is not that of the first input. The others are in
+//! Tests of errors in an input other than the first. The others are in
 //! `tests/cases/upgrade/error_places.toml`.
 use crate::rows::{TILDES, rows_hold};
 use crate::stop::{kept, push, text};
@@ -8,7 +8,8 @@ use edit_steps::{Refusal, at_input};
 use std::alloc::Global;
 use std::process::Abort;
 
-/// An input by its path and what its file holds, `!` being a byte that no character begins with.
+/// An input from its path and the contents of its file, where `!` stands for a byte that no UTF-8 character
+/// begins with.
 fn input_of(rt: &impl Abort, alloc: Global, row: &str) -> Input {
     let (path, held) = row.split_once(' ').unwrap_or((row, ""));
     let bytes = if held == "!" {
@@ -42,8 +43,7 @@ fn inputs_of(rt: &impl Abort, alloc: Global, rows: &str) -> Vec<Input> {
     all
 }
 
-/// The file, line and column of an error, without the lines of the file that are shown below them; `-` being
-/// none.
+/// The file, line and column of an error, without the excerpt; `-` for none.
 fn shown(rt: &impl Abort, alloc: Global, refusal: &Refusal) -> String {
     match &refusal.place {
         Some(place) => {
@@ -54,14 +54,14 @@ fn shown(rt: &impl Abort, alloc: Global, refusal: &Refusal) -> String {
     }
 }
 
-/// The place of a refusal of a plan over inputs.
+/// The place of an error of a plan over inputs.
 fn place_of(rt: &impl Abort, alloc: Global, word: &str, inputs: &str) -> String {
     let all = inputs_of(rt, alloc, inputs);
     let refusal = at_input(alloc, refusal_of(word), &all);
     shown(rt, alloc, &refusal)
 }
 
-/// The place; the refusal; the inputs.
+/// Rows: the place; the error; the inputs.
 const PLACES: &str = "\
 /b/Cargo.toml:1:1||/a/Cargo.toml !;/b/Cargo.toml =\
 ~/b/Cargo.toml|utf8|/a/Cargo.toml =;/b/Cargo.toml !\

@@ -1,4 +1,4 @@
-//! Rows of what an upgrade rests on. What is refused of it is in `tests/cases/upgrade/inputs_rejected.toml`.
+//! Tests of the files that an upgrade reads. Errors are in `tests/cases/upgrade/inputs_rejected.toml`.
 use super::workspaces::{quoted, rust_shown};
 use crate::rows::{TILDES, rows_hold};
 use crate::stop::{kept, must, told, unfolded};
@@ -9,7 +9,7 @@ use edit_version::RustVersion;
 use std::alloc::Global;
 use std::process::Abort;
 
-/// The files: the path of each and what it holds, `'` being a quote and `@` a line's end.
+/// The path and the contents of each file, with `'` for a quotation mark and `@` for a line end.
 const FILES: &str = "\
 /w/Cargo.toml [workspace]@\
 ~/w/a/Cargo.toml [package]@name = 'a'@rust-version = '1.70'@\
@@ -28,7 +28,7 @@ const FILES: &str = "\
 {'name':'of/w/b','id':'/w/b','version':'1.0.0','manifest_path':'/w/b/Cargo.toml','rust_version':'1.72'},\
 {'name':'of/w/c','id':'/w/c','version':'1.0.0','manifest_path':'/w/c/Cargo.toml','rust_version':'1.72'}]}";
 
-/// Puts the file of a row into a store: its path and what it holds.
+/// Adds the file of a row to a store: its path and its contents.
 fn put_file(rt: &impl Abort, alloc: Global, store: &mut MemoryStore, row: &str) {
     let (path, held) = row.split_once(' ').unwrap_or((row, ""));
     let lines = unfolded(rt, alloc, held);
@@ -43,8 +43,8 @@ fn put_files(rt: &impl Abort, alloc: Global, store: &mut MemoryStore) {
     }
 }
 
-/// The inputs that were read: the name, the path and the Rust version of each, how many configurations it
-/// has, and the index of their list.
+/// The inputs that were read: the name, the path and the Rust version of each, the number of its
+/// configurations, and the index of their list.
 fn inputs_shown(rt: &impl Abort, alloc: Global, sources: &Sources) -> String {
     let mut all = String::new(alloc);
     'inputs: for (i, input) in sources.target.inputs.iter().enumerate() {
@@ -86,7 +86,7 @@ fn nth(words: &str, n: usize) -> Option<&str> {
     }
 }
 
-/// The choice that a word makes: none the manifests' own, `!` no version.
+/// The choice of a Rust version: that of the manifests for `None`, none for `!`.
 fn choice(rt: &impl Abort, alloc: Global, word: Option<&str>) -> RustChoice {
     match word {
         None => RustChoice::Own,
@@ -110,7 +110,7 @@ fn asked<'a>(rt: &impl Abort, alloc: Global, target: &'a str, more: &'a str) -> 
     }
 }
 
-/// What is read in `/w/a/src`, with the home `/h`, of what is asked for.
+/// Reads the requested files in `/w/a/src`, with the home folder `/h`.
 fn answered(rt: &impl Abort, alloc: Global, asked: &Asked, store: &mut MemoryStore) -> String {
     match read_sources(alloc, asked, "/w/a/src", Some("/h"), store) {
         Ok(sources) => shown(rt, alloc, &sources),
@@ -118,7 +118,7 @@ fn answered(rt: &impl Abort, alloc: Global, asked: &Asked, store: &mut MemorySto
     }
 }
 
-/// What is read of the files of the table for what a row asks for.
+/// Reads the files of the table that a row requests.
 fn read(rt: &impl Abort, alloc: Global, target: &str, more: &str) -> String {
     let mut store = MemoryStore::new(alloc);
     put_files(rt, alloc, &mut store);
@@ -126,8 +126,8 @@ fn read(rt: &impl Abort, alloc: Global, target: &str, more: &str) -> String {
     answered(rt, alloc, &asked, &mut store)
 }
 
-/// What is read; the manifest and the metadata that are named; the index, the Rust version, the folder, and
-/// the two configuration files.
+/// Rows: the result; the given manifest and metadata; the index, the Rust version, the folder, and the two
+/// configuration files.
 const READ: &str = "\
 a /w/a/Cargo.toml 1.70.0 2 0; files, 1|- -|- -\
 ~virtual workspace /w/Cargo.toml - 2 0; a file, 1|/w -|../../index -\

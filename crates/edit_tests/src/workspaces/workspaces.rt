@@ -1,5 +1,4 @@
-//! Rows of workspaces that metadata tell of. What is none is in
-//! `tests/cases/upgrade/metadata_rejected.toml`.
+//! Tests of workspaces read from metadata. Errors are in `tests/cases/upgrade/metadata_rejected.toml`.
 use crate::rows::{TILDES, rows_hold};
 use crate::stop::{kept, must, text, told};
 use edit_metadata::{Package, Workspace, manifest_from_pkgid};
@@ -25,7 +24,7 @@ fn changed(rt: &impl Abort, alloc: Global, old: &str, new: &str) -> String {
     quoted(rt, alloc, text.as_str())
 }
 
-/// What a Rust version shows, `-` being none.
+/// The text of a Rust version, `-` for none.
 pub(crate) fn rust_shown(rt: &impl Abort, alloc: Global, version: Option<RustVersion>) -> String {
     match version {
         Some(version) => {
@@ -47,7 +46,7 @@ fn rest_shown(rt: &impl Abort, alloc: Global, package: &Package) -> String {
     kept(rt, format!(in alloc; "{source} {rust} {member}"))
 }
 
-/// What a package shows.
+/// The fields of a package.
 fn shown(rt: &impl Abort, alloc: Global, package: &Package) -> String {
     let rest = rest_shown(rt, alloc, package);
     let Package {
@@ -63,7 +62,7 @@ fn shown(rt: &impl Abort, alloc: Global, package: &Package) -> String {
     )
 }
 
-/// What a workspace shows.
+/// The fields of a workspace.
 fn told_of(rt: &impl Abort, alloc: Global, workspace: &Workspace) -> String {
     let mut all = text(rt, alloc, workspace.root.as_str());
     'packages: for package in &workspace.packages {
@@ -79,13 +78,13 @@ fn workspace(rt: &impl Abort, alloc: Global, old: &str, new: &str) -> Workspace 
     must(rt, Workspace::read(alloc, json.as_bytes()))
 }
 
-/// What is read of the metadata with one text replaced by another.
+/// The result of reading the metadata with one text replaced by another.
 fn read(rt: &impl Abort, alloc: Global, old: &str, new: &str) -> String {
     let workspace = workspace(rt, alloc, old, new);
     told_of(rt, alloc, &workspace)
 }
 
-/// What is read; a text of the metadata; what stands in its place.
+/// Rows: the result; a text in the metadata; its replacement.
 const READ: &str = "\
 /w; a A /w/a/Cargo.toml 0.1.0 - 1.70.0 member; b B /w/b/Cargo.toml 1.2.3-rc.1+x - - member|'/t'|'/u'\
 ~/w; a A /w/a/Cargo.toml 0.1.0 - 1.70.0 member; b B /w/b/Cargo.toml 1.2.3-rc.1+x - - member\
@@ -108,7 +107,7 @@ fn reads_workspaces(rt: HostRuntime) {
     rows_hold(&rt, rt.alloc(), READ, TILDES, read);
 }
 
-/// The path of the member of a name.
+/// The path of the member with a name.
 fn named(rt: &impl Abort, alloc: Global, name: &str, members: &str) -> String {
     let workspace = workspace(rt, alloc, "['A','B']", members);
     match manifest_from_pkgid(&workspace, name) {
@@ -117,7 +116,7 @@ fn named(rt: &impl Abort, alloc: Global, name: &str, members: &str) -> String {
     }
 }
 
-/// The path of a manifest; the name that is asked for; the ids of members.
+/// Rows: the path of a manifest; the requested name; the ids of members.
 const NAMED: &str = "\
 /w/a/Cargo.toml|a|['A','B']~/w/b/Cargo.toml|b|['A','B']\
 ~38 Found virtual manifest, but this command requires running against an actual package in this \

@@ -1,4 +1,4 @@
--- The text in columns with their widths is the text of the table.
+-- The text for columns with their widths is the text of the table.
 use Rattle.std.proofs.Common.{◌≡◌, ◌∙◌, IfOk, List, ap, map, subst, ℕ}
 use Rattle.std.specs.Prelude.{string_bytes}
 use Rattle.std.specs.List.{flat_map}

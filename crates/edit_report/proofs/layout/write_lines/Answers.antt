@@ -1,4 +1,4 @@
--- The lines in columns with their widths are the text of the table.
+-- The lines written for columns with their widths are the text of the table.
 use Rattle.std.proofs.Common.{◌∙◌, ap, map, subst}
 use Rattle.std.specs.Io.KnownBytes.{Appends}
 use Rattle.std.specs.List.{flat_map}

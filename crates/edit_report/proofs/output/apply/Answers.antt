@@ -1,4 +1,4 @@
--- Giving up what is ready writes nothing.
+-- Discarding staged writes writes nothing.
 use Rattle.edit_report.proofs.ApplyLemmas.{stopped_still}
 use Rattle.edit_report.proofs.output.apply.Goals as goal
 

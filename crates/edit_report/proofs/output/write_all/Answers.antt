@@ -1,4 +1,4 @@
--- Each write makes one output more whole, and the first refused one stops.
+-- Each write makes one more file complete, and the first failed write stops.
 use Rattle.std.proofs.Common.{◌∙◌, arith, refl, subst}
 use Rattle.edit_report.proofs.ApplyLemmas.{on_refusal, stopped_at, written_more, written_none}
 use Rattle.edit_report.specs.Applied.{IsWhole, path_of}

@@ -1,4 +1,4 @@
--- Nothing is written until the outputs are ready and compared.
+-- Nothing is written before all outputs are staged, flushed and verified.
 use Rattle.std.proofs.Common.{◌∙◌}
 use Rattle.edit_report.proofs.ApplyLemmas.{on_refusal, on_refusal_more, stopped_early, stopped_since}
 use Rattle.edit_steps.proofs.outputs.stage_and_write.Goals as goal
