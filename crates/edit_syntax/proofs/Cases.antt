@@ -1,4 +1,4 @@
--- Case distinctions on tests.
+-- What follows from tests.
 use Rattle.std.proofs.Common.{◌≡◌, Bool, true, false, ◌||◌, refl}
 
 pub by_test : {P : Type 0} (c : Bool) → (c ≡ true → P) → (c ≡ false → P) → P

@@ -29,12 +29,12 @@ pub mod LineSound
 pub mod ValueEdges
 pub mod StepLaws
 pub mod PutBefore
--- The tokens that the code appends
+-- The marks that the code notes
 pub mod NotedTokens
 pub mod NotedValues
 pub mod NotedElements
 pub mod NotedLines
--- The decoded values of tokens
+-- What tokens say
 pub mod EscapeRuns
 pub mod Escapes
 pub mod LineContents

@@ -1,4 +1,4 @@
--- One turn of each loop of the tokenizer.
+-- The steps of the loops.
 use Rattle.std.proofs.Common.{◌≡◌, ℕ, suc, ◌+◌, ◌-◌, ◌<◌, true, false, eqb, List, ◌∷◌, drop, Option, Some, None, refl, arith}
 use Rattle.std.specs.Prelude.{option_map}
 use Rattle.edit_syntax.specs.Characters.{quote}

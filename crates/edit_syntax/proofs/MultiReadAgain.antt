@@ -1,4 +1,4 @@
--- Parsing the text of a multi-line string gives it back.
+-- Strings over several lines that are spelled so are read.
 use Rattle.std.proofs.Common.{◌≡◌, ℕ, zero, suc, ◌<◌, ◌≤◌, true, false, eqb, eq-eqb, List, [], ◌∷◌, length, Some, refl, subst, ◌⊎◌, inl, inr, true≢false, arith}
 use Rattle.std.proofs.lemmas.Bool.Decides.{nat_tests}
 use Rattle.std.specs.List.{AllByRecursion}

@@ -1,4 +1,4 @@
--- Examples of upgraded requirements, computed by the definition.
+-- Worked rows of raising a requirement, as the definition computes them.
 use Rattle.std.proofs.Common.{◌≡◌, [], refl}
 use Rattle.std.specs.Prelude.{codes}
 use Rattle.std.specs.Fmt.{digits}

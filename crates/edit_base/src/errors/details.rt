@@ -1,8 +1,8 @@
-//! The details in some errors.
+//! What some refusals tell beside the kind of refusal.
 
 use std::fmt;
 
-/// A command of the original that cargo now provides itself: `add` or `rm`.
+/// A command that cargo has by itself.
 #[derive(Clone, Copy, Debug, PartialEq, Eq)]
 pub enum MergedCommand {
     Add,
@@ -27,14 +27,14 @@ impl fmt::Display for MergedCommand {
     }
 }
 
-/// The kind of what no manifest has: a package or a dependency.
+/// What no manifest has.
 #[derive(Clone, Copy, Debug, PartialEq, Eq)]
 pub enum MissingKind {
     Package,
     Dependency,
 }
 
-/// Missing names, which print as `package a doesn't exist` or `packages a, b don't exist`.
+/// Names that no manifest has, as `package a doesn't exist` or `packages a, b don't exist`.
 #[derive(Debug, Drop)]
 pub struct MissingNames {
     pub kind: MissingKind,
