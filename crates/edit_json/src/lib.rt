@@ -1,5 +1,5 @@
-//! JSON read token by token, without making a tree: what a crate that reads the members of an object needs
-//! beside `json::Reader`.
+//! Helpers beside `json::Reader` to read the members of a JSON object token by token, without building a
+//! tree.
 #![tactic(auto)]
 
 pub mod skip;

@@ -14,7 +14,8 @@ fn is_small_number(text: &str) -> bool
     text == "1" || text == "2"
 }
 
-/// Skips a value; none where it is malformed, nested too deeply, or has a number other than `1` and `2`.
+/// Skips a value. `None` where it is malformed, nested deeper than `depth`, or has a number other than `1`
+/// and `2`.
 #[cycle(skip_value)]
 #[inline(always)]
 pub fn skip_value(reader: &mut Reader<'_>, depth: usize) -> Option<()>
@@ -52,7 +53,7 @@ pub fn skip_value(reader: &mut Reader<'_>, depth: usize) -> Option<()>
     }
 }
 
-/// Skips the elements of an array and its closing bracket, as `skip_value` does.
+/// Skips the elements of an array and its closing bracket, each element as `skip_value` does.
 #[cycle(skip_value)]
 #[inline(never)]
 fn skip_items(reader: &mut Reader<'_>, depth: usize) -> Option<()>
@@ -66,7 +67,7 @@ fn skip_items(reader: &mut Reader<'_>, depth: usize) -> Option<()>
     Some(())
 }
 
-/// Skips the members of an object and its closing brace, as `skip_value` does.
+/// Skips the members of an object and its closing brace, each value as `skip_value` does.
 #[cycle(skip_value)]
 #[inline(never)]
 fn skip_members(reader: &mut Reader<'_>, depth: usize) -> Option<()>

@@ -5,7 +5,7 @@ ghost use Rattle.edit_json.specs.Reads.{ReadsValue};
 
 use json::{Reader, Token};
 
-/// Reads a string.
+/// Reads a string; `None` where the next token is no string.
 pub fn read_text<'a>(reader: &mut Reader<'a>) -> Option<&'a str>
     ensures shorter { IfSome result (λ _. length reader.new < length reader.old) }
     ensures value { IfSome result
@@ -17,7 +17,7 @@ pub fn read_text<'a>(reader: &mut Reader<'a>) -> Option<&'a str>
     }
 }
 
-/// Reads `true` or `false`.
+/// Reads `true` or `false`; `None` where the next token is no boolean.
 pub fn read_bool(reader: &mut Reader<'_>) -> Option<bool>
     ensures shorter { IfSome result (λ _. length reader.new < length reader.old) }
     ensures value { IfSome result
@@ -29,7 +29,7 @@ pub fn read_bool(reader: &mut Reader<'_>) -> Option<bool>
     }
 }
 
-/// Reads a string or `null`.
+/// Reads a string or `null`; `None` where the next token is neither.
 pub fn read_optional_text<'a>(reader: &mut Reader<'a>) -> Option<Option<&'a str>>
     ensures shorter { IfSome result (λ _. length reader.new < length reader.old) }
     ensures value { IfSome result (λ o. (depth : ℕ) → MatchOption o
