@@ -11,7 +11,7 @@ zipped_map f R same [] (y ∷ ys) h = absurd h
 zipped_map f R same (x ∷ xs) [] h = absurd h
 zipped_map f R same (x ∷ xs) (y ∷ ys) h = λ i. same x y h.0 i ∷ zipped_map f R same xs ys h.1 i
 
--- strings have their bytes as their model
+-- two strings have the same bytes
 abbrev pub SameBytes : String Global → String Global → Type 0
 SameBytes s t = string_bytes t ≡ string_bytes s
 
