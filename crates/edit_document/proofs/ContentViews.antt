@@ -4,7 +4,7 @@ use Rattle.edit_tree.specs.declared.nodes.Content.{Content}
 use Rattle.edit_tree.specs.declared.nodes.Node.{Node}
 use Rattle.edit_tree.specs.Shown.{Shown}
 use Rattle.edit_tree.specs.Tree.{View}
-use Rattle.edit_tree.specs.Nodes.{Spot, shape_of, view_of_shape}
+use Rattle.edit_tree.specs.Nodes.{Spot, elements_of, shape_of, view_of_shape}
 use Rattle.edit_document.specs.Items.{view_numbered}
 use Rattle.edit_document.specs.Compared.{kind_of, word_of}
 use Rattle.edit_document.proofs.Views.{Found, names_of_node}
@@ -12,7 +12,7 @@ use Rattle.edit_document.proofs.Views.{Found, names_of_node}
 -- what a node with this content shows
 abbrev pub content_view : Shown → Node → Content → View
 content_view d node x =
-    view_of_shape (shape_of d.bytes x) (names_of_node d.bytes node) (length node.elements.items)
+    view_of_shape (shape_of d.bytes x) (names_of_node d.bytes node) (length (elements_of node.members))
 
 -- and of which kind that is
 pub kind_shown : (d : Shown) (nodes : List Node) (spots : List Spot) (n : ℕ) (node : Node) (x : Content)

@@ -51,7 +51,7 @@ pub returns-in-Inline : goal.returns-in-Inline
 returns-in-Inline c =
     let f = found c.args.self.now c.self.inside.nodes.items c.args.number c.index-node.result.now
     (opened c.self.inside c.args.self.now c.self.invariant c.self.view_is) c.requires c.index-node.ensures in
-    c.len-in-Inline.ensures c.args.self.now.bytes ∙
+    c.len.ensures c.args.self.now.bytes ∙
     sym (count_tabular c.args.self.now c.self.inside.nodes.items
     (opened c.self.inside c.args.self.now c.self.invariant c.self.view_is).spots c.args.number
     c.index-node.result.now f c.in-Inline.is)
@@ -60,7 +60,7 @@ pub returns-in-Array : goal.returns-in-Array
 returns-in-Array c =
     let f = found c.args.self.now c.self.inside.nodes.items c.args.number c.index-node.result.now
     (opened c.self.inside c.args.self.now c.self.invariant c.self.view_is) c.requires c.index-node.ensures in
-    c.len.ensures ∙ ap (λ (es : List ℕ). length es) c.elements.ensures ∙
+    ap (λ (es : List ℕ). length es) c.elements.ensures ∙
     sym (count_elements c.args.self.now c.self.inside.nodes.items
     (opened c.self.inside c.args.self.now c.self.invariant c.self.view_is).spots c.args.number
     c.index-node.result.now f c.in-Array.is)
