@@ -13,10 +13,11 @@ use Rattle.edit_steps.specs.Sources.{AreDocuments}
 use Rattle.edit_cache.specs.IndexCache.{index_of, kept_at}
 use Rattle.edit_cache.specs.declared.cache.IndexCache.{IndexCache}
 use Rattle.edit_sources.specs.declared.config.Config.{Config}
-use Rattle.edit_upgrade.specs.Caches.{CacheView, StopsDocuments, StopsInputs, cache_view}
+use Rattle.edit_upgrade.specs.Caches.{CacheView, LeavesCache, StopsDocuments, StopsInputs, cache_view}
 use Rattle.edit_upgrade.specs.Causes.{IsCause}
-use Rattle.edit_upgrade.specs.Looks.{Kept, kept_by}
+use Rattle.edit_upgrade.specs.Looks.{AddsNeeded, Kept, kept_by}
 use Rattle.edit_upgrade.specs.Plans.{IsPlan}
+use Rattle.edit_upgrade.specs.Upgraded.{IsNeeded}
 use Rattle.edit_upgrade.specs.WordCauses.{IsRefusedFor}
 use Rattle.edit_upgrade.specs.declared.decision.options.Options.{Options}
 use Rattle.edit_upgrade.specs.declared.upgrade.UpgradePlan.{UpgradePlan}
@@ -71,10 +72,14 @@ planned {I} view index o inputs configs old new p is empty h =
 input_stops : {I : Type 0} (view : I → IndexView) (index : I) (inputs : List Input)
     (configs : List (Vec Config)) (old new : IndexCache I) (e : Error) → index_of old ≡ index
     → ((address name : List ℕ) → kept_at old address name ≡ None)
+    → LeavesCache (IsNeeded inputs configs) (cache_view view old) (cache_view view new)
     → StopsInputs inputs configs (cache_view view old) (cache_view view new) e
     → IsPlanStopped inputs configs (view index) e
-input_stops {I} view index inputs configs old new e is empty h = record {
+input_stops {I} view index inputs configs old new e is empty left h = record {
   kept = kept_by new;
+  adds = subst (λ (i : I). AddsNeeded (IsNeeded inputs configs) (view i).gives nothing_kept (kept_by new)) is
+      (subst (λ (k : Kept). AddsNeeded (IsNeeded inputs configs) (view (index_of old)).gives k (kept_by new))
+      (nothing old empty) left.adds);
   faults = (view (index_of new)).faults;
   cause = subst (λ (i : I). IsCause inputs configs (view i).gives nothing_kept (kept_by new) (view i).faults
       (view (index_of new)).faults e) is
@@ -86,21 +91,23 @@ input_stops {I} view index inputs configs old new e is empty h = record {
 bytes_refused : {I : Type 0} (view : I → IndexView) (index : I) (o : Options) (inputs : List Input)
     (configs : List (Vec Config)) (old new : IndexCache I) (e : Error) → index_of old ≡ index
     → ((address name : List ℕ) → kept_at old address name ≡ None)
+    → LeavesCache (IsNeeded inputs configs) (cache_view view old) (cache_view view new)
     → IsRefusedFor o (StopsInputs inputs configs (cache_view view old) (cache_view view new)) e
     → IsMemory e ⊎ IsPlanCause o inputs configs (view index) e
-bytes_refused view index o inputs configs old new e is empty (inl word) = inr (inl word)
-bytes_refused view index o inputs configs old new e is empty (inr (words, cause)) =
-    inr (inr (words, input_stops view index inputs configs old new e is empty cause))
+bytes_refused view index o inputs configs old new e is empty left (inl word) = inr (inl word)
+bytes_refused view index o inputs configs old new e is empty left (inr (words, cause)) =
+    inr (inr (words, input_stops view index inputs configs old new e is empty left cause))
 
 -- and one of documents
 documents_refused : {I : Type 0} (view : I → IndexView) (index : I) (o : Options) (inputs : List Input)
     (configs : List (Vec Config)) (old new : IndexCache I) (e : Error) → index_of old ≡ index
     → ((address name : List ℕ) → kept_at old address name ≡ None)
+    → LeavesCache (IsNeeded inputs configs) (cache_view view old) (cache_view view new)
     → IsRefusedFor o (StopsDocuments inputs configs (cache_view view old) (cache_view view new)) e
     → IsMemory e ⊎ IsPlanCause o inputs configs (view index) e
-documents_refused view index o inputs configs old new e is empty (inl word) = inr (inl word)
-documents_refused view index o inputs configs old new e is empty (inr (words, inl memory)) = inl memory
-documents_refused view index o inputs configs old new e is empty (inr (words, inr first)) =
+documents_refused view index o inputs configs old new e is empty left (inl word) = inr (inl word)
+documents_refused view index o inputs configs old new e is empty left (inr (words, inl memory)) = inl memory
+documents_refused view index o inputs configs old new e is empty left (inr (words, inr first)) =
     let stops : StopsInputs inputs configs (cache_view view old) (cache_view view new) e = record {
       i = first.i;
       input = first.input;
@@ -110,7 +117,7 @@ documents_refused view index o inputs configs old new e is empty (inr (words, in
       passed = first.passed;
       stops = inr first.stops;
     } in
-    inr (inr (words, input_stops view index inputs configs old new e is empty stops))
+    inr (inr (words, input_stops view index inputs configs old new e is empty left stops))
 
 -- a cause that follows from two that an error has
 pub both_causes : {T E : Type 0} (r : Result T E) (P Q R : E → Type 0) → ((e : E) → P e → Q e → R e)
@@ -122,15 +129,16 @@ both_causes (Err e) P Q R both p q = both e p q
 pub shared_refused : {I : Type 0} (view : I → IndexView) (index : I) (o : Options) (inputs : List Input)
     (configs : List (Vec Config)) (documents : List Shown) (old new : IndexCache I) (e : Error)
     → index_of old ≡ index → ((address name : List ℕ) → kept_at old address name ≡ None)
+    → LeavesCache (IsNeeded inputs configs) (cache_view view old) (cache_view view new)
     → AreDocuments documents inputs
     → (length documents ≡ length inputs
     → IsRefusedFor o (StopsDocuments inputs configs (cache_view view old) (cache_view view new)) e)
     → (documents ≡ []
     → IsRefusedFor o (StopsInputs inputs configs (cache_view view old) (cache_view view new)) e)
     → IsMemory e ⊎ IsPlanCause o inputs configs (view index) e
-shared_refused view index o inputs configs documents old new e is empty (inl none) given read =
-    bytes_refused view index o inputs configs old new e is empty (read none)
-shared_refused view index o inputs configs documents old new e is empty (inr same) given read =
-    documents_refused view index o inputs configs old new e is empty
+shared_refused view index o inputs configs documents old new e is empty left (inl none) given read =
+    bytes_refused view index o inputs configs old new e is empty left (read none)
+shared_refused view index o inputs configs documents old new e is empty left (inr same) given read =
+    documents_refused view index o inputs configs old new e is empty left
     (given (sym (length-map documents (λ (d : Shown). d.bytes)) ∙ ap length same
     ∙ length-map inputs (λ (input : Input). input.bytes.items)))

@@ -12,8 +12,9 @@ use Rattle.edit_sources.specs.declared.config.Config.{Config}
 use Rattle.edit_store.specs.Store.{StoreView}
 use Rattle.edit_upgrade.specs.Caches.{CacheView}
 use Rattle.edit_upgrade.specs.Causes.{IsCause}
-use Rattle.edit_upgrade.specs.Looks.{Kept}
+use Rattle.edit_upgrade.specs.Looks.{AddsNeeded, Kept}
 use Rattle.edit_upgrade.specs.Plans.{IsPlan}
+use Rattle.edit_upgrade.specs.Upgraded.{IsNeeded}
 use Rattle.edit_upgrade.specs.WordCauses.{IsRefusedFor}
 use Rattle.edit_upgrade.specs.declared.decision.options.Options.{Options}
 use Rattle.edit_upgrade.specs.declared.upgrade.UpgradePlan.{UpgradePlan}
@@ -68,10 +69,11 @@ pub record IsPlanned (o : Options) (inputs : List Input) (configs : List (Vec Co
   pub is : IsPlan o inputs configs (over view nothing_kept) (over view kept) plan
 
 -- the error of a plan at the first input that is no manifest, or that has an entry whose registry has no
--- address or whose lookup fails
+-- address or whose lookup fails; each answer that is cached by then is needed, and the index gives it
 pub record IsPlanStopped (inputs : List Input) (configs : List (Vec Config)) (view : IndexView) (e : Error)
     : Type 0 where
   pub kept : Kept
+  pub adds : AddsNeeded (IsNeeded inputs configs) view.gives nothing_kept kept
   pub faults : ℕ
   pub cause : IsCause inputs configs view.gives nothing_kept kept view.faults faults e
 

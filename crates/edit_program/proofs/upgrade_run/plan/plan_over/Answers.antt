@@ -65,7 +65,7 @@ returns-clause-refused g c =
     c.deref-4.ensures.value
     (both_causes r _ _ _ (λ e given read. shared_refused g.I.Index.view c.args.index o is
     (chosen_lists c.deref-3.result.now c.deref-4.result.now) docs c.new-cache.result c.plan_shared.new.index e
-    c.new-cache.ensures.index c.new-cache.ensures.empty documents given read)
+    c.new-cache.ensures.index c.new-cache.ensures.empty c.plan_shared.ensures.left documents given read)
     c.plan_shared.ensures.given c.plan_shared.ensures.read)))
 
 pub returns-clause-counted : goal.returns-clause-counted
