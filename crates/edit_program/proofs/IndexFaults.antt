@@ -2,7 +2,6 @@
 use Rattle.std.proofs.Common.{Result, arith, inl, inr, refl, subst, ℕ, ◌≡◌}
 use Rattle.std.proofs.lemmas.Result.{IfErr-weaker}
 use Rattle.std.specs.Prelude.{IfErr}
-use Rattle.edit_base.specs.Errors.{number_of}
 use Rattle.edit_base.specs.declared.errors.Error.{Error}
 use Rattle.edit_sources.specs.DirIndex.{dir_view, folder_of}
 use Rattle.edit_sources.specs.DirIndex.{store_of as folder_store}

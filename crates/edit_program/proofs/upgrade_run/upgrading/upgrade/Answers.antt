@@ -1,7 +1,7 @@
 use Rattle.std.proofs.Common.{◌≡◌, ◌∙◌, ap, inl, inr, option_map, subst, sym, true}
 use Rattle.std.specs.Prelude.{◌⊎◌}
 use Rattle.std.specs.Io.KnownBytes.{Appends}
-use Rattle.edit_base.specs.Errors.{IsMemory, number_of}
+use Rattle.edit_base.specs.Errors.{number_of}
 use Rattle.edit_sources.specs.Configured.{given}
 use Rattle.edit_steps.proofs.Refusals.{refusal_has}
 use Rattle.edit_report.specs.Applied.{HaveDistinctPaths}
