@@ -247,7 +247,7 @@ pub on-done : {T : Type 0} (A B : Type 0) (r : Result T Error) → (A → B) →
 on-done A B (Ok v) f h = f h
 on-done A B (Err e) f h = tt
 
--- two calls, with a fact that holds if the contents of the files are known
+-- weaker conditions on the writes, if the contents of the files are known
 pub weakened-told : {T : Type 0} (P P' : T → List ℕ → List ℕ → Type 0) (Q Q' : List ℕ → List ℕ → Type 0)
     (a b : StoreView) (r : Result T Error)
     → (a.tells ≡ true → (v : T) (path bytes : List ℕ) → P v path bytes → P' v path bytes)

@@ -106,7 +106,7 @@ pub says-none : (line : List ℕ) (table : List (Option Answer))
     → ((number : ℕ) (a : Answer) → SaysAnswer line number a → ⊥) → IsFound line table
 says-none line table never k a w says = absurd (never (k + 1) a says)
 
--- a line holds a single number
+-- the outcome of a line is found once it was put into the table
 pub says-one : (line : List ℕ) (old new : List (Option Answer)) (number : ℕ) (answer : Answer)
     → SaysAnswer line number answer
     → ((n m : ℕ) (a b : Answer) → SaysAnswer line n a → SaysAnswer line m b → n ≡ m)

@@ -1,4 +1,4 @@
--- The grammar's loops, a turn at a time, under the conversion to data.
+-- The loops of the JSON grammar, one iteration at a time, under the conversion to data.
 use Rattle.std.proofs.Common.{◌≡◌, ℕ, zero, suc, ◌-◌, ◌<◌, ◌≤◌, List, [], ◌∷◌, length, Option, Some, None, option_map, option_and_then, refl, ap, ◌∙◌}
 use Rattle.json.specs.Token.{Token}
 use Rattle.json.specs.Json as json

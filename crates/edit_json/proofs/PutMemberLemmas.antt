@@ -1,4 +1,4 @@
--- What an object of JSON says of a name after one more member was put into it.
+-- The value of a name in a JSON object after one more member was put into it.
 use Rattle.std.proofs.Common.{◌≡◌, ℕ, List, Some, None, Ordering, Less, Equal, Greater, nat_cmp, is_eq, Bool, true, false, bytes_eq, true≢false, ◌⊎◌, inl, inr, refl, sym, ap, ◌∙◌}
 use Rattle.std.proofs.lemmas.Map.Text.{is_eq-slice_cmp}
 use Rattle.std.proofs.lemmas.Slice.Eq.{bytes_eq-Decides}
@@ -32,7 +32,7 @@ beside Less j k l is h = inr (λ e. cc)
 beside Equal j k l is h = inl (ap (bytes_eq j) (sym ((bytes_eq-Decides k l).0 (same_eq k l is))) ∙ h)
 beside Greater j k l is h = inr (λ e. cc)
 
--- what stands at another name stays
+-- the value of another name is unchanged
 pub put_other : (j k : List ℕ) (d : Data) (ms : Members) → bytes_eq j k ≡ false → get_member j (put k d ms) ≡ get_member j ms
 put_other j k d no_members h = skip (slice_cmp nat_cmp j k) None (Some d) (apart j k h)
 put_other j k d (member l e ms) h = put_at _ j k l d e ms refl h (beside _ j k l refl h) (put_other j k d ms h)
@@ -47,6 +47,6 @@ unequal : (b : Bool) (j key : List ℕ) → b ≡ bytes_eq j key → (key ≡ j 
 unequal true j key is h = absurd (h (sym ((bytes_eq-Decides j key).0 (sym is))))
 unequal false j key is h = refl
 
--- what stands at a name that the key is not stays
+-- the value of a name that differs from the key is unchanged
 pub not_key : (j key : List ℕ) (d : Data) (ms : Members) → (key ≡ j → ⊥) → get_member j (put key d ms) ≡ get_member j ms
 not_key j key d ms h = put_other j key d ms (unequal (bytes_eq j key) j key refl h)

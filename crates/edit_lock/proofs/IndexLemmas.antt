@@ -1,4 +1,4 @@
--- The packages that a lock file has gained, by name.
+-- The packages that only the current lock file has, by name.
 use Rattle.std.proofs.Common.{◌≡◌, ◌∷◌, ◌++◌, [], List, ℕ, Bool, true, false, cond, Option, Some, None, map, not, ap, refl, ◌∙◌, string_bytes}
 use Rattle.std.specs.Prelude.{◌||◌, ◌&&◌, Vec}
 use Rattle.std.specs.List.{filter}
@@ -45,7 +45,7 @@ gained-more had packages p =
     ∙ ap (λ (e : List (List ℕ × List ℕ)). map pair_of (filter t packages) ++ e)
     (ap (map pair_of) (filter-one t p) ∙ new-one (had (spec_of p)) p)
 
--- what is found at a name
+-- the result of a lookup of a name
 pub found-seen : (found : Option (Vec Gained Global))
     → option_map_or (λ g. gained_seen g.items) found [] ≡ gained_seen (option_map_or (λ g. g.items) found [])
 found-seen None = refl
@@ -95,7 +95,7 @@ of-packages q t [] = refl
 of-packages q t (p ∷ ps) =
     package-step q p (filter t ps) (filter (λ p. bytes_eq q p.name && t p) ps) (t p) (of-packages q t ps)
 
--- two tests of packages that answer alike leave the same ones
+-- two tests that agree on every package filter the same packages
 same-filter : (name : List ℕ) (f g : List ℕ → Bool) → ((q : List ℕ) → f q ≡ g q) → (packages : List Package)
     → map spec_of (filter (λ p. bytes_eq name p.name && not (f (spec_of p))) packages)
     ≡ map spec_of (filter (λ p. bytes_eq name p.name && not (g (spec_of p))) packages)
@@ -104,7 +104,7 @@ same-filter name f g same packages =
     (λ p. bytes_eq name p.name && not (h (spec_of p))) packages))
     (fun_ext same)
 
--- what is found at a name is what the name has gained
+-- the result of a lookup of a name is the new packages of that name
 pub gained-at : (before now : List Package) (had : List ℕ → Bool) → ((q : List ℕ) → had q ≡ locks before q)
     → (gained : List Gained) (found : List ℕ → Option (Vec Gained Global))
     → pairs_seen gained ≡ map pair_of (filter (λ p. not (had (spec_of p))) now)
@@ -117,7 +117,7 @@ gained-at before now had same gained found all groups name =
     ∙ ap (λ (es : List (List ℕ × List ℕ)). map (λ e. e.1) (filter (λ e. bytes_eq name e.0) es)) all
     ∙ of-packages name (λ p. not (had (spec_of p))) now ∙ same-filter name had (locks before) same now
 
--- what an index says, from what it says of each text
+-- the model of an index, from its result for each text
 pub same-changes : (before now : List Package) (had has : List ℕ → Bool) (gained : List ℕ → List (List ℕ))
     → ((q : List ℕ) → had q ≡ locks before q) → ((q : List ℕ) → has q ≡ locks now q)
     → ((name : List ℕ) → gained name

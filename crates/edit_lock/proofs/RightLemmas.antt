@@ -1,4 +1,4 @@
--- What becomes of a call names packages that are locked, and no other.
+-- An adapted call names only packages that are locked.
 use Rattle.std.proofs.Common.{◌≡◌, ◌∷◌, ◌++◌, [], List, ℕ, Bool, true, false, cond, not, refl, sym, codes, true≢false}
 use Rattle.std.specs.Prelude.{◌||◌, ◌&&◌, All}
 use Rattle.std.specs.List.{filter, flat_map}
@@ -30,7 +30,7 @@ all-locked (p ∷ ps) =
     (All-weaker (λ x. locks ps (spec_of x) ≡ true) (λ x. locks (p ∷ ps) (spec_of x) ≡ true)
     (λ x e. later (bytes_eq (spec_of p) (spec_of x)) (locks ps (spec_of x)) e) ps (all-locked ps))
 
--- so what a name has gained is
+-- each new package of a name is locked
 gained-locked : (before now : List Package) (name : List ℕ)
     → All (λ s. locks now s ≡ true) ((changes before now).gained name)
 gained-locked before now name =
@@ -45,7 +45,7 @@ standing-step P spec gained true had here all = All-cons P spec [] (here refl) (
 standing-step P spec gained false true here all = all
 standing-step P spec gained false false here all = All-nil P
 
--- and what stands for a package
+-- each replacement of a package is locked
 specs-locked : (before now : List Package) (spec : List ℕ)
     → All (λ s. locks now s ≡ true) (standing_specs (changes before now) spec)
 specs-locked before now spec =
@@ -54,7 +54,7 @@ specs-locked before now spec =
 
 -- ---- arguments
 
--- arguments behind others
+-- arguments after others
 named-append : (packages : List Package) (xs ys : Call) → NamesLocked packages xs → NamesLocked packages ys
     → NamesLocked packages (xs ++ ys)
 named-append packages xs ys no_arguments h = h
@@ -71,7 +71,7 @@ packages-named packages (s ∷ ss) all =
     locked s (flat_map package_arguments ss) (All-head (λ s. locks packages s ≡ true) s ss all)
     (packages-named packages ss (All-tail (λ s. locks packages s ≡ true) s ss all))
 
--- an argument that stands by itself
+-- an argument other than `--package`
 other-named : (packages : List Package) (argument : List ℕ) (is offline : Bool)
     → bytes_eq argument (codes "--package") ≡ is
     → NamesLocked packages (cond (is || offline) [] (argument ∷ []))

@@ -1,4 +1,4 @@
--- Lock files and calls as contracts see them.
+-- The models of lock files and calls.
 use Rattle.std.specs.Prelude.{ℕ, List, [], map, String, Vec, string_bytes}
 use Rattle.std.specs.Option.{option_map_or}
 use Rattle.std.specs.BTreeMap.{get_by_text}
@@ -11,7 +11,7 @@ use Rattle.edit_lock.specs.declared.lock.LockedPackage.{LockedPackage}
 use Rattle.edit_lock.specs.declared.index.Gained.{Gained}
 use Rattle.edit_lock.specs.declared.index.Index.{Index}
 
--- a package by its texts
+-- the model of a package
 abbrev pub package_seen : LockedPackage → Package
 package_seen p = record { name = string_bytes p.name; version = string_bytes p.version }
 
@@ -19,7 +19,7 @@ package_seen p = record { name = string_bytes p.name; version = string_bytes p.v
 abbrev pub packages_seen : Lock → List Package
 packages_seen l = map package_seen l.packages.items
 
--- the arguments of a call, by their texts
+-- the arguments of a call
 abbrev pub arguments_seen : List (String Global) → Call
 arguments_seen arguments = map string_bytes arguments
 
@@ -31,15 +31,15 @@ calls_seen calls = map (λ call. arguments_seen call.items) calls
 abbrev pub gained_seen : List Gained → List (List ℕ)
 gained_seen gained = map (λ g. string_bytes g.spec) gained
 
--- the name of a package, and the package as `name@version`
+-- the name of a package and its `name@version`
 abbrev pub pair_of : Package → List ℕ × List ℕ
 pair_of p = (p.name, spec_of p)
 
--- the name of each new package, and the package as `name@version`
+-- the name and the `name@version` of each new package
 abbrev pub pairs_seen : List Gained → List (List ℕ × List ℕ)
 pairs_seen gained = map (λ g. (string_bytes g.name, string_bytes g.spec)) gained
 
--- what an index says
+-- the model of an index
 abbrev pub changes_seen : Index → Changes
 changes_seen i = record {
   had = contains_text i.had;

@@ -1,14 +1,15 @@
 -- Finding the manifest where no file is read at its path.
 use Rattle.std.proofs.Common.{◌≡◌, ◌∙◌, ℕ, List, true, false, Option, None, sym, subst, inl, inr}
-use Rattle.std.specs.Prelude.{is_some}
+use Rattle.std.specs.Prelude.{◌⊎◌, is_some}
+use Rattle.edit_base.specs.declared.errors.DeviceCall.TheVariants as call
 use Rattle.edit_base.specs.declared.errors.Error.{Error}
 use Rattle.edit_base.specs.declared.errors.Error.TheVariants.{NoManifest}
-use Rattle.edit_manifest.specs.Located.{IsManifestAt, IsManifestPath, IsThere, manifest_in}
+use Rattle.edit_manifest.specs.Located.{HasNoManifest, IsManifestAt, IsManifestPath, IsThere, manifest_in}
 use Rattle.edit_manifest.specs.Located.IsManifestAt.{named, nearest}
 use Rattle.edit_manifest.specs.Located.IsManifestPath.{specified, unspecified}
-use Rattle.edit_store.specs.Store.{Files, OnlyReads, StandsAt, StoreView}
+use Rattle.edit_store.specs.Store.{Files, OnlyReads, RefusesCall, StandsAt, StoreView}
 use Rattle.edit_store.specs.declared.store.Kind.TheVariants.{Folder}
-use Rattle.edit_steps.specs.Causes.{IsManifestCause}
+use Rattle.edit_steps.specs.Causes.{IsFailure, IsManifestCause}
 
 no_file : (o : Option (List ℕ)) → is_some o ≡ true → None ≡ o → ⊥
 no_file o some none = let bad : false ≡ true = subst (λ (x : Option (List ℕ)). is_some x ≡ true) (sym none)
@@ -52,3 +53,10 @@ folder_there old mid current name text at e reads refused is found none t =
       folder = folder_at_path old.file_at current name text path missing;
       is = refused;
     }))
+
+-- no manifest is found
+pub unfound_cause : (old new : StoreView) (current : List ℕ) (name : Option (List ℕ)) (e : Error)
+    → RefusesCall call.Kind old new e ⊎ (old.tells ≡ true → HasNoManifest old.file_at current e name)
+    → IsFailure old new e ⊎ (old.tells ≡ true → IsManifestCause old.file_at current name e)
+unfound_cause old new current name e (inl refused) = inl (inl refused)
+unfound_cause old new current name e (inr none) = inr (λ t. inl (none t))

@@ -8,3 +8,5 @@ pub mod ReadLemmas
 pub mod NamedLemmas
 pub mod SharedLemmas
 pub mod TargetLemmas
+pub mod ErrorLemmas
+pub mod FirstLemmas

@@ -12,8 +12,8 @@ use Rattle.edit_steps.specs.Workspaces.{HasNoWorkspace, IsWorkspaceRead}
 use Rattle.edit_store.specs.Store.{Files, RefusesCall, StoreView}
 use Rattle.edit_version.specs.RustVersions.{Numbers}
 use Rattle.edit_steps.specs.Asking.{asked_rust, asking_of}
-use Rattle.edit_steps.specs.Causes.{HasNoTarget, IsFailure}
-use Rattle.edit_steps.specs.Causes.HasNoTarget.{no_workspace}
+use Rattle.edit_steps.specs.Causes.{HasNoTarget, IsFailure, IsManifestCause}
+use Rattle.edit_steps.specs.Causes.HasNoTarget.{no_manifest, no_workspace}
 use Rattle.edit_steps.specs.Own.{IsManifestRead}
 use Rattle.edit_steps.specs.Sources.{AreInputsRead, IsTargetRead}
 use Rattle.edit_steps.specs.Sources.AreInputsRead.{found, members}
@@ -64,3 +64,12 @@ pub workspace_cause : (old new : StoreView) (current : List ℕ) (asked : Asked)
 workspace_cause old new current asked named e some (inl refused) = inl (inr refused)
 workspace_cause old new current asked named e some (inr wrong) =
     inr (λ t. no_workspace named.now (ap given some) (wrong t))
+
+-- a manifest that is not read
+pub manifest_cause : (old new : StoreView) (current : List ℕ) (asked : Asked) (e : Error)
+    → asked.metadata_json ≡ None
+    → IsFailure old new e ⊎ (old.tells ≡ true
+    → IsManifestCause old.file_at current (given asked.manifest_path) e)
+    → IsFailure old new e ⊎ (old.tells ≡ true → HasNoTarget old.file_at current (asking_of asked) e)
+manifest_cause old new current asked e none (inl failed) = inl failed
+manifest_cause old new current asked e none (inr wrong) = inr (λ t. no_manifest (ap given none) (wrong t))

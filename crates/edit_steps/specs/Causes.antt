@@ -1,5 +1,5 @@
 -- The causes of errors of reading the files that an upgrade depends on.
-use Rattle.std.specs.Prelude.{◌≡◌, ◌⊎◌, ℕ, List, Option, Some, None, Contains, string_bytes, true}
+use Rattle.std.specs.Prelude.{◌≡◌, ◌⊎◌, ◌++◌, ◌∷◌, ℕ, List, Option, Some, None, Contains, string_bytes, true}
 use Rattle.std.specs.Global.{Vec}
 use Rattle.edit_base.specs.declared.errors.DeviceCall.TheVariants as call
 use Rattle.edit_base.specs.declared.errors.Error.{Error}
@@ -8,7 +8,7 @@ use Rattle.edit_manifest.specs.Loaded.{IsBadManifest}
 use Rattle.edit_manifest.specs.Located.{HasNoManifest, IsManifestPath}
 use Rattle.edit_metadata.specs.declared.input.Input.{Input}
 use Rattle.edit_metadata.specs.declared.workspace.Workspace.{Workspace}
-use Rattle.edit_sources.specs.ConfigurationFiles.{ConfigsFail, IsUnread}
+use Rattle.edit_sources.specs.ConfigurationFiles.{AreConfigs, ConfigsFail, IsUnread}
 use Rattle.edit_sources.specs.IndexLines.{RefusesLines, lines_of}
 use Rattle.edit_sources.specs.declared.config.Config.{Config}
 use Rattle.edit_steps.specs.Absolute.{IsAbsoluteOf}
@@ -16,7 +16,7 @@ use Rattle.edit_steps.specs.Workspaces.{HasNoWorkspace}
 use Rattle.edit_store.specs.Store.{Files, RefusesCall, StandsAt, StoreView}
 use Rattle.edit_store.specs.declared.store.Kind.TheVariants.{Folder}
 use Rattle.edit_steps.specs.Asking.{Asking}
-use Rattle.edit_steps.specs.Named.{AreConfigured, ArePairRead, HasNoFile, Pair}
+use Rattle.edit_steps.specs.Named.{AreConfigured, ArePairRead, AreSaid, HasNoFile, IsUnreadFile, Pair}
 use Rattle.edit_steps.specs.Sources.{AreInputsRead}
 
 -- out of memory, or a device error in a read, which is counted
@@ -63,6 +63,27 @@ pub data IsUnconfigured (files : Files) (home : Option (List ℕ)) (pair : Pair)
   of_input : (input : Input) → Contains inputs input
       → ConfigsFail true files (string_bytes input.path) home e
       → IsUnconfigured files home pair inputs e
+
+-- why the configurations of a manifest are not read: the file that is named first is malformed; or it was read
+-- and one of the manifest's own is malformed; or all these were read and the file that is named last is malformed
+pub data IsUngathered (files : Files) (home : Option (List ℕ)) (pair : Pair) (manifest : List ℕ) (e : Error)
+    : Type 0 where
+  at_first : IsUnreadFile pair.first e → IsUngathered files home pair manifest e
+  at_own : (first : List Config) → AreSaid pair.first first → ConfigsFail true files manifest home e
+      → IsUngathered files home pair manifest e
+  at_last : (first own : List Config) → AreSaid pair.first first → AreConfigs files manifest home own
+      → IsUnreadFile pair.last e → IsUngathered files home pair manifest e
+
+-- the configurations of one input are not read, and those of all inputs before it were
+pub record StopsAtInput (files : Files) (home : Option (List ℕ)) (pair : Pair) (inputs : List Input)
+    (e : Error) : Type 0 where
+  pub before : List Input
+  pub input : Input
+  pub behind : List Input
+  pub within : inputs ≡ before ++ input ∷ behind
+  pub configs : List (Vec Config)
+  pub gathered : AreConfigured files home pair before configs
+  pub fails : IsUngathered files home pair (string_bytes input.path) e
 
 -- the cause of an error of an index file: it is missing, or one of its lines is invalid
 abbrev pub IsUnindexed : Option (List ℕ) → Error → Type 0

@@ -7,6 +7,7 @@ ghost use Rattle.edit_store.specs.Store.{OnlyReads, RefusesCall};
 ghost use Rattle.edit_version.specs.Laws.{IsReadable};
 ghost use Rattle.edit_version.specs.RustVersions.{numbers_of};
 ghost use Rattle.semver.specs.Identifiers.{parts_of};
+ghost use Rattle.edit_steps.specs.Errors.{IsMetadataError, IsWorkspaceError};
 ghost use Rattle.edit_steps.specs.Faults.{CountsFault};
 ghost use Rattle.edit_steps.specs.Workspaces.{AreMetadataRead, HasNoMetadata, HasNoWorkspace, IsWorkspaceRead};
 
@@ -46,6 +47,9 @@ fn read_metadata<S: Store>(
         ⊎ ((S.view files.old).tells ≡ true
         → HasNoMetadata (S.view files.old).file_at current.now named.now r.error)) }
     ensures counted { IfErr result (λ r. CountsFault (S.view files.old) (S.view files.new) r.error) }
+    // over any store
+    ensures only { IfErr result (λ r. RefusesCall call.Read (S.view files.old) (S.view files.new) r.error
+        ⊎ IsMetadataError r.error) }
 {
     let path = absolute(alloc, current, named)?;
     let bytes = match files.read_stream(alloc, path.as_str()) {
@@ -132,6 +136,9 @@ pub fn read_workspace<S: Store>(
         ⊎ ((S.view files.old).tells ≡ true
         → HasNoWorkspace (S.view files.old).file_at current.now named.now r.error)) }
     ensures counted { IfErr result (λ r. CountsFault (S.view files.old) (S.view files.new) r.error) }
+    // over any store
+    ensures only { IfErr result (λ r. RefusesCall call.Read (S.view files.old) (S.view files.new) r.error
+        ⊎ IsWorkspaceError r.error) }
 {
     let workspace = read_metadata(alloc, named, current, writes, files)?;
     let inputs = match workspace_inputs(alloc, files, &workspace, rust_version, ignore) {

@@ -1,4 +1,4 @@
--- What stands between delimiters may be cut out of a text, and what it says.
+-- The content between delimiters is at character boundaries of the text; its decoded value.
 use Rattle.std.proofs.Common.{◌≡◌, ℕ, ◌+◌, ◌-◌, ◌<◌, ◌≤◌, true, List, [], ◌∷◌, ◌++◌, length, get_or, Option, Some, None, refl, sym, ap, subst, ◌∙◌, append_assoc, arith}
 use Rattle.std.specs.Borrow.{Bor}
 use Rattle.std.specs.Prelude.{slice_range, unwrap_or}

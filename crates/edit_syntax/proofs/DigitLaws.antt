@@ -1,4 +1,4 @@
--- Digits and numbers that are read are spelled so.
+-- Digits and numbers that the parser accepts are written as its result says.
 use Rattle.std.proofs.Common.{◌≡◌, ℕ, ◌<◌, Bool, true, false, eqb, List, ◌∷◌, ◌++◌, slice_index, drop, Some, refl, ap, subst, ◌∙◌, inl, inr, arith}
 use Rattle.edit_syntax.specs.Numbers.{Sign, sign, is_decimal, are_digits, is_whole, Base, base_letter, base_digit, Exponent, exponent, IsExponent}
 use Rattle.edit_syntax.specs.Grammar.{Value, integer, float, datetime, value, IsValue}

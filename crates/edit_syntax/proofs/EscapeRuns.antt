@@ -1,4 +1,4 @@
--- The codes, the runs of plain bytes and the folds of a basic string.
+-- Escapes, runs of unescaped bytes and line folds of a basic string.
 use Rattle.std.proofs.Common.{◌≡◌, ℕ, suc, ◌+◌, ◌<◌, ◌≤◌, Bool, true, false, cond, List, [], ◌∷◌, ◌++◌, length, take, drop, get_or, Option, Some, refl, ap, ◌∙◌, arith}
 use Rattle.std.specs.Prelude.{unwrap_or}
 use Rattle.std.specs.List.{prefix_len, AllByRecursion}

@@ -1,4 +1,4 @@
--- What a basic string says, run by run and escape by escape.
+-- The decoded value of a basic string, by runs of bytes and escapes.
 use Rattle.std.proofs.Common.{◌≡◌, ℕ, ◌+◌, ◌<◌, true, false, List, [], ◌∷◌, ◌++◌, length, take, drop, get_or, refl, sym, ap, subst, ◌∙◌, append_assoc, true≢false, arith}
 use Rattle.std.specs.Prelude.{encode_utf8}
 use Rattle.std.specs.List.{prefix_len, AllByRecursion}

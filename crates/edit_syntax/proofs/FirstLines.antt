@@ -1,4 +1,4 @@
--- The first of lines is read again.
+-- Parsing the text of lines gives back the first line.
 use Rattle.std.proofs.Common.{◌≡◌, ℕ, ◌≤◌, ◌++◌, List, [], Some, None, refl, sym, ap, ◌∙◌}
 use Rattle.std.proofs.lemmas.Option.{same_Some}
 use Rattle.edit_syntax.specs.declared.read.marks.Mark.{Mark}

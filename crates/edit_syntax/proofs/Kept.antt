@@ -1,4 +1,4 @@
--- Strings, numbers, dates and times that a text says as they are written, and where they stand in it.
+-- Strings, numbers, dates and times whose decoded value is their text, and the span of that text.
 use Rattle.std.proofs.Common.{◌≡◌, ℕ, ◌+◌, ◌-◌, ◌<◌, ◌≤◌, Bool, true, false, ◌&&◌, cond, List, [], ◌++◌, length, drop, length-append, get_or, refl, sym, ap, subst, ◌∙◌, ◌⊎◌, inl, inr, arith}
 use Rattle.std.specs.Prelude.{nat_le, slice_range, IsUtf8}
 use Rattle.std.specs.List.{prefix_len}

@@ -1,4 +1,4 @@
--- What contents of strings say, as the pieces of a basic string over several lines.
+-- The decoded values of strings, by the pieces of a multi-line basic string.
 use Rattle.std.proofs.Common.{◌≡◌, ℕ, true, false, eqb, List, [], ◌∷◌, drop, get_or, refl, sym, ap, ◌∙◌, arith}
 use Rattle.std.specs.List.{AllByRecursion}
 use Rattle.std.specs.Str.{IsUtf8, IsCharBoundary}

@@ -1,4 +1,4 @@
--- What may follow numbers, dates and times, and the digits that they are made of.
+-- What may follow numbers, dates and times, and the digits in them.
 use Rattle.std.proofs.Common.{◌≡◌, ℕ, nat_le, cond, not, Bool, true, false, ◌&&◌, ◌||◌, ◌==◌, eqb, List, [], ◌∷◌, ◌++◌, drop, Some, refl, sym, ap, ◌∙◌, true≢false, arith}
 use Rattle.std.proofs.lemmas.Bool.{and_parts}
 use Rattle.std.proofs.lemmas.Bool.Decides.{nat_tests}

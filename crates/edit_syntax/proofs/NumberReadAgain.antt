@@ -1,4 +1,4 @@
--- Numbers, dates and times that are spelled so are read, under what may follow a value.
+-- Parsing the text of a number, date or time gives it back, if what follows may follow a value.
 use Rattle.std.proofs.Common.{◌≡◌, ℕ, suc, ◌+◌, nat_le, Bool, true, false, ◌&&◌, ◌||◌, ◌==◌, eqb, List, [], ◌∷◌, ◌++◌, slice_index, Option, Some, None, IfSome, refl, sym, ap, ◌∙◌, true≢false, arith}
 use Rattle.std.proofs.lemmas.Bool.{and_parts}
 use Rattle.std.proofs.lemmas.Bool.Decides.{nat_tests}

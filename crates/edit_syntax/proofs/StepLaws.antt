@@ -1,4 +1,4 @@
--- Steps over the values and the keys of arrays and inline tables read what is spelled there.
+-- The steps over values and keys of arrays and inline tables end where these end.
 use Rattle.std.proofs.Common.{◌≡◌, ℕ, true, false, List, ◌∷◌, ◌++◌, Option, Some, None, refl, sym, ap, ◌∙◌, arith}
 use Rattle.std.proofs.lemmas.Bool.Decides.{nat_tests}
 use Rattle.edit_syntax.specs.Characters.{equals, is_blank}

@@ -124,7 +124,7 @@ dated_at text = date_at text >>= λ d.
 unfoldable pub timed_at : List ℕ → Read Value
 timed_at text = time_at text >>= λ t. Some (datetime (only_time t.0), t.1)
 
--- ---- all of them
+-- ---- numbers, dates and times
 
 -- a number, date or time without a sign, whose kind its digits and the byte behind them decide (own)
 unfoldable pub unsigned_at : List ℕ → Read Value

@@ -84,7 +84,7 @@ unfoldable pub literal_at : List ℕ → Read (List ℕ)
 literal_at text =
     past apostrophe (after is_literal_ch text) >>= λ rest. Some (front is_literal_ch text, rest)
 
--- ---- strings over several lines ("String", multi-line strings)
+-- ---- multi-line strings ("String", multi-line strings)
 
 -- the input begins with a tab, a space or a newline (own)
 abbrev pub begins_space : List ℕ → Bool

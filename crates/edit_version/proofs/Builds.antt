@@ -1,4 +1,4 @@
--- Build metadata plays no part in what a requirement admits, nor in what raising it gives.
+-- Build metadata affects neither what a requirement matches nor how it is upgraded.
 use Rattle.std.proofs.Common.{◌≡◌, ◌++◌, ◌∷◌, [], List, ℕ, Ok, Err, Option, Some, None, length, map, refl, ap, ◌∙◌, sym, append-nil}
 use Rattle.std.specs.Prelude.{◌==◌, ◌&&◌, ◌||◌, Bool, not, Result, nat_lt}
 use Rattle.std.specs.List.{list_all, list_any}

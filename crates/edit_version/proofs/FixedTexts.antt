@@ -1,4 +1,4 @@
--- A raised requirement reads back as its comparators, and raising it again changes nothing.
+-- An upgraded requirement parses to its comparators, and upgrading it again changes nothing.
 use Rattle.std.proofs.Common.{◌≡◌, ◌<◌, ◌≤◌, ◌^◌, ◌++◌, ◌∷◌, [], List, ℕ, Ok, Err, Option, Some, None, true, false, length, map, refl, ap, ◌∙◌, sym, subst, arith, inl, inr}
 use Rattle.std.specs.Prelude.{Result, ◌⊎◌, find, nat_eq}
 use Rattle.std.specs.Cmp.Lexicographic.{nat_list_eq_equiv, pointwise}

@@ -1,4 +1,4 @@
--- The operators and the `-` of a raised requirement, and the least version that it admits.
+-- The operators and the `-` of an upgraded requirement, and the least version that it matches.
 use Rattle.std.proofs.Common.{◌≡◌, ◌<◌, ◌^◌, ◌++◌, ◌∷◌, [], List, ℕ, Option, Some, None, Bool, true, false, length, map, refl, ap, ◌∙◌, sym, subst, arith, inl, inr}
 use Rattle.std.specs.Prelude.{◌⊎◌, ◌==◌, ◌&&◌, ◌||◌, not, nat_lt, find, is_some}
 use Rattle.std.specs.Fmt.{decimal}

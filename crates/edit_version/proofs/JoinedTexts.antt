@@ -1,4 +1,4 @@
--- How a text of characters joined by commas grows.
+-- The text of characters joined by commas, after one more.
 use Rattle.std.proofs.Common.{◌≡◌, ◌<◌, ◌+◌, ◌++◌, ◌∷◌, [], List, ℕ, length, take, get_or, ap, refl, ◌∙◌, sym, append_assoc, append-nil}
 use Rattle.std.specs.Prelude.{codes, encode_utf8}
 use Rattle.std.proofs.lemmas.List.{take_more}

@@ -1,4 +1,4 @@
--- What it says of an entry that it is kept.
+-- What it means for an entry to qualify.
 use Rattle.std.proofs.Common.{◌≡◌, List, ℕ, Option, Some, None, Ok, Err, Bool, true, false, refl, ap, ◌∙◌, sym, inl, inr}
 use Rattle.std.specs.Prelude.{Result, if◌then◌else◌, option_map}
 use Rattle.std.specs.Result.{result_ok}

@@ -1,4 +1,4 @@
--- A text that raising writes has no `+`, so cutting leaves it as it is.
+-- The text of an upgraded requirement has no `+`, so cutting at a `+` does not change it.
 use Rattle.std.proofs.Common.{◌≡◌, ◌++◌, ◌∷◌, [], List, ℕ, Option, Some, None, true, false, map, refl, ap, ◌∙◌, sym, inl, inr, append-nil}
 use Rattle.std.specs.Prelude.{◌==◌}
 use Rattle.std.specs.Fmt.{decimal}

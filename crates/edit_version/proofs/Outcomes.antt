@@ -1,4 +1,4 @@
--- The laws of `specs/Laws.antt`, for the text that stands after a requirement was raised.
+-- The laws of `specs/Laws.antt` for the text after a requirement is upgraded.
 use Rattle.std.proofs.Common.{◌≡◌, ◌<◌, ◌^◌, ◌∷◌, [], List, ℕ, Ok, Err, Option, Some, None, Bool, true, false, refl, ap, ◌∙◌, sym, subst, arith, inl, inr}
 use Rattle.std.specs.Prelude.{◌⊎◌, ◌==◌, ◌&&◌, ◌↔◌, not, IsTrue, All, IsOk, Result, find, is_some, length, map, nat_eq}
 use Rattle.std.specs.Cmp.Lexicographic.{pointwise}

@@ -1,4 +1,4 @@
--- What the reader's answer and the tests on it say of `raise`.
+-- What the results of the parser and the tests on them mean for `raise`.
 use Rattle.std.proofs.Common.{◌≡◌, ◌∷◌, [], List, ℕ, Ok, Option, Some, None, true, false, map, refl, ap, ◌∙◌, sym, inl, inr}
 use Rattle.std.specs.Prelude.{find, option_copied}
 use Rattle.std.specs.Borrow.{Bor}

@@ -1,4 +1,4 @@
--- The laws of `specs/Laws.antt`, for what a call that raises a requirement answers.
+-- The laws of `specs/Laws.antt` for the results of a call that upgrades a requirement.
 use Rattle.std.proofs.Common.{◌≡◌, List, ℕ, Ok, Err, Option, Some, None, false, refl, inr}
 use Rattle.std.specs.Prelude.{IfOk, IfSome, Result, String, string_bytes}
 use Rattle.std.specs.declared.alloc.Global.{Global}

@@ -75,7 +75,8 @@ abbrev pub raised_pre : Op → List ℕ → List ℕ → List ℕ
 raised_pre op.Wildcard own pre = own
 raised_pre o own pre = pre
 
--- a comparator with the version's numbers where it has numbers, and the version's pre-release
+-- the comparator upgraded to a version: the version's numbers where it has numbers, and the version's
+-- pre-release unless it is a wildcard
 abbrev pub raised : Parts → Held → Held
 raised v c = (c.0, v.0, renumbered c.2 v.1, renumbered c.3 v.2, raised_pre c.0 c.4 v.3)
 

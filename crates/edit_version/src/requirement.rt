@@ -147,28 +147,28 @@ pub fn upgrade_requirement(
 ) -> CargoResult<Option<String>>
     ensures answer { IsAnswer (raise req.now (parts_of version.now)) req.now result }
 
-    // Below, for a version with a pre-release that can be read or none, of the text that stands
-    // afterwards: the new one, or `req` where there is none. Raising again changes nothing:
+    // The clauses below are about the requirement after the call (the new text, or `req` where the call
+    // returns `None`), for a version with no pre-release or a valid one. Upgrading again changes nothing.
     ensures settled { IsReadable (parts_of version.now)
         → IfOk result (λ o. IsSettled (text_after o req.now) (parts_of version.now)) }
-    // it admits the version, if that has no pre-release or `req` has comparators, all of three numbers;
+    // It matches the version, if that is no pre-release or `req` has comparators, all with three numbers.
     ensures reach { IsReadable (parts_of version.now)
         → IfOk result (λ o. CanReach req.now (parts_of version.now)
         → Admits (text_after o req.now) (parts_of version.now)) }
-    // it admits nothing that `req` does not, if `req` admits the version;
+    // It matches only what `req` matches, if `req` matches the version.
     ensures narrower { IsReadable (parts_of version.now)
         → IfOk result (λ o. Admits req.now (parts_of version.now)
         → IsNarrower req.now (text_after o req.now) (parts_of version.now)) }
-    // the operators stay, and a `-` stays where the version has a pre-release;
+    // The operators stay, and a `-` stays where the version is a pre-release.
     ensures form { IsReadable (parts_of version.now)
         → IfOk result (λ o. KeepsForm req.now (text_after o req.now) (parts_of version.now)) }
-    // it admits nothing lower than the version, if that has a pre-release and `req` a `-`;
+    // It matches nothing lower than the version, if that is a pre-release and `req` has a `-`.
     ensures no_lower { IsReadable (parts_of version.now)
         → IfOk result (λ o. AdmitsNoLower req.now (text_after o req.now) (parts_of version.now)) }
-    // it has no `-` where the version has no pre-release;
+    // It has no `-` where the version is no pre-release.
     ensures release { IsReadable (parts_of version.now)
         → IfOk result (λ o. IsRelease (text_after o req.now) (parts_of version.now)) }
-    // and a new text has no `+`.
+    // A new text has no `+`.
     ensures no_plus { IsReadable (parts_of version.now)
         → IfOk result (λ o. IfSome o (λ s. holds_plus (string_bytes s) ≡ false)) }
 {
@@ -191,7 +191,7 @@ pub fn before_plus(text: &str) -> &str
 /// The text before the first `+`, or all of it: a version without its build metadata.
 pub fn cut(text: &str) -> &str
     ensures value { result.now ≡ cut text.now }
-    // of a version, a requirement of one caret, which raising to the version leaves as it is
+    // For the text of a version: a single caret requirement, which upgrading to the version does not change.
     ensures plain { (v : Parts) → version_parts text.now ≡ Ok v → IsPlainRequirement result.now v }
 {
     before_plus(text)

@@ -1,4 +1,4 @@
--- Words that were filled so far, and those that follow.
+-- Inserting defaults: the arguments processed so far, and the remaining ones.
 use Rattle.std.proofs.Math.Seq.{drop-cons}
 use Rattle.std.proofs.Common.{Bor, ◌≤◌, drop_of_length-le, add-one, suc, zero, ◌≡◌, ◌∙◌, ◌<◌, ◌+◌, ◌++◌, ◌||◌, ◌∷◌, ℕ, List, [], Bool, true, false, Option, Some, None, ap, sym, refl, map, drop, length, codes, append_assoc, append-nil}
 use Rattle.std.specs.Prelude.{MatchOption, if◌then◌else◌, option_map, slice_get}

@@ -1,4 +1,4 @@
--- The rules of words, and commands that get words.
+-- The rules of arguments, and commands to which arguments are added.
 use Rattle.std.proofs.Common.{◌≡◌, ◌∙◌, ◌<◌, ◌≤◌, ◌+◌, ◌||◌, ◌∷◌}
 use Rattle.std.proofs.Common.{IfOk, List, None, Some, [], add-one, ap, ap₂, drop, drop_of_length-le, false}
 use Rattle.std.proofs.Common.{length, map, refl, subst, sym, ℕ}

@@ -5,6 +5,7 @@ ghost use Rattle.edit_sources.specs.Configured.{given};
 ghost use Rattle.edit_store.specs.Store.{OnlyReads};
 ghost use Rattle.edit_steps.specs.Asking.{asked_rust};
 ghost use Rattle.edit_steps.specs.Causes.{IsFailure, IsManifestCause};
+ghost use Rattle.edit_steps.specs.Errors.{IsManifestError};
 ghost use Rattle.edit_steps.specs.Faults.{CountsFault};
 ghost use Rattle.edit_steps.specs.Own.{IsManifestRead, SaysOfItself};
 
@@ -73,6 +74,9 @@ pub(crate) fn read_manifest<S: Store>(
         ⊎ ((S.view files.old).tells ≡ true
         → IsManifestCause (S.view files.old).file_at current.now (given named.entry) r.error)) }
     ensures counted { IfErr result (λ r. CountsFault (S.view files.old) (S.view files.new) r.error) }
+    // over any store
+    ensures only { IfErr result (λ r. IsFailure (S.view files.old) (S.view files.new) r.error
+        ⊎ IsManifestError current.now (given named.entry) r.error) }
 {
     let path = manifest_path(alloc, named, current, writes, files)?;
     let bytes = match files.read(alloc, path.as_str()) {

@@ -1,9 +1,10 @@
 //! The index that an upgrade queries.
-ghost use Rattle.std.specs.Prelude.{◌≡◌, ◌⊎◌, IfErr, IfOk, true};
+ghost use Rattle.std.specs.Prelude.{◌≡◌, ◌⊎◌, IfErr, IfOk, Some, true};
 ghost use Rattle.edit_base.specs.declared.errors.DeviceCall.TheVariants as call;
 ghost use Rattle.edit_sources.specs.Configured.{given};
 ghost use Rattle.edit_store.specs.Store.{OnlyReads, RefusesCall};
 ghost use Rattle.edit_steps.specs.Causes.{HasNoIndex, IsIndexCause};
+ghost use Rattle.edit_steps.specs.Errors.{IsIndexError};
 ghost use Rattle.edit_steps.specs.Faults.{CountsFault};
 ghost use Rattle.edit_steps.specs.Sources.{IsIndexAt, IsIndexOf};
 
@@ -38,6 +39,9 @@ fn read_file<S: Store>(
         ⊎ ((S.view files.old).tells ≡ true
         → IsIndexCause (S.view files.old).file_at current.now named.now r.error)) }
     ensures counted { IfErr result (λ r. CountsFault (S.view files.old) (S.view files.new) r.error) }
+    // over any store
+    ensures only { IfErr result (λ r. RefusesCall call.Read (S.view files.old) (S.view files.new) r.error
+        ⊎ IsIndexError (Some named.now) r.error) }
 {
     let path = absolute(alloc, current, named)?;
     let lines = match files.read_stream(alloc, path.as_str()) {
@@ -67,6 +71,9 @@ pub(crate) fn read_index<S: Store>(
         ⊎ ((S.view files.old).tells ≡ true
         → HasNoIndex (S.view files.old).file_at current.now (given file.entry) r.error)) }
     ensures counted { IfErr result (λ r. CountsFault (S.view files.old) (S.view files.new) r.error) }
+    // over any store
+    ensures only { IfErr result (λ r. RefusesCall call.Read (S.view files.old) (S.view files.new) r.error
+        ⊎ IsIndexError (given file.entry) r.error) }
 {
     if let Some(named) = file {
         let index = read_file(alloc, named, current, files)?;

@@ -6,6 +6,7 @@ ghost use Rattle.edit_sources.specs.Configured.{given};
 ghost use Rattle.edit_store.specs.Store.{OnlyReads, RefusesCall};
 ghost use Rattle.edit_steps.specs.Asking.{asking_of};
 ghost use Rattle.edit_steps.specs.Causes.{LacksNamed};
+ghost use Rattle.edit_steps.specs.Errors.{IsNamedError, IsPairError};
 ghost use Rattle.edit_steps.specs.Faults.{CountsFault};
 ghost use Rattle.edit_steps.specs.Named.{ArePairRead, AreSaid, HasNoFile, IsNamedRead, IsUnreadFile, pair_of, path_and_bytes, seen};
 
@@ -45,6 +46,9 @@ fn read_file<S: Store>(
         ⊎ ((S.view files.old).tells ≡ true
         → HasNoFile (S.view files.old).file_at current.now (given named.entry) r.error)) }
     ensures counted { IfErr result (λ r. CountsFault (S.view files.old) (S.view files.new) r.error) }
+    // over any store
+    ensures only { IfErr result (λ r. RefusesCall call.Read (S.view files.old) (S.view files.new) r.error
+        ⊎ IsNamedError (given named.entry) r.error) }
 {
     let Some(named) = named else {
         return Ok(None);
@@ -71,6 +75,9 @@ pub(crate) fn read_named<S: Store>(
         ⊎ ((S.view files.old).tells ≡ true
         → LacksNamed (S.view files.old).file_at current.now (asking_of asked.now) r.error)) }
     ensures counted { IfErr result (λ r. CountsFault (S.view files.old) (S.view files.new) r.error) }
+    // over any store
+    ensures only { IfErr result (λ r. RefusesCall call.Read (S.view files.old) (S.view files.new) r.error
+        ⊎ IsPairError (asking_of asked.now) r.error) }
 {
     let first = read_file(alloc, asked.config, current, files)?;
     let last = read_file(alloc, asked.default_config, current, files)?;

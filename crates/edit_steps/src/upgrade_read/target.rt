@@ -4,6 +4,7 @@ ghost use Rattle.edit_metadata.specs.Inputs.{HaveOwnPaths};
 ghost use Rattle.edit_store.specs.Store.{OnlyReads};
 ghost use Rattle.edit_steps.specs.Asking.{asking_of};
 ghost use Rattle.edit_steps.specs.Causes.{HasNoTarget, IsFailure};
+ghost use Rattle.edit_steps.specs.Errors.{IsTargetError};
 ghost use Rattle.edit_steps.specs.Faults.{CountsFault};
 ghost use Rattle.edit_steps.specs.Sources.{AreDocuments, IsTargetRead};
 
@@ -59,6 +60,10 @@ pub(crate) fn read_target<S: Store>(
         ⊎ ((S.view files.old).tells ≡ true
         → HasNoTarget (S.view files.old).file_at current.now (asking_of asked.now) r.error)) }
     ensures counted { IfErr result (λ r. CountsFault (S.view files.old) (S.view files.new) r.error) }
+    // over any store
+    ensures only { IfErr result (λ r. IsFailure (S.view files.old) (S.view files.new) r.error
+        ⊎ IsTargetError current.now (asking_of asked.now).metadata
+        (asking_of asked.now).manifest r.error) }
 {
     let (rust, writes) = (asked.rust, asked.writes);
     let Some(named) = asked.metadata_json else {

@@ -78,7 +78,7 @@ fn past_offset(s: &[u8]) -> Option<&[u8]>
     Some(s)
 }
 
-/// Whether a time follows a date.
+/// Whether the input behind a date begins with `T`, `t`, or a space and a digit, so that a time follows.
 fn joins(s: &[u8]) -> bool
     ensures { result ≡ reading.joins s.now }
 {
