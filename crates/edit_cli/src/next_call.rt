@@ -215,7 +215,7 @@ pub(crate) fn next_call<S: Store, O: io::Write, E: io::Write>(
     match answer(alloc, arguments, current, files, out, err) {
         Ok(status) => status,
         Err(refusal) => {
-            let _ = print_error(&refusal, err);
+            let _ = print_error(alloc, &refusal, err);
             1
         }
     }

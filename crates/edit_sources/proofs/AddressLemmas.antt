@@ -2,8 +2,8 @@
 use Rattle.std.proofs.Common.{◌≡◌, ℕ, List, [], ◌∷◌, ◌++◌, Option, Some, None, Result, Ok, refl, ap, sym, ◌∙◌, subst}
 use Rattle.url.specs.Parser.{parse_url}
 use Rattle.url.specs.Parts.{Parts}
-use Rattle.edit_sources.specs.Configuration.{Configuration, Source, Says, SaysNothing, configuration_of}
-use Rattle.edit_sources.specs.Configuration.SaysNothing.{not_utf8, not_toml, misshapen}
+use Rattle.edit_sources.specs.Configuration.{Configuration, Source, Says, IsMalformedConfig, configuration_of}
+use Rattle.edit_sources.specs.Configuration.IsMalformedConfig.{not_utf8, not_toml, misshapen}
 use Rattle.edit_sources.specs.Configured.{HasAddress, all_definitions}
 use Rattle.edit_sources.specs.SourceReplacement.{Address, Definition, EndsAt, Reaches, head_source, named}
 use Rattle.edit_sources.specs.SourceReplacement.Reaches.{head, next}
@@ -96,7 +96,7 @@ one_saying bytes a b x y =
     some_one a b (sym x.reads ∙ ap configuration_of members ∙ y.reads)
 
 -- a file with a configuration is not malformed
-pub says_or_nothing : (bytes : List ℕ) (said : Configuration) → Says bytes said → SaysNothing bytes → ⊥
+pub says_or_nothing : (bytes : List ℕ) (said : Configuration) → Says bytes said → IsMalformedConfig bytes → ⊥
 says_or_nothing bytes said s (not_utf8 other) = other s.utf8
 says_or_nothing bytes said s (not_toml none) = some_none s.members (sym s.toml ∙ none)
 says_or_nothing bytes said s (misshapen members is none) =

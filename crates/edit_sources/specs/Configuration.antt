@@ -77,8 +77,8 @@ pub record Says (bytes : List ℕ) (said : Configuration) : Type 0 where
 
 -- the bytes are not UTF-8, are no TOML document, or have a `registries` or `source` that is no table of
 -- tables, or an `index`, a `registry` or a `replace-with` that is no string (own)
-pub data SaysNothing (bytes : List ℕ) : Type 0 where
-  not_utf8 : (IsUtf8 bytes → ⊥) → SaysNothing bytes
-  not_toml : parse_document bytes ≡ None → SaysNothing bytes
+pub data IsMalformedConfig (bytes : List ℕ) : Type 0 where
+  not_utf8 : (IsUtf8 bytes → ⊥) → IsMalformedConfig bytes
+  not_toml : parse_document bytes ≡ None → IsMalformedConfig bytes
   misshapen : (members : Members) → parse_document bytes ≡ Some members → configuration_of members ≡ None
-      → SaysNothing bytes
+      → IsMalformedConfig bytes

@@ -4,7 +4,7 @@ ghost use Rattle.edit_base.specs.Errors.{IsMemory};
 ghost use Rattle.toml.specs.Data.{get_member};
 ghost use Rattle.toml.specs.View.{view, table_view};
 ghost use Rattle.edit_sources.specs.Configuration as said;
-ghost use Rattle.edit_sources.specs.Configuration.{Configuration, Says, SaysNothing, configuration_of, entries_of, table_of};
+ghost use Rattle.edit_sources.specs.Configuration.{Configuration, Says, IsMalformedConfig, configuration_of, entries_of, table_of};
 ghost use Rattle.edit_sources.specs.Configured.{IsConfigRefusal, configuration, registry_entry, source_entry, source_view};
 
 use crate::index_lines::copied;
@@ -196,9 +196,9 @@ impl Config {
         // the bytes have no other configuration, and never both a configuration and none
         ensures only { IfOk result (λ c. (other : Configuration) → Says bytes.now other
             → other ≡ configuration c) }
-        ensures something { IfOk result (λ c. SaysNothing bytes.now → ⊥) }
+        ensures something { IfOk result (λ c. IsMalformedConfig bytes.now → ⊥) }
         ensures refused { IfErr result (λ e. IsMemory e
-            ⊎ (IsConfigRefusal path.now e × SaysNothing bytes.now)) }
+            ⊎ (IsConfigRefusal path.now e × IsMalformedConfig bytes.now)) }
     {
         let Ok(text) = std::str::from_utf8(bytes) else {
             return Err(unreadable(alloc, path));

@@ -1,8 +1,9 @@
 //! An error of the program, with its place, its cause and what a user can do about it.
-ghost use Rattle.std.specs.Prelude.{◌≡◌, IfSome, OnOk, option_map, string_bytes};
+ghost use Rattle.std.specs.Prelude.{◌≡◌, ◌≢◌, IfSome, None, OnOk, option_map, string_bytes};
 ghost use Rattle.std.specs.Io.KnownBytes.{Appends};
+ghost use Rattle.edit_base.specs.Errors.{number_of};
 ghost use Rattle.edit_base.specs.declared.errors.Error.TheVariants.{Memory};
-ghost use Rattle.edit_steps.specs.Printed.{EndsWith, is_later, known_line, known_lines, place_behind, position_text};
+ghost use Rattle.edit_steps.specs.Printed.{IsErrorPrinted, IsTitlePrinted, is_continuation_byte, known_line, known_lines, position_after, position_text, title_line};
 
 use crate::excerpt::excerpt;
 use crate::toml_fault::toml_fault;
@@ -68,12 +69,30 @@ fn print_lines<E: io::Write>(refusal: &Refusal, err: &mut E) -> io::Result<()>
     print_known("help: ", &refusal.help, err)
 }
 
+/// Prints the first line of an error.
+fn print_title<E: io::Write>(message: &str, err: &mut E) -> io::Result<()>
+    ensures { OnOk result (Appends (E.contents err.old) (E.contents err.new) (title_line message.now)) }
+{
+    writeln!(err, "Error: {message}")
+}
+
+/// Prints the first line of an error, with its message. Where memory runs out for it, the message is `out of
+/// memory`.
+fn print_message<E: io::Write>(alloc: Global, error: &Error, err: &mut E) -> io::Result<()>
+    ensures { OnOk result (IsTitlePrinted (E.contents err.old) (E.contents err.new)) }
+{
+    match format!(in alloc; "{error}") {
+        Ok(message) => print_title(message.as_str(), err),
+        Err(_) => print_title("out of memory", err),
+    }
+}
+
 /// Prints an error as the program ends with it: its message after `Error: `, and below it one line each for
 /// its place, its cause and the help, where they are known. The contract does not specify the message.
-pub fn print_error<E: io::Write>(refusal: &Refusal, err: &mut E) -> io::Result<()>
-    ensures { OnOk result (EndsWith (known_lines refusal.now) (E.contents err.new)) }
+pub fn print_error<E: io::Write>(alloc: Global, refusal: &Refusal, err: &mut E) -> io::Result<()>
+    ensures { OnOk result (IsErrorPrinted refusal.now (E.contents err.old) (E.contents err.new)) }
 {
-    writeln!(err, "Error: {}", refusal.error)?;
+    print_message(alloc, &refusal.error, err)?;
     print_lines(refusal, err)
 }
 
@@ -102,15 +121,26 @@ pub fn at_path(alloc: Global, error: Error, path: &str) -> Refusal
     }
 }
 
+/// The cause of an error: the operating system's reason where the device failed.
+fn cause_of(error: &Error, reason: Option<String>) -> Option<String>
+    ensures device { number_of error.now ≡ 3 → result ≡ reason }
+    ensures other { number_of error.now ≢ 3 → result ≡ None }
+{
+    match error {
+        Error::Device(_) => reason,
+        _ => None,
+    }
+}
+
 /// Adds to an error of reading or writing a file its path, and the operating system's reason where the
 /// device failed.
 pub fn at_file(alloc: Global, error: Error, path: &str, reason: Option<String>) -> Refusal
-    ensures { result.error ≡ error }
+    ensures error { result.error ≡ error }
+    // the reason of a device error is its cause, and other errors have none
+    ensures device { number_of error ≡ 3 → result.cause ≡ reason }
+    ensures other { number_of error ≢ 3 → result.cause ≡ None }
 {
-    let cause = match &error {
-        Error::Device(_) => reason,
-        _ => None,
-    };
+    let cause = cause_of(&error, reason);
     let refusal = at_path(alloc, error, path);
     Refusal { cause, ..refusal }
 }
@@ -120,7 +150,7 @@ pub fn at_file(alloc: Global, error: Error, path: &str, reason: Option<String>) 
 pub fn position(alloc: Global, path: &str, bytes: &[u8], at: usize) -> Option<String>
     ensures { IfSome result (λ s. string_bytes s ≡ position_text path.now bytes.now at) }
 {
-    let behind = place_behind(&bytes[..at.min(bytes.len())]);
+    let behind = position_after(&bytes[..at.min(bytes.len())]);
     let (line, column) = (behind.line, behind.column);
     format!(in alloc; "{path}:{line}:{column}").ok()
 }
@@ -128,7 +158,7 @@ pub fn position(alloc: Global, path: &str, bytes: &[u8], at: usize) -> Option<St
 /// The place of a byte in a file, and an excerpt of its line.
 pub(crate) fn shown_position(alloc: Global, path: &str, bytes: &[u8], at: usize) -> Option<String> {
     let place = position(alloc, path, bytes, at)?;
-    let behind = place_behind(&bytes[..at.min(bytes.len())]);
+    let behind = position_after(&bytes[..at.min(bytes.len())]);
     match excerpt(alloc, bytes, behind.line, behind.column) {
         Some(excerpt) => format!(in alloc; "{place}\n{excerpt}").ok(),
         None => Some(place),
@@ -167,22 +197,22 @@ struct LineColumn {
 }
 
 /// Whether a byte continues a UTF-8 sequence, so that it does not begin a character.
-fn is_later(byte: u8) -> bool
-    ensures { result ≡ is_later byte }
+fn is_continuation_byte(byte: u8) -> bool
+    ensures { result ≡ is_continuation_byte byte }
 {
     0x80 <= byte && byte <= 0xbf
 }
 
 /// The line and the column of the end of these bytes.
-fn place_behind(before: &[u8]) -> LineColumn
-    ensures { (result.line, result.column) ≡ place_behind before.now }
+fn position_after(before: &[u8]) -> LineColumn
+    ensures { (result.line, result.column) ≡ position_after before.now }
 {
     let mut behind = LineColumn { line: 1, column: 1 };
     for byte in before {
         if *byte == b'\n' {
             behind.line += 1;
             behind.column = 1;
-        } else if !is_later(*byte) {
+        } else if !is_continuation_byte(*byte) {
             behind.column += 1;
         }
     }

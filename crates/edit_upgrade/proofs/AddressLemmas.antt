@@ -1,6 +1,6 @@
 -- The resolved addresses, after one more is resolved.
-use Rattle.std.proofs.Common.{◌≡◌, ℕ, List, [], Bool, true, false, Option, Some, None, String, Global, string_bytes, refl, ap, sym, ◌∙◌, subst}
-use Rattle.std.specs.Prelude.{if◌then◌else◌}
+use Rattle.std.proofs.Common.{Bor, ◌≡◌, ℕ, List, [], Bool, true, false, Option, Some, None, String, Global, string_bytes, refl, ap, sym, ◌∙◌, subst}
+use Rattle.std.specs.Prelude.{IfSome, if◌then◌else◌}
 use Rattle.std.specs.BTreeMap.{get_by_text, is_at}
 use Rattle.std.specs.Cmp.Lexicographic.{slice_cmp}
 use Rattle.std.specs.Map.{lookup}
@@ -9,6 +9,7 @@ use Rattle.std.proofs.lemmas.Slice.Eq.{bytes_eq-Decides}
 use Rattle.edit_sources.specs.Configured.{HasAddress}
 use Rattle.edit_sources.specs.Definitions.{Defines}
 use Rattle.edit_sources.specs.declared.config.Config.{Config}
+use Rattle.edit_sources.specs.declared.registry.definitions.Definitions.{Definitions}
 use Rattle.url.specs.Parts as url
 use Rattle.edit_upgrade.specs.Addresses.{AreAddresses, is_named, url_at}
 use Rattle.edit_upgrade.specs.declared.addresses.Addresses.{Addresses}
@@ -51,25 +52,33 @@ none_at a default empty (Some name) =
     lookup (is_at (λ k. slice_cmp nat_cmp name (string_bytes k))) es) empty
 
 -- none was resolved yet
-pub none_resolved : (configs : List Config) (a : Addresses) → Defines configs a.definitions
-    → a.default ≡ None → a.named.entries ≡ [] → AreAddresses configs a
-none_resolved configs a defines default empty = record {
-  defines = defines;
+pub none_resolved : (configs : List Config) (a : Addresses) → a.configs.now ≡ configs
+    → a.definitions ≡ None → a.default ≡ None → a.named.entries ≡ [] → AreAddresses configs a
+none_resolved configs a own unread default empty = record {
+  own = own;
+  defines = subst (λ (d : Option Definitions). IfSome d (Defines configs)) (sym unread) tt;
   has = λ named address h. absurd (none_some address (sym (none_at a default empty named) ∙ h));
 }
 
 -- one more was resolved
 pub one_resolved : (configs : List Config) (registry : Option (List ℕ)) (given : url.Parts)
     (old mid new : Addresses) → AreAddresses configs old
-    → Defines configs mid.definitions → mid.default ≡ old.default → mid.named ≡ old.named
-    → new.definitions ≡ mid.definitions
+    → mid.configs ≡ old.configs → IfSome mid.definitions (Defines configs)
+    → mid.default ≡ old.default → mid.named ≡ old.named
+    → new.configs ≡ mid.configs → new.definitions ≡ mid.definitions
     → ((named : Option (List ℕ)) → url_at new named
     ≡ (if is_named registry named then Some given else url_at mid named))
     → HasAddress configs registry given → AreAddresses configs new
-one_resolved configs registry given old mid new are defines default named same kept has = record {
-  defines = subst (Defines configs) (sym same) defines;
+one_resolved configs registry given old mid new are first defines default named next same kept has = record {
+  own = ap (λ (b : Bor (List Config)). b.now) (next ∙ first) ∙ are.own;
+  defines = subst (λ (d : Option Definitions). IfSome d (Defines configs)) (sym same) defines;
   has = λ name address h. one_more configs registry name given address (url_at mid name)
       (is_named registry name) (same_name registry name) has
       (λ before. are.has name address (sym (same_urls old mid default named name) ∙ before))
       (sym (kept name) ∙ h);
 }
+
+-- addresses that are resolved from a list are resolved from the list that they have
+pub own-addresses : (configs : List Config) (a : Addresses) → AreAddresses configs a
+    → AreAddresses a.configs.now a
+own-addresses configs a are = subst (λ (cs : List Config). AreAddresses cs a) (sym are.own) are

@@ -1,7 +1,8 @@
-//! The addresses of the registries that the entries of an input name.
+//! The addresses of the registries that the entries of inputs name.
 ghost use Rattle.std.specs.Prelude.{◌≡◌, ◌⊎◌, ℕ, List, Option, Some, None, if◌then◌else◌, IfErr, IfOk, IsSome, OnOk, option_copied};
 ghost use Rattle.edit_base.specs.Errors.{IsMemory};
 ghost use Rattle.edit_sources.specs.Configured.{HasNoUrl, given};
+ghost use Rattle.edit_sources.specs.Definitions.{Defines};
 ghost use Rattle.edit_sources.specs.declared.config.Config.{Config};
 ghost use Rattle.edit_upgrade.specs.Addresses.{AreAddresses, is_named, url_at};
 
@@ -12,26 +13,28 @@ use std::alloc::{AllocError, Global};
 use std::collections::BTreeMap;
 use url::Url;
 
-/// The resolved addresses of registries: that of the default registry, and those of named ones.
+/// The resolved addresses of registries under a list of configurations: that of the default registry, and
+/// those of named ones.
 #[derive(Drop)]
 pub(crate) struct Addresses<'a> {
-    definitions: Definitions<'a>,
+    pub(crate) configs: &'a [Config],
+    /// The definitions in the configurations; `None` until a registry is resolved.
+    definitions: Option<Definitions<'a>>,
     default: Option<Url>,
     named: BTreeMap<String, Url>,
 }
 
 impl<'a> Addresses<'a> {
     /// Returns an empty cache of addresses, which are resolved from these configurations.
-    pub(crate) fn new(alloc: Global, configs: &'a [Config]) -> CargoResult<Addresses<'a>>
-        ensures are { IfOk result (AreAddresses configs.entry.now) }
-        ensures refused { IfErr result IsMemory }
+    pub(crate) fn new(alloc: Global, configs: &'a [Config]) -> Addresses<'a>
+        ensures { AreAddresses configs.entry.now result }
     {
-        let definitions = Definitions::read(alloc, configs)?;
-        Ok(Addresses {
-            definitions,
+        Addresses {
+            configs,
+            definitions: None,
             default: None,
             named: BTreeMap::new(alloc),
-        })
+        }
     }
 
     /// The address of a registry, or `None` where it was not resolved yet.
@@ -48,6 +51,7 @@ impl<'a> Addresses<'a> {
     fn keep(&mut self, alloc: Global, registry: Option<&str>, url: Url) -> Result<(), AllocError>
         ensures kept { OnOk result ((named : Option (List ℕ)) → url_at self.new named
             ≡ (if is_named (given registry.entry) named then Some url else url_at self.old named)) }
+        ensures configs { self.new.configs ≡ self.old.configs }
         ensures definitions { self.new.definitions ≡ self.old.definitions }
     {
         match registry {
@@ -63,6 +67,21 @@ impl<'a> Addresses<'a> {
         }
     }
 
+    /// Takes out the definitions in the configurations, which are read only once.
+    fn take_definitions(&mut self, alloc: Global) -> CargoResult<Definitions<'a>>
+        ensures defines { IfOk result
+            (λ d. (configs : List Config) → AreAddresses configs self.old → Defines configs d) }
+        ensures configs { self.new.configs ≡ self.old.configs }
+        ensures default { self.new.default ≡ self.old.default }
+        ensures named { self.new.named ≡ self.old.named }
+        ensures refused { IfErr result IsMemory }
+    {
+        match self.definitions.take() {
+            Some(definitions) => Ok(definitions),
+            None => Definitions::read(alloc, self.configs),
+        }
+    }
+
     /// Resolves the address of a registry, unless it is resolved already.
     pub(crate) fn see(&mut self, alloc: Global, registry: Option<&str>) -> CargoResult<()>
         ensures there { OnOk result (IsSome (url_at self.new (given registry.entry))) }
@@ -74,7 +93,9 @@ impl<'a> Addresses<'a> {
         if self.url(registry).is_some() {
             return Ok(());
         }
-        let url = self.definitions.resolve(alloc, registry)?;
+        let mut definitions = self.take_definitions(alloc)?;
+        let url = definitions.resolve(alloc, registry)?;
+        self.definitions = Some(definitions);
         self.keep(alloc, registry, url)?;
         Ok(())
     }

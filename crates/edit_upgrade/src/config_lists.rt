@@ -1,6 +1,6 @@
 //! The configurations of inputs: one list for each input, or lists shared among inputs.
-ghost use Rattle.std.specs.Prelude.{◌≡◌, ◌<◌, length, slice_get};
-ghost use Rattle.edit_upgrade.specs.ConfigLists.{AreIndices, HasLists, chosen_lists, lists_in};
+ghost use Rattle.std.specs.Prelude.{◌≡◌, ◌<◌, length, slice_get, slice_index};
+ghost use Rattle.edit_upgrade.specs.ConfigLists.{HasLists, lists_in};
 
 use edit_sources::Config;
 
@@ -12,23 +12,23 @@ pub(crate) struct ConfigLists<'a> {
     pub(crate) which: Option<&'a [usize]>,
 }
 
-/// The list that `which` assigns to input `i`.
-fn shared_list<'a>(lists: &'a [Vec<Config>], which: &[usize], i: usize) -> &'a Vec<Config>
-    requires lists { AreIndices lists.now which.now }
-    requires within { i < length which.now }
-    ensures { slice_get (chosen_lists lists.entry.now which.now) i ≡ Some result.now }
+/// The index that `which` has for input `i`.
+fn shared_index(which: &[usize], i: usize) -> usize
+    requires { i < length which.now }
+    ensures { result ≡ slice_index which.now i }
 {
-    &lists[which[i]]
+    which[i]
 }
 
-/// The configurations of input `i`.
-pub(crate) fn list_of<'a>(configs: ConfigLists<'a>, i: usize) -> &'a Vec<Config>
+/// The index of the list of input `i`.
+pub(crate) fn list_index(configs: ConfigLists<'_>, i: usize) -> usize
     requires lists { HasLists configs }
     requires within { i < length (lists_in configs) }
-    ensures { slice_get (lists_in configs.entry) i ≡ Some result.now }
+    ensures within { result < length configs.entry.lists.now }
+    ensures list { slice_get configs.entry.lists.now result ≡ slice_get (lists_in configs.entry) i }
 {
     match configs.which {
-        Some(which) => shared_list(configs.lists, which, i),
-        None => &configs.lists[i],
+        Some(which) => shared_index(which, i),
+        None => i,
     }
 }

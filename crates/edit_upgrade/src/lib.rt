@@ -1,6 +1,7 @@
 //! Plans the upgrade of manifests: the new requirement of each entry, and the new bytes of each manifest.
 #![tactic(auto)]
 
+mod address_caches;
 mod addresses;
 mod asked;
 mod config_lists;

@@ -1,83 +1,36 @@
 //! The plan of an upgrade.
-ghost use Rattle.std.specs.Prelude.{◌≡◌, ◌≤◌, ◌⊎◌, [], All, IfErr, IfOk, IfSome, IsSome, IsUtf8, None, OnOk, length, map, option_copied, slice_get};
+ghost use Rattle.std.specs.Prelude.{◌≡◌, ◌≤◌, [], All, IfErr, IfOk, IsUtf8, None, OnOk, length, map, option_copied, slice_get};
 ghost use Rattle.std.specs.BTreeSet.{contains_text};
-ghost use Rattle.edit_base.specs.Errors.{IsMemory};
-ghost use Rattle.edit_manifest.specs.Loaded.{IsBadManifest};
 ghost use Rattle.edit_sources.specs.Index.{SameOutcomes};
 ghost use Rattle.edit_cache.specs.IndexCache.{index_of};
-ghost use Rattle.edit_upgrade.specs.Caches.{LeavesCache, StopsDocuments, StopsInputs, StopsManifest, cache_view};
+ghost use Rattle.edit_upgrade.specs.Caches.{LeavesCache, StopsDocuments, StopsInputs, cache_view};
 ghost use Rattle.edit_upgrade.specs.ConfigLists.{AreIndices, HasLists, chosen_lists, lists_in};
-ghost use Rattle.edit_upgrade.specs.Drafts.{AddsInput, AreGiven, IsDraft};
+ghost use Rattle.edit_upgrade.specs.Drafts.{AreGiven, IsDraft};
 ghost use Rattle.edit_upgrade.specs.Headline.{IsSettled, LatestIsNotLess, Narrows, NeedsAsBefore, NeverLowers, Reaches};
 ghost use Rattle.edit_metadata.specs.Inputs.{HaveOwnPaths};
 ghost use Rattle.edit_upgrade.specs.Inputs.{EachInput, OutputsInOrder, RowsInOrder, WarningsInOrder};
 ghost use Rattle.edit_upgrade.specs.Lines.{line_of};
-ghost use Rattle.edit_upgrade.specs.Lists.{Tells};
-ghost use Rattle.edit_upgrade.specs.Looked.{AreKept};
-ghost use Rattle.edit_upgrade.specs.Looks.{AddsNeeded, kept_by};
-ghost use Rattle.edit_upgrade.specs.Missing.{AddsNames, AreKnown, TellsMissing};
-ghost use Rattle.edit_upgrade.specs.PairSets.{holds_pair};
-ghost use Rattle.edit_upgrade.specs.Plans.{HasLooks, IsPlan, LooksInOrder};
-ghost use Rattle.edit_upgrade.specs.WordCauses.{IsRefusedFor};
-ghost use Rattle.edit_upgrade.specs.Upgraded.{HasItsOutputs, HasItsRows, HasItsWarnings, IsNeeded, IsNeededBy};
+ghost use Rattle.edit_upgrade.specs.Lists.{HasRowLists};
+ghost use Rattle.edit_upgrade.specs.Looks.{AddsNeeded, cached_by};
+ghost use Rattle.edit_upgrade.specs.Missing.{AreKnown, ListsMissing};
+ghost use Rattle.edit_upgrade.specs.Plans.{HasLookups, IsPlan, AreLookupsInOrder};
+ghost use Rattle.edit_upgrade.specs.WordCauses.{IsPlanError};
+ghost use Rattle.edit_upgrade.specs.Upgraded.{HasItsOutputs, HasItsRows, HasItsWarnings, IsNeeded};
 
-use crate::asked::Asked;
-use crate::config_lists::{ConfigLists, list_of};
+use crate::address_caches::{AddressCaches, keep_addresses, take_addresses};
+use crate::asked::ParsedOptions;
+use crate::config_lists::{ConfigLists, list_index};
 use crate::decision::options::Options;
-use crate::draft::{Draft, add_input, finished};
+use crate::draft::{Draft, add_read, finish_plan};
 use crate::missing::unknown;
-use crate::picks::picks_of;
+use crate::picks::parse_selection;
 use crate::upgrade::UpgradePlan;
 use edit_base::CargoResult;
 use edit_cache::IndexCache;
 use edit_document::Document;
-use edit_manifest::Manifest;
 use edit_metadata::Input;
 use edit_sources::{Config, Index};
 use std::alloc::Global;
-
-/// Plans the next input: over its document where one is given, else over the one parsed from its bytes.
-fn add_read<I: Index>(
-    alloc: Global,
-    number: usize,
-    asked: Asked<'_>,
-    input: &Input,
-    document: Option<&Document>,
-    configs: &[Config],
-    draft: &mut Draft,
-    index: &mut IndexCache<I>,
-) -> CargoResult<()>
-    requires document { IfSome (option_copied document) (λ d. d.bytes ≡ input.now.bytes.items) }
-    requires kept { AreKept (holds_pair draft.old.books.pairs) (kept_by index.old) }
-    ensures kept { OnOk result (AreKept (holds_pair draft.new.books.pairs) (kept_by index.new)) }
-    ensures adds { OnOk result (AddsInput number asked.entry.options.now input.now configs.now
-        (I.view (index_of index.old)).gives (kept_by index.old) (kept_by index.new) draft.old draft.new) }
-    ensures known { OnOk result (AddsNames asked.entry.options.now input.now.bytes.items
-        (contains_text draft.old.known) (contains_text draft.new.known)) }
-    ensures utf8 { OnOk result (option_copied document.entry ≡ None → IsUtf8 input.now.bytes.items) }
-    ensures left { LeavesCache (IsNeededBy configs.now input.now.bytes.items)
-        (cache_view I.view index.old) (cache_view I.view index.new) }
-    ensures given { IfErr result (λ e. IsSome (option_copied document.entry) → IsMemory e
-        ⊎ StopsManifest configs.now input.now.bytes.items
-        (cache_view I.view index.old) (cache_view I.view index.new) e) }
-    ensures read { IfErr result (λ e. option_copied document.entry ≡ None
-        → IsBadManifest input.now.bytes.items e
-        ⊎ StopsManifest configs.now input.now.bytes.items
-        (cache_view I.view index.old) (cache_view I.view index.new) e) }
-{
-    match document {
-        Some(document) => {
-            add_input(alloc, number, asked, input, document, configs, draft, index)?;
-            Ok(())
-        }
-        None => {
-            let manifest = Manifest::read_bytes(alloc, &input.bytes)?;
-            let document = &manifest.document;
-            add_input(alloc, number, asked, input, document, configs, draft, index)?;
-            Ok(())
-        }
-    }
-}
 
 /// The document at an index, or `None` where the list is shorter.
 fn document_at(documents: &[Document], i: usize) -> Option<&Document>
@@ -88,9 +41,9 @@ fn document_at(documents: &[Document], i: usize) -> Option<&Document>
 
 /// Builds the draft of all inputs: over their documents, or, where that list is empty, over documents
 /// parsed from their bytes.
-fn drafted<I: Index>(
+fn plan_each_input<I: Index>(
     alloc: Global,
-    asked: Asked<'_>,
+    asked: ParsedOptions<'_>,
     inputs: &[Input],
     documents: &[Document],
     configs: ConfigLists<'_>,
@@ -100,9 +53,9 @@ fn drafted<I: Index>(
     requires configurations { length (lists_in configs) ≡ length inputs.now }
     requires lists { HasLists configs }
     requires paths { HaveOwnPaths inputs.now }
-    ensures drafted { IfOk result (IsDraft asked.entry.options.now inputs.now (lists_in configs.entry)
+    ensures inputs { IfOk result (IsDraft asked.entry.options.now inputs.now (lists_in configs.entry)
         (I.view (index_of index.old)).gives
-        (kept_by index.old) (kept_by index.new)) }
+        (cached_by index.old) (cached_by index.new)) }
     ensures known { IfOk result (λ d. AreKnown asked.entry.options.now inputs.now (contains_text d.known)) }
     ensures utf8 { OnOk result (documents.now ≡ [] → All (λ x. IsUtf8 x.bytes.items) inputs.now) }
     ensures left { LeavesCache (IsNeeded inputs.now (lists_in configs.entry))
@@ -115,10 +68,22 @@ fn drafted<I: Index>(
         (cache_view I.view index.old) (cache_view I.view index.new) e) }
 {
     let mut draft = Draft::new(alloc);
+    let mut caches = AddressCaches::new(alloc);
     'inputs: for (i, input) in inputs.iter().enumerate() {
         let document = document_at(documents, i);
-        let own = list_of(configs, i);
-        add_read(alloc, i, asked, input, document, own, &mut draft, index)?;
+        let list = list_index(configs, i);
+        let mut addresses = take_addresses(alloc, configs, list, &mut caches);
+        add_read(
+            alloc,
+            i,
+            asked,
+            input,
+            document,
+            &mut addresses,
+            &mut draft,
+            index,
+        )?;
+        keep_addresses(configs, list, addresses, &mut caches)?;
     }
     Ok(draft)
 }
@@ -142,20 +107,20 @@ fn plan_all<I: Index>(
     ensures left { LeavesCache (IsNeeded inputs.now (lists_in configs.entry))
         (cache_view I.view index.old) (cache_view I.view index.new) }
     ensures given { IfErr result (λ e. length documents.now ≡ length inputs.now
-        → IsRefusedFor options.now (StopsDocuments inputs.now (lists_in configs.entry)
+        → IsPlanError options.now (StopsDocuments inputs.now (lists_in configs.entry)
         (cache_view I.view index.old) (cache_view I.view index.new)) e) }
     ensures read { IfErr result (λ e. documents.now ≡ []
-        → IsRefusedFor options.now (StopsInputs inputs.now (lists_in configs.entry)
+        → IsPlanError options.now (StopsInputs inputs.now (lists_in configs.entry)
         (cache_view I.view index.old) (cache_view I.view index.new)) e) }
 {
-    let picks = picks_of(alloc, options)?;
-    let asked = Asked {
+    let picks = parse_selection(alloc, options)?;
+    let asked = ParsedOptions {
         options,
         picks: &picks,
     };
-    let draft = drafted(alloc, asked, inputs, documents, configs, index)?;
+    let draft = plan_each_input(alloc, asked, inputs, documents, configs, index)?;
     let missing = unknown(alloc, &picks.words.names, &draft.known)?;
-    let plan = finished(alloc, draft, missing)?;
+    let plan = finish_plan(alloc, draft, missing)?;
     Ok(plan)
 }
 
@@ -179,7 +144,7 @@ pub fn plan_documents<I: Index>(
     ensures left { LeavesCache (IsNeeded inputs.now configs.now)
         (cache_view I.view index.old) (cache_view I.view index.new) }
     // the first error: that of the options, else that of the first entry of the first input that has one
-    ensures refused { IfErr result (IsRefusedFor options.now (StopsDocuments inputs.now configs.now
+    ensures refused { IfErr result (IsPlanError options.now (StopsDocuments inputs.now configs.now
         (cache_view I.view index.old) (cache_view I.view index.new))) }
 {
     let configs = ConfigLists {
@@ -212,10 +177,10 @@ pub fn plan_shared<I: Index>(
         (cache_view I.view index.old) (cache_view I.view index.new) }
     // the first error: that of the options, else that of the first entry of the first input that has one
     ensures given { IfErr result (λ e. length documents.now ≡ length inputs.now
-        → IsRefusedFor options.now (StopsDocuments inputs.now (chosen_lists lists.now which.now)
+        → IsPlanError options.now (StopsDocuments inputs.now (chosen_lists lists.now which.now)
         (cache_view I.view index.old) (cache_view I.view index.new)) e) }
     ensures read { IfErr result (λ e. documents.now ≡ []
-        → IsRefusedFor options.now (StopsInputs inputs.now (chosen_lists lists.now which.now)
+        → IsPlanError options.now (StopsInputs inputs.now (chosen_lists lists.now which.now)
         (cache_view I.view index.old) (cache_view I.view index.new)) e) }
 {
     let shared = ConfigLists {
@@ -267,20 +232,20 @@ pub fn plan_upgrade<I: Index>(
     // and it needs the same lookups
     ensures needs { IfOk result (EachInput options.now inputs.now configs.now NeedsAsBefore) }
     // the names that `--package` arguments select and that no entry of an input has
-    ensures missing { IfOk result (TellsMissing options.now inputs.now) }
+    ensures missing { IfOk result (ListsMissing options.now inputs.now) }
     // each lookup that is needed, and no other
-    ensures looks { IfOk result (HasLooks inputs.now configs.now
+    ensures looks { IfOk result (HasLookups inputs.now configs.now
         (cache_view I.view index.old) (cache_view I.view index.new)) }
     // in the order of the inputs and of their entries, each at the first entry that needs it
-    ensures looks_in_order { IfOk result (LooksInOrder inputs.now configs.now) }
-    ensures lists { IfOk result Tells }
+    ensures looks_in_order { IfOk result (AreLookupsInOrder inputs.now configs.now) }
+    ensures lists { IfOk result HasRowLists }
     // also on an error the cache gains only answers that the plan needs, as the index gives them
     ensures kept { AddsNeeded (IsNeeded inputs.now configs.now) (I.view (index_of index.old)).gives
-        (kept_by index.old) (kept_by index.new) }
+        (cached_by index.old) (cached_by index.new) }
     ensures index { SameOutcomes (I.view (index_of index.old)).gives (I.view (index_of index.new)).gives }
     ensures faults { (I.view (index_of index.old)).faults ≤ (I.view (index_of index.new)).faults }
     // the first error: that of the options, else that of the first entry of the first input that has one
-    ensures refused { IfErr result (IsRefusedFor options.now (StopsInputs inputs.now configs.now
+    ensures refused { IfErr result (IsPlanError options.now (StopsInputs inputs.now configs.now
         (cache_view I.view index.old) (cache_view I.view index.new))) }
 {
     let documents = Vec::new(alloc);

@@ -3,32 +3,33 @@ ghost use Rattle.std.specs.Prelude.{◌≡◌, ◌⊎◌, IfErr, IfOk, OnOk, len
 ghost use Rattle.std.specs.BTreeSet.{contains_text};
 ghost use Rattle.edit_base.specs.Errors.{IsMemory};
 ghost use Rattle.edit_cache.specs.IndexCache.{index_of};
+ghost use Rattle.edit_upgrade.specs.Addresses.{AreAddresses};
 ghost use Rattle.edit_upgrade.specs.Caches.{LeavesCache, StopsManifest, cache_view};
 ghost use Rattle.edit_upgrade.specs.Found.{seen_of};
 ghost use Rattle.edit_upgrade.specs.Lines.{line_of};
 ghost use Rattle.edit_upgrade.specs.Lists.{warning_view};
-ghost use Rattle.edit_upgrade.specs.Looked.{AreKept};
-ghost use Rattle.edit_upgrade.specs.Looks.{kept_by};
+ghost use Rattle.edit_upgrade.specs.Looked.{AreAllCached};
+ghost use Rattle.edit_upgrade.specs.Looks.{cached_by};
 ghost use Rattle.edit_upgrade.specs.Missing.{AddsNames};
 ghost use Rattle.edit_upgrade.specs.PairSets.{holds_pair};
-ghost use Rattle.edit_upgrade.specs.PlannedView.{AreSeen, IsShown, IsWalked};
+ghost use Rattle.edit_upgrade.specs.PlannedView.{AreRowEntries, IsPlannedView, IsWalked};
 ghost use Rattle.edit_upgrade.specs.Upgraded.{HasWarnings, IsNeededBy};
 
-use crate::asked::Asked;
+use crate::addresses::Addresses;
+use crate::asked::ParsedOptions;
 use crate::lists::warnings_on;
 use crate::missing::add_names;
 use crate::names::Names;
 use crate::rows::Job;
 use crate::seen::{Entry, with_rows};
 use crate::upgrade::Warning;
-use crate::walk::{Books, walk};
+use crate::walk::{LookupLog, walk};
 use edit_base::CargoResult;
 use edit_cache::cache::IndexCache;
 use edit_document::Document;
 use edit_manifest::entries::entries;
 use edit_metadata::Input;
 use edit_report::Row;
-use edit_sources::Config;
 use edit_sources::index::Index;
 use std::alloc::Global;
 
@@ -44,24 +45,26 @@ pub(crate) struct Planned {
 fn plan_entries<I: Index>(
     alloc: Global,
     number: usize,
-    asked: Asked<'_>,
+    asked: ParsedOptions<'_>,
     input: &Input,
     entries: &[Entry],
-    configs: &[Config],
-    books: &mut Books,
+    addresses: &mut Addresses<'_>,
+    books: &mut LookupLog,
     index: &mut IndexCache<I>,
 ) -> CargoResult<Vec<Row>>
-    requires seen { AreSeen input.now.bytes.items (map seen_of entries.now) }
-    requires kept { AreKept (holds_pair books.old.pairs) (kept_by index.old) }
-    ensures kept { OnOk result (AreKept (holds_pair books.new.pairs) (kept_by index.new)) }
+    requires seen { AreRowEntries input.now.bytes.items (map seen_of entries.now) }
+    requires addresses { AreAddresses addresses.old.configs.now addresses.old }
+    requires kept { AreAllCached (holds_pair books.old.pairs) (cached_by index.old) }
+    ensures addresses { OnOk result (AreAddresses addresses.old.configs.now addresses.new) }
+    ensures kept { OnOk result (AreAllCached (holds_pair books.new.pairs) (cached_by index.new)) }
     ensures long { IfOk result (λ v. length v.items ≡ length entries.now) }
-    ensures walked { IfOk result (λ v. IsWalked number asked.entry.options.now input.now configs.now
-        (I.view (index_of index.old)).gives (kept_by index.old) (kept_by index.new)
+    ensures walked { IfOk result (λ v. IsWalked number asked.entry.options.now input.now
+        addresses.old.configs.now (I.view (index_of index.old)).gives (cached_by index.old) (cached_by index.new)
         books.old books.new (map line_of v.items)) }
-    ensures left { LeavesCache (IsNeededBy configs.now input.now.bytes.items)
+    ensures left { LeavesCache (IsNeededBy addresses.old.configs.now input.now.bytes.items)
         (cache_view I.view index.old) (cache_view I.view index.new) }
     ensures refused { IfErr result (λ e. IsMemory e
-        ⊎ StopsManifest configs.now input.now.bytes.items
+        ⊎ StopsManifest addresses.old.configs.now input.now.bytes.items
         (cache_view I.view index.old) (cache_view I.view index.new) e) }
 {
     let rust_version = input.rust_version;
@@ -69,9 +72,8 @@ fn plan_entries<I: Index>(
         number,
         asked,
         rust_version,
-        configs,
     };
-    let rows = walk(alloc, job, entries, books, index)?;
+    let rows = walk(alloc, job, entries, addresses, books, index)?;
     Ok(rows)
 }
 
@@ -79,38 +81,42 @@ fn plan_entries<I: Index>(
 pub(crate) fn plan_input<I: Index>(
     alloc: Global,
     number: usize,
-    asked: Asked<'_>,
+    asked: ParsedOptions<'_>,
     input: &Input,
     document: &Document,
-    configs: &[Config],
+    addresses: &mut Addresses<'_>,
     known: &mut Names,
-    books: &mut Books,
+    books: &mut LookupLog,
     index: &mut IndexCache<I>,
 ) -> CargoResult<Planned>
     requires document { document.now.bytes ≡ input.now.bytes.items }
-    requires kept { AreKept (holds_pair books.old.pairs) (kept_by index.old) }
-    ensures kept { OnOk result (AreKept (holds_pair books.new.pairs) (kept_by index.new)) }
-    ensures shown { IfOk result (IsShown input.now.bytes.items document.now) }
-    ensures walked { IfOk result (λ p. IsWalked number asked.entry.options.now input.now configs.now
-        (I.view (index_of index.old)).gives (kept_by index.old) (kept_by index.new)
+    requires addresses { AreAddresses addresses.old.configs.now addresses.old }
+    requires kept { AreAllCached (holds_pair books.old.pairs) (cached_by index.old) }
+    ensures addresses { OnOk result (AreAddresses addresses.old.configs.now addresses.new) }
+    ensures kept { OnOk result (AreAllCached (holds_pair books.new.pairs) (cached_by index.new)) }
+    ensures shown { IfOk result (IsPlannedView input.now.bytes.items document.now) }
+    ensures walked { IfOk result (λ p. IsWalked number asked.entry.options.now input.now
+        addresses.old.configs.now (I.view (index_of index.old)).gives (cached_by index.old) (cached_by index.new)
         books.old books.new (map line_of p.rows.items)) }
     ensures warnings { IfOk result (λ p. HasWarnings asked.entry.options.now number
         input.now.bytes.items (map warning_view p.warnings.items)) }
     ensures known { OnOk result (AddsNames asked.entry.options.now input.now.bytes.items
         (contains_text known.old) (contains_text known.new)) }
-    ensures left { LeavesCache (IsNeededBy configs.now input.now.bytes.items)
+    ensures left { LeavesCache (IsNeededBy addresses.old.configs.now input.now.bytes.items)
         (cache_view I.view index.old) (cache_view I.view index.new) }
     ensures refused { IfErr result (λ e. IsMemory e
-        ⊎ StopsManifest configs.now input.now.bytes.items
+        ⊎ StopsManifest addresses.old.configs.now input.now.bytes.items
         (cache_view I.view index.old) (cache_view I.view index.new) e) }
 {
-    document.has_form();
+    document.lemma_form();
     // the base folder is empty since no row shows the folder of a path dependency
     let found = entries(alloc, "", document)?;
     let warnings = warnings_on(alloc, asked, number, &found)?;
     add_names(alloc, asked, &found, known)?;
     let entries = with_rows(alloc, found)?;
-    let rows = plan_entries(alloc, number, asked, input, &entries, configs, books, index)?;
+    let rows = plan_entries(
+        alloc, number, asked, input, &entries, addresses, books, index,
+    )?;
     Ok(Planned {
         entries,
         rows,

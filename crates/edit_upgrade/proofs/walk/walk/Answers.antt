@@ -1,21 +1,25 @@
 use Rattle.edit_report.specs.declared.row.Row.{Row}
 use Rattle.edit_upgrade.specs.declared.seen.Entry.{Entry}
-use Rattle.std.proofs.Common.{arith, ◌∷◌, ◌++◌, ◌∙◌, [], List, ap, map, take, drop, suc, subst, sym}
+use Rattle.std.proofs.Common.{◌⊎◌, arith, ◌∷◌, ◌++◌, ◌∙◌, [], List, ap, map, take, drop, suc, subst, sym}
 use Rattle.std.specs.Prelude.{option_map}
 use Rattle.std.proofs.lemmas.List.{map-append, take_all}
 use Rattle.std.specs.Prelude.{All}
 use Rattle.std.proofs.lemmas.List.Elements.{All-nil, All-push}
 use Rattle.edit_version.specs.RustVersions.{numbers_of}
 use Rattle.edit_cache.specs.IndexCache.{index_of}
+use Rattle.edit_base.specs.Errors.{IsMemory}
+use Rattle.edit_sources.specs.declared.config.Config.{Config}
+use Rattle.edit_upgrade.specs.Addresses.{AreAddresses}
 use Rattle.edit_upgrade.specs.Found.{seen_of}
 use Rattle.edit_upgrade.specs.Lines.{line_of}
-use Rattle.edit_upgrade.specs.Causes.{IsPassed}
-use Rattle.edit_upgrade.specs.Looked.{AreSteps, further, start}
-use Rattle.edit_upgrade.specs.Looks.{kept_basis, kept_by}
+use Rattle.edit_upgrade.specs.Causes.{IsPassed, StopsAt}
+use Rattle.edit_upgrade.specs.Looked.{AreSteps, IsEntryStep, Leaves, further, start}
+use Rattle.edit_upgrade.specs.Looks.{cached_basis, cached_by}
 use Rattle.edit_upgrade.specs.PairSets.{holds_pair}
-use Rattle.edit_upgrade.specs.Records.{Seen}
-use Rattle.edit_upgrade.specs.Rows.{AreDecided, Line}
+use Rattle.edit_upgrade.specs.Records.{RowEntry}
+use Rattle.edit_upgrade.specs.Rows.{AreDecided, IsRowBy, Line}
 use Rattle.edit_upgrade.specs.Upgraded.{IsNeededFor, IsNeededIn}
+use Rattle.edit_upgrade.proofs.AddressLemmas.{own-addresses}
 use Rattle.edit_upgrade.proofs.LookUpLemmas.{leaves-more, leaves-same}
 use Rattle.edit_upgrade.proofs.PlannedLemmas.{refusal-has}
 use Rattle.edit_upgrade.proofs.Steps.{names-more, names-split}
@@ -25,15 +29,15 @@ use Rattle.edit_upgrade.proofs.walk.walk.Goals as goal
 
 pub entries-init : goal.entries-init
 entries-init g c =
-    let configs = c.args.job.configs.now in
-    let kept = kept_by c.args.index.now in
+    let configs = c.args.addresses.now.configs.now in
+    let kept = cached_by c.args.index.now in
     let rust = option_map numbers_of c.args.job.rust_version in
     record {
-      addresses = c.in_ok-addresses.ensures.are;
+      addresses = c.requires.addresses;
       kept = c.requires.kept;
       steps = start kept c.args.books.now.looks.items (holds_pair c.args.books.now.pairs);
       passed = All-nil (IsPassed configs kept);
-      rows = subst (λ (rows : List Row). AreDecided (kept_basis c.args.job.number c.args.job.asked.options.now
+      rows = subst (λ (rows : List Row). AreDecided (cached_basis c.args.job.number c.args.job.asked.options.now
           rust configs kept) [] (map line_of rows))
           (sym c.in_ok-rows.ensures.items) tt;
       left = leaves-same (IsNeededIn configs (map seen_of c.args.entries.now))
@@ -41,47 +45,63 @@ entries-init g c =
           (g.I.Index.view (index_of c.args.index.now)).faults kept;
     }
 
+pub entry_row-requires : goal.entry_row-requires
+entry_row-requires g c = record {
+  addresses = own-addresses c.args.addresses.now.configs.now c.entries.addresses
+      c.entries.invariant.addresses;
+}
+
 pub returns-clause-passed : goal.returns-clause-passed
 returns-clause-passed g c =
     let whole = take_all c.entries.entry-index c.args.entries.now (omega (arith, c.entries-test.false)) in
-    subst (λ (es : List Entry). All (IsPassed c.args.job.configs.now (kept_by c.entries.index))
+    subst (λ (es : List Entry). All (IsPassed c.args.addresses.now.configs.now (cached_by c.entries.index))
     (map seen_of es)) whole c.entries.invariant.passed
 
 pub returns-in_err-row-clause-left : goal.returns-in_err-row-clause-left
 returns-in_err-row-clause-left g c =
     let es = map seen_of c.args.entries.now in
     let e = seen_of c.entry-item.result in
-    leaves-more (IsNeededIn c.args.job.configs.now es) (IsNeededFor c.args.job.configs.now e)
+    leaves-more (IsNeededIn c.args.addresses.now.configs.now es) (IsNeededFor c.args.addresses.now.configs.now e)
     (g.I.Index.view (index_of c.args.index.now)).gives (g.I.Index.view (index_of c.entries.index)).gives
     (g.I.Index.view (index_of c.entry_row.new.index)).gives
     (g.I.Index.view (index_of c.args.index.now)).faults (g.I.Index.view (index_of c.entries.index)).faults
     (g.I.Index.view (index_of c.entry_row.new.index)).faults
-    (kept_by c.args.index.now) (kept_by c.entries.index) (kept_by c.entry_row.new.index)
-    (for-among c.args.job.configs.now es e (contains-item seen_of c.args.entries.now c.entries.entry-index
+    (cached_by c.args.index.now) (cached_by c.entries.index) (cached_by c.entry_row.new.index)
+    (for-among c.args.addresses.now.configs.now es e (contains-item seen_of c.args.entries.now c.entries.entry-index
     c.entry-item.result c.entries-test.true c.entry-item.is))
-    c.entries.invariant.left c.in_err-row.ensures.left
+    c.entries.invariant.left
+    (subst (λ (cs : List Config). Leaves (IsNeededFor cs e)
+    (g.I.Index.view (index_of c.entries.index)).gives (g.I.Index.view (index_of c.entry_row.new.index)).gives
+    (g.I.Index.view (index_of c.entries.index)).faults (g.I.Index.view (index_of c.entry_row.new.index)).faults
+    (cached_by c.entries.index) (cached_by c.entry_row.new.index)) c.entries.invariant.addresses.own
+    c.in_err-row.ensures.left)
 
 pub returns-in_err-push-clause-left : goal.returns-in_err-push-clause-left
 returns-in_err-push-clause-left g c =
     let es = map seen_of c.args.entries.now in
     let e = seen_of c.entry-item.result in
-    leaves-more (IsNeededIn c.args.job.configs.now es) (IsNeededFor c.args.job.configs.now e)
+    leaves-more (IsNeededIn c.args.addresses.now.configs.now es) (IsNeededFor c.args.addresses.now.configs.now e)
     (g.I.Index.view (index_of c.args.index.now)).gives (g.I.Index.view (index_of c.entries.index)).gives
     (g.I.Index.view (index_of c.entry_row.new.index)).gives
     (g.I.Index.view (index_of c.args.index.now)).faults (g.I.Index.view (index_of c.entries.index)).faults
     (g.I.Index.view (index_of c.entry_row.new.index)).faults
-    (kept_by c.args.index.now) (kept_by c.entries.index) (kept_by c.entry_row.new.index)
-    (for-among c.args.job.configs.now es e (contains-item seen_of c.args.entries.now c.entries.entry-index
+    (cached_by c.args.index.now) (cached_by c.entries.index) (cached_by c.entry_row.new.index)
+    (for-among c.args.addresses.now.configs.now es e (contains-item seen_of c.args.entries.now c.entries.entry-index
     c.entry-item.result c.entries-test.true c.entry-item.is))
-    c.entries.invariant.left c.in_ok-row.ensures.left
+    c.entries.invariant.left
+    (subst (λ (cs : List Config). Leaves (IsNeededFor cs e)
+    (g.I.Index.view (index_of c.entries.index)).gives (g.I.Index.view (index_of c.entry_row.new.index)).gives
+    (g.I.Index.view (index_of c.entries.index)).faults (g.I.Index.view (index_of c.entry_row.new.index)).faults
+    (cached_by c.entries.index) (cached_by c.entry_row.new.index)) c.entries.invariant.addresses.own
+    c.in_ok-row.ensures.left)
 
 pub returns-in_err-row-clause-refused : goal.returns-in_err-row-clause-refused
 returns-in_err-row-clause-refused g c =
     refusal-has c.from_residual-in_err-row.result c.in_err-row.field-0.0 _
     c.from_residual-in_err-row.ensures.1
-    (walk-refused c.args.job.configs.now (g.I.Index.view (index_of c.args.index.now)).gives
+    (walk-refused c.args.addresses.now.configs.now (g.I.Index.view (index_of c.args.index.now)).gives
     (g.I.Index.view (index_of c.entries.index)).gives
-    (kept_by c.args.index.now) (kept_by c.entries.index) (kept_by c.entry_row.new.index)
+    (cached_by c.args.index.now) (cached_by c.entries.index) (cached_by c.entry_row.new.index)
     (g.I.Index.view (index_of c.args.index.now)).faults (g.I.Index.view (index_of c.entries.index)).faults
     (g.I.Index.view (index_of c.entry_row.new.index)).faults
     (map seen_of c.args.entries.now) (map seen_of (take c.entries.entry-index c.args.entries.now))
@@ -91,11 +111,16 @@ returns-in_err-row-clause-refused g c =
     c.entry-item.is)
     c.entries.invariant.passed c.entries.invariant.left.same c.entries.invariant.left.adds.stays
     c.in_err-row.ensures.left.adds.stays
-    c.entries.invariant.left.later c.in_err-row.ensures.refused)
+    c.entries.invariant.left.later
+    (subst (λ (cs : List Config). IsMemory c.in_err-row.field-0.0
+    ⊎ StopsAt cs (g.I.Index.view (index_of c.entries.index)).gives (cached_by c.entries.index)
+    (g.I.Index.view (index_of c.entries.index)).faults
+    (g.I.Index.view (index_of c.entry_row.new.index)).faults (seen_of c.entry-item.result)
+    c.in_err-row.field-0.0) c.entries.invariant.addresses.own c.in_err-row.ensures.refused))
 
 pub entries-preserved : goal.entries-preserved
 entries-preserved g c =
-    let configs = c.args.job.configs.now in
+    let configs = c.args.addresses.now.configs.now in
     let all = map seen_of c.args.entries.now in
     let front = map seen_of (take c.entries.entry-index c.args.entries.now) in
     let e = seen_of c.entry-item.result in
@@ -106,16 +131,18 @@ entries-preserved g c =
     (c.in_ok-row.row ∷ []) in
     let first = (g.I.Index.view (index_of c.args.index.now)).gives in
     let last = (g.I.Index.view (index_of c.entries.index)).gives in
-    let old = kept_by c.args.index.now in
-    let now = kept_by c.entries.index in
-    let next = kept_by c.entry_row.new.index in
+    let old = cached_by c.args.index.now in
+    let now = cached_by c.entries.index in
+    let next = cached_by c.entry_row.new.index in
     let before = c.args.books.now.looks.items in
     let looks = c.entries.books.looks.items in
     let then_looks = c.entry_row.new.books.looks.items in
     let first_pairs = holds_pair c.args.books.now.pairs in
     let pairs = holds_pair c.entries.books.pairs in
     let then_pairs = holds_pair c.entry_row.new.books.pairs in
-    let step = c.in_ok-row.ensures.step in
+    let under = c.entries.invariant.addresses.own in
+    let step = subst (λ (cs : List Config). IsEntryStep cs e last now next looks then_looks pairs then_pairs)
+    under c.in_ok-row.ensures.step in
     let same = entry-step-with configs e first last now next looks then_looks pairs then_pairs
     c.entries.invariant.left.same step in
     let kept = entry-kept configs e last now next looks then_looks pairs then_pairs
@@ -124,19 +151,21 @@ entries-preserved g c =
     let rows = rows-further c.args.job.number c.args.job.asked.options.now rust configs now next front
     (map line_of c.entries.rows.items) e
     (line_of c.in_ok-row.row) c.entries.invariant.passed stays c.entries.invariant.rows
-    c.in_ok-row.ensures.row in
-    let basis = kept_basis c.args.job.number c.args.job.asked.options.now rust configs next in
+    (subst (λ (cs : List Config). IsRowBy (cached_basis c.args.job.number c.args.job.asked.options.now rust cs
+    next) e (line_of c.in_ok-row.row)) under c.in_ok-row.ensures.row) in
+    let basis = cached_basis c.args.job.number c.args.job.asked.options.now rust configs next in
     record {
-      addresses = c.in_ok-row.ensures.addresses;
+      addresses = subst (λ (cs : List Config). AreAddresses cs c.entry_row.new.addresses) under
+          c.in_ok-row.ensures.addresses;
       kept = kept.0;
-      steps = subst (λ (es : List Seen). AreSteps configs first es old next before then_looks first_pairs
+      steps = subst (λ (es : List RowEntry). AreSteps configs first es old next before then_looks first_pairs
           then_pairs) (sym more)
           (further front e old now next before looks then_looks first_pairs pairs then_pairs
           c.entries.invariant.steps same);
-      passed = subst (λ (es : List Seen). All (IsPassed configs next) es) (sym more)
+      passed = subst (λ (es : List RowEntry). All (IsPassed configs next) es) (sym more)
           (All-push (IsPassed configs next) front e (passed-stays configs now next front stays
           c.entries.invariant.passed) kept.1);
-      rows = subst (λ (es : List Seen). AreDecided basis es (map line_of c.push.new.self.items)) (sym more)
+      rows = subst (λ (es : List RowEntry). AreDecided basis es (map line_of c.push.new.self.items)) (sym more)
           (subst (λ (ls : List Line). AreDecided basis (front ++ e ∷ []) ls) (sym lines) rows);
       left = leaves-more (IsNeededIn configs all) (IsNeededFor configs e) first last
           (g.I.Index.view (index_of c.entry_row.new.index)).gives
@@ -146,15 +175,20 @@ entries-preserved g c =
           old now next
           (for-among configs all e (contains-item seen_of c.args.entries.now c.entries.entry-index
           c.entry-item.result c.entries-test.true c.entry-item.is))
-          c.entries.invariant.left c.in_ok-row.ensures.left;
+          c.entries.invariant.left
+          (subst (λ (cs : List Config). Leaves (IsNeededFor cs e) last
+          (g.I.Index.view (index_of c.entry_row.new.index)).gives
+          (g.I.Index.view (index_of c.entries.index)).faults
+          (g.I.Index.view (index_of c.entry_row.new.index)).faults now next) under
+          c.in_ok-row.ensures.left);
     }
 
 pub returns-clause-steps : goal.returns-clause-steps
 returns-clause-steps g c =
     let whole = take_all c.entries.entry-index c.args.entries.now (omega (arith, c.entries-test.false)) in
-    subst (λ (es : List Entry). AreSteps c.args.job.configs.now
+    subst (λ (es : List Entry). AreSteps c.args.addresses.now.configs.now
     (g.I.Index.view (index_of c.args.index.now)).gives (map seen_of es)
-    (kept_by c.args.index.now) (kept_by c.entries.index)
+    (cached_by c.args.index.now) (cached_by c.entries.index)
     c.args.books.now.looks.items c.entries.books.looks.items
     (holds_pair c.args.books.now.pairs) (holds_pair c.entries.books.pairs)) whole c.entries.invariant.steps
 
@@ -162,18 +196,12 @@ pub returns-clause-rows : goal.returns-clause-rows
 returns-clause-rows g c =
     let whole = take_all c.entries.entry-index c.args.entries.now (omega (arith, c.entries-test.false)) in
     subst (λ (es : List Entry). AreDecided
-    (kept_basis c.args.job.number c.args.job.asked.options.now
-    (option_map numbers_of c.args.job.rust_version) c.args.job.configs.now (kept_by c.entries.index))
+    (cached_basis c.args.job.number c.args.job.asked.options.now
+    (option_map numbers_of c.args.job.rust_version) c.args.addresses.now.configs.now (cached_by c.entries.index))
     (map seen_of es) (map line_of c.entries.rows.items)) whole c.entries.invariant.rows
-
-pub returns-in_err-addresses-clause-left : goal.returns-in_err-addresses-clause-left
-returns-in_err-addresses-clause-left g c =
-    leaves-same (IsNeededIn c.args.job.configs.now (map seen_of c.args.entries.now))
-    (g.I.Index.view (index_of c.args.index.now)).gives
-    (g.I.Index.view (index_of c.args.index.now)).faults (kept_by c.args.index.now)
 
 pub returns-in_err-rows-clause-left : goal.returns-in_err-rows-clause-left
 returns-in_err-rows-clause-left g c =
-    leaves-same (IsNeededIn c.args.job.configs.now (map seen_of c.args.entries.now))
+    leaves-same (IsNeededIn c.args.addresses.now.configs.now (map seen_of c.args.entries.now))
     (g.I.Index.view (index_of c.args.index.now)).gives
-    (g.I.Index.view (index_of c.args.index.now)).faults (kept_by c.args.index.now)
+    (g.I.Index.view (index_of c.args.index.now)).faults (cached_by c.args.index.now)

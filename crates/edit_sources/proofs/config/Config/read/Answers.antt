@@ -2,7 +2,7 @@ use Rattle.std.proofs.Common.{◌≡◌, Some, None, inl, inr, rules}
 use Rattle.toml.specs.View.{table_view}
 use Rattle.toml.specs.Parse.{parse_document}
 use Rattle.edit_sources.specs.Configuration.{configuration_of}
-use Rattle.edit_sources.specs.Configuration.SaysNothing.{misshapen}
+use Rattle.edit_sources.specs.Configuration.IsMalformedConfig.{misshapen}
 use Rattle.edit_sources.proofs.config.Config.read.Goals as goal
 
 pub returns-clause-refused : goal.returns-clause-refused

@@ -2,8 +2,8 @@ use Rattle.std.proofs.Common.{None, refl}
 use Rattle.edit_upgrade.proofs.AddressLemmas.{none_resolved}
 use Rattle.edit_upgrade.proofs.addresses.Addresses.new.Goals as goal
 
-pub returns-clause-are : goal.returns-clause-are
-returns-clause-are c =
+pub returns : goal.returns
+returns c =
     none_resolved c.args.configs.now
-    (record { definitions = c.in_ok-definitions.definitions; default = None; named = c.new.result })
-    c.in_ok-definitions.ensures.defines refl c.new.ensures.empty
+    (record { configs = c.args.configs; definitions = None; default = None; named = c.new.result })
+    refl refl refl c.new.ensures.empty
