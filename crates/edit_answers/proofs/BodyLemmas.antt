@@ -6,7 +6,7 @@ use Rattle.std.proofs.lemmas.List.{length-map}
 use Rattle.std.proofs.Math.ListN.{get_or-map}
 use Rattle.edit_base.specs.declared.errors.Error.TheVariants.{IndexLine}
 use Rattle.edit_version.specs.IndexEntry.{IndexEntry}
-use Rattle.edit_sources.specs.IndexLines.{LinesSay, lines_of}
+use Rattle.edit_sources.specs.IndexLines.{HaveEntriesInOrder, lines_of}
 use Rattle.edit_sources.proofs.OutcomeLemmas.{none_said, one_reading}
 use Rattle.edit_answers.specs.Bodies.{AreNamed, EndsLine, IsDamaged, IsWholeIndex}
 use Rattle.edit_answers.specs.Bodies.IsDamaged.{bad_line, not_whole}
@@ -33,7 +33,8 @@ pub one-line : (m n : ℕ) → IndexLine m ≡ IndexLine n → m ≡ n
 one-line m n e = cc
 
 -- a file whose entries do not all have the name is not complete
-pub not-named : (b : Bool) (name body : List ℕ) (entries : List IndexEntry) → LinesSay (lines_of body) entries
+pub not-named : (b : Bool) (name body : List ℕ) (entries : List IndexEntry)
+    → HaveEntriesInOrder (lines_of body) entries
     → (IsTrue b ↔ AreNamed entries name) → b ≡ false → IsWholeIndex name body → ⊥
 not-named b name body entries say named is w =
     false≢true (sym is

@@ -8,8 +8,8 @@ use Rattle.edit_base.specs.Errors.{IsMemory, number_of}
 use Rattle.edit_base.specs.declared.errors.DeviceCall.{DeviceCall}
 use Rattle.edit_base.specs.declared.errors.Error.{Error}
 use Rattle.edit_base.specs.declared.errors.Error.TheVariants.{Memory}
-use Rattle.edit_store.specs.Store.{Files, HasCause, OnlyReads, RefusesCall, SameBut, SameFiles, StoreView, raised}
-use Rattle.edit_answers.specs.Changes.{Changes, Fails, IsKeptAt, Keeps, KeepsBut}
+use Rattle.edit_store.specs.Store.{Files, HasCause, OnlyReads, IsCallError, SameBut, SameFiles, StoreView, raised}
+use Rattle.edit_answers.specs.Changes.{Changes, Fails, IsAllowedAt, AllowsChanges, AllowsChangesBut}
 
 by_test : (t : Bool) (P : Type 0) → Decides t P → P ⊎ (P → ⊥)
 by_test true P d = inl (d.0 refl)
@@ -20,24 +20,24 @@ apart : (a b : List ℕ) → (a ≡ b) ⊎ (a ≢ b)
 apart a b = by_test (bytes_eq a b) (a ≡ b) (bytes_eq-Decides a b)
 
 module _ (P : List ℕ → List ℕ → Type 0) where
-  pub keeps-same : (a b : Files) → SameFiles a b → Keeps P a b
+  pub keeps-same : (a b : Files) → SameFiles a b → AllowsChanges P a b
   keeps-same a b same path = inl (same path)
 
   pub keeps-write : (a b : Files) (at bytes : List ℕ) → SameBut at a b → b at ≡ Some bytes → P at bytes
-      → Keeps P a b
+      → AllowsChanges P a b
   keeps-write a b at bytes same is may path =
       ⊎_elim (λ e. inr (bytes, subst (λ p. b p ≡ Some bytes) (sym e) is, subst (λ p. P p bytes) (sym e) may))
       (λ n. inl (same path n)) (apart path at)
 
-  pub keeps-then : (a b c : Files) → Keeps P a b → Keeps P b c → Keeps P a c
+  pub keeps-then : (a b c : Files) → AllowsChanges P a b → AllowsChanges P b c → AllowsChanges P a c
   keeps-then a b c first second path =
       ⊎_elim (λ same. ⊎_elim (λ e. inl (same ∙ e)) (λ new. inr (new.0, same ∙ new.1, new.2)) (first path))
       (λ new. inr new) (second path)
 
-  pub but-one : (a b : Files) (at : List ℕ) → SameBut at a b → KeepsBut P a b
+  pub but-one : (a b : Files) (at : List ℕ) → SameBut at a b → AllowsChangesBut P a b
   but-one a b at same = (at, λ path n. inl (same path n))
 
-  pub keeps-then-but : (a b c : Files) → Keeps P a b → KeepsBut P b c → KeepsBut P a c
+  pub keeps-then-but : (a b c : Files) → AllowsChanges P a b → AllowsChangesBut P b c → AllowsChangesBut P a c
   keeps-then-but a b c first second = (
     second.0,
     λ path n.
@@ -47,21 +47,21 @@ module _ (P : List ℕ → List ℕ → Type 0) where
 
   -- one path changes, where any bytes are allowed
   pub keeps-at : (a b : Files) (at : List ℕ) → SameBut at a b → (b at ≡ None → b at ≡ a at)
-      → ((bytes : List ℕ) → P at bytes) → Keeps P a b
+      → ((bytes : List ℕ) → P at bytes) → AllowsChanges P a b
   keeps-at a b at same gone may path =
-      ⊎_elim (λ e. subst (IsKeptAt P a b) (sym e) (at-path (b at) refl))
+      ⊎_elim (λ e. subst (IsAllowedAt P a b) (sym e) (at-path (b at) refl))
       (λ n. inl (same path n)) (apart path at)
     where
-      at-path : (o : Option (List ℕ)) → b at ≡ o → IsKeptAt P a b at
+      at-path : (o : Option (List ℕ)) → b at ≡ o → IsAllowedAt P a b at
       at-path None is = inl (gone is)
       at-path (Some bytes) is = inr (bytes, is, may bytes)
 
 module _ (P Q : List ℕ → List ℕ → Type 0) (weaker : (path bytes : List ℕ) → P path bytes → Q path bytes) where
-  pub keeps-weaker : (a b : Files) → Keeps P a b → Keeps Q a b
+  pub keeps-weaker : (a b : Files) → AllowsChanges P a b → AllowsChanges Q a b
   keeps-weaker a b h path = ⊎_elim (λ same. inl same) (λ new. inr (new.0, new.1, weaker path new.0 new.2))
       (h path)
 
-  pub but-weaker : (a b : Files) → KeepsBut P a b → KeepsBut Q a b
+  pub but-weaker : (a b : Files) → AllowsChangesBut P a b → AllowsChangesBut Q a b
   but-weaker a b h = (
     h.0,
     λ path n. ⊎_elim (λ same. inl same)
@@ -78,7 +78,7 @@ fails-later a b c e le (inl memory) = inl memory
 fails-later a b c e le (inr failed) = inr (failed.0, failed.1, raised-later a b c le failed.2)
 
 -- the failure of a call of a store
-pub fails-call : (call : DeviceCall) (a b : StoreView) (e : Error) → RefusesCall call a b e
+pub fails-call : (call : DeviceCall) (a b : StoreView) (e : Error) → IsCallError call a b e
     → Fails a.faults b.faults e
 fails-call call a b e (inl memory) = inl memory
 fails-call call a b e (inr failed) = inr (call, failed.0, failed.1)
@@ -86,8 +86,8 @@ fails-call call a b e (inr failed) = inr (call, failed.0, failed.1)
 -- a step, and then a call
 pub after : {T : Type 0} (P : T → List ℕ → List ℕ → Type 0) (Q : List ℕ → List ℕ → Type 0) (a b c : StoreView)
     (r : Result T Error) → b.tells ≡ a.tells → a.faults ≤ b.faults
-    → ((v : T) → a.tells ≡ true → Keeps (P v) a.file_at b.file_at)
-    → (a.tells ≡ true → Keeps Q a.file_at b.file_at) → Changes P Q b c r → Changes P Q a c r
+    → ((v : T) → a.tells ≡ true → AllowsChanges (P v) a.file_at b.file_at)
+    → (a.tells ≡ true → AllowsChanges Q a.file_at b.file_at) → Changes P Q b c r → Changes P Q a c r
 after P Q a b c (Ok v) tells le keeps keepsq step = record {
   tells = step.tells ∙ tells;
   later = omega (arith, step.later);
@@ -178,7 +178,7 @@ pub write-changes : {T : Type 0} (P : T → List ℕ → List ℕ → Type 0) (Q
     (a b : StoreView) (at bytes : List ℕ) (r : Result T Error) → b.tells ≡ a.tells
     → OnOk r (a.tells ≡ true → b.file_at at ≡ Some bytes) → SameBut at a.file_at b.file_at
     → HasCause call a b r
-    → (a.tells ≡ true → b.file_at at ≡ Some bytes → (v : T) → Keeps (P v) a.file_at b.file_at)
+    → (a.tells ≡ true → b.file_at at ≡ Some bytes → (v : T) → AllowsChanges (P v) a.file_at b.file_at)
     → Changes P Q a b r
 write-changes P Q call a b at bytes (Ok v) tells written others cause keeps = record {
   tells = tells;
@@ -197,7 +197,7 @@ write-changes P Q call a b at bytes (Err e) tells written others cause keeps = r
 
 -- a file that is rewritten with the same bytes
 pub keeps-anew : (P : List ℕ → List ℕ → Type 0) (a b : Files) (at bytes : List ℕ) → SameBut at a b
-    → b at ≡ Some bytes → a at ≡ Some bytes → Keeps P a b
+    → b at ≡ Some bytes → a at ≡ Some bytes → AllowsChanges P a b
 keeps-anew P a b at bytes same is was path =
     ⊎_elim (λ e. inl (subst (λ p. b p ≡ a p) (sym e) (is ∙ sym was))) (λ n. inl (same path n)) (apart path at)
 
@@ -247,7 +247,7 @@ pub on-done : {T : Type 0} (A B : Type 0) (r : Result T Error) → (A → B) →
 on-done A B (Ok v) f h = f h
 on-done A B (Err e) f h = tt
 
--- two calls, with a fact that holds if the contents of the files are known
+-- weaker conditions on the writes, if the contents of the files are known
 pub weakened-told : {T : Type 0} (P P' : T → List ℕ → List ℕ → Type 0) (Q Q' : List ℕ → List ℕ → Type 0)
     (a b : StoreView) (r : Result T Error)
     → (a.tells ≡ true → (v : T) (path bytes : List ℕ) → P v path bytes → P' v path bytes)

@@ -10,7 +10,7 @@ use Rattle.edit_lookups.specs.declared.lookups.Lookup.{Lookup}
 use Rattle.edit_answers.specs.Groups.{AreGroupsOf, GroupText, IsGroup, failure_with, firsts, group_text, is_in, is_listed, missed}
 use Rattle.edit_answers.specs.Groups.AreGroupsOf.{more}
 use Rattle.edit_answers.specs.declared.groups.Group.{Group}
-use Rattle.edit_answers.specs.declared.groups.Standing.{Standing}
+use Rattle.edit_answers.specs.declared.groups.Consequence.{Consequence}
 use Rattle.edit_answers.specs.declared.meaning.Failure.{Failure}
 use Rattle.edit_answers.specs.declared.meaning.Outcome.{Outcome}
 use Rattle.edit_answers.proofs.BoolLemmas.{same-bools}
@@ -72,7 +72,7 @@ module _ (all : List (Lookup × Failure)) (i : ℕ) (d : Lookup × Failure) (wit
       (sym (ap (map group_text) added ∙ map-append group_text old (g ∷ [])))
       (more (firsts (take i all)) (map group_text old) (get_or all i d) (group_text g) h group))
 
-module _ (s : Standing) (offline : Bool) (pairs : List (Lookup × Outcome)) (i : ℕ) (d : Lookup × Outcome)
+module _ (s : Consequence) (offline : Bool) (pairs : List (Lookup × Outcome)) (i : ℕ) (d : Lookup × Outcome)
     (within : i < length pairs) where
   missed-taken : (r : Option Failure) → r ≡ failure_with s offline (get_or pairs i d).1
       → missed s offline (take i pairs) ++ cons_option (option_map (λ f. ((get_or pairs i d).0, f)) r) []

@@ -4,18 +4,18 @@ use Rattle.std.specs.Prelude.{◌⊎◌, Ok}
 use Rattle.std.specs.Str.Parse.{IsNumeral, ParsesUnsigned, digits_value, without_leading_plus}
 use Rattle.edit_lookups.specs.Lookups.{HasNo}
 use Rattle.edit_lookups.proofs.CutLemmas.{HasNo-at, first-cut}
-use Rattle.edit_answers.specs.Answers.{HasLine, SaysAnswer}
+use Rattle.edit_answers.specs.Answers.{HasLine, IsAnswerLine}
 use Rattle.edit_answers.specs.Answers.HasLine.{first, later}
 use Rattle.edit_answers.specs.declared.answers.Answer.{Answer}
 
 -- without a tab
-pub no-number : (line : List ℕ) (number : ℕ) (a : Answer) → HasNo 9 line → SaysAnswer line number a → ⊥
+pub no-number : (line : List ℕ) (number : ℕ) (a : Answer) → HasNo 9 line → IsAnswerLine line number a → ⊥
 no-number line number a lacks says = HasNo-at 9 says.digits _ (subst (HasNo 9) says.is lacks)
 
 -- with one tab
 pub no-status : (line digits rest : List ℕ) (number : ℕ) (a : Answer) → line ≡ digits ++ 9 ∷ rest
     → HasNo 9 digits
-    → HasNo 9 rest → SaysAnswer line number a → ⊥
+    → HasNo 9 rest → IsAnswerLine line number a → ⊥
 no-status line digits rest number a is none lacks says =
     let cut = first-cut 9 digits rest says.digits _ none says.no_tab_number (sym is ∙ says.is) in
     HasNo-at 9 a.code.now _ (subst (HasNo 9) cut.1 lacks)
@@ -23,7 +23,7 @@ no-status line digits rest number a is none lacks says =
 -- with two tabs
 pub no-exit : (line digits code rest : List ℕ) (number : ℕ) (a : Answer) → line
     ≡ digits ++ 9 ∷ (code ++ 9 ∷ rest)
-    → HasNo 9 digits → HasNo 9 code → HasNo 9 rest → SaysAnswer line number a → ⊥
+    → HasNo 9 digits → HasNo 9 code → HasNo 9 rest → IsAnswerLine line number a → ⊥
 no-exit line digits code rest number a is none none2 lacks says =
     let cut = first-cut 9 digits (code ++ 9 ∷ rest) says.digits _ none says.no_tab_number
     (sym is ∙ says.is) in
@@ -33,7 +33,7 @@ no-exit line digits code rest number a is none none2 lacks says =
 -- with three tabs
 pub no-redirects : (line digits code exit rest : List ℕ) (number : ℕ) (a : Answer)
     → line ≡ digits ++ 9 ∷ (code ++ 9 ∷ (exit ++ 9 ∷ rest)) → HasNo 9 digits → HasNo 9 code → HasNo 9 exit
-    → HasNo 9 rest → SaysAnswer line number a → ⊥
+    → HasNo 9 rest → IsAnswerLine line number a → ⊥
 no-redirects line digits code exit rest number a is none none2 none3 lacks says =
     let cut = first-cut 9 digits (code ++ 9 ∷ (exit ++ 9 ∷ rest)) says.digits _ none says.no_tab_number
     (sym is ∙ says.is) in
@@ -46,7 +46,7 @@ pub no-parse : (line digits rest : List ℕ) (number : ℕ) (a : Answer) → lin
     → HasNo 9 digits
     → ((IsNumeral 10 (without_leading_plus digits)
     × (digits_value 10 (without_leading_plus digits) < 2 ^ 64)) → ⊥)
-    → SaysAnswer line number a → ⊥
+    → IsAnswerLine line number a → ⊥
 no-parse line digits rest number a is none fails says =
     let cut = first-cut 9 digits rest says.digits _ none says.no_tab_number (sym is ∙ says.is) in
     fails (subst (λ d. ParsesUnsigned {E = Unit {0}} 64 10 d (Ok number)) (sym cut.0) says.number_is).0
@@ -67,7 +67,8 @@ no-line line text lacks (first after _) = HasNo-at 10 line after lacks
 no-line line text lacks (later other after _ _) = HasNo-at 10 other after lacks
 
 -- a line holds a single number
-pub one-number : (line : List ℕ) (n m : ℕ) (a b : Answer) → SaysAnswer line n a → SaysAnswer line m b → n ≡ m
+pub one-number : (line : List ℕ) (n m : ℕ) (a b : Answer) → IsAnswerLine line n a → IsAnswerLine line m b
+    → n ≡ m
 one-number line n m a b x y =
     let cut = first-cut 9 x.digits _ y.digits _ x.no_tab_number y.no_tab_number (sym x.is ∙ y.is) in
     x.number_is.1 ∙ (ap (λ d. digits_value 10 (without_leading_plus d)) cut.0 ∙ sym y.number_is.1)

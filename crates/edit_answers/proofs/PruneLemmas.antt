@@ -13,7 +13,7 @@ use Rattle.std.proofs.lemmas.List.Folds.{list_any-append, list_any_more}
 use Rattle.std.proofs.lemmas.Bool.{false≢true}
 use Rattle.std.proofs.lemmas.Bool.Decides.{Decides-eqb}
 use Rattle.std.proofs.lemmas.Slice.Eq.{bytes_eq-Decides, ends_is}
-use Rattle.edit_answers.specs.Aging.{AgedText, AgingView, RemovesUnused, aged_text, entry_of, is_recent, is_same, is_used, owner_of, staying}
+use Rattle.edit_answers.specs.Aging.{AgedText, AgingView, RemovesUnused, aged_text, entry_of, is_recent, is_same, is_used, owner_of, remaining_files}
 use Rattle.edit_answers.specs.declared.aging_store.Aged.{Aged}
 use Rattle.edit_answers.proofs.BoolLemmas.{filter-filter, filter-here, filter-same}
 
@@ -152,7 +152,7 @@ none-gone all = sym (all-pass (stays_at all 0) all (λ x. or-true (is_used all (
 
 -- at the end each file was passed
 pub all-gone : (all now : List AgedText) (i : ℕ) → i ≡ length all → now ≡ filter (stays_at all i) all
-    → now ≡ staying all all
+    → now ≡ remaining_files all all
 all-gone all now i end e =
     e ∙ filter-here (stays_at all i) (λ x. is_used all (owner_of x)) all
     (weaker (λ x. list_any (λ t. is_same t x) all ≡ true) (λ x. stays_at all i x ≡ is_used all (owner_of x))
@@ -196,9 +196,9 @@ module _ (all : List AgedText) (i : ℕ) (t : AgedText) (within : i < length all
 
   -- the files that have to stay do so when another one is removed
   pub stays-more : (now new : List AgedText) → is_used all (owner_of t) ≡ false
-      → new ≡ filter (λ b. not (is_same t b)) now → staying all new ≡ staying all now
+      → new ≡ filter (λ b. not (is_same t b)) now → remaining_files all new ≡ remaining_files all now
   stays-more now new unused removed =
-      ap (staying all) removed
+      ap (remaining_files all) removed
       ∙ filter-filter (λ a. is_used all (owner_of a)) (λ b. not (is_same t b)) now
       ∙ filter-same (λ x. not (is_same t x) && is_used all (owner_of x)) (λ a. is_used all (owner_of a))
       (λ x. keeps-used (is_used all (owner_of x)) (is_same t x) (of-same false unused x)) now
@@ -212,10 +212,11 @@ raised-on a b c le (inr end) = grind (arith)
 module _ (all : List AgedText) (i : ℕ) (t : AgedText) (within : i < length all)
     (is : t ≡ get_or all i t) where
   pub stays-step : (b : Bool) (mid new : AgingView) (r : Result Unit Error) → RemovesUnused b t mid new r
-      → b ≡ is_used all (owner_of t) → mid.tells ≡ true → staying all new.files ≡ staying all mid.files
-  stays-step true mid new r h used tells = ap (staying all) (h.kept refl tells)
+      → b ≡ is_used all (owner_of t) → mid.tells ≡ true
+      → remaining_files all new.files ≡ remaining_files all mid.files
+  stays-step true mid new r h used tells = ap (remaining_files all) (h.kept refl tells)
   stays-step false mid new r h used tells =
-      ⊎_elim (λ same. ap (staying all) same)
+      ⊎_elim (λ same. ap (remaining_files all) same)
       (λ removed. stays-more all i t within is mid.files new.files (sym used) removed) (h.changed tells)
 
   pub gone-step : (b : Bool) (mid new : AgingView) → RemovesUnused b t mid new (Ok tt)

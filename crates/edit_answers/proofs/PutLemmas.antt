@@ -1,6 +1,6 @@
 -- The writes that a lookup allows.
 use Rattle.std.proofs.Common.{◌≡◌, Bool, true, false, inl, inr, ℕ, List, refl, ap, ◌∙◌, sym, subst}
-use Rattle.edit_lookups.specs.Cached.{cached_path, validator_path}
+use Rattle.edit_lookups.specs.CachePaths.{cached_path, validator_path}
 use Rattle.edit_lookups.specs.Lookups.{LookupText}
 use Rattle.edit_answers.specs.Bodies.{IsWholeIndex}
 use Rattle.edit_answers.specs.Outcomes.{IsStored, Puts, PutsDirect, PutsIndexed, PutsValidator, stored}

@@ -5,9 +5,9 @@ use Rattle.edit_store.specs.Store.{Files, SameFiles}
 use Rattle.edit_lookups.specs.Lookups.{LookupText}
 use Rattle.edit_lookups.specs.declared.lookups.Lookup.{Lookup}
 use Rattle.edit_answers.specs.Answers.{AreFirst, AreFound}
-use Rattle.edit_answers.specs.Followed.{AllFollow}
+use Rattle.edit_answers.specs.OutcomeRules.{AllFollow}
 use Rattle.edit_answers.specs.Outcomes.{PutsSome}
-use Rattle.edit_answers.specs.Stored.{ReportsOn, answers_text, text_of}
+use Rattle.edit_answers.specs.StoredResults.{ReportsOn, answers_text, text_of}
 use Rattle.edit_answers.specs.declared.answers.Answer.{Answer}
 use Rattle.edit_answers.specs.declared.meaning.Outcome.{Outcome}
 use Rattle.edit_answers.specs.declared.messages.Report.{Report}

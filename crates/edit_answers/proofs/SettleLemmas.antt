@@ -9,7 +9,7 @@ use Rattle.edit_base.specs.declared.errors.Error.{Error}
 use Rattle.edit_base.specs.declared.errors.Error.TheVariants.{Memory}
 use Rattle.edit_store.specs.Store.{StoreView}
 use Rattle.edit_lookups.specs.Lookups.{LookupText}
-use Rattle.edit_answers.specs.Changes.{Changes, Keeps}
+use Rattle.edit_answers.specs.Changes.{Changes, AllowsChanges}
 use Rattle.edit_answers.specs.Outcomes.{Puts, PutsOne, PutsSome}
 use Rattle.edit_answers.specs.Outcomes.Puts.{entry, validator, indexed}
 use Rattle.edit_answers.specs.declared.meaning.Outcome.{Outcome}
@@ -77,7 +77,7 @@ module _ (p : Places) (ls : List LookupText) where
   settled-more os all o l a b c e is so step = record {
     tells = step.tells ∙ so.tells;
     later = omega (arith, so.later, step.later);
-    done = λ t. subst (λ xs. Keeps (PutsOne p ls xs) a.file_at c.file_at) (sym e)
+    done = λ t. subst (λ xs. AllowsChanges (PutsOne p ls xs) a.file_at c.file_at) (sym e)
         (keeps-then (PutsOne p ls (os ++ o ∷ [])) a.file_at b.file_at c.file_at
         (keeps-weaker (PutsOne p ls os) (PutsOne p ls (os ++ o ∷ [])) (one-more os o) a.file_at b.file_at
         (so.done t))

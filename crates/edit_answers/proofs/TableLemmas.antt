@@ -3,14 +3,14 @@ use Rattle.std.proofs.Common.{◌≡◌, ℕ, zero, suc, ◌+◌, ◌-◌, ◌<�
 use Rattle.std.specs.Prelude.{◌⊎◌, slice_get, slice_set}
 use Rattle.std.specs.Option.{is_some}
 use Rattle.edit_lookups.specs.Lookups.{HasNo}
-use Rattle.edit_answers.specs.Answers.{AreFirst, AreFound, HasLine, HasOne, IsFirst, SaysAnswer}
+use Rattle.edit_answers.specs.Answers.{AreFirst, AreFound, HasLine, HasAnswerAt, IsFirst, IsAnswerLine}
 use Rattle.edit_answers.specs.Answers.IsFirst.{at_head, behind}
 use Rattle.edit_answers.specs.declared.answers.Answer.{Answer}
 use Rattle.edit_answers.proofs.LineLemmas.{line-cases, no-line}
 
 -- the outcome of a line is found
 abbrev pub IsFound : List ℕ → List (Option Answer) → Type 0
-IsFound line table = (k : ℕ) (a : Answer) → k < length table → SaysAnswer line (k + 1) a → HasOne table k
+IsFound line table = (k : ℕ) (a : Answer) → k < length table → IsAnswerLine line (k + 1) a → HasAnswerAt table k
 
 -- each empty slot has its first outcome in the rest as the first in the text, and the outcomes in front of
 -- the rest are found
@@ -62,7 +62,7 @@ free-before old new k count kept free = cases (slice_get old k) refl
 -- one outcome more
 pub one-first : (text rest line after : List ℕ) (old new : List (Option Answer)) (number : ℕ)
     (answer : Answer)
-    → IsRest text rest old → rest ≡ line ++ 10 ∷ after → HasNo 10 line → SaysAnswer line number answer
+    → IsRest text rest old → rest ≡ line ++ 10 ∷ after → HasNo 10 line → IsAnswerLine line number answer
     → ((k : ℕ) (a : Answer) → slice_get new k ≡ Some (Some a)
     → (slice_get old k ≡ Some (Some a)) ⊎ ((k + 1 ≡ number) × (a ≡ answer)))
     → ((k : ℕ) (a : Answer) → slice_get old k ≡ Some (Some a) → slice_get new k ≡ Some (Some a))
@@ -76,8 +76,8 @@ one-first text rest line after old new number answer so cut none says put kept c
         absurd (got-within old k was (subst (λ n. k < n) count (within-got new k (Some a) e)))
     cases is (Some None) was =
         so.firsts k a was (subst (IsFirst (k + 1) a) (sym cut) (at_head line after none
-        (subst (λ x. SaysAnswer line (k + 1) x) (sym is.1)
-        (subst (λ n. SaysAnswer line n answer) (sym is.0) says))))
+        (subst (λ x. IsAnswerLine line (k + 1) x) (sym is.1)
+        (subst (λ n. IsAnswerLine line n answer) (sym is.0) says))))
     cases is (Some (Some b)) was =
         firsts k a (subst (λ x. slice_get old k ≡ Some (Some x))
         (one-answer (slice_get new k) b a (kept k b was) e) was)
@@ -103,14 +103,15 @@ line-on text rest line after old new so cut none count kept is = record {
 
 -- a line that holds no outcome
 pub says-none : (line : List ℕ) (table : List (Option Answer))
-    → ((number : ℕ) (a : Answer) → SaysAnswer line number a → ⊥) → IsFound line table
+    → ((number : ℕ) (a : Answer) → IsAnswerLine line number a → ⊥) → IsFound line table
 says-none line table never k a w says = absurd (never (k + 1) a says)
 
--- a line holds a single number
+-- the outcome of a line is found once it was put into the table
 pub says-one : (line : List ℕ) (old new : List (Option Answer)) (number : ℕ) (answer : Answer)
-    → SaysAnswer line number answer
-    → ((n m : ℕ) (a b : Answer) → SaysAnswer line n a → SaysAnswer line m b → n ≡ m)
-    → length new ≡ length old → ((k : ℕ) → k + 1 ≡ number → k < length old → HasOne new k) → IsFound line new
+    → IsAnswerLine line number answer
+    → ((n m : ℕ) (a b : Answer) → IsAnswerLine line n a → IsAnswerLine line m b → n ≡ m)
+    → length new ≡ length old → ((k : ℕ) → k + 1 ≡ number → k < length old → HasAnswerAt new k)
+    → IsFound line new
 says-one line old new number answer says one count has k a w other =
     has k (one (k + 1) number a answer other says) (subst (λ n. k < n) count w)
 
@@ -129,21 +130,21 @@ get-set (x ∷ xs) (suc k) y w = get-set xs k y (omega arith)
 
 -- an outcome that was put is there
 pub has-set : (xs : List (Option Answer)) (number : ℕ) (a : Answer) (k : ℕ) → k + 1 ≡ number → k < length xs
-    → HasOne (slice_set xs (number - 1) (Some a)) k
+    → HasAnswerAt (slice_set xs (number - 1) (Some a)) k
 has-set xs number a k e w =
     let at : k ≡ number - 1 = omega (arith, e) in
-    subst (λ i. HasOne (slice_set xs i (Some a)) k) at (a, get-set xs k (Some a) w)
+    subst (λ i. HasAnswerAt (slice_set xs i (Some a)) k) at (a, get-set xs k (Some a) w)
 
 -- where one is there already
 has-got : (xs : List (Option Answer)) (k : ℕ) (d : Option Answer) → is_some (get_or xs k d) ≡ true
-    → k < length xs → HasOne xs k
+    → k < length xs → HasAnswerAt xs k
 has-got [] k d e w = absurd (omega arith)
 has-got (None ∷ xs) zero d e w = cc
 has-got (Some a ∷ xs) zero d e w = (a, refl)
 has-got (x ∷ xs) (suc k) d e w = has-got xs k d e (omega arith)
 
 pub has-kept : (xs : List (Option Answer)) (number : ℕ) (o d : Option Answer) (k : ℕ) → is_some o ≡ true
-    → o ≡ get_or xs (number - 1) d → k + 1 ≡ number → k < length xs → HasOne xs k
+    → o ≡ get_or xs (number - 1) d → k + 1 ≡ number → k < length xs → HasAnswerAt xs k
 has-kept xs number o d k some is e w =
     let at : number - 1 ≡ k = omega (arith, e) in
     has-got xs k d (subst (λ i. is_some (get_or xs i d) ≡ true) at (subst (λ x. is_some x ≡ true) is some)) w

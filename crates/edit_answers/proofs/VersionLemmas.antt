@@ -4,7 +4,7 @@ use Rattle.std.specs.Prelude.{Ok, codes, not}
 use Rattle.std.specs.Str.Parse.{IsNumeral, ParsesUnsigned, digits_value, without_leading_plus}
 use Rattle.edit_lookups.specs.Lookups.{HasNo}
 use Rattle.edit_lookups.proofs.CutLemmas.{HasNo-at, HasNo-cons, first-cut}
-use Rattle.edit_answers.specs.CurlVersion.{SaysVersion}
+use Rattle.edit_answers.specs.CurlVersion.{IsCurlVersion}
 
 name-no-space : HasNo 32 (codes "curl")
 name-no-space =
@@ -17,7 +17,7 @@ pub not-not : (b : Bool) → not b ≡ false → b ≡ true
 not-not true e = refl
 not-not false e = sym e
 
-module _ (text : List ℕ) (major minor : ℕ) (says : SaysVersion text major minor) where
+module _ (text : List ℕ) (major minor : ℕ) (says : IsCurlVersion text major minor) where
   pub no-space : HasNo 32 text → ⊥
   no-space lacks = HasNo-at 32 (codes "curl") _ (subst (HasNo 32) says.is lacks)
 
@@ -68,7 +68,7 @@ module _ (text : List ℕ) (major minor : ℕ) (says : SaysVersion text major mi
       (sym (both-are name a b rest is none none_a none_b).1) says.minor_is).0
 
 -- a text has a single version
-pub one-version : (text : List ℕ) (a b c d : ℕ) → SaysVersion text a b → SaysVersion text c d → (a ≡ c)
+pub one-version : (text : List ℕ) (a b c d : ℕ) → IsCurlVersion text a b → IsCurlVersion text c d → (a ≡ c)
     × (b ≡ d)
 one-version text a b c d x y =
     let cut = both-are text c d y (codes "curl") x.major_digits x.minor_digits x.rest x.is name-no-space

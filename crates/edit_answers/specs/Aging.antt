@@ -60,12 +60,12 @@ abbrev pub owner_of : AgedText → List ℕ
 owner_of a = if a.is_run then a.path ++ codes "/" else entry_of a.path
 
 -- the number of days after which an unmodified file is removed
-abbrev pub days_left : Bool → ℕ
-days_left is_run = if is_run then 1 else 90
+abbrev pub retention_days : Bool → ℕ
+retention_days is_run = if is_run then 1 else 90
 
 -- a file was modified recently enough to stay
 abbrev pub is_recent : AgedText → Bool
-is_recent a = nat_lt a.days (days_left a.is_run)
+is_recent a = nat_lt a.days (retention_days a.is_run)
 
 -- an owner has a file that was modified recently
 abbrev pub is_used : List AgedText → List ℕ → Bool
@@ -73,8 +73,8 @@ is_used files owner = list_any (λ a. is_recent a && bytes_eq (owner_of a) owner
 
 -- the files that stay: an entry and its validator if one of them was modified within 90 days, and the
 -- working folders of runs that were modified within a day
-abbrev pub staying : List AgedText → List AgedText → List AgedText
-staying all files = filter (λ a. is_used all (owner_of a)) files
+abbrev pub remaining_files : List AgedText → List AgedText → List AgedText
+remaining_files all files = filter (λ a. is_used all (owner_of a)) files
 
 -- the file is removed unless it is used; where the device fails, it may stay
 pub record RemovesUnused (is_used : Bool) (a : AgedText) (old new : AgingView) (result : Result Unit Error)
@@ -99,9 +99,9 @@ FailsToPrune old new e =
 pub record Prunes (old new : AgingView) (result : Result Unit Error) : Type 0 where
   pub tells : new.tells ≡ old.tells
   pub later : old.faults ≤ new.faults
-  pub stays : old.tells ≡ true → staying old.files new.files ≡ staying old.files old.files
+  pub stays : old.tells ≡ true → remaining_files old.files new.files ≡ remaining_files old.files old.files
   pub gone : OnOk result (old.tells ≡ true → (raised old.faults new.faults → ⊥)
-      → new.files ≡ staying old.files old.files)
+      → new.files ≡ remaining_files old.files old.files)
   pub refused : IfErr result (FailsToPrune old new)
 
 -- the model of a cache in memory

@@ -2,7 +2,7 @@
 use Rattle.std.specs.Prelude.{◌≡◌, ℕ, ◌-◌, ◌<◌, List, All, length, map, slice_index}
 use Rattle.std.specs.Char.{to_ascii_lowercase}
 use Rattle.edit_version.specs.IndexEntry.{IndexEntry}
-use Rattle.edit_sources.specs.IndexLines.{IsBadLine, LinesSay, lines_of}
+use Rattle.edit_sources.specs.IndexLines.{IsBadLine, HaveEntriesInOrder, lines_of}
 use Rattle.edit_answers.specs.declared.bodies.Damage.{Damage}
 use Rattle.edit_answers.specs.declared.bodies.Damage.TheVariants.{BadLine, NotWhole}
 
@@ -24,12 +24,13 @@ EndsLine body = slice_index body (length body - 1) ≡ 10
 pub record IsWholeIndex (name body : List ℕ) : Type 0 where
   pub ended : EndsLine body
   pub entries : List IndexEntry
-  pub say : LinesSay (lines_of body) entries
+  pub say : HaveEntriesInOrder (lines_of body) entries
   pub named : AreNamed entries name
 
 -- why a body is not a complete index file of a crate: its first malformed line or, where there is none, the
 -- whole
 pub data IsDamaged (name body : List ℕ) : Damage → Type 0 where
   bad_line : (number : ℕ) → IsBadLine (lines_of body) number → IsDamaged name body (BadLine number)
-  not_whole : (entries : List IndexEntry) → LinesSay (lines_of body) entries → (IsWholeIndex name body → ⊥)
+  not_whole : (entries : List IndexEntry) → HaveEntriesInOrder (lines_of body) entries
+      → (IsWholeIndex name body → ⊥)
       → IsDamaged name body NotWhole

@@ -7,17 +7,17 @@ use Rattle.edit_base.specs.Errors.{IsMemory}
 use Rattle.edit_store.specs.Store.{Files, StoreView, raised}
 
 -- the path has the same bytes as before, or new bytes that are allowed there
-abbrev pub IsKeptAt : (List ℕ → List ℕ → Type 0) → Files → Files → List ℕ → Type 0
-IsKeptAt P old new path = (new path ≡ old path) ⊎ ((bytes : List ℕ) × (new path ≡ Some bytes) × P path bytes)
+abbrev pub IsAllowedAt : (List ℕ → List ℕ → Type 0) → Files → Files → List ℕ → Type 0
+IsAllowedAt P old new path = (new path ≡ old path) ⊎ ((bytes : List ℕ) × (new path ≡ Some bytes) × P path bytes)
 
 -- every path has the same bytes as before, or new bytes that are allowed there
-abbrev pub Keeps : (List ℕ → List ℕ → Type 0) → Files → Files → Type 0
-Keeps P old new = (path : List ℕ) → IsKeptAt P old new path
+abbrev pub AllowsChanges : (List ℕ → List ℕ → Type 0) → Files → Files → Type 0
+AllowsChanges P old new = (path : List ℕ) → IsAllowedAt P old new path
 
 -- every path except one, whose write failed, has the same bytes as before, or new bytes that are allowed
 -- there
-abbrev pub KeepsBut : (List ℕ → List ℕ → Type 0) → Files → Files → Type 0
-KeepsBut P old new = (torn : List ℕ) × ((path : List ℕ) → path ≢ torn → IsKeptAt P old new path)
+abbrev pub AllowsChangesBut : (List ℕ → List ℕ → Type 0) → Files → Files → Type 0
+AllowsChangesBut P old new = (torn : List ℕ) × ((path : List ℕ) → path ≢ torn → IsAllowedAt P old new path)
 
 -- a call fails for lack of memory, or with the device, which was counted
 abbrev pub Fails : ℕ → ℕ → Error → Type 0
@@ -29,6 +29,6 @@ pub record Changes {T : Type 0} (P : T → List ℕ → List ℕ → Type 0) (Q 
     (old new : StoreView) (result : Result T Error) : Type 0 where
   pub tells : new.tells ≡ old.tells
   pub later : old.faults ≤ new.faults
-  pub done : IfOk result (λ v. old.tells ≡ true → Keeps (P v) old.file_at new.file_at)
-  pub torn : OnErr result (old.tells ≡ true → KeepsBut Q old.file_at new.file_at)
+  pub done : IfOk result (λ v. old.tells ≡ true → AllowsChanges (P v) old.file_at new.file_at)
+  pub torn : OnErr result (old.tells ≡ true → AllowsChangesBut Q old.file_at new.file_at)
   pub refused : IfErr result (Fails old.faults new.faults)

@@ -9,7 +9,7 @@ abbrev pub HasVariables : ℕ → ℕ → Type 0
 HasVariables major minor = (7 < major) ⊎ ((major ≡ 7) × (75 ≤ minor))
 
 -- the text begins with `curl MAJOR.MINOR.`
-pub record SaysVersion (text : List ℕ) (major minor : ℕ) : Type 0 where
+pub record IsCurlVersion (text : List ℕ) (major minor : ℕ) : Type 0 where
   pub major_digits : List ℕ
   pub minor_digits : List ℕ
   pub rest : List ℕ
@@ -23,5 +23,5 @@ pub record SaysVersion (text : List ℕ) (major minor : ℕ) : Type 0 where
 pub record IsNewEnough (text : List ℕ) : Type 0 where
   pub major : ℕ
   pub minor : ℕ
-  pub says : SaysVersion text major minor
+  pub says : IsCurlVersion text major minor
   pub has : HasVariables major minor

@@ -7,8 +7,8 @@ use Rattle.edit_lookups.specs.Lookups.{lookup_text}
 use Rattle.edit_lookups.specs.declared.lookups.Lookup.{Lookup}
 use Rattle.edit_answers.specs.Reasons.{IsReason}
 use Rattle.edit_answers.specs.declared.groups.Group.{Group}
-use Rattle.edit_answers.specs.declared.groups.Standing.{Standing}
-use Rattle.edit_answers.specs.declared.groups.Standing.TheVariants as standing
+use Rattle.edit_answers.specs.declared.groups.Consequence.{Consequence}
+use Rattle.edit_answers.specs.declared.groups.Consequence.TheVariants as standing
 use Rattle.edit_answers.specs.declared.meaning.Failure.{Failure}
 use Rattle.edit_answers.specs.declared.meaning.Failure.TheVariants.{BadLine, NoFolder, Offline}
 use Rattle.edit_answers.specs.declared.meaning.Outcome.{Outcome}
@@ -19,8 +19,8 @@ abbrev pub is_excluded : List (Bor (List ℕ)) → List ℕ → Bool
 is_excluded excluded name = list_any (λ other. bytes_eq other.now name) excluded
 
 -- the lookups of crates that are not excluded, with their outcomes
-abbrev pub upgraded : List (Bor (List ℕ)) → List Lookup → List Outcome → List (Lookup × Outcome)
-upgraded excluded lookups outcomes =
+abbrev pub included_lookups : List (Bor (List ℕ)) → List Lookup → List Outcome → List (Lookup × Outcome)
+included_lookups excluded lookups outcomes =
     filter (λ p. not (is_excluded excluded p.0.name.now)) (zip lookups outcomes)
 
 -- whether the failure is that nothing is fetched offline
@@ -29,9 +29,9 @@ is_offline Offline = true
 is_offline _ = false
 
 -- why an entry was not fetched whose cached version is used; none offline, where it is not reported
-abbrev pub served : Outcome → Option Failure
-served (Cached failure) = if is_offline failure then None else Some failure
-served _ = None
+abbrev pub cached_failure : Outcome → Option Failure
+cached_failure (Cached failure) = if is_offline failure then None else Some failure
+cached_failure _ = None
 
 -- why an entry is not available, neither fetched nor cached
 abbrev pub lost : Outcome → Option Failure
@@ -47,15 +47,15 @@ is_fatal offline (BadLine line) = true
 is_fatal offline _ = not offline
 
 -- why an entry was not fetched, if that has this consequence for its lookup
-abbrev pub failure_with : Standing → Bool → Outcome → Option Failure
-failure_with standing.Cached offline outcome = served outcome
+abbrev pub failure_with : Consequence → Bool → Outcome → Option Failure
+failure_with standing.Cached offline outcome = cached_failure outcome
 failure_with standing.Left offline outcome =
     option_and_then (λ f. if is_fatal offline f then None else Some f) (lost outcome)
 failure_with standing.Missing offline outcome =
     option_and_then (λ f. if is_fatal offline f then Some f else None) (lost outcome)
 
 -- the lookups with this consequence, each with its failure
-abbrev pub missed : Standing → Bool → List (Lookup × Outcome) → List (Lookup × Failure)
+abbrev pub missed : Consequence → Bool → List (Lookup × Outcome) → List (Lookup × Failure)
 missed standing offline pairs =
     filter_map (λ p. option_map (λ f. (p.0, f)) (failure_with standing offline p.1)) pairs
 

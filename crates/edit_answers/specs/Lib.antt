@@ -4,7 +4,7 @@ pub mod Bodies
 pub mod CacheStore
 pub mod Changes
 pub mod CurlVersion
-pub mod Followed
+pub mod OutcomeRules
 pub mod Groups
 pub mod Links
 pub mod Locals
@@ -13,4 +13,4 @@ pub mod Messages
 pub mod Outcomes
 pub mod Places
 pub mod Reasons
-pub mod Stored
+pub mod StoredResults

@@ -5,10 +5,10 @@ use Rattle.std.specs.Str.{IsUtf8, bytes_eq}
 use Rattle.percent_encoding.specs.Percent.{percent_decode}
 use Rattle.url.specs.Parser.{parse_url}
 use Rattle.url.specs.Parts.{Parts, has_host}
-use Rattle.edit_store.specs.Store.{Files, StandsAt}
+use Rattle.edit_store.specs.Store.{Files, HasKindAt}
 use Rattle.edit_store.specs.declared.store.Kind.{Kind}
 use Rattle.edit_store.specs.declared.store.Kind.TheVariants.{Folder}
-use Rattle.edit_sources.specs.IndexLines.{IsBadLine, LinesSay, lines_of}
+use Rattle.edit_sources.specs.IndexLines.{IsBadLine, HaveEntriesInOrder, lines_of}
 use Rattle.edit_version.specs.IndexEntry.{IndexEntry}
 use Rattle.edit_lookups.specs.Lookups.{HasNo, LookupText}
 use Rattle.edit_answers.specs.Places.{local_path}
@@ -41,25 +41,26 @@ pub record IsLocalFolder (address folder : List ℕ) : Type 0 where
   pub text : IsPathText folder
 
 -- the folder of the address exists
-pub record IsStanding (address : List ℕ) (files : Files) (folder : List ℕ) : Type 0 where
+pub record HasExistingFolder (address : List ℕ) (files : Files) (folder : List ℕ) : Type 0 where
   pub names : IsLocalFolder address folder
-  pub stands : StandsAt files folder Folder
+  pub stands : HasKindAt files folder Folder
 
 -- the address names no folder, or no folder exists there
 pub data HasNoFolder (address : List ℕ) (files : Files) : Type 0 where
   unnamed : ((folder : List ℕ) → IsLocalFolder address folder → ⊥) → HasNoFolder address files
-  other : (folder : List ℕ) (kind : Kind) → IsLocalFolder address folder → StandsAt files folder kind
+  other : (folder : List ℕ) (kind : Kind) → IsLocalFolder address folder → HasKindAt files folder kind
       → kind ≢ Folder → HasNoFolder address files
 
 -- the result of a lookup, given the bytes of its file in a registry on this machine
 pub data IsLocalFile (bytes : List ℕ) : Outcome → Type 0 where
   bad_line : (number : ℕ) → IsBadLine (lines_of bytes) number → IsLocalFile bytes (Missing (BadLine number))
-  lines : (entries : List IndexEntry) → LinesSay (lines_of bytes) entries → IsLocalFile bytes Local
+  lines : (entries : List IndexEntry) → HaveEntriesInOrder (lines_of bytes) entries → IsLocalFile bytes Local
 
 -- the result of a lookup in a registry on this machine
 pub data SettlesLocal (l : LookupText) (files : Files) : Outcome → Type 0 where
   no_folder : HasNoFolder l.address files → SettlesLocal l files (Missing NoFolder)
-  absent : (folder : List ℕ) → IsStanding l.address files folder → files (local_path folder l.path) ≡ None
+  absent : (folder : List ℕ) → HasExistingFolder l.address files folder
+      → files (local_path folder l.path) ≡ None
       → SettlesLocal l files Absent
-  present : (folder bytes : List ℕ) (o : Outcome) → IsStanding l.address files folder
+  present : (folder bytes : List ℕ) (o : Outcome) → HasExistingFolder l.address files folder
       → files (local_path folder l.path) ≡ Some bytes → IsLocalFile bytes o → SettlesLocal l files o

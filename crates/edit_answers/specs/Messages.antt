@@ -2,23 +2,23 @@
 use Rattle.std.specs.Prelude.{◌≡◌, ℕ, List, [], ◌∷◌, ◌++◌, Option, Some, None, Bool, codes, length, option_map, string_bytes}
 use Rattle.std.specs.Fmt.{decimal}
 use Rattle.std.specs.List.{flat_map}
-use Rattle.edit_lookups.specs.Cached.{cached_path}
-use Rattle.edit_lookups.specs.Escaped.{escaped}
+use Rattle.edit_lookups.specs.CachePaths.{cached_path}
+use Rattle.edit_lookups.specs.ControlEscapes.{escaped}
 use Rattle.edit_lookups.specs.Lookups.{lookup_text}
-use Rattle.edit_lookups.specs.Shown.{shown_address}
+use Rattle.edit_lookups.specs.UserinfoAddresses.{shown_address}
 use Rattle.edit_lookups.specs.declared.lookups.Lookup.{Lookup}
 use Rattle.edit_answers.specs.Groups.{AreGroups, GroupText, missed}
 use Rattle.edit_answers.specs.declared.bodies.Damage.{Damage}
 use Rattle.edit_answers.specs.declared.bodies.Damage.TheVariants.{BadLine, NotWhole}
-use Rattle.edit_answers.specs.declared.groups.Standing.{Standing}
-use Rattle.edit_answers.specs.declared.groups.Standing.TheVariants.{Cached, Left, Missing}
+use Rattle.edit_answers.specs.declared.groups.Consequence.{Consequence}
+use Rattle.edit_answers.specs.declared.groups.Consequence.TheVariants.{Cached, Left, Missing}
 use Rattle.edit_answers.specs.declared.meaning.Outcome.{Outcome}
 use Rattle.edit_answers.specs.declared.meaning.Outcome.TheVariants.{Damaged}
 use Rattle.edit_answers.specs.declared.messages.Report.{Report}
 
 -- the address of a registry in messages
-abbrev pub shown_text : List ℕ → List ℕ
-shown_text address = escaped (shown_address address)
+abbrev pub message_address : List ℕ → List ℕ
+message_address address = escaped (shown_address address)
 
 -- names joined by commas
 abbrev pub names_text : List (List ℕ) → List ℕ
@@ -33,7 +33,7 @@ unfetched_text count shown reason =
 
 -- the first part of the warning about a group whose cached entries are used
 unfoldable pub cached_text : GroupText → List ℕ
-cached_text g = unfetched_text (decimal (length g.names)) (shown_text g.address) g.reason
+cached_text g = unfetched_text (decimal (length g.names)) (message_address g.address) g.reason
 
 -- the warning about a group whose cached entries are used
 abbrev pub cached_line : GroupText → List ℕ
@@ -42,25 +42,25 @@ cached_line g =
     ++ (names_text g.names ++ codes ")\n")))
 
 -- the first part of the warning about a group whose crates are not upgraded
-abbrev pub left_text : GroupText → List ℕ
-left_text g =
-    codes "no index entries of " ++ (shown_text g.address ++ (codes " are cached for "
+abbrev pub skipped_text : GroupText → List ℕ
+skipped_text g =
+    codes "no index entries of " ++ (message_address g.address ++ (codes " are cached for "
     ++ (names_text g.names ++ (codes " (" ++ (g.reason ++ codes ")")))))
 
 -- the warning about a group whose crates are not upgraded
-abbrev pub left_line : GroupText → List ℕ
-left_line g = codes "warning: " ++ (left_text g ++ codes ": these crates stay as they are\n")
+abbrev pub skipped_line : GroupText → List ℕ
+skipped_line g = codes "warning: " ++ (skipped_text g ++ codes ": these crates stay as they are\n")
 
 -- the line of the error for a group that the upgrade cannot proceed without
 abbrev pub missing_line : GroupText → List ℕ
 missing_line g =
-    codes "\n  " ++ (shown_text g.address ++ (codes ": " ++ (names_text g.names
+    codes "\n  " ++ (message_address g.address ++ (codes ": " ++ (names_text g.names
     ++ (codes " (" ++ (g.reason ++ codes ")")))))
 
 -- the line for a group of lookups with this consequence
-abbrev pub line_of : Standing → GroupText → List ℕ
+abbrev pub line_of : Consequence → GroupText → List ℕ
 line_of Cached g = cached_line g
-line_of Left g = left_line g
+line_of Left g = skipped_line g
 line_of Missing g = missing_line g
 
 -- the warning about a damaged file in the cache

@@ -1,7 +1,7 @@
 -- The results of lookups.
 use Rattle.std.specs.Prelude.{◌≡◌, ◌⊎◌, ℕ, List, Option, Some, None, Bool, true, false, MatchOption, slice_get}
 use Rattle.edit_store.specs.Store.{Files}
-use Rattle.edit_lookups.specs.Cached.{cached_path, validator_path}
+use Rattle.edit_lookups.specs.CachePaths.{cached_path, validator_path}
 use Rattle.edit_lookups.specs.Lookups.{LookupText}
 use Rattle.edit_lookups.specs.Validators.{IsValidatorOf}
 use Rattle.edit_answers.specs.Bodies.{IsDamaged, IsWholeIndex}

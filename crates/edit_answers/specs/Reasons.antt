@@ -2,7 +2,7 @@
 use Rattle.std.specs.Prelude.{◌≡◌, ℕ, List, [], ◌++◌, ◌==◌, ◌||◌, codes, length, if◌then◌else◌}
 use Rattle.std.specs.Fmt.{decimal}
 use Rattle.std.specs.Str.{bytes_eq}
-use Rattle.edit_lookups.specs.Escaped.{escaped}
+use Rattle.edit_lookups.specs.ControlEscapes.{escaped}
 use Rattle.edit_lookups.specs.Lookups.{LookupText}
 use Rattle.edit_answers.specs.Locals.{IsLocalFolder}
 use Rattle.edit_answers.specs.Places.{local_path}

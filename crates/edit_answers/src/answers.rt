@@ -1,6 +1,6 @@
 //! Parses the outcomes of transfers that curl writes.
 ghost use Rattle.std.specs.Prelude.{◌≡◌, ◌⊎◌, ◌+◌, ◌<◌, ℕ, Some, None, IfNone, IfOk, IfSome, length, replicate, slice_get};
-ghost use Rattle.edit_answers.specs.Answers.{AreFirst, AreFound, HasOne, SaysAnswer};
+ghost use Rattle.edit_answers.specs.Answers.{AreFirst, AreFound, HasAnswerAt, IsAnswerLine};
 ghost use Rattle.edit_answers.specs.declared.answers.Answer.{Answer};
 
 use std::alloc::{AllocError, Global};
@@ -18,8 +18,8 @@ pub struct Answer<'a> {
 /// Parses a line `NUMBER TAB CODE TAB EXIT TAB REDIRECTS TAB MESSAGE`: the number of a transfer, and its
 /// outcome.
 fn read_answer<'a>(line: &'a str) -> Option<(usize, Answer<'a>)>
-    ensures some { IfSome result (λ x. SaysAnswer line.now x.0 x.1) }
-    ensures none { IfNone result ((number : ℕ) (a : Answer) → SaysAnswer line.now number a → ⊥) }
+    ensures some { IfSome result (λ x. IsAnswerLine line.now x.0 x.1) }
+    ensures none { IfNone result ((number : ℕ) (a : Answer) → IsAnswerLine line.now number a → ⊥) }
 {
     let Some((number, rest)) = line.split_once('\t') else {
         return None;
@@ -64,7 +64,7 @@ fn put<'a>(table: &mut Vec<Option<Answer<'a>>>, number: usize, answer: Answer<'a
         → (slice_get table.old.items k ≡ Some (Some a)) ⊎ ((k + 1 ≡ number) × (a ≡ answer.entry)) }
     ensures kept { (k : ℕ) (a : Answer) → slice_get table.old.items k ≡ Some (Some a)
         → slice_get table.new.items k ≡ Some (Some a) }
-    ensures has { (k : ℕ) → k + 1 ≡ number → k < length table.old.items → HasOne table.new.items k }
+    ensures has { (k : ℕ) → k + 1 ≡ number → k < length table.old.items → HasAnswerAt table.new.items k }
     ensures count { length table.new.items ≡ length table.old.items }
 {
     if number == 0 || number > table.len() {

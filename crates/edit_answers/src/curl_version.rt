@@ -1,6 +1,6 @@
 //! Which versions of curl can fetch index entries.
 ghost use Rattle.std.specs.Prelude.{◌≡◌, ◌↔◌, ℕ, IfNone, IfSome, IsTrue};
-ghost use Rattle.edit_answers.specs.CurlVersion.{HasVariables, IsNewEnough, SaysVersion};
+ghost use Rattle.edit_answers.specs.CurlVersion.{HasVariables, IsNewEnough, IsCurlVersion};
 
 /// Whether a version of curl has all the options and variables that the transfers use.
 fn has_variables(major: u32, minor: u32) -> bool
@@ -11,8 +11,8 @@ fn has_variables(major: u32, minor: u32) -> bool
 
 /// Parses the output of `curl --version`: `curl MAJOR.MINOR.`, and anything after it.
 fn version_in(text: &str) -> Option<(u32, u32)>
-    ensures some { IfSome result (λ v. SaysVersion text.now v.0 v.1) }
-    ensures none { IfNone result ((major minor : ℕ) → SaysVersion text.now major minor → ⊥) }
+    ensures some { IfSome result (λ v. IsCurlVersion text.now v.0 v.1) }
+    ensures none { IfNone result ((major minor : ℕ) → IsCurlVersion text.now major minor → ⊥) }
 {
     let Some((name, rest)) = text.split_once(' ') else {
         return None;

@@ -1,6 +1,6 @@
 //! The lookups without a fetched entry, grouped by registry.
 ghost use Rattle.std.specs.Prelude.{◌≡◌, ◌++◌, IfOk, map};
-ghost use Rattle.edit_answers.specs.Groups.{AreGroups, IsGroup, failure_with, group_text, is_excluded, is_fatal, is_listed, is_offline, lost, missed, names_at, served, upgraded};
+ghost use Rattle.edit_answers.specs.Groups.{AreGroups, IsGroup, failure_with, group_text, is_excluded, is_fatal, is_listed, is_offline, lost, missed, names_at, cached_failure, included_lookups};
 ghost use Rattle.edit_answers.specs.Reasons.{IsReason};
 
 use crate::meaning::{Failure, Outcome};
@@ -10,7 +10,7 @@ use std::alloc::{AllocError, Global};
 
 /// What follows for a lookup whose entry was not fetched.
 #[derive(Clone, Copy, Debug)]
-pub enum Standing {
+pub enum Consequence {
     /// The cached entry is used.
     Cached,
     /// There is no cached entry, and the crate is not upgraded.
@@ -36,13 +36,13 @@ fn is_excluded(excluded: &[&str], name: &str) -> bool
 }
 
 /// The lookups of crates that are not excluded, with their outcomes.
-pub(crate) fn upgraded<'a, 'b>(
+pub(crate) fn included_lookups<'a, 'b>(
     alloc: Global,
     excluded: &[&str],
     lookups: &[Lookup<'a>],
     outcomes: &[Outcome<'b>],
 ) -> Result<Vec<(Lookup<'a>, Outcome<'b>)>, AllocError>
-    ensures { IfOk result (λ v. v.items ≡ upgraded excluded.now lookups.now outcomes.now) }
+    ensures { IfOk result (λ v. v.items ≡ included_lookups excluded.now lookups.now outcomes.now) }
 {
     let mut pairs = Vec::new(alloc);
     for (lookup, outcome) in lookups.iter().zip(outcomes.iter()) {
@@ -61,8 +61,8 @@ fn is_offline(failure: Failure) -> bool
 }
 
 /// Why an entry was not fetched whose cached version is used; `None` where there is nothing to report.
-fn served<'b>(outcome: Outcome<'b>) -> Option<Failure<'b>>
-    ensures { result ≡ served outcome.entry }
+fn cached_failure<'b>(outcome: Outcome<'b>) -> Option<Failure<'b>>
+    ensures { result ≡ cached_failure outcome.entry }
 {
     match outcome {
         Outcome::Cached(failure) => if is_offline(failure) {
@@ -98,12 +98,16 @@ fn is_fatal(failure: Failure, offline: bool) -> bool
 }
 
 /// Why an entry was not fetched, if that has this consequence for its lookup.
-fn failure_with<'b>(standing: Standing, offline: bool, outcome: Outcome<'b>) -> Option<Failure<'b>>
+fn failure_with<'b>(
+    standing: Consequence,
+    offline: bool,
+    outcome: Outcome<'b>,
+) -> Option<Failure<'b>>
     ensures { result ≡ failure_with standing offline outcome.entry }
 {
     match standing {
-        Standing::Cached => served(outcome),
-        Standing::Left => {
+        Consequence::Cached => cached_failure(outcome),
+        Consequence::Left => {
             let failure = lost(outcome)?;
             if is_fatal(failure, offline) {
                 None
@@ -111,7 +115,7 @@ fn failure_with<'b>(standing: Standing, offline: bool, outcome: Outcome<'b>) -> 
                 Some(failure)
             }
         }
-        Standing::Missing => {
+        Consequence::Missing => {
             let failure = lost(outcome)?;
             if is_fatal(failure, offline) {
                 Some(failure)
@@ -125,7 +129,7 @@ fn failure_with<'b>(standing: Standing, offline: bool, outcome: Outcome<'b>) -> 
 /// The lookups with this consequence, each with its failure.
 fn missed<'a, 'b>(
     alloc: Global,
-    standing: Standing,
+    standing: Consequence,
     offline: bool,
     pairs: &[(Lookup<'a>, Outcome<'b>)],
 ) -> Result<Vec<(Lookup<'a>, Failure<'b>)>, AllocError>
@@ -206,7 +210,7 @@ fn groups_of<'a>(
 /// The groups of the lookups with this consequence.
 pub(crate) fn groups_with<'a>(
     alloc: Global,
-    standing: Standing,
+    standing: Consequence,
     offline: bool,
     pairs: &[(Lookup<'a>, Outcome<'_>)],
 ) -> Result<Vec<Group<'a>>, AllocError>

@@ -1,7 +1,7 @@
 //! Lookups in registries that are folders of this machine.
 ghost use Rattle.std.specs.Prelude.{◌≡◌, ℕ, List, true, false, IfErr, IfOk, MatchOption, string_bytes};
 ghost use Rattle.edit_answers.specs.Changes.{Changes, Fails};
-ghost use Rattle.edit_answers.specs.Locals.{HasNoFolder, IsLocalFile, IsLocalFolder, IsPathText, IsStanding, SettlesLocal, folder_of, without_slash};
+ghost use Rattle.edit_answers.specs.Locals.{HasNoFolder, IsLocalFile, IsLocalFolder, IsPathText, HasExistingFolder, SettlesLocal, folder_of, without_slash};
 ghost use Rattle.edit_answers.specs.Outcomes.{Puts};
 ghost use Rattle.edit_answers.specs.Places.{local_path};
 ghost use Rattle.edit_lookups.specs.Lookups.{HasNo, lookup_text};
@@ -53,7 +53,7 @@ fn path_text(bytes: &[u8]) -> Option<&str>
 
 /// Percent-decodes the path of a URL, without a slash at its end; `None` where the result is not UTF-8 or
 /// contains U+0000.
-fn decoded(alloc: Global, path: &str) -> Result<Option<String>, AllocError>
+fn decode_local_folder(alloc: Global, path: &str) -> Result<Option<String>, AllocError>
     ensures { IfOk result (λ o. MatchOption o (IsPathText (folder_of path.now) → ⊥)
         (λ s. (string_bytes s ≡ folder_of path.now) × IsPathText (folder_of path.now))) }
 {
@@ -79,11 +79,11 @@ pub fn local_folder(alloc: Global, address: &str) -> Result<Option<String>, Allo
     if url.scheme() != "file" || url.has_host() {
         return Ok(None);
     }
-    decoded(alloc, url.path())
+    decode_local_folder(alloc, url.path())
 }
 
 /// The folder of a registry on this machine, if it exists.
-fn standing_folder<S: Store>(
+fn existing_folder<S: Store>(
     alloc: Global,
     files: &mut S,
     address: &str,
@@ -91,7 +91,7 @@ fn standing_folder<S: Store>(
     ensures reads { OnlyReads (S.view files.old) (S.view files.new) }
     ensures folder { IfOk result (λ o. (S.view files.old).tells ≡ true → MatchOption o
         (HasNoFolder address.now (S.view files.old).file_at)
-        (λ s. IsStanding address.now (S.view files.old).file_at (string_bytes s))) }
+        (λ s. HasExistingFolder address.now (S.view files.old).file_at (string_bytes s))) }
     ensures refused { IfErr result (Fails (S.view files.old).faults (S.view files.new).faults) }
 {
     let Some(folder) = local_folder(alloc, address)? else {
@@ -154,7 +154,7 @@ pub fn settle_local<'a, S: Store>(
     ensures told { IfOk result (λ o. (S.view files.old).tells ≡ true
         → SettlesLocal (lookup_text lookup.now) (S.view files.old).file_at o) }
 {
-    let folder = match standing_folder(alloc, files, lookup.address) {
+    let folder = match existing_folder(alloc, files, lookup.address) {
         Ok(Some(folder)) => folder,
         Ok(None) => return Ok(Outcome::Missing(Failure::NoFolder)),
         Err(error) => return Err(error),

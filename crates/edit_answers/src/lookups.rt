@@ -1,7 +1,7 @@
 //! Processes the lookups of a run.
 ghost use Rattle.std.specs.Prelude.{◌≡◌, true, IfOk, length, map};
 ghost use Rattle.edit_answers.specs.Changes.{Changes};
-ghost use Rattle.edit_answers.specs.Followed.{AllFollow, Follows, MeansFor, answer_at, is_local, is_sparse};
+ghost use Rattle.edit_answers.specs.OutcomeRules.{AllFollow, HasOutcome, MeansFor, answer_at, is_local, is_sparse};
 ghost use Rattle.edit_answers.specs.Outcomes.{Puts, PutsOne, PutsSome};
 ghost use Rattle.edit_lookups.specs.Lookups.{lookup_text};
 
@@ -57,7 +57,7 @@ fn settle_one<'a, S: LinkStore>(
         (Puts places.now (lookup_text lookup.now) Outcome.Fetched)
         (S.view files.old) (S.view files.new) result }
     ensures follows { IfOk result (λ o. (S.view files.old).tells ≡ true
-        → Follows places.now (lookup_text lookup.now) number offline answer.entry
+        → HasOutcome places.now (lookup_text lookup.now) number offline answer.entry
         (S.view files.old).file_at o) }
 {
     if is_local(lookup.address.as_bytes()) {

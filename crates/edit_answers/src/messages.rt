@@ -2,15 +2,15 @@
 ghost use Rattle.std.specs.Prelude.{◌≡◌, ◌++◌, IfOk, OnOk, codes, length, map, option_map, string_bytes};
 ghost use Rattle.std.specs.Fmt.{decimal};
 ghost use Rattle.std.specs.List.{flat_map};
-ghost use Rattle.edit_answers.specs.Groups.{GroupText, group_text, upgraded};
-ghost use Rattle.edit_answers.specs.Messages.{IsReport, IsUnreadable, cached_line, cached_text, damage_line, damage_text, error_text, left_line, line_of, missing_line, names_text, shown_text, unfetched_text};
-ghost use Rattle.edit_lookups.specs.Escaped.{escaped};
+ghost use Rattle.edit_answers.specs.Groups.{GroupText, group_text, included_lookups};
+ghost use Rattle.edit_answers.specs.Messages.{IsReport, IsUnreadable, cached_line, cached_text, damage_line, damage_text, error_text, skipped_line, line_of, missing_line, names_text, message_address, unfetched_text};
+ghost use Rattle.edit_lookups.specs.ControlEscapes.{escaped};
 
 use crate::bodies::Damage;
-use crate::groups::{Group, Standing, groups_with, upgraded};
+use crate::groups::{Consequence, Group, groups_with, included_lookups};
 use crate::meaning::Outcome;
 use crate::places::Places;
-use crate::reasons::escaped;
+use crate::reasons::escape_message;
 use edit_lookups::{Lookup, cached_path, push_escaped, shown_address};
 use std::alloc::{AllocError, Global};
 
@@ -32,11 +32,11 @@ pub struct StoreOptions<'a> {
 }
 
 /// Formats the address of a registry for messages: without userinfo, and with control characters escaped.
-fn shown_text(alloc: Global, address: &str) -> Result<String, AllocError>
-    ensures { IfOk result (λ s. string_bytes s ≡ shown_text address.now) }
+fn message_address(alloc: Global, address: &str) -> Result<String, AllocError>
+    ensures { IfOk result (λ s. string_bytes s ≡ message_address address.now) }
 {
     let shown = shown_address(alloc, address)?;
-    escaped(alloc, shown.as_str())
+    escape_message(alloc, shown.as_str())
 }
 
 /// Appends names, each after a comma and a space.
@@ -57,7 +57,7 @@ fn names_text(alloc: Global, names: &[&str]) -> Result<String, AllocError>
 {
     match names.split_first() {
         Some((first, rest)) => {
-            let mut text = escaped(alloc, first)?;
+            let mut text = escape_message(alloc, first)?;
             push_names(&mut text, rest)?;
             Ok(text)
         }
@@ -106,7 +106,7 @@ fn cached_text(alloc: Global, group: &Group<'_>) -> Result<String, AllocError>
     ensures { IfOk result (λ s. string_bytes s ≡ cached_text (group_text group.now)) }
 {
     let count = count_text(alloc, group)?;
-    let shown = shown_text(alloc, group.address)?;
+    let shown = message_address(alloc, group.address)?;
     let reason = group.reason.as_str();
     unfetched_text(alloc, count.as_str(), shown.as_str(), reason)
 }
@@ -121,10 +121,10 @@ fn cached_line(alloc: Global, group: &Group<'_>) -> Result<String, AllocError>
 }
 
 /// The warning about a group whose crates are not upgraded.
-fn left_line(alloc: Global, group: &Group<'_>) -> Result<String, AllocError>
-    ensures { IfOk result (λ s. string_bytes s ≡ left_line (group_text group.now)) }
+fn skipped_line(alloc: Global, group: &Group<'_>) -> Result<String, AllocError>
+    ensures { IfOk result (λ s. string_bytes s ≡ skipped_line (group_text group.now)) }
 {
-    let shown = shown_text(alloc, group.address)?;
+    let shown = message_address(alloc, group.address)?;
     let names = names_text(alloc, &group.names)?;
     let reason = group.reason.as_str();
     let what = format!(in alloc; "no index entries of {shown} are cached for {names} ({reason})")?;
@@ -135,20 +135,20 @@ fn left_line(alloc: Global, group: &Group<'_>) -> Result<String, AllocError>
 fn missing_line(alloc: Global, group: &Group<'_>) -> Result<String, AllocError>
     ensures { IfOk result (λ s. string_bytes s ≡ missing_line (group_text group.now)) }
 {
-    let shown = shown_text(alloc, group.address)?;
+    let shown = message_address(alloc, group.address)?;
     let names = names_text(alloc, &group.names)?;
     let reason = group.reason.as_str();
     format!(in alloc; "\n  {shown}: {names} ({reason})")
 }
 
 /// The line for a group of lookups with this consequence.
-fn line_of(alloc: Global, standing: Standing, group: &Group<'_>) -> Result<String, AllocError>
+fn line_of(alloc: Global, standing: Consequence, group: &Group<'_>) -> Result<String, AllocError>
     ensures { IfOk result (λ s. string_bytes s ≡ line_of standing (group_text group.now)) }
 {
     match standing {
-        Standing::Cached => cached_line(alloc, group),
-        Standing::Left => left_line(alloc, group),
-        Standing::Missing => missing_line(alloc, group),
+        Consequence::Cached => cached_line(alloc, group),
+        Consequence::Left => skipped_line(alloc, group),
+        Consequence::Missing => missing_line(alloc, group),
     }
 }
 
@@ -156,7 +156,7 @@ fn line_of(alloc: Global, standing: Standing, group: &Group<'_>) -> Result<Strin
 fn push_lines(
     alloc: Global,
     text: &mut String,
-    standing: Standing,
+    standing: Consequence,
     groups: &[Group<'_>],
 ) -> Result<(), AllocError>
     ensures { OnOk result (string_bytes text.new ≡ string_bytes text.old
@@ -182,7 +182,7 @@ pub fn unreadable(alloc: Global) -> Result<Report, AllocError>
 fn damage_text(alloc: Global, path: &str, damage: Damage) -> Result<String, AllocError>
     ensures { IfOk result (λ s. string_bytes s ≡ damage_text path.now damage) }
 {
-    let path = escaped(alloc, path)?;
+    let path = escape_message(alloc, path)?;
     match damage {
         Damage::BadLine(line) => {
             let place = format!(in alloc; "{path}:{line}")?;
@@ -237,7 +237,7 @@ fn error_of(alloc: Global, groups: &[Group<'_>]) -> Result<Option<String>, Alloc
         "index entries are neither had nor cached; leave the crates out by `--exclude`, ",
     )?;
     text.push_str("or as they are by `--offline`:")?;
-    push_lines(alloc, &mut text, Standing::Missing, groups)?;
+    push_lines(alloc, &mut text, Consequence::Missing, groups)?;
     Ok(Some(text))
 }
 
@@ -253,16 +253,16 @@ pub fn report_of(
     options: &StoreOptions<'_>,
 ) -> Result<Report, AllocError>
     ensures { IfOk result (IsReport places.now.cache.now options.now.offline
-        (upgraded options.now.excluded.now lookups.now outcomes.now)) }
+        (included_lookups options.now.excluded.now lookups.now outcomes.now)) }
 {
     let offline = options.offline;
-    let pairs = upgraded(alloc, options.excluded, lookups, outcomes)?;
-    let cached = groups_with(alloc, Standing::Cached, offline, &pairs)?;
-    let left = groups_with(alloc, Standing::Left, offline, &pairs)?;
-    let missing = groups_with(alloc, Standing::Missing, offline, &pairs)?;
+    let pairs = included_lookups(alloc, options.excluded, lookups, outcomes)?;
+    let cached = groups_with(alloc, Consequence::Cached, offline, &pairs)?;
+    let left = groups_with(alloc, Consequence::Left, offline, &pairs)?;
+    let missing = groups_with(alloc, Consequence::Missing, offline, &pairs)?;
     let mut warnings = damage_lines(alloc, places.cache, &pairs)?;
-    push_lines(alloc, &mut warnings, Standing::Cached, &cached)?;
-    push_lines(alloc, &mut warnings, Standing::Left, &left)?;
+    push_lines(alloc, &mut warnings, Consequence::Cached, &cached)?;
+    push_lines(alloc, &mut warnings, Consequence::Left, &left)?;
     let error = error_of(alloc, &missing)?;
     Ok(Report { warnings, error })
 }

@@ -2,7 +2,7 @@
 ghost use Rattle.std.specs.Prelude.{◌≡◌, ◌&&◌, ℕ, List, true, IfOk, OnOk, codes, if◌then◌else◌, map, string_bytes};
 ghost use Rattle.std.specs.BTreeSet.{contains_text};
 ghost use Rattle.std.specs.Str.{bytes_eq};
-ghost use Rattle.edit_answers.specs.Aging.{Prunes, RemovesUnused, aged_text, days_left, entry_of, is_recent, is_used, owner_of};
+ghost use Rattle.edit_answers.specs.Aging.{Prunes, RemovesUnused, aged_text, retention_days, entry_of, is_recent, is_used, owner_of};
 
 use crate::aging_store::{Aged, AgingStore};
 use edit_base::{CargoResult, Error};

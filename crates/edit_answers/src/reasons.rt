@@ -1,7 +1,7 @@
 //! The reasons in messages why entries could not be fetched.
 ghost use Rattle.std.specs.Prelude.{◌≡◌, ◌++◌, ℕ, List, IfOk, MatchOption, codes, string_bytes};
 ghost use Rattle.edit_answers.specs.Reasons.{IsFileOf, IsReason, bad_line_text, curl_text, status_text};
-ghost use Rattle.edit_lookups.specs.Escaped.{escaped};
+ghost use Rattle.edit_lookups.specs.ControlEscapes.{escaped};
 ghost use Rattle.edit_lookups.specs.Lookups.{lookup_text};
 
 use crate::local::{local_folder, local_path};
@@ -10,7 +10,7 @@ use edit_lookups::{Lookup, push_escaped};
 use std::alloc::{AllocError, Global};
 
 /// Escapes the control characters of a text.
-pub(crate) fn escaped(alloc: Global, text: &str) -> Result<String, AllocError>
+pub(crate) fn escape_message(alloc: Global, text: &str) -> Result<String, AllocError>
     ensures { IfOk result (λ s. string_bytes s ≡ escaped text.now) }
 {
     let mut shown = String::new(alloc);
@@ -37,8 +37,8 @@ fn curl_text(alloc: Global, exit: &str, message: &str) -> Result<String, AllocEr
     } else {
         message
     };
-    let message = escaped(alloc, message)?;
-    let exit = escaped(alloc, exit)?;
+    let message = escape_message(alloc, message)?;
+    let exit = escape_message(alloc, exit)?;
     format!(in alloc; "{message}, curl: {exit}")
 }
 
@@ -51,7 +51,7 @@ fn status_text(alloc: Global, code: &str) -> Result<String, AllocError>
             "status {code}: it wants a token, `CARGO_REGISTRIES_<NAME>_TOKEN`"
         );
     }
-    let code = escaped(alloc, code)?;
+    let code = escape_message(alloc, code)?;
     format!(in alloc; "status {code}")
 }
 
@@ -59,7 +59,7 @@ fn status_text(alloc: Global, code: &str) -> Result<String, AllocError>
 fn bad_line_text(alloc: Global, line: usize, path: &str) -> Result<String, AllocError>
     ensures { IfOk result (λ s. string_bytes s ≡ bad_line_text line path.now) }
 {
-    let path = escaped(alloc, path)?;
+    let path = escape_message(alloc, path)?;
     format!(in alloc; "invalid index line {line} of {path}")
 }
 

@@ -5,7 +5,7 @@ ghost use Rattle.edit_answers.specs.Changes.{Changes, Fails};
 ghost use Rattle.edit_answers.specs.Meanings.{new_meaning};
 ghost use Rattle.edit_answers.specs.Outcomes.{FromCache, HasDamage, Puts, PutsIndexed, Settles, by_cached, by_link, stored};
 ghost use Rattle.edit_answers.specs.Places.{index_path};
-ghost use Rattle.edit_lookups.specs.Cached.{cached_path};
+ghost use Rattle.edit_lookups.specs.CachePaths.{cached_path};
 ghost use Rattle.edit_lookups.specs.Lookups.{lookup_text};
 ghost use Rattle.edit_store.specs.Store.{OnlyReads};
 

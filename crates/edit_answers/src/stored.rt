@@ -2,7 +2,7 @@
 ghost use Rattle.std.specs.Prelude.{◌≡◌, ◌∷◌, ◌++◌, true, IfErr, IfOk, map, string_bytes};
 ghost use Rattle.edit_answers.specs.Changes.{Changes, Fails};
 ghost use Rattle.edit_answers.specs.Outcomes.{PutsSome};
-ghost use Rattle.edit_answers.specs.Stored.{PutsOf, Reports, ReportsOn, text_of};
+ghost use Rattle.edit_answers.specs.StoredResults.{PutsOf, Reports, ReportsOn, text_of};
 ghost use Rattle.edit_lookups.specs.Lookups.{lookup_text};
 ghost use Rattle.edit_store.specs.Store.{OnlyReads};
 

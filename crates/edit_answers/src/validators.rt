@@ -3,7 +3,7 @@ ghost use Rattle.std.specs.Prelude.{◌≡◌, ◌∷◌, ◌++◌, List, ℕ, [
 ghost use Rattle.std.specs.Str.{IsUtf8};
 ghost use Rattle.edit_answers.specs.Changes.{Changes};
 ghost use Rattle.edit_answers.specs.Outcomes.{PutsDirect, PutsValidator};
-ghost use Rattle.edit_lookups.specs.Cached.{validator_path};
+ghost use Rattle.edit_lookups.specs.CachePaths.{validator_path};
 ghost use Rattle.edit_lookups.specs.Lookups.{HasNo};
 ghost use Rattle.edit_lookups.specs.Validators.{IsEtag};
 ghost use Rattle.edit_store.specs.Store.{IsWrittenOnce};

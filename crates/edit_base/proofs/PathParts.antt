@@ -1,4 +1,4 @@
--- The parts of a path, one after the other.
+-- The parts of a path, split one by one.
 use Rattle.std.proofs.Common.{◌≡◌, ℕ, ◌<◌, ◌+◌, List, [], ◌∷◌, ◌++◌, length, take, map, get_or, Bor}
 use Rattle.std.proofs.lemmas.List.{take_more, map-append}
 

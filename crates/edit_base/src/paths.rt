@@ -1,7 +1,7 @@
 //! Paths as texts: no file is looked at.
 ghost use Rattle.std.specs.Prelude.{◌≡◌, ◌≤◌, ◌↔◌, IsTrue, IfOk, IfErr, string_bytes, codes, length, take, drop, replicate};
 ghost use Rattle.edit_base.specs.Errors.{IsMemory};
-ghost use Rattle.edit_base.specs.Paths.{joined, parts_of, texts, absolute, IsIdle, Named, Normal, IsNormalOf, IsFolderOf, BeginApart, way_text, IsRelative};
+ghost use Rattle.edit_base.specs.Paths.{joined, parts_of, texts, absolute, IsEmptyOrDot, Named, Normal, IsNormalOf, IsFolderOf, BeginApart, relative_text, IsRelative};
 
 use crate::errors::CargoResult;
 use std::alloc::{AllocError, Global};
@@ -30,12 +30,12 @@ fn parts<'a>(alloc: Global, path: &'a str) -> Result<Vec<&'a str>, AllocError>
 }
 
 /// The names that are left of the parts of an absolute path.
-fn kept_names<'a>(alloc: Global, parts: &[&'a str]) -> Result<Vec<&'a str>, AllocError>
+fn collapsed_names<'a>(alloc: Global, parts: &[&'a str]) -> Result<Vec<&'a str>, AllocError>
     ensures { IfOk result (λ v. Normal (texts parts.now) (texts v.items)) }
 {
     let mut names = Vec::new(alloc);
     for part in parts {
-        if is_idle(part) {
+        if is_empty_or_dot(part) {
             continue;
         }
         if *part == ".." {
@@ -48,8 +48,8 @@ fn kept_names<'a>(alloc: Global, parts: &[&'a str]) -> Result<Vec<&'a str>, Allo
 }
 
 /// Whether a part of a path leads nowhere else.
-fn is_idle(part: &str) -> bool
-    ensures { IsTrue result ↔ IsIdle part.now }
+fn is_empty_or_dot(part: &str) -> bool
+    ensures { IsTrue result ↔ IsEmptyOrDot part.now }
 {
     part.is_empty() || part == "."
 }
@@ -76,7 +76,7 @@ pub fn normal(alloc: Global, path: &str) -> CargoResult<String>
     ensures refused { IfErr result IsMemory }
 {
     let parts = parts(alloc, path)?;
-    let names = kept_names(alloc, &parts)?;
+    let names = collapsed_names(alloc, &parts)?;
     Ok(absolute_text(alloc, &names)?)
 }
 
@@ -102,7 +102,7 @@ fn named_parts<'a>(alloc: Global, parts: &[&'a str]) -> Result<Vec<&'a str>, All
 {
     let mut names = Vec::new(alloc);
     for part in parts {
-        if is_idle(part) {
+        if is_empty_or_dot(part) {
             continue;
         }
         names.push(*part)?;
@@ -139,8 +139,8 @@ fn steps_up(alloc: Global, count: usize) -> Result<Vec<&'static str>, AllocError
 }
 
 /// The way up by as many steps, and then down by these names.
-fn way_text(alloc: Global, up: usize, down: &[&str]) -> Result<String, AllocError>
-    ensures { IfOk result (λ s. string_bytes s ≡ way_text up (texts down.now)) }
+fn relative_text(alloc: Global, up: usize, down: &[&str]) -> Result<String, AllocError>
+    ensures { IfOk result (λ s. string_bytes s ≡ relative_text up (texts down.now)) }
 {
     let mut way = steps_up(alloc, up)?;
     way.extend_from_slice(down)?;
@@ -162,6 +162,6 @@ pub fn relative(alloc: Global, to: &str, from: &str) -> CargoResult<String>
     let count = common_count(&to_names, &from_names);
     let up = from_names.len() - count;
     let down = &to_names[count..];
-    let text = way_text(alloc, up, down)?;
+    let text = relative_text(alloc, up, down)?;
     Ok(text)
 }

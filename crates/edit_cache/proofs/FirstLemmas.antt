@@ -19,7 +19,7 @@ use Rattle.edit_version.proofs.Kept.{admissible-version}
 use Rattle.edit_version.proofs.Orders.{full_total}
 use Rattle.edit_cache.specs.Ranking.{IsRanking, rank_order}
 use Rattle.edit_cache.specs.Ranks.{Ranking, passes}
-use Rattle.edit_cache.proofs.ToldRanks.{rank_total, IsFirst, first_found, none_found, any_all, slice_get-take, slice_get-drop, parted, Told, told, tells-version, order_by_version, kept-passes, kept-read, decide, le_or_lt, same_place, sorted_order}
+use Rattle.edit_cache.proofs.RankedEntryLemmas.{rank_total, IsFirst, first_found, none_found, any_all, slice_get-take, slice_get-drop, parted, Told, told, tells-version, order_by_version, kept-passes, kept-read, decide, le_or_lt, same_place, sorted_order}
 
 -- a rank beside the first one that passes: the entry of a rank that does not pass or does not come before it
 abbrev Beside : List IndexEntry → (Ranking → Bool) → Ranking → Ranking → Type 0

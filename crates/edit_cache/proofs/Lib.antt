@@ -1,4 +1,4 @@
-pub mod ToldRanks
+pub mod RankedEntryLemmas
 pub mod FirstLemmas
 pub mod RankLemmas
 pub mod PlaceLemmas

@@ -19,12 +19,12 @@ use Rattle.std.proofs.lemmas.Bool.{or_left, or_right}
 use Rattle.std.proofs.lemmas.List.MinMax.{ranks_by}
 use Rattle.std.proofs.lemmas.List.Sums.{sum_by-append, sum_by-cons}
 use Rattle.edit_version.specs.VersionOrder.{full_order}
-use Rattle.edit_cache.proofs.ToldRanks.{le_or_lt, rank_total}
+use Rattle.edit_cache.proofs.RankedEntryLemmas.{le_or_lt, rank_total}
 use Rattle.semver.specs.Parse.{Parts}
 use Rattle.edit_version.specs.Admissible.{candidate_in}
 use Rattle.edit_version.specs.IndexEntry.{IndexEntry, entry_of}
 use Rattle.edit_version.specs.RustVersions.{Numbers}
-use Rattle.edit_cache.specs.Ranking.{IsInOrder, IsRanking, Tells, ranking, rank_at, rank_order, ranks_from}
+use Rattle.edit_cache.specs.Ranking.{IsInOrder, IsRanking, IsRankOf, ranking, rank_at, rank_order, ranks_from}
 use Rattle.edit_cache.specs.Ranks.{Ranking, rank_of}
 use Rattle.edit_cache.specs.declared.rank.Rank.{Rank}
 
@@ -48,26 +48,26 @@ at_front (x ∷ pre) e rest = at_front pre e rest
 
 tells_one : (entries : List IndexEntry) (n : ℕ) (e : IndexEntry) → slice_get entries n ≡ Some e
     → (o : Option (Parts × Option Numbers)) → candidate_in e ≡ o
-    → All (Tells entries) (option_to_list (option_map (ranking n e) o))
-tells_one entries n e at None read = All-nil (Tells entries)
-tells_one entries n e at (Some c) read = All-cons (Tells entries) (ranking n e c) []
+    → All (IsRankOf entries) (option_to_list (option_map (ranking n e) o))
+tells_one entries n e at None read = All-nil (IsRankOf entries)
+tells_one entries n e at (Some c) read = All-cons (IsRankOf entries) (ranking n e c) []
     (record {
       named = ap (λ o. option_map (λ e. e.name) o) at;
       read = ap (λ o. option_and_then candidate_in o) at ∙ read;
-    }) (All-nil (Tells entries))
+    }) (All-nil (IsRankOf entries))
 
 -- each rank has the name and the versions of its entry
-pub tells_from : (pre rest : List IndexEntry) → All (Tells (pre ++ rest)) (ranks_from (length pre) rest)
-tells_from pre [] = All-nil (Tells (pre ++ []))
+pub tells_from : (pre rest : List IndexEntry) → All (IsRankOf (pre ++ rest)) (ranks_from (length pre) rest)
+tells_from pre [] = All-nil (IsRankOf (pre ++ []))
 tells_from pre (e ∷ rest) =
     let whole : (pre ++ e ∷ []) ++ rest ≡ pre ++ e ∷ rest = append_assoc pre (e ∷ []) rest in
     let place : length (pre ++ e ∷ []) ≡ length pre + 1 = length-append pre (e ∷ []) in
-    let later : All (Tells (pre ++ e ∷ rest)) (ranks_from (length (pre ++ e ∷ [])) rest) =
-    subst (λ es. All (Tells es) (ranks_from (length (pre ++ e ∷ [])) rest)) whole
+    let later : All (IsRankOf (pre ++ e ∷ rest)) (ranks_from (length (pre ++ e ∷ [])) rest) =
+    subst (λ es. All (IsRankOf es) (ranks_from (length (pre ++ e ∷ [])) rest)) whole
     (tells_from (pre ++ e ∷ []) rest) in
-    All-append (Tells (pre ++ e ∷ rest)) (rank_at (length pre) e) (ranks_from (length pre + 1) rest)
+    All-append (IsRankOf (pre ++ e ∷ rest)) (rank_at (length pre) e) (ranks_from (length pre + 1) rest)
     (tells_one (pre ++ e ∷ rest) (length pre) e (at_front pre e rest) (candidate_in e) refl)
-    (subst (λ n. All (Tells (pre ++ e ∷ rest)) (ranks_from n rest)) place later)
+    (subst (λ n. All (IsRankOf (pre ++ e ∷ rest)) (ranks_from n rest)) place later)
 
 or-more : (a b c : Bool) → (b ≡ true → c ≡ true) → (a || b) ≡ true → (a || c) ≡ true
 or-more true b c f h = refl
@@ -252,7 +252,7 @@ ranking_from_sort entries old new read moved sorted =
     let same : IsPermutation (ranks_from 0 entries) (map rank_of new) =
     subst (λ rs. IsPermutation rs (map rank_of new)) read (IsPermutation-map rank_of old new moved) in
     record {
-      tells = All-permutation (Tells entries) (ranks_from 0 entries) (map rank_of new) same
+      tells = All-permutation (IsRankOf entries) (ranks_from 0 entries) (map rank_of new) same
           (tells_from [] entries);
       each = λ i h. sym (list_any-IsPermutation (λ r. r.place == i) (ranks_from 0 entries)
           (map rank_of new) same) ∙ each_from 0 entries i h i (omega arith);

@@ -1,5 +1,5 @@
 pub mod Ranks
 pub mod Ranking
 pub mod Choices
-pub mod Kept
+pub mod CachedAnswer
 pub mod IndexCache

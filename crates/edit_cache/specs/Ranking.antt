@@ -21,7 +21,7 @@ abbrev pub rank_order : Ranking → Ranking → Ordering
 rank_order a b = ordering_then (full_order b.version a.version) (nat_cmp b.place a.place)
 
 -- a rank has the name of the entry at its index, and the versions that are parsed from it (own)
-pub record Tells (entries : List IndexEntry) (r : Ranking) : Type 0 where
+pub record IsRankOf (entries : List IndexEntry) (r : Ranking) : Type 0 where
   pub named : option_map (λ e. e.name) (slice_get entries r.place) ≡ Some r.name
   pub read : option_and_then candidate_in (slice_get entries r.place) ≡ Some (r.version, r.rust_version)
 
@@ -37,7 +37,7 @@ IsInOrder ranks = AllPairs (λ a b. rank_order a b ≡ Less) ranks
 -- the ranking of entries: those with valid versions that are not yanked, each once, the greater version
 -- first and of equal versions the later entry (own)
 pub record IsRanking (entries : List IndexEntry) (ranks : List Ranking) : Type 0 where
-  pub tells : All (Tells entries) ranks
+  pub tells : All (IsRankOf entries) ranks
   pub each : HasEach entries ranks
   pub order : IsInOrder ranks
 

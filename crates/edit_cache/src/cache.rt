@@ -4,12 +4,12 @@ ghost use Rattle.std.specs.BTreeMap.{get_by_text};
 ghost use Rattle.url.specs.Parts.{serialize};
 ghost use Rattle.edit_base.specs.Errors.{IsMemory};
 ghost use Rattle.edit_sources.specs.Index.{answer_of};
-ghost use Rattle.edit_cache.specs.IndexCache.{Fetches, IsMissed, Ranks, SameKept, SameKeptBut, has_version, index_of, kept_at, krate_at, ranking_at, told_at};
-ghost use Rattle.edit_cache.specs.Kept.{IsRanked, IsRankedAt};
+ghost use Rattle.edit_cache.specs.IndexCache.{Fetches, IsMissError, Ranks, HasSameCache, HasSameCacheBut, has_version, index_of, cached_answer_at, krate_at, ranking_at, cached_at};
+ghost use Rattle.edit_cache.specs.CachedAnswer.{IsRanked, IsRankedAt};
 
-mod choosing;
+mod choice_cache;
 
-use crate::kept::Kept;
+use crate::kept::CachedAnswer;
 use crate::ranking::Ranked;
 use edit_base::errors::CargoResult;
 use edit_sources::index::{Index, IndexKrate};
@@ -23,14 +23,14 @@ use url::Url;
 #[derive(Debug, Drop)]
 pub struct IndexCache<I> {
     index: I,
-    answers: BTreeMap<String, BTreeMap<String, Kept>>,
+    answers: BTreeMap<String, BTreeMap<String, CachedAnswer>>,
 }
 
 impl<I: Index> IndexCache<I> {
     /// Returns an empty cache over an index.
     pub fn new(alloc: Global, index: I) -> IndexCache<I>
         ensures index { index_of result ≡ index }
-        ensures empty { (address name : List ℕ) → kept_at result address name ≡ None }
+        ensures empty { (address name : List ℕ) → cached_answer_at result address name ≡ None }
     {
         IndexCache {
             index,
@@ -42,7 +42,7 @@ impl<I: Index> IndexCache<I> {
     pub fn replace_index(&mut self, index: I) -> I
         ensures was { result ≡ index_of self.old }
         ensures is { index_of self.new ≡ index }
-        ensures kept { SameKept self.old self.new }
+        ensures kept { HasSameCache self.old self.new }
     {
         mem::replace(&mut self.index, index)
     }
@@ -59,8 +59,8 @@ impl<I: Index> IndexCache<I> {
     }
 
     /// The cached result and its ranking, if there is one.
-    fn kept(&self, address: &str, name: &str) -> Option<&Kept>
-        ensures { option_copied result ≡ told_at self.now address.now name.now }
+    fn kept(&self, address: &str, name: &str) -> Option<&CachedAnswer>
+        ensures { option_copied result ≡ cached_at self.now address.now name.now }
     {
         self.answers.get(address)?.get(name)
     }
@@ -69,8 +69,8 @@ impl<I: Index> IndexCache<I> {
     pub fn update_krate(&mut self, registry: &Url, name: &str) -> CargoResult<()>
         ensures done { result ≡ Ok tt }
         ensures index { index_of self.new ≡ index_of self.old }
-        ensures forgotten { kept_at self.new (serialize registry.now) name.now ≡ None }
-        ensures others { SameKeptBut (serialize registry.now) name.now self.old self.new }
+        ensures forgotten { cached_answer_at self.new (serialize registry.now) name.now ≡ None }
+        ensures others { HasSameCacheBut (serialize registry.now) name.now self.old self.new }
     {
         self.forget(registry.as_str(), name);
         Ok(())
@@ -79,8 +79,8 @@ impl<I: Index> IndexCache<I> {
     /// Removes the cached result for a crate at an address.
     fn forget(&mut self, address: &str, name: &str)
         ensures index { self.new.index ≡ self.old.index }
-        ensures forgotten { kept_at self.new address.now name.now ≡ None }
-        ensures others { SameKeptBut address.now name.now self.old self.new }
+        ensures forgotten { cached_answer_at self.new address.now name.now ≡ None }
+        ensures others { HasSameCacheBut address.now name.now self.old self.new }
     {
         if let Some(names) = self.answers.get_mut(address) {
             names.remove(name);
@@ -96,13 +96,13 @@ impl<I: Index> IndexCache<I> {
         answer: Option<IndexKrate>,
     ) -> CargoResult<()>
         ensures index { self.new.index ≡ self.old.index }
-        ensures kept { OnOk result (kept_at self.new address.now name.now ≡ Some answer) }
-        ensures others { SameKeptBut address.now name.now self.old self.new }
-        ensures refused { OnErr result (SameKept self.old self.new) }
+        ensures kept { OnOk result (cached_answer_at self.new address.now name.now ≡ Some answer) }
+        ensures others { HasSameCacheBut address.now name.now self.old self.new }
+        ensures refused { OnErr result (HasSameCache self.old self.new) }
         ensures memory { IfErr result IsMemory }
     {
         let key = String::from_str(alloc, name)?;
-        let kept = Kept::new(answer);
+        let kept = CachedAnswer::new(answer);
         if let Some(names) = self.answers.get_mut(address) {
             names.insert(key, kept)?;
             return Ok(());
@@ -141,15 +141,15 @@ impl<I: Index> IndexCache<I> {
         registry: &Url,
         name: &str,
     ) -> CargoResult<Option<&IndexKrate>>
-        ensures kept { IfOk result (λ o. IfSome (kept_at self.old (serialize registry.now) name.now)
+        ensures kept { IfOk result (λ o. IfSome (cached_answer_at self.old (serialize registry.now) name.now)
             (λ k. option_copied o ≡ k)) }
-        ensures given { kept_at self.old (serialize registry.now) name.now ≡ None → IfOk result
+        ensures given { cached_answer_at self.old (serialize registry.now) name.now ≡ None → IfOk result
             (λ o. (I.view (index_of self.old)).gives registry.now name.now (Ok (answer_of
             (option_copied o)))) }
         // a cached result is returned without an error
-        ensures kept_answers { IsSome (kept_at self.old (serialize registry.now) name.now) → IsOk result }
-        ensures refused { IfErr result (IsMissed (I.view (index_of self.old)).gives registry.now name.now
-            (kept_at self.old (serialize registry.now) name.now)) }
+        ensures kept_answers { IsSome (cached_answer_at self.old (serialize registry.now) name.now) → IsOk result }
+        ensures refused { IfErr result (IsMissError (I.view (index_of self.old)).gives registry.now name.now
+            (cached_answer_at self.old (serialize registry.now) name.now)) }
     {
         match self.fetch(alloc, registry, name) {
             Ok(()) => Ok(self.shown(registry, name)),
@@ -190,40 +190,40 @@ impl<I: Index> IndexCache<I> {
         }
     }
 
-    /// Looks up a crate and ranks its entries, each unless that is cached; `shown_ranking` then returns the
+    /// Looks up a crate and ranks its entries, each unless that is cached; `cached_ranking` then returns the
     /// ranking.
     ///
     /// The errors are those of `fetch`. If memory runs out while the entries are ranked, they stay cached
     /// without a ranking, and a later call ranks them without a lookup. Tests show this, since contracts do
-    /// not count lookups. For a proof of it, call `fetch` and then `rank_kept`, whose contract states that
+    /// not count lookups. For a proof of it, call `fetch` and then `rank_cached`, whose contract states that
     /// every cached result stays.
     pub fn rank(&mut self, alloc: Global, registry: &Url, name: &str) -> CargoResult<()>
         ensures { Ranks (I.view (index_of self.old)) (I.view
             (index_of self.new)) registry.now name.now self.old self.new result }
     {
         match self.fetch(alloc, registry, name) {
-            Ok(()) => self.rank_kept(alloc, registry, name),
+            Ok(()) => self.rank_cached(alloc, registry, name),
             Err(error) => Err(error),
         }
     }
 
-    /// Ranks the cached result for a crate, once; `shown_ranking` then returns the ranking. It makes no
+    /// Ranks the cached result for a crate, once; `cached_ranking` then returns the ranking. It makes no
     /// lookup.
-    pub fn rank_kept(&mut self, alloc: Global, registry: &Url, name: &str) -> CargoResult<()>
+    pub fn rank_cached(&mut self, alloc: Global, registry: &Url, name: &str) -> CargoResult<()>
         ensures index { index_of self.new ≡ index_of self.old }
-        ensures kept { SameKept self.old self.new }
-        ensures ranked { OnOk result (IsRankedAt (kept_at self.new (serialize registry.now) name.now)
+        ensures kept { HasSameCache self.old self.new }
+        ensures ranked { OnOk result (IsRankedAt (cached_answer_at self.new (serialize registry.now) name.now)
             (ranking_at self.new (serialize registry.now) name.now)) }
         ensures refused { IfErr result IsMemory }
     {
         self.rank_at(alloc, registry.as_str(), name)
     }
 
-    /// `rank_kept`, with the address as text.
+    /// `rank_cached`, with the address as text.
     fn rank_at(&mut self, alloc: Global, address: &str, name: &str) -> CargoResult<()>
         ensures index { self.new.index ≡ self.old.index }
-        ensures kept { SameKept self.old self.new }
-        ensures ranked { OnOk result (IsRankedAt (kept_at self.new address.now name.now)
+        ensures kept { HasSameCache self.old self.new }
+        ensures ranked { OnOk result (IsRankedAt (cached_answer_at self.new address.now name.now)
             (ranking_at self.new address.now name.now)) }
         ensures refused { IfErr result IsMemory }
     {
@@ -238,7 +238,7 @@ impl<I: Index> IndexCache<I> {
 
     /// The cached ranking of a crate; `None` where nothing is ranked, or the index has no crate of that
     /// name.
-    pub fn shown_ranking(&self, registry: &Url, name: &str) -> Option<&Ranked>
+    pub fn cached_ranking(&self, registry: &Url, name: &str) -> Option<&Ranked>
         ensures { option_copied result ≡ ranking_at self.now (serialize registry.now) name.now }
     {
         match self.kept(registry.as_str(), name) {
@@ -248,7 +248,7 @@ impl<I: Index> IndexCache<I> {
     }
 
     /// Returns the ranking of the entries of a crate; `None` where the index has no crate of that name. It
-    /// is `rank` and then `shown_ranking`: errors of the lookup are not cached, and if memory runs out while
+    /// is `rank` and then `cached_ranking`: errors of the lookup are not cached, and if memory runs out while
     /// the entries are ranked they stay cached without a ranking, so that a later call makes no lookup.
     /// Tests show this, since the result borrows from the cache.
     pub fn ranked(
@@ -257,20 +257,20 @@ impl<I: Index> IndexCache<I> {
         registry: &Url,
         name: &str,
     ) -> CargoResult<Option<&Ranked>>
-        ensures kept { IfOk result (λ o. IfSome (kept_at self.old (serialize registry.now) name.now)
+        ensures kept { IfOk result (λ o. IfSome (cached_answer_at self.old (serialize registry.now) name.now)
             (λ k. IsRanked k (option_copied o))) }
-        ensures given { kept_at self.old (serialize registry.now) name.now ≡ None → IfOk result
+        ensures given { cached_answer_at self.old (serialize registry.now) name.now ≡ None → IfOk result
             (λ o. (k : Option IndexKrate)
             × (I.view (index_of self.old)).gives registry.now name.now (Ok (answer_of k))
             × IsRanked k (option_copied o)) }
         // with a cached result the only error is lack of memory during the ranking
-        ensures kept_answers { IsSome (kept_at self.old (serialize registry.now) name.now)
+        ensures kept_answers { IsSome (cached_answer_at self.old (serialize registry.now) name.now)
             → IfErr result IsMemory }
-        ensures refused { IfErr result (IsMissed (I.view (index_of self.old)).gives registry.now name.now
-            (kept_at self.old (serialize registry.now) name.now)) }
+        ensures refused { IfErr result (IsMissError (I.view (index_of self.old)).gives registry.now name.now
+            (cached_answer_at self.old (serialize registry.now) name.now)) }
     {
         match self.rank(alloc, registry, name) {
-            Ok(()) => Ok(self.shown_ranking(registry, name)),
+            Ok(()) => Ok(self.cached_ranking(registry, name)),
             Err(error) => Err(error),
         }
     }

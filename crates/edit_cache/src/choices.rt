@@ -53,7 +53,7 @@ pub(crate) fn known_choice(
 }
 
 /// Caches the choice for a requirement, unless `MOST` are cached for it.
-pub(crate) fn remember(
+pub(crate) fn cache_choice(
     alloc: Global,
     choices: &mut Choices,
     text: &str,

@@ -1,7 +1,7 @@
 //! A cached result of an index, with the ranking of its entries once that is made.
 ghost use Rattle.std.specs.Prelude.{◌≡◌, IfErr, OnOk, OnErr};
 ghost use Rattle.edit_base.specs.Errors.{IsMemory};
-ghost use Rattle.edit_cache.specs.Kept.{FitsAnswer, FitsAnswer-prop, IsRanked};
+ghost use Rattle.edit_cache.specs.CachedAnswer.{FitsAnswer, FitsAnswer-prop, IsRanked};
 
 use crate::ranking::Ranked;
 use edit_base::errors::CargoResult;
@@ -11,18 +11,18 @@ use std::alloc::Global;
 
 /// A cached result of an index, with the ranking of its entries once that is made.
 #[derive(Debug, Drop)]
-pub struct Kept {
+pub struct CachedAnswer {
     pub answer: Option<IndexKrate>,
     pub ranked: Option<Ranked>,
     pub ghost fits: { FitsAnswer answer ranked } by { FitsAnswer-prop answer ranked },
 }
 
-impl Kept {
+impl CachedAnswer {
     /// Returns a result without a ranking.
-    pub(crate) fn new(answer: Option<IndexKrate>) -> Kept
+    pub(crate) fn new(answer: Option<IndexKrate>) -> CachedAnswer
         ensures answer { result.answer ≡ answer }
     {
-        Kept {
+        CachedAnswer {
             answer,
             ranked: None,
         }
@@ -57,7 +57,7 @@ impl Kept {
     {
         self.rank(alloc)?;
         if let Some(ranked) = &mut self.ranked {
-            ranked.remember_choice(alloc, old, rust_version)?;
+            ranked.cache_choice_for(alloc, old, rust_version)?;
         }
         Ok(())
     }

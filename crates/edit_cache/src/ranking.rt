@@ -16,7 +16,7 @@ ghost use Rattle.edit_record.specs.Finding.{IsFound, IsFoundAtLeast};
 ghost use Rattle.edit_cache.specs.Choices.{AreChoices, AreChoices-prop, IsChoice, version_at};
 ghost use Rattle.edit_cache.specs.Ranks.{rank_of};
 
-use crate::choices::{Choice, Choices, known_choice, remember};
+use crate::choices::{Choice, Choices, cache_choice, known_choice};
 use crate::rank::{Rank, choose, dependency_of, first_wanted, read_ranks};
 use edit_base::errors::CargoResult;
 use edit_record::dependency::Dependency;
@@ -115,7 +115,7 @@ impl Ranked {
 
     /// Caches the choice for a requirement and a Rust version, so that `version_pair` need not search again.
     /// Nothing is cached for up to `FEW` ranks.
-    pub(crate) fn remember_choice(
+    pub(crate) fn cache_choice_for(
         &mut self,
         alloc: Global,
         old: &Requirement<'_>,
@@ -130,7 +130,7 @@ impl Ranked {
             return Ok(());
         }
         let choice = choose(&self.ranks, old, rust_version);
-        remember(alloc, &mut self.choices, old.text(), choice)
+        cache_choice(alloc, &mut self.choices, old.text(), choice)
     }
 
     /// Returns a dependency on the first rank that supports a Rust version and whose version matches.

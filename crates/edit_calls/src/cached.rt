@@ -106,7 +106,7 @@ impl<'a> CacheCall<'a> {
     }
 
     /// Makes the call with a cache that has one answer, and again where memory ran out.
-    fn twice(
+    fn call_again_after_failure(
         self,
         rt: &HostRuntime,
         cache: &mut Cache<'_>,
@@ -129,7 +129,7 @@ impl<'a> CacheCall<'a> {
 }
 
 /// The options of an upgrade whose command line has no arguments.
-fn usual(alloc: Global) -> Options {
+fn default_options(alloc: Global) -> Options {
     Options {
         compatible: true,
         incompatible: false,
@@ -155,7 +155,7 @@ fn upgrade(
     requires each { length configs.now.which.items ≡ length inputs.now }
     requires lists { HasLists configs.now }
 {
-    let options = usual(rt.alloc());
+    let options = default_options(rt.alloc());
     let documents = Vec::new(rt.alloc());
     let SharedConfigs { lists, which } = configs;
     let plan = plan_shared(
@@ -205,7 +205,7 @@ fn over_files(rt: &HostRuntime, folder: &str, call: CacheCall<'_>) -> CargoResul
     };
     let index = CountedIndex::new(index, call.lookups);
     let mut cache = IndexCache::new(rt.alloc(), index);
-    call.twice(rt, &mut cache, &target.inputs, &configs)
+    call.call_again_after_failure(rt, &mut cache, &target.inputs, &configs)
 }
 
 /// Makes a call with the files of a folder: `ranked` or `krate` for a name of the default registry, or an

@@ -1,9 +1,9 @@
 //! Edits described by arguments. Each returns whether it was made: false where its preconditions do not
 //! hold.
 ghost use Rattle.edit_tree.specs.NewItems.{IsEntry};
-ghost use Rattle.edit_document.specs.NewItemViews.{item_seen};
+ghost use Rattle.edit_document.specs.NewItemViews.{new_item_view};
 
-use crate::words::Words;
+use crate::words::ArgCursor;
 use edit_changes::DocumentExt;
 use edit_document::{CargoResult, Document, Error, NewItem, NewValue, Step};
 use edit_manifest::Manifest;
@@ -15,7 +15,7 @@ use std::alloc::Global;
 const ROOT: &str = "/";
 
 /// Maps success to true: the edit was made.
-fn made(answer: CargoResult<()>) -> CargoResult<bool> {
+fn done_if_ok(answer: CargoResult<()>) -> CargoResult<bool> {
     match answer {
         Ok(()) => Ok(true),
         Err(error) => Err(error),
@@ -27,7 +27,7 @@ fn insert(
     alloc: Global,
     document: &mut Document,
     place: &[Step],
-    words: &mut Words<'_>,
+    words: &mut ArgCursor<'_>,
 ) -> CargoResult<bool> {
     let key = words.take();
     let value = words.take_value(alloc)?;
@@ -37,7 +37,7 @@ fn insert(
     if item.get(key).is_some() || place.len() > 70 {
         return Ok(false);
     }
-    made(document.insert(alloc, place, key, &value))
+    done_if_ok(document.insert(alloc, place, key, &value))
 }
 
 /// Removes an item.
@@ -45,7 +45,7 @@ fn remove(alloc: Global, document: &mut Document, place: &[Step]) -> CargoResult
     if place.is_empty() || document.item(place).is_none() {
         return Ok(false);
     }
-    made(document.remove(alloc, place))
+    done_if_ok(document.remove(alloc, place))
 }
 
 /// Sets a value.
@@ -53,13 +53,13 @@ fn set_value(
     alloc: Global,
     document: &mut Document,
     place: &[Step],
-    words: &mut Words<'_>,
+    words: &mut ArgCursor<'_>,
 ) -> CargoResult<bool> {
     let value = words.take_value(alloc)?;
     if !document.is_value(place) || place.len() > 79 {
         return Ok(false);
     }
-    made(document.set_value(alloc, place, &value))
+    done_if_ok(document.set_value(alloc, place, &value))
 }
 
 /// Sets a string.
@@ -72,7 +72,7 @@ fn set_literal(
     if !document.is_value(place) {
         return Ok(false);
     }
-    made(document.set_literal(alloc, place, text))
+    done_if_ok(document.set_literal(alloc, place, text))
 }
 
 /// Sets a string, given as a value in the arguments.
@@ -80,7 +80,7 @@ fn set_string(
     alloc: Global,
     document: &mut Document,
     place: &[Step],
-    words: &mut Words<'_>,
+    words: &mut ArgCursor<'_>,
 ) -> CargoResult<bool> {
     match words.take_value(alloc)? {
         NewValue::Str(text) => set_literal(alloc, document, place, text.as_str()),
@@ -101,12 +101,12 @@ fn replace_by(
     place: &[Step],
     item: &NewItem,
 ) -> CargoResult<bool>
-    requires entry { IsEntry (item_seen item.now) }
+    requires entry { IsEntry (new_item_view item.now) }
 {
     if !document.one_statement(place) || place.len() > 70 {
         return Ok(false);
     }
-    made(document.replace_entry(alloc, place, item))
+    done_if_ok(document.replace_entry(alloc, place, item))
 }
 
 /// Replaces an entry by the one in the arguments.
@@ -114,7 +114,7 @@ fn replace_entry(
     alloc: Global,
     document: &mut Document,
     place: &[Step],
-    words: &mut Words<'_>,
+    words: &mut ArgCursor<'_>,
 ) -> CargoResult<bool> {
     let item = words.take_item(alloc)?;
     replace_by(alloc, document, place, &item)
@@ -157,7 +157,7 @@ fn update_with(
     if document.item(place).is_none() || place.len() > 70 {
         return Ok(false);
     }
-    made(dependency.update_toml(alloc, ROOT, document, place))
+    done_if_ok(dependency.update_toml(alloc, ROOT, document, place))
 }
 
 /// Adds features to a `Dependency`, and updates an entry from it.
@@ -191,7 +191,7 @@ fn update(
     alloc: Global,
     document: &mut Document,
     place: &[Step],
-    words: &mut Words<'_>,
+    words: &mut ArgCursor<'_>,
 ) -> CargoResult<bool> {
     let source = RegistrySource::new(alloc, words.take())?;
     let features = words.take_texts(alloc)?;
@@ -200,17 +200,17 @@ fn update(
 
 /// Removes a dependency from the features.
 fn gc_dep(alloc: Global, manifest: &mut Manifest, key: &str) -> CargoResult<bool> {
-    made(manifest.gc_dep(alloc, key))
+    done_if_ok(manifest.gc_dep(alloc, key))
 }
 
 /// Removes an entry, and its table where that becomes empty.
 fn remove_from_table(
     alloc: Global,
     manifest: &mut Manifest,
-    words: &mut Words<'_>,
+    words: &mut ArgCursor<'_>,
 ) -> CargoResult<bool> {
     let table = words.take_texts(alloc)?;
-    made(manifest.remove_from_table(alloc, &table, words.take()))
+    done_if_ok(manifest.remove_from_table(alloc, &table, words.take()))
 }
 
 /// Makes the edit of a document at a place.
@@ -219,7 +219,7 @@ fn edit_at(
     document: &mut Document,
     place: &[Step],
     call: &str,
-    words: &mut Words<'_>,
+    words: &mut ArgCursor<'_>,
 ) -> CargoResult<bool> {
     match call {
         "insert" => insert(alloc, document, place, words),
@@ -236,7 +236,7 @@ fn edit_at(
 }
 
 /// Makes the edit that the arguments describe.
-fn edit(alloc: Global, manifest: &mut Manifest, words: &mut Words<'_>) -> CargoResult<bool> {
+fn edit(alloc: Global, manifest: &mut Manifest, words: &mut ArgCursor<'_>) -> CargoResult<bool> {
     let call = words.take();
     let place = words.take_place(alloc)?;
     match call {
@@ -248,7 +248,7 @@ fn edit(alloc: Global, manifest: &mut Manifest, words: &mut Words<'_>) -> CargoR
 
 /// Makes the edits that the arguments describe, separated by `&`, up to the first that is not made.
 pub(crate) fn edits(alloc: Global, manifest: &mut Manifest, words: &[String]) -> CargoResult<bool> {
-    let mut taken = Words::new(words);
+    let mut taken = ArgCursor::new(words);
     for _ in words {
         let is_made = edit(alloc, manifest, &mut taken)?;
         if !is_made || taken.take() != "&" {

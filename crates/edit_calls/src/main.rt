@@ -25,7 +25,7 @@
 //! `rewrite` reads an entry's record and replaces the entry by it; `update` gives the record another version
 //! and more features, makes it optional, and updates the entry with it. Edits with a word `&` between them
 //! are made one behind the other, up to the first that is not made. It prints `done`, `no such place`, or
-//! `refused`, a number and a text, and below it the text of the document. Where memory ran out it then
+//! `print_edit_error`, a number and a text, and below it the text of the document. Where memory ran out it then
 //! prints the kinds of what the document shows, makes the edits once more, and prints the answer to that.
 //! `pieces` also prints how many pieces the document keeps its text in, the text, and each piece, each
 //! behind a byte 0. `show` prints what stands at a place of the document, or of a new entry: its type, how
@@ -45,7 +45,7 @@
 //! the workspace that `metadata.json` describes, and `apply` writes that plan. `word` reads the word that a
 //! file holds. It prints the texts that a plan would write, the name in the word, or of `ranked` the first
 //! versions of the ranking and of `krate` the version of each entry, with the number of lookups so far; and
-//! then `done`, or `refused`, a number and a text.
+//! then `done`, or `print_edit_error`, a number and a text.
 #![tactic(auto)]
 
 mod cached;
@@ -71,7 +71,7 @@ use std::process::ExitCode;
 use views::{show_pieces, show_views};
 
 /// Prints an error and the document's current text. Returns whether memory ran out.
-fn refused(rt: &HostRuntime, manifest: &Manifest, error: &Error) -> bool {
+fn print_edit_error(rt: &HostRuntime, manifest: &Manifest, error: &Error) -> bool {
     let number = error.number();
     say(
         rt,
@@ -81,11 +81,11 @@ fn refused(rt: &HostRuntime, manifest: &Manifest, error: &Error) -> bool {
 }
 
 /// Makes the edits, and prints the result and the document's current text. Returns whether memory ran out.
-fn edited(rt: &HostRuntime, manifest: &mut Manifest, words: &[String]) -> bool {
+fn print_edited(rt: &HostRuntime, manifest: &mut Manifest, words: &[String]) -> bool {
     let said = match edits(rt.alloc(), manifest, words) {
         Ok(true) => "done",
         Ok(false) => "no such place",
-        Err(error) => return refused(rt, manifest, &error),
+        Err(error) => return print_edit_error(rt, manifest, &error),
     };
     say(rt, format_args!("{said}\n{}", manifest.document));
     false
@@ -101,15 +101,15 @@ fn manifest_of(rt: &HostRuntime, path: &str) -> CargoResult<Manifest> {
 }
 
 /// Makes the edits in the arguments, and again where memory ran out.
-fn answer_on(rt: &HostRuntime, manifest: &mut Manifest, words: &[String]) {
-    if edited(rt, manifest, words) {
+fn run_edits(rt: &HostRuntime, manifest: &mut Manifest, words: &[String]) {
+    if print_edited(rt, manifest, words) {
         show_views(rt, &manifest.document);
-        edited(rt, manifest, words);
+        print_edited(rt, manifest, words);
     }
 }
 
 /// Makes the edits in the arguments on the manifest in a file.
-fn answer_to(rt: &HostRuntime, path: &str, words: &[String]) -> CargoResult<()> {
+fn run_edits_on_file(rt: &HostRuntime, path: &str, words: &[String]) -> CargoResult<()> {
     let mut manifest = manifest_of(rt, path)?;
     match words {
         [call, words @ ..] if call.as_str() == "show" => {
@@ -117,11 +117,11 @@ fn answer_to(rt: &HostRuntime, path: &str, words: &[String]) -> CargoResult<()> 
         }
         [call, words @ ..] if call.as_str() == "written" => show_written(rt, words),
         [call, words @ ..] if call.as_str() == "pieces" => {
-            answer_on(rt, &mut manifest, words);
+            run_edits(rt, &mut manifest, words);
             show_pieces(rt, &manifest.document)
         }
         _ => {
-            answer_on(rt, &mut manifest, words);
+            run_edits(rt, &mut manifest, words);
             Ok(())
         }
     }
@@ -135,7 +135,7 @@ fn answer(rt: &HostRuntime) -> CargoResult<()> {
         return Ok(());
     }
     match words.as_slice() {
-        [path, words @ ..] => answer_to(rt, path.as_str(), words),
+        [path, words @ ..] => run_edits_on_file(rt, path.as_str(), words),
         [] => Ok(()),
     }
 }

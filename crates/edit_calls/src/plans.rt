@@ -1,6 +1,6 @@
 //! Plans of new versions.
 ghost use Rattle.std.specs.Prelude.{◌≡◌, IfOk};
-ghost use Rattle.edit_metadata.specs.Workspaces.{HasOwnFolders, workspace_said};
+ghost use Rattle.edit_metadata.specs.Workspaces.{HasOwnFolders, workspace_view};
 ghost use Rattle.edit_report.specs.Applied.{HaveDistinctPaths};
 ghost use Rattle.edit_set_version.specs.Planned.{OutputsInOrder};
 ghost use Rattle.edit_set_version.specs.Projects.{AreInputsOf};
@@ -39,8 +39,8 @@ fn write_outputs(rt: &HostRuntime, outputs: &[Output]) -> CargoResult<()>
 
 /// Plans the next minor version of each member.
 fn plan_for(alloc: Global, read: &ReadWorkspace) -> CargoResult<SetVersionPlan>
-    requires inputs { AreInputsOf (workspace_said read.now.workspace) read.now.inputs.items }
-    requires folders { HasOwnFolders (workspace_said read.now.workspace) }
+    requires inputs { AreInputsOf (workspace_view read.now.workspace) read.now.inputs.items }
+    requires folders { HasOwnFolders (workspace_view read.now.workspace) }
     ensures { IfOk result (λ plan. OutputsInOrder read.now.inputs.items plan.outputs.items) }
 {
     let all = Selection {
@@ -54,9 +54,9 @@ fn plan_for(alloc: Global, read: &ReadWorkspace) -> CargoResult<SetVersionPlan>
 }
 
 /// Plans for a workspace, and writes the outputs or prints them.
-fn planned(rt: &HostRuntime, read: &ReadWorkspace, writes: bool) -> CargoResult<()>
-    requires inputs { AreInputsOf (workspace_said read.now.workspace) read.now.inputs.items }
-    requires folders { HasOwnFolders (workspace_said read.now.workspace) }
+fn print_plan_result(rt: &HostRuntime, read: &ReadWorkspace, writes: bool) -> CargoResult<()>
+    requires inputs { AreInputsOf (workspace_view read.now.workspace) read.now.inputs.items }
+    requires folders { HasOwnFolders (workspace_view read.now.workspace) }
     requires paths { HaveOwnPaths read.now.inputs.items }
 {
     let plan = plan_for(rt.alloc(), read)?;
@@ -69,8 +69,8 @@ fn planned(rt: &HostRuntime, read: &ReadWorkspace, writes: bool) -> CargoResult<
 
 /// Reads the workspace of a folder.
 fn workspace_of(rt: &HostRuntime, folder: &str) -> CargoResult<ReadWorkspace>
-    ensures inputs { IfOk result (λ r. AreInputsOf (workspace_said r.workspace) r.inputs.items) }
-    ensures folders { IfOk result (λ r. HasOwnFolders (workspace_said r.workspace)) }
+    ensures inputs { IfOk result (λ r. AreInputsOf (workspace_view r.workspace) r.inputs.items) }
+    ensures folders { IfOk result (λ r. HasOwnFolders (workspace_view r.workspace)) }
     ensures paths { IfOk result (λ r. HaveOwnPaths r.inputs.items) }
 {
     let mut files = HostStore::new(rt.clone()?);
@@ -91,5 +91,5 @@ fn workspace_of(rt: &HostRuntime, folder: &str) -> CargoResult<ReadWorkspace>
 /// Plans new versions for the workspace in a folder.
 pub(crate) fn set_versions(rt: &HostRuntime, folder: &str, writes: bool) -> CargoResult<()> {
     let read = workspace_of(rt, folder)?;
-    planned(rt, &read, writes)
+    print_plan_result(rt, &read, writes)
 }

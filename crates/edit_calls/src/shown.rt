@@ -1,6 +1,6 @@
 //! Prints the item at a place of a document, or of a new entry.
 use crate::said::say;
-use crate::words::Words;
+use crate::words::ArgCursor;
 use edit_document::{CargoResult, Document, Item, Step};
 
 /// `true` or `false`.
@@ -9,7 +9,7 @@ fn word(truth: bool) -> &'static str {
 }
 
 /// The item one step below.
-fn stepped<'a>(item: Item<'a>, step: &Step) -> Option<Item<'a>> {
+fn item_one_step_below<'a>(item: Item<'a>, step: &Step) -> Option<Item<'a>> {
     match step {
         Step::Key(key) => item.get(key.as_str()),
         Step::Index(index) => item.at(*index),
@@ -17,10 +17,10 @@ fn stepped<'a>(item: Item<'a>, step: &Step) -> Option<Item<'a>> {
 }
 
 /// The item at a place below an item, reached step by step.
-fn walked<'a>(root: Item<'a>, place: &[Step]) -> Option<Item<'a>> {
+fn item_at_steps<'a>(root: Item<'a>, place: &[Step]) -> Option<Item<'a>> {
     let mut item = root;
     for step in place {
-        item = stepped(item, step)?;
+        item = item_one_step_below(item, step)?;
     }
     Some(item)
 }
@@ -62,7 +62,7 @@ fn show_item(rt: &HostRuntime, item: Item<'_>) {
 
 /// Prints the item at a place below an item; nothing where there is none.
 fn show_below(rt: &HostRuntime, root: Item<'_>, place: &[Step]) {
-    if let Some(item) = walked(root, place) {
+    if let Some(item) = item_at_steps(root, place) {
         show_item(rt, item);
     }
 }
@@ -78,7 +78,7 @@ fn show_place(rt: &HostRuntime, document: &Document, place: &[Step]) {
 }
 
 /// Prints the item at a place of the entry in the arguments.
-fn show_entry(rt: &HostRuntime, place: &[Step], words: &mut Words<'_>) -> CargoResult<()> {
+fn show_entry(rt: &HostRuntime, place: &[Step], words: &mut ArgCursor<'_>) -> CargoResult<()> {
     let item = words.take_item(rt.alloc())?;
     show_below(rt, item.view(), place);
     Ok(())
@@ -86,7 +86,7 @@ fn show_entry(rt: &HostRuntime, place: &[Step], words: &mut Words<'_>) -> CargoR
 
 /// Prints how the entry in the arguments is written.
 pub(crate) fn show_written(rt: &HostRuntime, words: &[String]) -> CargoResult<()> {
-    let item = Words::new(words).take_item(rt.alloc())?;
+    let item = ArgCursor::new(words).take_item(rt.alloc())?;
     say(rt, item.text(rt.alloc())?);
     Ok(())
 }
@@ -97,7 +97,7 @@ pub(crate) fn show_words(
     document: &Document,
     words: &[String],
 ) -> CargoResult<()> {
-    let mut taken = Words::new(words);
+    let mut taken = ArgCursor::new(words);
     let place = taken.take_place(rt.alloc())?;
     match words.last() {
         Some(last) if last.as_str() == "=" => {

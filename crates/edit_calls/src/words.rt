@@ -1,22 +1,22 @@
 //! The arguments of a call: steps, values and entries.
 ghost use Rattle.std.specs.Prelude.{IfOk};
 ghost use Rattle.edit_tree.specs.NewItems.{IsEntry};
-ghost use Rattle.edit_document.specs.NewItemViews.{item_seen};
+ghost use Rattle.edit_document.specs.NewItemViews.{new_item_view};
 
 use edit_document::{NewItem, NewValue, Step};
 use std::alloc::{AllocError, Global};
 
 /// Arguments that are consumed one by one.
 #[derive(Drop)]
-pub(crate) struct Words<'a> {
+pub(crate) struct ArgCursor<'a> {
     words: &'a [String],
     next: usize,
 }
 
-impl<'a> Words<'a> {
+impl<'a> ArgCursor<'a> {
     /// An iterator over these arguments.
-    pub(crate) fn new(words: &'a [String]) -> Words<'a> {
-        Words { words, next: 0 }
+    pub(crate) fn new(words: &'a [String]) -> ArgCursor<'a> {
+        ArgCursor { words, next: 0 }
     }
 
     /// The next argument, empty after the last one.
@@ -89,7 +89,7 @@ impl<'a> Words<'a> {
 
     /// An entry: `table` and its members, `dotted`, or a value.
     pub(crate) fn take_item(&mut self, alloc: Global) -> Result<NewItem, AllocError>
-        ensures { IfOk result (λ item. IsEntry (item_seen item)) }
+        ensures { IfOk result (λ item. IsEntry (new_item_view item)) }
     {
         let kind = self.take();
         match kind {
@@ -105,7 +105,7 @@ impl<'a> Words<'a> {
 
 /// The entry `{ workspace = true }`, written as a dotted key.
 fn dotted_item(alloc: Global) -> Result<NewItem, AllocError>
-    ensures { IfOk result (λ item. IsEntry (item_seen item)) }
+    ensures { IfOk result (λ item. IsEntry (new_item_view item)) }
 {
     let mut members = Vec::new(alloc);
     members.push((String::from_str(alloc, "workspace")?, NewValue::Bool(true)))?;

@@ -4,10 +4,10 @@ use Rattle.std.proofs.lemmas.Bool.Decides.{nat_tests}
 use Rattle.std.specs.Prelude.{slice_get}
 use Rattle.std.specs.List.{AllByRecursion}
 use Rattle.edit_syntax.specs.Grammar.{IsValue, AreElements}
-use Rattle.edit_tree.specs.Assertions.{Place, Step, key, index, at, same_place, Kind, leaf, Assertion, of_value, of_elements, together, NoClash, AreShort}
+use Rattle.edit_tree.specs.Assertions.{Place, Step, key, index, at, same_place, Kind, leaf, Assertion, of_value, of_elements, are_compatible, AreCompatible, AreShort}
 use Rattle.edit_tree.specs.Tree.{string, kind_at, view_of_kind, view_of_value, static_array, count_elements}
 use Rattle.edit_tree.specs.Literals.{literal_of}
-use Rattle.edit_tree.specs.Meant.{new_view}
+use Rattle.edit_tree.specs.IntendedTrees.{new_view}
 use Rattle.edit_tree.specs.NewItems.{NewValue, a_string, a_truth, a_list, literals, new_value}
 use Rattle.edit_document.specs.NewItemViews.{HasRoom}
 use Rattle.edit_tree.proofs.LiteralLaws.{literal_is_value, literal_says}
@@ -74,13 +74,13 @@ other_element p i j lt e = differ i j lt (last_same p p (index i) (index j) e).1
     differ i j lt h = let same : i ≡ j = cc in omega arith
 
 later_elements : (p : Place) (i j : ℕ) (k : Kind) (ss : List (List ℕ)) → i < j
-    → AllByRecursion (λ b. at p (index i) ≡ b.place → together k b.kind ≡ true) (listed p j ss)
+    → AllByRecursion (λ b. at p (index i) ≡ b.place → are_compatible k b.kind ≡ true) (listed p j ss)
 later_elements p i j k [] lt = tt
 later_elements p i j k (s ∷ []) lt = ((λ e. absurd (other_element p i j lt e)), tt)
 later_elements p i j k (s ∷ t ∷ ss) lt =
     ((λ e. absurd (other_element p i j lt e)), later_elements p i (suc j) k (t ∷ ss) (omega arith))
 
-apart_elements : (p : Place) (i : ℕ) (ss : List (List ℕ)) → NoClash (listed p i ss)
+apart_elements : (p : Place) (i : ℕ) (ss : List (List ℕ)) → AreCompatible (listed p i ss)
 apart_elements p i [] = tt
 apart_elements p i (s ∷ []) = (tt, tt)
 apart_elements p i (s ∷ t ∷ ss) = (
@@ -89,7 +89,7 @@ apart_elements p i (s ∷ t ∷ ss) = (
       (t ∷ ss),
 )
 
-pub new_apart : (p : Place) (v : NewValue) → NoClash (of_value p (new_value v))
+pub new_apart : (p : Place) (v : NewValue) → AreCompatible (of_value p (new_value v))
 new_apart p (a_string s) = tt
 new_apart p (a_truth b) = tt
 new_apart p (a_list ss) = apart_elements p 0 ss

@@ -2,11 +2,11 @@
 use Rattle.std.proofs.Common.{◌≡◌, ℕ, true, false, ◌&&◌, ◌||◌, cond, List, [], ◌∷◌, ◌++◌, length, None, Some, option_map, refl, sym, ap, ◌∙◌, subst, true≢false, append-nil}
 use Rattle.edit_syntax.specs.Grammar.{Text, text}
 use Rattle.edit_syntax.proofs.Cases.{by_test}
-use Rattle.edit_tree.specs.Assertions.{Place, Step, same_step, leaf, assertions, NoClash, IsDocument}
+use Rattle.edit_tree.specs.Assertions.{Place, Step, same_step, leaf, assertions, AreCompatible, IsDocument}
 use Rattle.edit_tree.specs.EditBytes.{set_text, is_within}
 use Rattle.edit_tree.specs.EditBytes.{is_within as is_inside}
 use Rattle.edit_tree.specs.Literals.{literal_of}
-use Rattle.edit_tree.specs.Meant.{Tree, HasSet, new_view}
+use Rattle.edit_tree.specs.IntendedTrees.{Tree, HasSet, new_view}
 use Rattle.edit_tree.specs.NewItems.{NewValue, new_value}
 use Rattle.edit_document.specs.NewItemViews.{HasRoom}
 use Rattle.edit_tree.specs.Replaces.{new_text, replaced, is_below}
@@ -139,7 +139,7 @@ pub set_any : (old : List ℕ) (p : Place) (v : NewValue) (f g : Text) → IsDoc
 set_any old p v f g a b = ap (λ z. set_text p v z) (one_form old f g a b)
 
 -- the value at the place is written somewhere
-is_written : (form : Text) (p : Place) → NoClash (assertions form) → is_value_at form p ≡ true
+is_written : (form : Text) (p : Place) → AreCompatible (assertions form) → is_value_at form p ≡ true
     → (start : ℕ) × (end : ℕ) × IsWrittenAt form p start end
 is_written form p clash told =
     let w = value_listed form p clash told in
@@ -147,7 +147,7 @@ is_written form p clash told =
       start_of total w.0,
       end_of total w.0,
       record {
-        valued = w.0;
+        placed_value = w.0;
         told =
             among_contained w.0 (values form) w.1;
         there = w.2;

@@ -5,18 +5,18 @@ ghost use Rattle.edit_base.specs.declared.errors.Error.TheVariants.{EditRefused}
 ghost use Rattle.edit_syntax.specs.Grammar.{Text};
 ghost use Rattle.edit_tree.specs.Assertions.{IsDocument, Place, at, key as key_step};
 ghost use Rattle.edit_tree.specs.EditBytes.{inserted_text, replaced_text, set_text};
-ghost use Rattle.edit_tree.specs.Meant.{HasReplaced, HasSet, InsertFails, Inserted, RemoveFails, Removed, ReplaceFails};
+ghost use Rattle.edit_tree.specs.IntendedTrees.{HasReplaced, HasSet, InsertFails, Inserted, RemoveFails, Removed, ReplaceFails};
 ghost use Rattle.edit_tree.specs.NewItems.{NewItem as Entry, NewValue as Value};
 ghost use Rattle.edit_tree.specs.RemovedBytes.{removed_text};
-ghost use Rattle.edit_tree.specs.Shown.{tree_of};
+ghost use Rattle.edit_tree.specs.DocumentViews.{tree_of};
 ghost use Rattle.edit_tree.specs.Tree.{is_value_at};
 ghost use Rattle.edit_document.specs.Forms.{Becomes, IfDocument};
-ghost use Rattle.edit_document.specs.Items.{place_seen};
-ghost use Rattle.edit_document.specs.NewItemViews.{HasRoom, item_seen, value_seen};
+ghost use Rattle.edit_document.specs.Items.{place_view};
+ghost use Rattle.edit_document.specs.NewItemViews.{HasRoom, new_item_view, new_value_view};
 ghost use Rattle.edit_tree.specs.EditBytes.{is_one_statement};
 ghost use Rattle.edit_tree.specs.NewItems.{IsEntry};
 
-use crate::edited::{take_inserted, take_removed, take_replaced};
+use crate::edited::{accept_inserted, accept_removed, accept_replaced};
 use crate::set_value::with_value;
 use edit_base::errors::CargoResult;
 use edit_document::{Document, NewItem, NewValue, Step};
@@ -50,22 +50,22 @@ pub trait DocumentExt {
         key: &str,
         value: &NewValue,
     ) -> CargoResult<()>
-        requires { can_insert self.old (place_seen place.now) key.now };
+        requires { can_insert self.old (place_view place.now) key.now };
 
     /// Removes the item at a place, which is not the root. After an error the document is unchanged.
     fn remove(&mut self, alloc: Global, place: &[Step]) -> CargoResult<()>
-        requires { can_remove self.old (place_seen place.now) };
+        requires { can_remove self.old (place_view place.now) };
 
     /// Replaces the entry at a place that exactly one pair and no header names: all from behind the part of
     /// the pair's key that names the place to the end of its value is replaced by ` = ` and the entry, or by
     /// `.workspace = true` for a dotted entry. After an error the document is unchanged.
     fn replace_entry(&mut self, alloc: Global, place: &[Step], item: &NewItem) -> CargoResult<()>
-        requires { can_replace self.old (place_seen place.now) (item_seen item.now) };
+        requires { can_replace self.old (place_view place.now) (new_item_view item.now) };
 
     /// Replaces the value at a place by the literal of another value, and nothing else. It fails only with
     /// `Error::Memory`, and then the document is unchanged.
     fn set_value(&mut self, alloc: Global, place: &[Step], value: &NewValue) -> CargoResult<()>
-        requires { can_set self.old (place_seen place.now) (value_seen value.now) };
+        requires { can_set self.old (place_view place.now) (new_value_view value.now) };
 }
 
 impl DocumentExt for Document {
@@ -88,69 +88,69 @@ impl DocumentExt for Document {
         key: &str,
         value: &NewValue,
     ) -> CargoResult<()>
-        requires absent { tree_of self.old (at (place_seen place.now) (key_step key.now)) ≡ None }
-        ensures bytes { IfOk result (λ _. Becomes self.old.bytes (inserted_text (place_seen place.now)
-            key.now (value_seen value.now)) self.new.bytes) }
-        ensures tree { IfOk result (λ _. Inserted (place_seen place.now) key.now (value_seen value.now)
+        requires absent { tree_of self.old (at (place_view place.now) (key_step key.now)) ≡ None }
+        ensures bytes { IfOk result (λ _. Becomes self.old.bytes (inserted_text (place_view place.now)
+            key.now (new_value_view value.now)) self.new.bytes) }
+        ensures tree { IfOk result (λ _. Inserted (place_view place.now) key.now (new_value_view value.now)
             (tree_of self.old) (tree_of self.new)) }
         ensures pieces { IfOk result (λ _. length self.new.pieces ≤ length self.old.pieces + 2) }
         ensures err { IfErr result (λ _. self.new ≡ self.old) }
         ensures refused { IfErr result (λ e. IsMemory e ⊎ ((e ≡ EditRefused)
-            × InsertFails (place_seen place.now) key.now (value_seen value.now) self.old.bytes)) }
+            × InsertFails (place_view place.now) key.now (new_value_view value.now) self.old.bytes)) }
     {
         let text = with_member(self, alloc, place, key, value)?;
-        take_inserted(self, alloc, text.as_str(), place, key, value)
+        accept_inserted(self, alloc, text.as_str(), place, key, value)
     }
 
     fn remove(&mut self, alloc: Global, place: &[Step]) -> CargoResult<()>
-        requires inner { place_seen place.now ≡ [] → ⊥ }
-        requires item { tree_of self.old (place_seen place.now) ≡ None → ⊥ }
+        requires inner { place_view place.now ≡ [] → ⊥ }
+        requires item { tree_of self.old (place_view place.now) ≡ None → ⊥ }
         // Statements are removed with their lines, elements and members with a comma.
-        ensures bytes { IfOk result (λ _. Becomes self.old.bytes (removed_text (place_seen place.now))
+        ensures bytes { IfOk result (λ _. Becomes self.old.bytes (removed_text (place_view place.now))
             self.new.bytes) }
         // The rest of the tree is unchanged, except that tables and arrays left empty around the item vanish.
         ensures tree { IfOk result (λ _. IfDocument self.old.bytes (λ form. Removed form
-            (place_seen place.now) (tree_of self.old) (tree_of self.new))) }
+            (place_view place.now) (tree_of self.old) (tree_of self.new))) }
         ensures err { IfErr result (λ _. self.new ≡ self.old) }
         // Where memory does not run out, an error means that the text without the item has another tree.
         ensures refused { IfErr result (λ e. IsMemory e ⊎ ((e ≡ EditRefused)
-            × RemoveFails (place_seen place.now) self.old.bytes)) }
+            × RemoveFails (place_view place.now) self.old.bytes)) }
     {
         let text = without(self, alloc, place)?;
-        take_removed(self, alloc, text.as_str(), place)
+        accept_removed(self, alloc, text.as_str(), place)
     }
 
     fn replace_entry(&mut self, alloc: Global, place: &[Step], item: &NewItem) -> CargoResult<()>
-        requires one { IfDocument self.old.bytes (λ form. is_one_statement form (place_seen place.now)
+        requires one { IfDocument self.old.bytes (λ form. is_one_statement form (place_view place.now)
             ≡ true) }
         requires room { length place.now ≤ 70 }
-        requires entry { IsEntry (item_seen item.now) }
-        ensures bytes { IfOk result (λ _. Becomes self.old.bytes (replaced_text (place_seen place.now)
-            (item_seen item.now)) self.new.bytes) }
-        ensures tree { IfOk result (λ _. HasReplaced (place_seen place.now) (item_seen item.now)
+        requires entry { IsEntry (new_item_view item.now) }
+        ensures bytes { IfOk result (λ _. Becomes self.old.bytes (replaced_text (place_view place.now)
+            (new_item_view item.now)) self.new.bytes) }
+        ensures tree { IfOk result (λ _. HasReplaced (place_view place.now) (new_item_view item.now)
             (tree_of self.old) (tree_of self.new)) }
         ensures pieces { IfOk result (λ _. length self.new.pieces ≤ length self.old.pieces + 2) }
         ensures err { IfErr result (λ _. self.new ≡ self.old) }
         ensures refused { IfErr result (λ e. IsMemory e ⊎ ((e ≡ EditRefused)
-            × ReplaceFails (place_seen place.now) (item_seen item.now) self.old.bytes)) }
+            × ReplaceFails (place_view place.now) (new_item_view item.now) self.old.bytes)) }
     {
         let text = with_entry(self, alloc, place, item)?;
-        take_replaced(self, alloc, text.as_str(), place, item)
+        accept_replaced(self, alloc, text.as_str(), place, item)
     }
 
     fn set_value(&mut self, alloc: Global, place: &[Step], value: &NewValue) -> CargoResult<()>
-        requires is_value { IfDocument self.old.bytes (λ form. is_value_at form (place_seen place.now)
+        requires is_value { IfDocument self.old.bytes (λ form. is_value_at form (place_view place.now)
             ≡ true) }
-        requires room { HasRoom (place_seen place.now) (value_seen value.now) }
-        ensures bytes { IfOk result (λ _. Becomes self.old.bytes (set_text (place_seen place.now)
-            (value_seen value.now)) self.new.bytes) }
+        requires room { HasRoom (place_view place.now) (new_value_view value.now) }
+        ensures bytes { IfOk result (λ _. Becomes self.old.bytes (set_text (place_view place.now)
+            (new_value_view value.now)) self.new.bytes) }
         ensures tree { IfOk result (λ _.
-            HasSet (place_seen place.now) (value_seen value.now) (tree_of self.old) (tree_of self.new)) }
+            HasSet (place_view place.now) (new_value_view value.now) (tree_of self.old) (tree_of self.new)) }
         ensures pieces { IfOk result (λ _. length self.new.pieces ≤ length self.old.pieces + 2) }
         ensures err { IfErr result (λ _. self.new ≡ self.old) }
         ensures refused { IfErr result IsMemory }
     {
-        self.has_form();
+        self.lemma_form();
         let text = with_value(self, alloc, place, value)?;
         *self = Document::read(alloc, text.as_str())?;
         Ok(())

@@ -6,11 +6,11 @@ ghost use Rattle.edit_syntax.specs.Grammar.{Text};
 ghost use Rattle.edit_tree.specs.Assertions.{IsDocument, at, key as key_step};
 ghost use Rattle.edit_tree.specs.EditBytes.{inserted_text, replaced_text};
 ghost use Rattle.edit_document.specs.Forms.{Becomes, IfDocument};
-ghost use Rattle.edit_document.specs.Items.{place_seen};
-ghost use Rattle.edit_tree.specs.Meant.{Inserted, InsertFails, HasReplaced, ReplaceFails, Removed, RemoveFails};
-ghost use Rattle.edit_document.specs.NewItemViews.{value_seen, item_seen};
+ghost use Rattle.edit_document.specs.Items.{place_view};
+ghost use Rattle.edit_tree.specs.IntendedTrees.{Inserted, InsertFails, HasReplaced, ReplaceFails, Removed, RemoveFails};
+ghost use Rattle.edit_document.specs.NewItemViews.{new_value_view, new_item_view};
 ghost use Rattle.edit_tree.specs.RemovedBytes.{removed_text};
-ghost use Rattle.edit_tree.specs.Shown.{tree_of, ShowsTree};
+ghost use Rattle.edit_tree.specs.DocumentViews.{tree_of, ShowsTree};
 
 use edit_base::errors::{CargoResult, Error};
 use edit_compare::{has_grown, has_lost, has_replaced};
@@ -27,7 +27,7 @@ pub(crate) fn read_edited(alloc: Global, text: &str) -> CargoResult<Document>
 {
     match Document::read(alloc, text) {
         Ok(new) => {
-            new.has_form();
+            new.lemma_form();
             Ok(new)
         }
         Err(Error::NotToml { at: _ }) => Err(Error::EditRefused),
@@ -37,7 +37,7 @@ pub(crate) fn read_edited(alloc: Global, text: &str) -> CargoResult<Document>
 
 /// Replaces the document by its text with a member inserted, where that has the intended tree. After an error
 /// the document is unchanged.
-pub(crate) fn take_inserted(
+pub(crate) fn accept_inserted(
     document: &mut Document,
     alloc: Global,
     text: &str,
@@ -45,19 +45,19 @@ pub(crate) fn take_inserted(
     key: &str,
     value: &NewValue,
 ) -> CargoResult<()>
-    requires written { Becomes document.old.bytes (inserted_text (place_seen place.now) key.now
-        (value_seen value.now)) text.now }
-    requires absent { tree_of document.old (at (place_seen place.now) (key_step key.now)) ≡ None }
-    ensures bytes { IfOk result (λ _. Becomes document.old.bytes (inserted_text (place_seen place.now)
-        key.now (value_seen value.now)) document.new.bytes) }
-    ensures tree { IfOk result (λ _. Inserted (place_seen place.now) key.now (value_seen value.now)
+    requires written { Becomes document.old.bytes (inserted_text (place_view place.now) key.now
+        (new_value_view value.now)) text.now }
+    requires absent { tree_of document.old (at (place_view place.now) (key_step key.now)) ≡ None }
+    ensures bytes { IfOk result (λ _. Becomes document.old.bytes (inserted_text (place_view place.now)
+        key.now (new_value_view value.now)) document.new.bytes) }
+    ensures tree { IfOk result (λ _. Inserted (place_view place.now) key.now (new_value_view value.now)
         (tree_of document.old) (tree_of document.new)) }
     ensures pieces { IfOk result (λ _. length document.new.pieces ≤ length document.old.pieces + 2) }
     ensures err { IfErr result (λ _. document.new ≡ document.old) }
     ensures refused { IfErr result (λ e. IsMemory e ⊎ ((e ≡ EditRefused)
-        × InsertFails (place_seen place.now) key.now (value_seen value.now) document.old.bytes)) }
+        × InsertFails (place_view place.now) key.now (new_value_view value.now) document.old.bytes)) }
 {
-    document.has_form();
+    document.lemma_form();
     let new = read_edited(alloc, text)?;
     if !has_grown(document, &new, place, key, value) {
         return Err(Error::EditRefused);
@@ -68,25 +68,25 @@ pub(crate) fn take_inserted(
 
 /// Replaces the document by its text with another entry at a place, where that has the intended tree. After
 /// an error the document is unchanged.
-pub(crate) fn take_replaced(
+pub(crate) fn accept_replaced(
     document: &mut Document,
     alloc: Global,
     text: &str,
     place: &[Step],
     item: &NewItem,
 ) -> CargoResult<()>
-    requires written { Becomes document.old.bytes (replaced_text (place_seen place.now)
-        (item_seen item.now)) text.now }
-    ensures bytes { IfOk result (λ _. Becomes document.old.bytes (replaced_text (place_seen place.now)
-        (item_seen item.now)) document.new.bytes) }
-    ensures tree { IfOk result (λ _. HasReplaced (place_seen place.now) (item_seen item.now)
+    requires written { Becomes document.old.bytes (replaced_text (place_view place.now)
+        (new_item_view item.now)) text.now }
+    ensures bytes { IfOk result (λ _. Becomes document.old.bytes (replaced_text (place_view place.now)
+        (new_item_view item.now)) document.new.bytes) }
+    ensures tree { IfOk result (λ _. HasReplaced (place_view place.now) (new_item_view item.now)
         (tree_of document.old) (tree_of document.new)) }
     ensures pieces { IfOk result (λ _. length document.new.pieces ≤ length document.old.pieces + 2) }
     ensures err { IfErr result (λ _. document.new ≡ document.old) }
     ensures refused { IfErr result (λ e. IsMemory e ⊎ ((e ≡ EditRefused)
-        × ReplaceFails (place_seen place.now) (item_seen item.now) document.old.bytes)) }
+        × ReplaceFails (place_view place.now) (new_item_view item.now) document.old.bytes)) }
 {
-    document.has_form();
+    document.lemma_form();
     let new = read_edited(alloc, text)?;
     if !has_replaced(document, &new, place, item) {
         return Err(Error::EditRefused);
@@ -97,24 +97,24 @@ pub(crate) fn take_replaced(
 
 /// Replaces the document by its text without the item at a place, where that has the intended tree. After an
 /// error the document is unchanged.
-pub(crate) fn take_removed(
+pub(crate) fn accept_removed(
     document: &mut Document,
     alloc: Global,
     text: &str,
     place: &[Step],
 ) -> CargoResult<()>
-    requires written { Becomes document.old.bytes (removed_text (place_seen place.now)) text.now }
-    requires inner { place_seen place.now ≡ [] → ⊥ }
-    requires stands { tree_of document.old (place_seen place.now) ≡ None → ⊥ }
-    ensures bytes { IfOk result (λ _. Becomes document.old.bytes (removed_text (place_seen place.now))
+    requires written { Becomes document.old.bytes (removed_text (place_view place.now)) text.now }
+    requires inner { place_view place.now ≡ [] → ⊥ }
+    requires stands { tree_of document.old (place_view place.now) ≡ None → ⊥ }
+    ensures bytes { IfOk result (λ _. Becomes document.old.bytes (removed_text (place_view place.now))
         document.new.bytes) }
     ensures tree { IfOk result (λ _. IfDocument document.old.bytes (λ form. Removed form
-        (place_seen place.now) (tree_of document.old) (tree_of document.new))) }
+        (place_view place.now) (tree_of document.old) (tree_of document.new))) }
     ensures err { IfErr result (λ _. document.new ≡ document.old) }
     ensures refused { IfErr result (λ e. IsMemory e ⊎ ((e ≡ EditRefused)
-        × RemoveFails (place_seen place.now) document.old.bytes)) }
+        × RemoveFails (place_view place.now) document.old.bytes)) }
 {
-    document.has_form();
+    document.lemma_form();
     let new = read_edited(alloc, text)?;
     if !has_lost(document, &new, place) {
         return Err(Error::EditRefused);

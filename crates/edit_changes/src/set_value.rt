@@ -4,11 +4,11 @@ ghost use Rattle.edit_base.specs.Errors.{IsMemory};
 ghost use Rattle.edit_syntax.specs.Grammar.{value as value_text};
 ghost use Rattle.edit_tree.specs.EditBytes.{set_text};
 ghost use Rattle.edit_document.specs.Forms.{Becomes, IfDocument};
-ghost use Rattle.edit_document.specs.Items.{place_seen};
-ghost use Rattle.edit_tree.specs.Meant.{HasSet};
+ghost use Rattle.edit_document.specs.Items.{place_view};
+ghost use Rattle.edit_tree.specs.IntendedTrees.{HasSet};
 ghost use Rattle.edit_tree.specs.NewItems.{new_value};
-ghost use Rattle.edit_document.specs.NewItemViews.{value_seen, HasRoom};
-ghost use Rattle.edit_tree.specs.Shown.{tree_of};
+ghost use Rattle.edit_document.specs.NewItemViews.{new_value_view, HasRoom};
+ghost use Rattle.edit_tree.specs.DocumentViews.{tree_of};
 ghost use Rattle.edit_document.specs.Splices.{AreInOrder};
 ghost use Rattle.edit_tree.specs.Tree.{is_value_at};
 
@@ -27,7 +27,7 @@ fn with_range(
 ) -> CargoResult<String>
     requires { AreInOrder text.now 0 ((start, end, []) ∷ []) }
     ensures text { IfOk result (λ s. string_bytes s
-        ≡ take start text.now ++ (value_text (new_value (value_seen value.now)) [] ++ drop end text.now)) }
+        ≡ take start text.now ++ (value_text (new_value (new_value_view value.now)) [] ++ drop end text.now)) }
     ensures refused { IfErr result IsMemory }
 {
     let mut out = String::with_capacity(alloc, text.len())?;
@@ -44,12 +44,12 @@ pub(crate) fn with_value(
     place: &[Step],
     value: &NewValue,
 ) -> CargoResult<String>
-    requires { IfDocument document.now.bytes (λ form. is_value_at form (place_seen place.now) ≡ true) }
-    ensures bytes { IfOk result (λ s. Becomes document.now.bytes (set_text (place_seen place.now)
-        (value_seen value.now)) (string_bytes s)) }
+    requires { IfDocument document.now.bytes (λ form. is_value_at form (place_view place.now) ≡ true) }
+    ensures bytes { IfOk result (λ s. Becomes document.now.bytes (set_text (place_view place.now)
+        (new_value_view value.now)) (string_bytes s)) }
     ensures refused { IfErr result IsMemory }
 {
-    document.has_form();
+    document.lemma_form();
     match document.value_range(place) {
         Some((start, end)) => with_range(alloc, document.as_str(), start, end, value),
         None => unreachable!(),

@@ -1,6 +1,6 @@
 //! The arguments of `fetch-plan` and `fetch-store`.
 
-use crate::parsing::{parse_words, print_parse_error};
+use crate::parsing::{parse_args, print_parse_error};
 use clap::ArgMatches;
 use edit_base::CargoResult;
 use std::io::Write;
@@ -61,7 +61,7 @@ pub(crate) fn upgrade_matches<'a, E: Write>(
     words: &'a [&'a str],
     err: &mut E,
 ) -> CargoResult<Result<ArgMatches<'a>, u8>> {
-    match parse_words(rt.alloc(), words) {
+    match parse_args(rt.alloc(), words) {
         Ok(matches) => Ok(Ok(matches)),
         Err(error) => Ok(Err(print_parse_error(&error, &mut rt.stdout(), err)?)),
     }

@@ -9,7 +9,7 @@ use crate::fetch_arguments::{
     FetchArguments, excluded_names, metadata_file, print_usage, read_arguments, upgrade_matches,
 };
 use crate::machine::variable;
-use crate::parsing::words_of;
+use crate::parsing::filled_args;
 use clap::ArgMatches;
 use configurations::{all_configs, write_configurations};
 use edit_base::paths::join;
@@ -36,7 +36,7 @@ pub(crate) fn fetch_plan<E: Write>(
     let Some(arguments) = read_arguments(arguments) else {
         return Ok(print_usage("fetch-plan", err));
     };
-    let words = words_of(rt.alloc(), "upgrade", arguments.upgrade)?;
+    let words = filled_args(rt.alloc(), "upgrade", arguments.upgrade)?;
     let matches = match upgrade_matches(rt, &words, err)? {
         Ok(matches) => matches,
         Err(status) => return Ok(status),

@@ -3,7 +3,7 @@
 use crate::fetch_arguments::{
     FetchArguments, excluded_names, print_usage, read_arguments, upgrade_matches,
 };
-use crate::parsing::words_of;
+use crate::parsing::filled_args;
 use edit_answers::{
     CacheFolder, CacheStore, Places, Report, StoreOptions, is_new_enough, prune, store_answers,
 };
@@ -23,7 +23,7 @@ pub(crate) fn fetch_store<E: Write>(
     let Some(arguments) = read_arguments(arguments) else {
         return Ok(print_usage("fetch-store", err));
     };
-    let words = words_of(rt.alloc(), "upgrade", arguments.upgrade)?;
+    let words = filled_args(rt.alloc(), "upgrade", arguments.upgrade)?;
     let matches = match upgrade_matches(rt, &words, err)? {
         Ok(matches) => matches,
         Err(status) => return Ok(status),

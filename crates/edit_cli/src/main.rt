@@ -75,7 +75,7 @@ fn print_start_error(rt: &HostRuntime, error: &Error) {
 
 /// Prints what is wrong with the arguments or the environment, and returns the exit status of a usage
 /// error.
-fn refuse_usage(rt: &HostRuntime, fault: &str) -> CargoResult<u8> {
+fn print_usage_error(rt: &HostRuntime, fault: &str) -> CargoResult<u8> {
     let mut err = errors(rt)?;
     let _ = writeln!(err, "error: {fault}\n\nFor more information, try '--help'.");
     Ok(2)
@@ -86,7 +86,7 @@ fn start(rt: &HostRuntime) -> CargoResult<u8> {
     let words = match env::args(rt) {
         Ok(words) => words,
         Err(error) if error.kind() == ErrorKind::InvalidData => {
-            return refuse_usage(rt, "invalid UTF-8 was detected in one or more arguments");
+            return print_usage_error(rt, "invalid UTF-8 was detected in one or more arguments");
         }
         Err(error) => return Err(machine_error(error)),
     };
@@ -126,11 +126,11 @@ fn start_in(
     let current = match env::current_dir(rt) {
         Ok(current) => current,
         Err(error) if error.kind() == ErrorKind::OutOfMemory => return Err(Error::Memory),
-        Err(_) => return refuse_usage(rt, NO_CURRENT),
+        Err(_) => return print_usage_error(rt, NO_CURRENT),
     };
     match current.as_path().to_str() {
         Some(current) => start_at(rt, words, current, matches),
-        None => refuse_usage(rt, NO_CURRENT),
+        None => print_usage_error(rt, NO_CURRENT),
     }
 }
 
@@ -143,7 +143,7 @@ fn start_at(
 ) -> CargoResult<u8> {
     let home = match cargo_home(rt) {
         Ok(home) => home,
-        Err(Error::NotUtf8) => return refuse_usage(rt, NO_HOME),
+        Err(Error::NotUtf8) => return print_usage_error(rt, NO_HOME),
         Err(error) => return Err(error),
     };
     let home = home.as_deref();
@@ -173,7 +173,7 @@ fn run_checked(
 ) -> CargoResult<u8> {
     if name == "upgrade" {
         if let Some(fault) = fault_of(rt, matches, folders)? {
-            return refuse_usage(rt, fault.as_str());
+            return print_usage_error(rt, fault.as_str());
         }
     }
     let is_for_people = matches.get_str("message-format") != Some("json");

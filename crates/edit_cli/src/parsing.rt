@@ -7,8 +7,8 @@ use edit_words::{command, filled_words};
 use std::alloc::{AllocError, Global};
 use std::io;
 
-/// The arguments of a command line with defaults inserted, for `parse_words`.
-pub(crate) fn words_of<'a>(
+/// The arguments of a command line with defaults inserted, for `parse_args`.
+pub(crate) fn filled_args<'a>(
     alloc: Global,
     subcommand: &'a str,
     arguments: &[&'a str],
@@ -22,7 +22,7 @@ pub(crate) fn words_of<'a>(
 }
 
 /// Parses arguments that begin with a subcommand of `cargo-edit`.
-pub(crate) fn parse_words<'a>(
+pub(crate) fn parse_args<'a>(
     alloc: Global,
     words: &'a [&'a str],
 ) -> Result<ArgMatches<'a>, clap::Error> {

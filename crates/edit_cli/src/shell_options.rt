@@ -1,7 +1,7 @@
 //! The subcommand `shell-options`: the arguments of the scripts in `bin/`, parsed, as text for a shell to
 //! evaluate.
 
-use crate::parsing::{parse_words, print_parse_error, words_of};
+use crate::parsing::{filled_args, parse_args, print_parse_error};
 use clap::ArgMatches;
 use clap::error::ErrorKind;
 use edit_base::Error;
@@ -105,9 +105,9 @@ fn write_options<O: io::Write, E: io::Write>(
     err: &mut E,
 ) -> RunResult<u8> {
     let arguments = with_metadata(alloc, subcommand, arguments)?;
-    let words = words_of(alloc, subcommand, &arguments)?;
+    let words = filled_args(alloc, subcommand, &arguments)?;
     let mut text = Vec::new(alloc);
-    match parse_words(alloc, &words) {
+    match parse_args(alloc, &words) {
         Ok(matches) => {
             if let Some((_, matches)) = matches.subcommand() {
                 push_options(&mut text, matches)?;

@@ -5,11 +5,11 @@ use Rattle.std.specs.Bool.{Decides}
 use Rattle.std.proofs.lemmas.Option.{same_Some}
 use Rattle.edit_tree.specs.Assertions.{Step, Place, at, same_step}
 use Rattle.edit_tree.specs.EditBytes.{is_within}
-use Rattle.edit_tree.specs.Meant.{Tree}
+use Rattle.edit_tree.specs.IntendedTrees.{Tree}
 use Rattle.edit_tree.specs.Tree.{View}
-use Rattle.edit_tree.specs.Shown.{Shown, tree_of}
-use Rattle.edit_document.specs.Items.{place_numbered, view_numbered, count_in, Numbers}
-use Rattle.edit_document.specs.Compared.{SameBelow, tree_below, SameBeside, SamePartsBut, SamePart, nth_part, NumbersPart}
+use Rattle.edit_tree.specs.DocumentViews.{DocumentViews, tree_of}
+use Rattle.edit_document.specs.Items.{node_place, node_view, count_in, Numbers}
+use Rattle.edit_document.specs.Compared.{SameBelow, tree_below, SameBeside, SamePartsBut, SamePart, nth_part, IsChildIndex}
 use Rattle.edit_tree.proofs.SamePlace.{same_step_self, same_step_is}
 use Rattle.edit_document.proofs.SameParts.{part_or, part_less, one_down, NothingElse, NoneBelow}
 
@@ -93,73 +93,74 @@ beside_goes = record { more = beside_more; front = beside_front; back = beside_b
 
 -- ---- nodes
 
-abbrev At : Shown → ℕ → Type 0
-At d n = tree_of d (place_numbered d n) ≡ Some (view_numbered d n)
+abbrev At : DocumentViews → ℕ → Type 0
+At d n = tree_of d (node_place d n) ≡ Some (node_view d n)
 
-module _ (d : Shown) (n : ℕ) (e : Shown) (m : ℕ) (s : Step) (here : At d n) (there : At e m) where
+module _ (d : DocumentViews) (n : ℕ) (e : DocumentViews) (m : ℕ) (s : Step) (here : At d n) (there : At e m) where
   -- the same but at one step: the same view, and the same at each other part
   pub around_same : NoneBelow d → NoneBelow e → NothingElse d n → NothingElse e m
-      → view_numbered d n ≡ view_numbered e m → SamePartsBut s d n e m
-      → SameBeside (s ∷ []) (tree_below d (place_numbered d n)) (tree_below e (place_numbered e m))
+      → node_view d n ≡ node_view e m → SamePartsBut s d n e m
+      → SameBeside (s ∷ []) (tree_below d (node_place d n)) (tree_below e (node_place e m))
   around_same below_d below_e else_d else_e same parts [] out =
-      ap (tree_of e) (append-nil (place_numbered e m)) ∙ there ∙ ap Some (sym same) ∙ sym here
-      ∙ ap (tree_of d) (sym (append-nil (place_numbered d n)))
+      ap (tree_of e) (append-nil (node_place e m)) ∙ there ∙ ap Some (sym same) ∙ sym here
+      ∙ ap (tree_of d) (sym (append-nil (node_place d n)))
   around_same below_d below_e else_d else_e same parts (t ∷ q) out =
-      elim (part_or (view_numbered d n) t (count_in (view_numbered d n))) [
+      elim (part_or (node_view d n) t (count_in (node_view d n))) [
         | inl k ↦
-            sym (one_down e (place_numbered e m) t q) ∙ sym (parts k.0 t k.2 (within_other s t q out) q)
-            ∙ one_down d (place_numbered d n) t q
+            sym (one_down e (node_place e m) t q) ∙ sym (parts k.0 t k.2 (within_other s t q out) q)
+            ∙ one_down d (node_place d n) t q
         | inr none ↦
-            let absent : (i : ℕ) → nth_part (view_numbered d n) i ≡ Some t → ⊥ =
-            λ i h. none i (part_less (view_numbered d n) i t h) h in
-            sym (one_down e (place_numbered e m) t q)
-            ∙ below_e (at (place_numbered e m) t) q
+            let absent : (i : ℕ) → nth_part (node_view d n) i ≡ Some t → ⊥ =
+            λ i h. none i (part_less (node_view d n) i t h) h in
+            sym (one_down e (node_place e m) t q)
+            ∙ below_e (at (node_place e m) t) q
             (else_e t (λ i h. absent i (ap (λ (w : View). nth_part w i) same ∙ h)))
-            ∙ sym (below_d (at (place_numbered d n) t) q (else_d t absent)) ∙
-            one_down d (place_numbered d n) t q
+            ∙ sym (below_d (at (node_place d n) t) q (else_d t absent)) ∙
+            one_down d (node_place d n) t q
       ]
 
-  pub around_view : SameBeside (s ∷ []) (tree_below d (place_numbered d n))
-      (tree_below e (place_numbered e m))
-      → view_numbered d n ≡ view_numbered e m
+  pub around_view : SameBeside (s ∷ []) (tree_below d (node_place d n))
+      (tree_below e (node_place e m))
+      → node_view d n ≡ node_view e m
   around_view same =
-      same_Some (view_numbered d n) (view_numbered e m)
-      (sym here ∙ ap (tree_of d) (sym (append-nil (place_numbered d n))) ∙ sym (same [] refl)
-      ∙ ap (tree_of e) (append-nil (place_numbered e m)) ∙ there)
+      same_Some (node_view d n) (node_view e m)
+      (sym here ∙ ap (tree_of d) (sym (append-nil (node_place d n))) ∙ sym (same [] refl)
+      ∙ ap (tree_of e) (append-nil (node_place e m)) ∙ there)
 
-  pub around_parts : SameBeside (s ∷ []) (tree_below d (place_numbered d n))
-      (tree_below e (place_numbered e m))
+  pub around_parts : SameBeside (s ∷ []) (tree_below d (node_place d n))
+      (tree_below e (node_place e m))
       → SamePartsBut s d n e m
   around_parts same i t part ne q =
-      one_down d (place_numbered d n) t q ∙ sym (same (t ∷ q) (other_within s t q ne))
-      ∙ sym (one_down e (place_numbered e m) t q)
+      one_down d (node_place d n) t q ∙ sym (same (t ∷ q) (other_within s t q ne))
+      ∙ sym (one_down e (node_place e m) t q)
 
   -- what the first has not, the second has not
   pub around_lacks : NothingElse e m
-      → ((step : Step) (i : ℕ) → nth_part (view_numbered d n) i ≡ Some step
-      → tree_of d (at (place_numbered d n) step) ≡ None → ⊥)
-      → view_numbered d n ≡ view_numbered e m → tree_of d (at (place_numbered d n) s) ≡ None
-      → tree_of e (at (place_numbered e m) s) ≡ None
-  around_lacks else_e stands same none = elim (part_or (view_numbered d n) s (count_in (view_numbered d n))) [
+      → ((step : Step) (i : ℕ) → nth_part (node_view d n) i ≡ Some step
+      → tree_of d (at (node_place d n) step) ≡ None → ⊥)
+      → node_view d n ≡ node_view e m → tree_of d (at (node_place d n) s) ≡ None
+      → tree_of e (at (node_place e m) s) ≡ None
+  around_lacks else_e stands same none = elim (part_or (node_view d n) s (count_in (node_view d n))) [
     | inl k ↦ absurd (stands s k.0 k.2 none)
     | inr none2 ↦ else_e s (λ i h.
-        let part : nth_part (view_numbered d n) i ≡ Some s = ap (λ (w : View). nth_part w i) same ∙ h in
-        none2 i (part_less (view_numbered d n) i s part) part)
+        let part : nth_part (node_view d n) i ≡ Some s = ap (λ (w : View). nth_part w i) same ∙ h in
+        none2 i (part_less (node_view d n) i s part) part)
   ]
 
 -- ---- one part
 
-abbrev Counterpart : Shown → ℕ → Shown → ℕ → ℕ → Option ℕ → Type 0
+abbrev Counterpart : DocumentViews → ℕ → DocumentViews → ℕ → ℕ → Option ℕ → Type 0
 Counterpart d n e m i r =
-    (step : Step) → nth_part (view_numbered d n) i ≡ Some step → Numbers e (at (place_numbered e m) step) r
+    (step : Step) → nth_part (node_view d n) i ≡ Some step → Numbers e (at (node_place e m) step) r
 
-pub part_decides : (d : Shown) (n : ℕ) (e : Shown) (m i a b : ℕ) (r : Bool) → NumbersPart d n i (Some a)
-    → Counterpart d n e m i (Some b) → Decides r (SameBelow d (place_numbered d a) e (place_numbered e b))
+pub part_decides : (d : DocumentViews) (n : ℕ) (e : DocumentViews) (m i a b : ℕ) (r : Bool)
+    → IsChildIndex d n i (Some a)
+    → Counterpart d n e m i (Some b) → Decides r (SameBelow d (node_place d a) e (node_place e b))
     → Decides r (SamePart d n e m i)
 part_decides d n e m i a b r (s, ps, la, pa) there decided = (
   λ t step p q.
       let same : s ≡ step = same_Some s step (sym ps ∙ p) in
-      ap (λ (x : Place). tree_of d (x ++ q)) (sym (pa ∙ ap (at (place_numbered d n)) same)) ∙ decided.0 t q
+      ap (λ (x : Place). tree_of d (x ++ q)) (sym (pa ∙ ap (at (node_place d n)) same)) ∙ decided.0 t q
       ∙ ap (λ (x : Place). tree_of e (x ++ q)) (there step p).1,
   λ h. decided.1 (λ q.
       ap (λ (x : Place). tree_of d (x ++ q)) pa ∙ h s ps q
@@ -167,10 +168,10 @@ part_decides d n e m i a b r (s, ps, la, pa) there decided = (
 )
 
 -- a part that has no counterpart is not the same
-pub part_lacks : (d : Shown) (n : ℕ) (e : Shown) (m i a : ℕ) → NumbersPart d n i (Some a)
-    → ((step : Step) (i : ℕ) → nth_part (view_numbered d n) i ≡ Some step
-    → tree_of d (at (place_numbered d n) step) ≡ None → ⊥)
+pub part_lacks : (d : DocumentViews) (n : ℕ) (e : DocumentViews) (m i a : ℕ) → IsChildIndex d n i (Some a)
+    → ((step : Step) (i : ℕ) → nth_part (node_view d n) i ≡ Some step
+    → tree_of d (at (node_place d n) step) ≡ None → ⊥)
     → Counterpart d n e m i None → SamePart d n e m i → ⊥
 part_lacks d n e m i a (s, ps, la, pa) stands there h =
-    stands s i ps (ap (tree_of d) (sym (append-nil (at (place_numbered d n) s))) ∙ h s ps []
-    ∙ ap (tree_of e) (append-nil (at (place_numbered e m) s)) ∙ there s ps)
+    stands s i ps (ap (tree_of d) (sym (append-nil (at (node_place d n) s))) ∙ h s ps []
+    ∙ ap (tree_of e) (append-nil (at (node_place e m) s)) ∙ there s ps)

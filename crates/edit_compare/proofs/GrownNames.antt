@@ -10,7 +10,7 @@ use Rattle.edit_tree.specs.Assertions.{Step, key}
 use Rattle.edit_tree.specs.Tree.{View, string, truth, whole, fractional, moment, static_array, table_array, inline_table, table}
 use Rattle.edit_document.specs.Items.{key_names, names_in, name_of_step}
 use Rattle.edit_document.specs.Compared.{kind_of, nth_part, AreKeys}
-use Rattle.edit_tree.specs.Meant.{Grown, in_table, in_inline_table}
+use Rattle.edit_tree.specs.IntendedTrees.{Grown, in_table, in_inline_table}
 
 -- ---- lists
 
@@ -90,8 +90,8 @@ pub first_seam : {X : Type 0} (front back : List X) (x : X) (k : ℕ)
     → ((i : ℕ) → slice_get (front ++ back) i ≡ Some x → ⊥)
     → slice_get (front ++ x ∷ back) k ≡ Some x
     → ((i : ℕ) → i < k → slice_get (front ++ x ∷ back) i ≡ Some x → ⊥) → k ≡ length front
-first_seam front back x k lacks here first = elim (cases_lt k (length front)) [
-  | inl lt ↦ absurd (lacks k (before_seam front back x k lt ∙ here))
+first_seam front back x k has_no_child here first = elim (cases_lt k (length front)) [
+  | inl lt ↦ absurd (has_no_child k (before_seam front back x k lt ∙ here))
   | inr ge ↦ elim (cases_lt (length front) k) [
     | inl lt ↦ absurd (first (length front) lt (at_seam front back x))
     | inr le ↦ omega (arith, ge, le)
@@ -220,8 +220,8 @@ Lacks n v = (i : ℕ) → slice_get (names_in v) i ≡ Some n → ⊥
 module _ (n : List ℕ) (v w : View) (g : GrownNames n v w) where
   -- the new name is there
   pub grown_has : Lacks n w → ⊥
-  grown_has lacks =
-      lacks (length g.front) (ap (λ (ns : List (List ℕ)). slice_get ns (length g.front)) g.more ∙
+  grown_has has_no_child =
+      has_no_child (length g.front) (ap (λ (ns : List (List ℕ)). slice_get ns (length g.front)) g.more ∙
       at_seam g.front g.back n)
 
   pub grown_size : length (names_in w) ≡ suc (length (names_in v))
@@ -234,24 +234,24 @@ module _ (n : List ℕ) (v w : View) (g : GrownNames n v w) where
 
   -- the others are those of the table
   pub grown_seam : (k : ℕ) → Lacks n v → FirstAt n k w → k ≡ length g.front
-  grown_seam k lacks first =
+  grown_seam k has_no_child first =
       first_seam g.front g.back n k
-      (λ i h. lacks i (ap (λ (ns : List (List ℕ)). slice_get ns i) g.less ∙ h))
+      (λ i h. has_no_child i (ap (λ (ns : List (List ℕ)). slice_get ns i) g.less ∙ h))
       (ap (λ (ns : List (List ℕ)). slice_get ns k) (sym g.more) ∙ first.0)
       (λ i lt h. first.1 i lt (ap (λ (ns : List (List ℕ)). slice_get ns i) g.more ∙ h))
 
   pub grown_before : (k i : ℕ) → Lacks n v → FirstAt n k w → i < k
       → slice_get (names_in v) i ≡ slice_get (names_in w) i
-  grown_before k i lacks first lt =
-      let seam_is = grown_seam k lacks first in
+  grown_before k i has_no_child first lt =
+      let seam_is = grown_seam k has_no_child first in
       ap (λ (ns : List (List ℕ)). slice_get ns i) g.less
       ∙ before_seam g.front g.back n i (omega (arith, lt, seam_is))
       ∙ ap (λ (ns : List (List ℕ)). slice_get ns i) (sym g.more)
 
   pub grown_behind : (k i : ℕ) → Lacks n v → FirstAt n k w → k ≤ i
       → slice_get (names_in v) i ≡ slice_get (names_in w) (suc i)
-  grown_behind k i lacks first le =
-      let seam_is = grown_seam k lacks first in
+  grown_behind k i has_no_child first le =
+      let seam_is = grown_seam k has_no_child first in
       ap (λ (ns : List (List ℕ)). slice_get ns i) g.less
       ∙ past_seam g.front g.back n i (omega (arith, le, seam_is))
       ∙ ap (λ (ns : List (List ℕ)). slice_get ns (suc i)) (sym g.more)

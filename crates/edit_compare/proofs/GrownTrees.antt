@@ -5,9 +5,9 @@ use Rattle.edit_tree.specs.Assertions.{Step, key, Place, at, same_place}
 use Rattle.edit_tree.specs.EditBytes.{is_within}
 use Rattle.edit_tree.specs.Tree.{View}
 use Rattle.edit_tree.specs.NewItems.{NewValue}
-use Rattle.edit_tree.specs.Meant.{Tree, Grown, Inserted}
-use Rattle.edit_tree.specs.Shown.{Shown, tree_of}
-use Rattle.edit_document.specs.Items.{place_numbered, view_numbered, count_in}
+use Rattle.edit_tree.specs.IntendedTrees.{Tree, Grown, Inserted}
+use Rattle.edit_tree.specs.DocumentViews.{DocumentViews, tree_of}
+use Rattle.edit_document.specs.Items.{node_place, node_view, count_in}
 use Rattle.edit_document.specs.Compared.{tree_below, SameBeside, SamePart, FindsBeside, nth_part, ShowsValue}
 use Rattle.edit_tree.proofs.SamePlace.{same_place_self, other_place}
 use Rattle.edit_document.proofs.SameParts.{part_or, part_less, one_down, NothingElse, NoneBelow}
@@ -68,77 +68,77 @@ module _ (place : Place) (name : List ℕ) (v : NewValue) (old new : Tree) where
 
 -- ---- nodes
 
-abbrev At : Shown → ℕ → Type 0
-At d n = tree_of d (place_numbered d n) ≡ Some (view_numbered d n)
+abbrev At : DocumentViews → ℕ → Type 0
+At d n = tree_of d (node_place d n) ≡ Some (node_view d n)
 
-module _ (d : Shown) (n : ℕ) (e : Shown) (m : ℕ) (name : List ℕ) (v : NewValue) (here : At d n)
+module _ (d : DocumentViews) (n : ℕ) (e : DocumentViews) (m : ℕ) (name : List ℕ) (v : NewValue) (here : At d n)
     (there : At e m) where
-  first : tree_below d (place_numbered d n) [] ≡ Some (view_numbered d n)
-  first = ap (tree_of d) (append-nil (place_numbered d n)) ∙ here
+  first : tree_below d (node_place d n) [] ≡ Some (node_view d n)
+  first = ap (tree_of d) (append-nil (node_place d n)) ∙ here
 
-  second : tree_below e (place_numbered e m) [] ≡ Some (view_numbered e m)
-  second = ap (tree_of e) (append-nil (place_numbered e m)) ∙ there
+  second : tree_below e (node_place e m) [] ≡ Some (node_view e m)
+  second = ap (tree_of e) (append-nil (node_place e m)) ∙ there
 
   pub inserted_here : NoneBelow d → NoneBelow e → NothingElse d n → NothingElse e m
-      → ShowsValue e (at (place_numbered e m) (key name)) v
-      → Grown (key name) (Some (view_numbered d n)) (Some (view_numbered e m))
+      → ShowsValue e (at (node_place e m) (key name)) v
+      → Grown (key name) (Some (node_view d n)) (Some (node_view e m))
       → ((i : ℕ) → SamePart d n e m i)
-      → Inserted [] name v (tree_below d (place_numbered d n)) (tree_below e (place_numbered e m))
+      → Inserted [] name v (tree_below d (node_place d n)) (tree_below e (node_place e m))
   inserted_here below_d below_e else_d else_e shows grown parts = record {
-    there = λ q. sym (one_down e (place_numbered e m) (key name) q) ∙ shows q;
-    grown = subst (λ (o : Option View). Grown (key name) o (tree_below e (place_numbered e m) [])) (sym first)
-        (subst (λ (o : Option View). Grown (key name) (Some (view_numbered d n)) o) (sym second) grown);
+    there = λ q. sym (one_down e (node_place e m) (key name) q) ∙ shows q;
+    grown = subst (λ (o : Option View). Grown (key name) o (tree_below e (node_place e m) [])) (sym first)
+        (subst (λ (o : Option View). Grown (key name) (Some (node_view d n)) o) (sym second) grown);
     elsewhere = other;
   }
     where
       none : (t : Step) (q : Place) → (t ≡ key name → ⊥)
-          → ((i : ℕ) → nth_part (view_numbered d n) i ≡ Some t → ⊥)
-          → tree_of e (place_numbered e m ++ t ∷ q) ≡ tree_of d (place_numbered d n ++ t ∷ q)
+          → ((i : ℕ) → nth_part (node_view d n) i ≡ Some t → ⊥)
+          → tree_of e (node_place e m ++ t ∷ q) ≡ tree_of d (node_place d n ++ t ∷ q)
       none t q ne no_part =
-          sym (one_down e (place_numbered e m) t q)
-          ∙ below_e (at (place_numbered e m) t) q (else_e t (λ i h.
-          let r = grown_part (key name) (view_numbered d n) (view_numbered e m) grown t i h ne in
+          sym (one_down e (node_place e m) t q)
+          ∙ below_e (at (node_place e m) t) q (else_e t (λ i h.
+          let r = grown_part (key name) (node_view d n) (node_view e m) grown t i h ne in
           no_part r.0 r.1))
-          ∙ sym (below_d (at (place_numbered d n) t) q (else_d t no_part)) ∙
-          one_down d (place_numbered d n) t q
+          ∙ sym (below_d (at (node_place d n) t) q (else_d t no_part)) ∙
+          one_down d (node_place d n) t q
 
       other : (q : Place) → is_within (key name ∷ []) q ≡ false → same_place q [] ≡ false
-          → tree_below e (place_numbered e m) q ≡ tree_below d (place_numbered d n) q
+          → tree_below e (node_place e m) q ≡ tree_below d (node_place d n) q
       other [] out ne = absurd cc
-      other (t ∷ q) out ne = elim (part_or (view_numbered d n) t (count_in (view_numbered d n))) [
+      other (t ∷ q) out ne = elim (part_or (node_view d n) t (count_in (node_view d n))) [
         | inl k ↦
-            sym (one_down e (place_numbered e m) t q) ∙ sym (parts k.0 t k.2 q) ∙
-            one_down d (place_numbered d n) t q
+            sym (one_down e (node_place e m) t q) ∙ sym (parts k.0 t k.2 q) ∙
+            one_down d (node_place d n) t q
         | inr absent ↦ none t q (within_other (key name) t q out)
-            (λ i h. absent i (part_less (view_numbered d n) i t h) h)
+            (λ i h. absent i (part_less (node_view d n) i t h) h)
       ]
 
   -- a table that lacks the member has all its parts in the larger one
-  pub inserted_parts : ((step : Step) (i : ℕ) → nth_part (view_numbered d n) i ≡ Some step
-      → tree_of d (at (place_numbered d n) step) ≡ None → ⊥)
-      → tree_of d (at (place_numbered d n) (key name)) ≡ None
-      → Inserted [] name v (tree_below d (place_numbered d n)) (tree_below e (place_numbered e m))
+  pub inserted_parts : ((step : Step) (i : ℕ) → nth_part (node_view d n) i ≡ Some step
+      → tree_of d (at (node_place d n) step) ≡ None → ⊥)
+      → tree_of d (at (node_place d n) (key name)) ≡ None
+      → Inserted [] name v (tree_below d (node_place d n)) (tree_below e (node_place e m))
       → (i : ℕ) → SamePart d n e m i
   inserted_parts stands absent h i t part q =
       let ne : t ≡ key name → ⊥ = λ same.
-      stands t i part (ap (λ (s : Step). tree_of d (at (place_numbered d n) s)) same ∙ absent) in
-      one_down d (place_numbered d n) t q ∙ sym (h.elsewhere (t ∷ q) (other_within (key name) t q ne) refl)
-      ∙ sym (one_down e (place_numbered e m) t q)
+      stands t i part (ap (λ (s : Step). tree_of d (at (node_place d n) s)) same ∙ absent) in
+      one_down d (node_place d n) t q ∙ sym (h.elsewhere (t ∷ q) (other_within (key name) t q ne) refl)
+      ∙ sym (one_down e (node_place e m) t q)
 
 -- ---- documents
 
-abbrev HasGrown : Shown → Shown → Place → List ℕ → NewValue → Type 0
+abbrev HasGrown : DocumentViews → DocumentViews → Place → List ℕ → NewValue → Type 0
 HasGrown d e place name v = Inserted place name v (tree_of d) (tree_of e)
 
-module _ (d e : Shown) (place : Place) (name : List ℕ) (v : NewValue) where
+module _ (d e : DocumentViews) (place : Place) (name : List ℕ) (v : NewValue) where
   -- from the nodes of the table to the documents
   pub grown_there : (n m : ℕ) (r : Bool) → FindsBeside place d e (Some (n, m))
-      → Decides r (Inserted [] name v (tree_below d (place_numbered d n)) (tree_below e (place_numbered e m)))
+      → Decides r (Inserted [] name v (tree_below d (node_place d n)) (tree_below e (node_place e m)))
       → Decides r (HasGrown d e place name v)
   grown_there n m r (beside, left, right) decided =
-      let at_left : Decides r (Inserted [] name v (tree_below d place) (tree_below e (place_numbered e m))) =
+      let at_left : Decides r (Inserted [] name v (tree_below d place) (tree_below e (node_place e m))) =
       subst (λ (p : Place). Decides r
-      (Inserted [] name v (tree_below d p) (tree_below e (place_numbered e m)))) left.1 decided in
+      (Inserted [] name v (tree_below d p) (tree_below e (node_place e m)))) left.1 decided in
       let both : Decides r (Inserted [] name v (tree_below d place) (tree_below e place)) =
       subst (λ (p : Place). Decides r (Inserted [] name v (tree_below d place) (tree_below e p))) right.1
       at_left in (

@@ -10,8 +10,8 @@ use Rattle.edit_tree.specs.Assertions.{Place, Step, key, index, at, same_step, s
 use Rattle.edit_document.specs.Compared.{nth_part, AreSteps, AreApart}
 use Rattle.edit_tree.specs.EditBytes.{is_within}
 use Rattle.edit_document.specs.Items.{count_in}
-use Rattle.edit_document.specs.Lost.{is_named, IsKept}
-use Rattle.edit_tree.specs.Meant.{staying}
+use Rattle.edit_document.specs.ItemRemoval.{is_named, IsKept}
+use Rattle.edit_tree.specs.IntendedTrees.{assertions_left}
 use Rattle.edit_tree.specs.Tree.{View, kind_at, view_of_kind, view_in}
 use Rattle.edit_tree.proofs.ElementWays.{are_made}
 use Rattle.edit_tree.proofs.Asserters.{Made}
@@ -58,7 +58,7 @@ module _ (form : Text) (q : Place) (inner : q ≡ [] → ⊥) (t : Step) where
       let a = find (assertions form) e in
       stays_kind (q ++ t ∷ r) (assertions form) (are_made form) q
       (a.0, a.1, a.3, ap (λ z. is_within (q ++ t ∷ r) z) a.2 ∙ not_longer q t r)
-      (view_none (staying (q ++ t ∷ r) (assertions form)) q inner none)
+      (view_none (assertions_left (q ++ t ∷ r) (assertions form)) q inner none)
     where
       find : (xs : List Assertion) → list_any (λ b. same_place b.by q && same_place b.place q) xs ≡ true
           → (a : Assertion) × Among a xs × (a.by ≡ q) × (a.place ≡ q)
@@ -89,20 +89,20 @@ module _ (form : Text) (q : Place) (inner : q ≡ [] → ⊥) (t : Step) where
           stays_kind (q ++ t ∷ r) (assertions form) (are_made form) q
           (up_stays (q ++ t ∷ r) (assertions form) (are_made form) (at q s) q inner
           (inside_more q q (s ∷ []) (inside_self q)) (a.0, a.1, a.2, stay))
-          (view_none (staying (q ++ t ∷ r) (assertions form)) q inner none)
+          (view_none (assertions_left (q ++ t ∷ r) (assertions form)) q inner none)
 
   -- else it is lost with its only part
   pub only_kept : is_named form q ≡ false → ((s : Step) → (view_in (assertions form) (at q s) ≡ None → ⊥)
       → s ≡ t) → IsKept form q t false
   only_kept e only r lost = elim (kind_stays (q ++ t ∷ r) (assertions form) (are_made form) q) [
-    | inl none ↦ none_view (staying (q ++ t ∷ r) (assertions form)) q inner none
+    | inl none ↦ none_view (assertions_left (q ++ t ∷ r) (assertions form)) q inner none
     | inr stay ↦
         let s = part_stays (q ++ t ∷ r) (assertions form) (are_made form) q free stay in
         let is = only s.0 (λ none. among_kind (assertions form) (at q s.0) s.1.0 s.1.1 s.1.2
         (view_none (assertions form) (at q s.0) (λ root. not_root q s.0 root) none)) in
         absurd (stays_kind (q ++ t ∷ r) (assertions form) (are_made form) (at q t)
         (subst (λ z. Stays (q ++ t ∷ r) (assertions form) (are_made form) (at q z)) is s.1)
-        (view_none (staying (q ++ t ∷ r) (assertions form)) (at q t) (λ root. not_root q t root) lost))
+        (view_none (assertions_left (q ++ t ∷ r) (assertions form)) (at q t) (λ root. not_root q t root) lost))
   ]
     where
       free : IsOpen q (assertions form)

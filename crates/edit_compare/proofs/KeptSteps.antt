@@ -7,10 +7,10 @@ use Rattle.edit_syntax.specs.Grammar.{Text}
 use Rattle.edit_document.specs.declared.place.Step.{Step as WrittenStep}
 use Rattle.edit_tree.specs.Assertions.{Place, Step, at, assertions}
 use Rattle.edit_document.specs.Compared.{nth_part, AreSteps, AreApart}
-use Rattle.edit_document.specs.Items.{place_seen, step_seen, place_numbered, view_numbered, count_in}
-use Rattle.edit_document.specs.Lost.{is_named, IsLeft, IsLost, IsKept, IsInnermost}
-use Rattle.edit_tree.specs.Meant.{staying}
-use Rattle.edit_tree.specs.Shown.{Shown, tree_of, ShowsTree}
+use Rattle.edit_document.specs.Items.{place_view, step_view, node_place, node_view, count_in}
+use Rattle.edit_document.specs.ItemRemoval.{is_named, IsLeft, IsLost, IsKept, IsInnermost}
+use Rattle.edit_tree.specs.IntendedTrees.{assertions_left}
+use Rattle.edit_tree.specs.DocumentViews.{DocumentViews, tree_of, ShowsTree}
 use Rattle.edit_tree.proofs.ElementWays.{are_made}
 use Rattle.edit_tree.proofs.HeadedPlaces.{inside_self}
 use Rattle.edit_compare.proofs.KeptParts.{none_view, other_kept, only_kept, other_part, only_part}
@@ -21,9 +21,9 @@ use Rattle.edit_document.proofs.MemberViews.{place_more}
 -- so far the place of this many steps is left, and those behind it are lost with what comes next
 abbrev pub KeptSoFar : Text → List WrittenStep → ℕ → ℕ → Type 0
 KeptSoFar form steps kept index =
-    IsLeft form (place_seen steps) (place_seen (take kept steps))
-    × ((j : ℕ) → kept < j → j < index → IsLost form (place_seen steps) (place_seen (take (j + 1) steps))
-    → IsLost form (place_seen steps) (place_seen (take j steps)))
+    IsLeft form (place_view steps) (place_view (take kept steps))
+    × ((j : ℕ) → kept < j → j < index → IsLost form (place_view steps) (place_view (take (j + 1) steps))
+    → IsLost form (place_view steps) (place_view (take j steps)))
 
 -- the root is left
 pub root_kept : (form : Text) (steps : List WrittenStep) → KeptSoFar form steps 0 0
@@ -31,28 +31,28 @@ root_kept form steps = (λ none. cc, λ j le lt. absurd (omega (arith, lt)))
 
 module _ (form : Text) (steps : List WrittenStep) (i : ℕ) (step : WrittenStep) (lt : i < length steps)
     (is : step ≡ get_or steps i step) where
-  next : place_seen (take (i + 1) steps) ≡ at (place_seen (take i steps)) (step_seen step)
+  next : place_view (take (i + 1) steps) ≡ at (place_view (take i steps)) (step_view step)
   next = place_more steps i step lt is
 
-  pub whole_is : place_seen steps ≡ place_seen (take i steps) ++ step_seen step ∷ place_seen
+  pub whole_is : place_view steps ≡ place_view (take i steps) ++ step_view step ∷ place_view
       (drop (i + 1) steps)
   whole_is =
-      ap (map step_seen) (sym (take-append-drop (i + 1) steps))
-      ∙ map-append step_seen (take (i + 1) steps) (drop (i + 1) steps)
-      ∙ ap (λ (p : Place). p ++ place_seen (drop (i + 1) steps)) next
-      ∙ append_assoc (place_seen (take i steps)) (step_seen step ∷ []) (place_seen (drop (i + 1) steps))
+      ap (map step_view) (sym (take-append-drop (i + 1) steps))
+      ∙ map-append step_view (take (i + 1) steps) (drop (i + 1) steps)
+      ∙ ap (λ (p : Place). p ++ place_view (drop (i + 1) steps)) next
+      ∙ append_assoc (place_view (take i steps)) (step_view step ∷ []) (place_view (drop (i + 1) steps))
 
   -- the table or array here is left
-  pub kept_here : IsKept form (place_seen (take i steps)) (step_seen step) true
+  pub kept_here : IsKept form (place_view (take i steps)) (step_view step) true
       → KeptSoFar form steps i (i + 1)
   kept_here h = (
-    subst (λ g. IsLeft form g (place_seen (take i steps))) (sym whole_is)
-        (h (place_seen (drop (i + 1) steps))),
+    subst (λ g. IsLeft form g (place_view (take i steps))) (sym whole_is)
+        (h (place_view (drop (i + 1) steps))),
     λ j le less. absurd (omega (arith, le, less)),
   )
 
   -- or it is lost with what comes next
-  pub kept_before : (kept : ℕ) → IsKept form (place_seen (take i steps)) (step_seen step) false
+  pub kept_before : (kept : ℕ) → IsKept form (place_view (take i steps)) (step_view step) false
       → KeptSoFar form steps kept i → KeptSoFar form steps kept (i + 1)
   kept_before kept h so = (
     so.0,
@@ -60,14 +60,14 @@ module _ (form : Text) (steps : List WrittenStep) (i : ℕ) (step : WrittenStep)
       | inl before ↦ so.1 j le before lost
       | inr ge ↦
           let same : i ≡ j = omega (arith, ge, less) in
-          let last : IsLost form (place_seen steps) (place_seen (take (i + 1) steps)) =
-          subst (λ m. IsLost form (place_seen steps) (place_seen (take (m + 1) steps))) (sym same) lost in
-          let at_next : IsLost form (place_seen steps) (at (place_seen (take i steps)) (step_seen step)) =
-          subst (λ p. IsLost form (place_seen steps) p) next last in
-          let there = h (place_seen (drop (i + 1) steps))
-          (subst (λ g. IsLost form g (at (place_seen (take i steps)) (step_seen step))) whole_is at_next) in
-          subst (λ m. IsLost form (place_seen steps) (place_seen (take m steps))) same
-          (subst (λ g. IsLost form g (place_seen (take i steps))) (sym whole_is) there)
+          let last : IsLost form (place_view steps) (place_view (take (i + 1) steps)) =
+          subst (λ m. IsLost form (place_view steps) (place_view (take (m + 1) steps))) (sym same) lost in
+          let at_next : IsLost form (place_view steps) (at (place_view (take i steps)) (step_view step)) =
+          subst (λ p. IsLost form (place_view steps) p) next last in
+          let there = h (place_view (drop (i + 1) steps))
+          (subst (λ g. IsLost form g (at (place_view (take i steps)) (step_view step))) whole_is at_next) in
+          subst (λ m. IsLost form (place_view steps) (place_view (take m steps))) same
+          (subst (λ g. IsLost form g (place_view (take i steps))) (sym whole_is) there)
     ],
   )
 
@@ -79,26 +79,26 @@ down P k n (suc m) j e lt step last =
     let more : (j + 1) + m ≡ n = omega (arith, e) in
     step j lt (omega (arith, e)) (down P k n m (j + 1) more (omega (arith, lt)) step last)
 
-pub innermost : (form : Text) (steps : List WrittenStep) (kept : ℕ) → (place_seen steps ≡ [] → ⊥)
+pub innermost : (form : Text) (steps : List WrittenStep) (kept : ℕ) → (place_view steps ≡ [] → ⊥)
     → kept < length steps
     → KeptSoFar form steps kept (length steps) → IsInnermost form steps kept
 innermost form steps kept inner lt so = record {
   less = lt;
   left = so.0;
-  lost = down (λ j. IsLost form (place_seen steps) (place_seen (take j steps))) kept (length steps)
+  lost = down (λ j. IsLost form (place_view steps) (place_view (take j steps))) kept (length steps)
       (length steps - (kept + 1)) (kept + 1)
       (omega (arith, lt)) (omega arith) so.1
-      (subst (λ xs. IsLost form (place_seen steps) (place_seen xs))
+      (subst (λ xs. IsLost form (place_view steps) (place_view xs))
       (sym (take_all (length steps) steps (omega arith))) all);
 }
   where
-    all : IsLost form (place_seen steps) (place_seen steps)
-    all = none_view (staying (place_seen steps) (assertions form)) (place_seen steps) inner
-        (elim (kind_stays (place_seen steps) (assertions form) (are_made form) (place_seen steps)) [
+    all : IsLost form (place_view steps) (place_view steps)
+    all = none_view (assertions_left (place_view steps) (assertions form)) (place_view steps) inner
+        (elim (kind_stays (place_view steps) (assertions form) (are_made form) (place_view steps)) [
           | inl none ↦ none
-          | inr stay ↦ absurd (gone_stays (place_seen steps) (assertions form) (are_made form)
-              (place_seen steps)
-              (inside_self (place_seen steps)) stay)
+          | inr stay ↦ absurd (gone_stays (place_view steps) (assertions form) (are_made form)
+              (place_view steps)
+              (inside_self (place_view steps)) stay)
         ])
 
 -- ---- nodes
@@ -112,38 +112,38 @@ pub root_before : (form : Text) (steps : List WrittenStep) (kept i : ℕ) → i 
     → KeptSoFar form steps kept (i + 1)
 root_before form steps kept i e so = (so.0, λ j le lt. absurd (omega (arith, le, lt, e)))
 
-pub some_steps : (steps : List WrittenStep) → (place_seen steps ≡ [] → ⊥) → 0 < length steps
+pub some_steps : (steps : List WrittenStep) → (place_view steps ≡ [] → ⊥) → 0 < length steps
 some_steps [] ne = absurd (ne refl)
 some_steps (s ∷ steps) ne = omega arith
 
 -- a node that is not named is left where it has another part
-pub kept_parts : (d : Shown) (n : ℕ) (form : Text) → ShowsTree d form → (place_numbered d n ≡ [] → ⊥)
+pub kept_parts : (d : DocumentViews) (n : ℕ) (form : Text) → ShowsTree d form → (node_place d n ≡ [] → ⊥)
     → NothingElse d n
-    → ((s : Step) (i : ℕ) → nth_part (view_numbered d n) i ≡ Some s
-    → tree_of d (at (place_numbered d n) s) ≡ None → ⊥)
-    → AreSteps (view_numbered d n) → AreApart (view_numbered d n) → is_named form (place_numbered d n) ≡ false
-    → (t : Step) → (tree_of d (at (place_numbered d n) t) ≡ None → ⊥) → (count : ℕ)
-    → count ≡ count_in (view_numbered d n)
-    → IsKept form (place_numbered d n) t (nat_lt 1 count)
+    → ((s : Step) (i : ℕ) → nth_part (node_view d n) i ≡ Some s
+    → tree_of d (at (node_place d n) s) ≡ None → ⊥)
+    → AreSteps (node_view d n) → AreApart (node_view d n) → is_named form (node_place d n) ≡ false
+    → (t : Step) → (tree_of d (at (node_place d n) t) ≡ None → ⊥) → (count : ℕ)
+    → count ≡ count_in (node_view d n)
+    → IsKept form (node_place d n) t (nat_lt 1 count)
 kept_parts d n form shows inner else stands steps apart named t stood count size = go (nat_lt 1 count) refl
   where
-    part_of : (s : Step) → (tree_of d (at (place_numbered d n) s) ≡ None → ⊥) → (j : ℕ)
-        × (nth_part (view_numbered d n) j ≡ Some s)
-    part_of s some = elim (part_or (view_numbered d n) s (count_in (view_numbered d n))) [
+    part_of : (s : Step) → (tree_of d (at (node_place d n) s) ≡ None → ⊥) → (j : ℕ)
+        × (nth_part (node_view d n) j ≡ Some s)
+    part_of s some = elim (part_or (node_view d n) s (count_in (node_view d n))) [
       | inl k ↦ (k.0, k.2)
-      | inr none ↦ absurd (some (else s (λ i h. none i (part_less (view_numbered d n) i s h) h)))
+      | inr none ↦ absurd (some (else s (λ i h. none i (part_less (node_view d n) i s h) h)))
     ]
 
-    go : (b : Bool) → nat_lt 1 count ≡ b → IsKept form (place_numbered d n) t b
+    go : (b : Bool) → nat_lt 1 count ≡ b → IsKept form (node_place d n) t b
     go true e =
-        let p = other_part (view_numbered d n) t steps apart (let lt = ltb-true 1 count e in
+        let p = other_part (node_view d n) t steps apart (let lt = ltb-true 1 count e in
         omega (arith, lt, size)) in
-        other_kept form (place_numbered d n) inner t p.1 p.3
-        (λ none. stands p.1 p.0 p.2 (shows (at (place_numbered d n) p.1) ∙ none))
+        other_kept form (node_place d n) inner t p.1 p.3
+        (λ none. stands p.1 p.0 p.2 (shows (at (node_place d n) p.1) ∙ none))
     go false e =
-        let few : count_in (view_numbered d n) ≤ 1 = let le = ltb-false 1 count e in
+        let few : count_in (node_view d n) ≤ 1 = let le = ltb-false 1 count e in
         omega (arith, le, size) in
-        only_kept form (place_numbered d n) inner t named (λ s some.
-        (let a = part_of s (λ none. some (sym (shows (at (place_numbered d n) s)) ∙ none)) in
+        only_kept form (node_place d n) inner t named (λ s some.
+        (let a = part_of s (λ none. some (sym (shows (at (node_place d n) s)) ∙ none)) in
         let b = part_of t stood in
-        only_part (view_numbered d n) s t a.0 b.0 few a.1 b.1))
+        only_part (node_view d n) s t a.0 b.0 few a.1 b.1))

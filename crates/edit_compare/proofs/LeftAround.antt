@@ -5,8 +5,8 @@ use Rattle.edit_syntax.specs.Grammar.{Text}
 use Rattle.edit_syntax.proofs.Cases.{by_test}
 use Rattle.edit_tree.specs.Assertions.{Place, Step, key, index, at, same_step, Kind, assertions}
 use Rattle.edit_tree.specs.EditBytes.{is_within}
-use Rattle.edit_document.specs.Lost.{IsLeft, IsLost}
-use Rattle.edit_tree.specs.Meant.{staying, moved, is_member}
+use Rattle.edit_document.specs.ItemRemoval.{IsLeft, IsLost}
+use Rattle.edit_tree.specs.IntendedTrees.{assertions_left, moved, is_member}
 use Rattle.edit_tree.specs.Tree.{kind_at, view_in}
 use Rattle.edit_tree.proofs.ElementWays.{are_made}
 use Rattle.edit_compare.proofs.Besides.{within_back}
@@ -90,10 +90,10 @@ module _ (form : Text) (gone : Place) where
   pub up : (p q : Place) → IsLeft form gone q → is_within p q ≡ true → IsLeft form gone p
   up [] q left low none = absurd cc
   up (s ∷ p) q left low none = elim (kind_stays gone (assertions form) (are_made form) q) [
-    | inl nothing ↦ left (none_view (staying gone (assertions form)) q inner nothing)
+    | inl nothing ↦ left (none_view (assertions_left gone (assertions form)) q inner nothing)
     | inr stay ↦ stays_kind gone (assertions form) (are_made form) (s ∷ p)
         (up_stays gone (assertions form) (are_made form) q (s ∷ p) (λ e. cc) low stay)
-        (view_none (staying gone (assertions form)) (s ∷ p) (λ e. cc) none)
+        (view_none (assertions_left gone (assertions form)) (s ∷ p) (λ e. cc) none)
   ]
     where
       inner : q ≡ [] → ⊥
@@ -119,7 +119,7 @@ module _ (form : Text) (gone : Place) where
           absurd (stays_kind gone (assertions form) (are_made form) (at q t)
           (up_stays gone (assertions form) (are_made form) (at q t ++ k) (at q t) (λ f. not_root q t f)
           (inside_more (at q t) (at q t) k (inside_self (at q t))) (a.0, a.1, a.2, out))
-          (view_none (staying gone (assertions form)) (at q t) (λ f. not_root q t f) lost))
+          (view_none (assertions_left gone (assertions form)) (at q t) (λ f. not_root q t f) lost))
 
 -- of two tables that stay and lose a part to what goes neither lies in the other
 front_is : (form : Text) (gone p q : Place) (s t : Step) (k r : Place) → gone ≡ p ++ s ∷ k
@@ -164,8 +164,8 @@ module _ (form : Text) (q : Place) (t : Step) (r : Place)
   next_way : is_within (at q t) (q ++ t ∷ r) ≡ true
   next_way = within_back q (t ∷ []) (t ∷ r) ∙ ap (λ b. b && true) (same_step_self t)
 
-  lost_kind : kind_at (staying (q ++ t ∷ r) (assertions form)) (at q t) ≡ None
-  lost_kind = view_none (staying (q ++ t ∷ r) (assertions form)) (at q t) (λ e. not_root q t e) lost
+  lost_kind : kind_at (assertions_left (q ++ t ∷ r) (assertions form)) (at q t) ≡ None
+  lost_kind = view_none (assertions_left (q ++ t ∷ r) (assertions form)) (at q t) (λ e. not_root q t e) lost
 
   -- an element that goes takes nothing with it but what stands below it
   pub flat : (r ≡ []) ⊎ ((n : List ℕ) × (t ≡ key n))

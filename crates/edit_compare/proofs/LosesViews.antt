@@ -8,9 +8,9 @@ use Rattle.edit_syntax.proofs.Cases.{by_test}
 use Rattle.edit_tree.specs.Assertions.{Step, key, index, Place, at, same_step}
 use Rattle.edit_document.specs.Compared.{nth_part, element_step, kind_of, AreSteps}
 use Rattle.edit_document.specs.Items.{names_in, count_in, Numbers}
-use Rattle.edit_document.specs.Lost.{moved_index, moved_place}
-use Rattle.edit_tree.specs.Meant.{moved, LosesStep, Loses, from_table, from_inline_table, from_array, from_table_array}
-use Rattle.edit_tree.specs.Shown.{Shown}
+use Rattle.edit_document.specs.ItemRemoval.{moved_index, moved_place}
+use Rattle.edit_tree.specs.IntendedTrees.{moved, LosesStep, Loses, from_table, from_inline_table, from_array, from_table_array}
+use Rattle.edit_tree.specs.DocumentViews.{DocumentViews}
 use Rattle.edit_tree.specs.Tree.{View, string, truth, whole, fractional, moment, static_array, table_array, inline_table, table}
 use Rattle.edit_compare.proofs.GrownNames.{tabled}
 use Rattle.edit_tree.proofs.SamePlace.{same_step_self, same_step_is}
@@ -37,13 +37,13 @@ pub moved_place_is : (t : Step) (p : Place) (s : Step) → moved_place t p s ≡
 moved_place_is t p s = ap (λ z. p ++ z) (moved_is t s [])
 
 -- the number of a counterpart
-pub moved_number : (e : Shown) (t : Step) (p : Place) (s : Step) (r : Option ℕ)
+pub moved_number : (e : DocumentViews) (t : Step) (p : Place) (s : Step) (r : Option ℕ)
     → Numbers e (at p (moved_one t s)) r → Numbers e (moved_place t p s) r
 moved_number e t p s r h = subst (λ z. Numbers e z r) (sym (moved_place_is t p s)) h
 
 -- a member is where it was
 pub key_moves : (v : View) → AreSteps v → (i : ℕ) (name : List ℕ) → slice_get (names_in v) i ≡ Some name
-    → (e : Shown) (t : Step) (p : Place) (r : Option ℕ)
+    → (e : DocumentViews) (t : Step) (p : Place) (r : Option ℕ)
     → Numbers e (at p (key name)) r → (s : Step) → nth_part v i ≡ Some s → Numbers e (moved_place t p s) r
 key_moves v steps i name here e t p r h s part = elim (steps i s part) [
   | inl k ↦
@@ -55,7 +55,7 @@ key_moves v steps i name here e t p r h s part = elim (steps i s part) [
 
 -- an element is where it moved to
 pub index_moves : (v : View) → AreSteps v → (i j : ℕ) → slice_get (names_in v) i ≡ None
-    → (e : Shown) (t : Step) (p : Place) (r : Option ℕ)
+    → (e : DocumentViews) (t : Step) (p : Place) (r : Option ℕ)
     → j ≡ moved_index t i → Numbers e (at p (index j)) r → (s : Step) → nth_part v i ≡ Some s
     → Numbers e (moved_place t p s) r
 index_moves v steps i j none e t p r to h s part = elim (steps i s part) [

@@ -2,44 +2,44 @@
 use Rattle.std.proofs.Common.{◌≡◌, ℕ, List, Option, Some, None, refl, sym, ap, ◌∙◌, inl, inr}
 use Rattle.std.specs.Prelude.{slice_get}
 use Rattle.edit_tree.specs.Assertions.{Step, key, index, at}
-use Rattle.edit_document.specs.Items.{names_in, place_numbered, view_numbered, Numbers}
-use Rattle.edit_tree.specs.Shown.{Shown, tree_of}
-use Rattle.edit_document.specs.Compared.{nth_part, AreSteps, NumbersPart}
+use Rattle.edit_document.specs.Items.{names_in, node_place, node_view, Numbers}
+use Rattle.edit_tree.specs.DocumentViews.{DocumentViews, tree_of}
+use Rattle.edit_document.specs.Compared.{nth_part, AreSteps, IsChildIndex}
 
-abbrev StandsPart : Shown → ℕ → Type 0
-StandsPart d number = (step : Step) (i : ℕ) → nth_part (view_numbered d number) i ≡ Some step
-    → tree_of d (at (place_numbered d number) step) ≡ None → ⊥
+abbrev StandsPart : DocumentViews → ℕ → Type 0
+StandsPart d number = (step : Step) (i : ℕ) → nth_part (node_view d number) i ≡ Some step
+    → tree_of d (at (node_place d number) step) ≡ None → ⊥
 
-abbrev NoneElse : Shown → ℕ → Type 0
-NoneElse d number = (step : Step) → ((i : ℕ) → nth_part (view_numbered d number) i ≡ Some step → ⊥)
-    → tree_of d (at (place_numbered d number) step) ≡ None
+abbrev NoneElse : DocumentViews → ℕ → Type 0
+NoneElse d number = (step : Step) → ((i : ℕ) → nth_part (node_view d number) i ≡ Some step → ⊥)
+    → tree_of d (at (node_place d number) step) ≡ None
 
-pub member_part : (d : Shown) (number i : ℕ) (name : List ℕ) (r : Option ℕ) → StandsPart d number
-    → nth_part (view_numbered d number) i ≡ Some (key name)
-    → Numbers d (at (place_numbered d number) (key name)) r → NumbersPart d number i r
+pub member_part : (d : DocumentViews) (number i : ℕ) (name : List ℕ) (r : Option ℕ) → StandsPart d number
+    → nth_part (node_view d number) i ≡ Some (key name)
+    → Numbers d (at (node_place d number) (key name)) r → IsChildIndex d number i r
 member_part d number i name None stands part h = absurd (stands (key name) i part h)
 member_part d number i name (Some n) stands part h = (key name, part, h.2, h.1)
 
-pub element_part : (d : Shown) (number i : ℕ) (r : Option ℕ) → AreSteps (view_numbered d number)
-    → StandsPart d number → NoneElse d number → slice_get (names_in (view_numbered d number)) i ≡ None
-    → Numbers d (at (place_numbered d number) (index i)) r → NumbersPart d number i r
-element_part d number i r steps stands else none h = go (nth_part (view_numbered d number) i) refl r h
+pub element_part : (d : DocumentViews) (number i : ℕ) (r : Option ℕ) → AreSteps (node_view d number)
+    → StandsPart d number → NoneElse d number → slice_get (names_in (node_view d number)) i ≡ None
+    → Numbers d (at (node_place d number) (index i)) r → IsChildIndex d number i r
+element_part d number i r steps stands else none h = go (nth_part (node_view d number) i) refl r h
   where
     here : ℕ
     here = number
 
-    go : (o : Option Step) → nth_part (view_numbered d number) i ≡ o → (r : Option ℕ)
-        → Numbers d (at (place_numbered d number) (index i)) r → NumbersPart d number i r
+    go : (o : Option Step) → nth_part (node_view d number) i ≡ o → (r : Option ℕ)
+        → Numbers d (at (node_place d number) (index i)) r → IsChildIndex d number i r
     go None e None h = e
     go None e (Some n) h =
         let other = else (index i) (λ j p. elim (steps j (index i) p) [
           | inl k ↦ (let clash : index i ≡ key k.0 = k.2 in cc)
           | inr k ↦ (let same : index i ≡ index j = k.1 in let same_number : j ≡ i = cc in
               let clash : None ≡ Some (index i) = sym e ∙
-              ap (nth_part (view_numbered d here)) (sym same_number) ∙
+              ap (nth_part (node_view d here)) (sym same_number) ∙
               p in cc)
         ]) in
-        let clash : None ≡ Some (view_numbered d n) = sym other ∙ h.0 in
+        let clash : None ≡ Some (node_view d n) = sym other ∙ h.0 in
         absurd cc
     go (Some step) e r h =
         elim (steps i step e) [
@@ -47,7 +47,7 @@ element_part d number i r steps stands else none h = go (nth_part (view_numbered
           | inr k ↦ there r h (e ∙ ap Some k.1)
         ]
       where
-        there : (r : Option ℕ) → Numbers d (at (place_numbered d number) (index i)) r
-            → nth_part (view_numbered d number) i ≡ Some (index i) → NumbersPart d number i r
+        there : (r : Option ℕ) → Numbers d (at (node_place d number) (index i)) r
+            → nth_part (node_view d number) i ≡ Some (index i) → IsChildIndex d number i r
         there None h e = absurd (stands (index i) i e h)
         there (Some n) h e = (index i, e, h.2, h.1)

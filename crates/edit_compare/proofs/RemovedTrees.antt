@@ -5,8 +5,8 @@ use Rattle.edit_syntax.specs.Grammar.{Text}
 use Rattle.edit_syntax.proofs.Cases.{by_test}
 use Rattle.edit_tree.specs.Assertions.{Place, Step, key, at, same_step, assertions}
 use Rattle.edit_tree.specs.EditBytes.{is_within}
-use Rattle.edit_document.specs.Lost.{SameButOrderBeside, LosesPart, IsLeft, IsLost}
-use Rattle.edit_tree.specs.Meant.{Tree, moved, Loses, SameButOrder, same, is_member, Removed}
+use Rattle.edit_document.specs.ItemRemoval.{SameButOrderBeside, LosesPart, IsLeft, IsLost}
+use Rattle.edit_tree.specs.IntendedTrees.{Tree, moved, Loses, SameButOrder, same, is_member, Removed}
 use Rattle.edit_tree.specs.Tree.{kind_at, view_in}
 use Rattle.edit_compare.proofs.Besides.{within_back}
 use Rattle.edit_tree.proofs.HeadedPlaces.{inside_self, inside_more, inside_trans}

@@ -5,15 +5,15 @@ use Rattle.edit_document.specs.declared.place.Step.{Step as WrittenStep}
 use Rattle.edit_tree.specs.Assertions.{Place}
 use Rattle.edit_tree.specs.Tree.{View, string, truth, whole, fractional, moment, static_array, table_array, inline_table, table}
 use Rattle.edit_tree.specs.NewItems.{NewItem}
-use Rattle.edit_tree.specs.Meant.{above, is_inline_table, HasReplaced}
-use Rattle.edit_tree.specs.Shown.{Shown, tree_of}
-use Rattle.edit_document.specs.Items.{place_numbered, place_seen, step_seen}
+use Rattle.edit_tree.specs.IntendedTrees.{above, is_inline_table, HasReplaced}
+use Rattle.edit_tree.specs.DocumentViews.{DocumentViews, tree_of}
+use Rattle.edit_document.specs.Items.{node_place, place_view, step_view}
 use Rattle.edit_document.specs.Compared.{kind_of, ShowsItem, FindsBeside}
 use Rattle.edit_document.proofs.ShownItems.{item_some}
 
-module _ (d e : Shown) (place : Place) (item : NewItem) where
+module _ (d e : DocumentViews) (place : Place) (item : NewItem) where
   pub replaced_there : (n m : ℕ) (inside r : Bool) → inside ≡ is_inline_table (tree_of d (above place))
-      → FindsBeside place d e (Some (n, m)) → Decides r (ShowsItem e (place_numbered e m) inside item)
+      → FindsBeside place d e (Some (n, m)) → Decides r (ShowsItem e (node_place e m) inside item)
       → Decides r (HasReplaced place item (tree_of d) (tree_of e))
   replaced_there n m inside r is (beside, left, right) decided =
       let there : Decides r (ShowsItem e place inside item) =
@@ -29,14 +29,14 @@ module _ (d e : Shown) (place : Place) (item : NewItem) where
 
 -- the place above a place of the code
 pub above_seen : (steps : List WrittenStep) (n : ℕ) → n ≡ length steps - 1
-    → place_seen (take n steps) ≡ above (place_seen steps)
-above_seen [] n e = ap (λ (k : ℕ). place_seen (take k [])) e
-above_seen (s ∷ []) n e = ap (λ (k : ℕ). place_seen (take k (s ∷ []))) e
+    → place_view (take n steps) ≡ above (place_view steps)
+above_seen [] n e = ap (λ (k : ℕ). place_view (take k [])) e
+above_seen (s ∷ []) n e = ap (λ (k : ℕ). place_view (take k (s ∷ []))) e
 above_seen (s ∷ t ∷ ts) n e =
     let k : n ≡ suc (length ts) = omega (arith, e) in
     let rest : length ts ≡ length (t ∷ ts) - 1 = omega arith in
-    ap (λ (j : ℕ). place_seen (take j (s ∷ t ∷ ts))) k
-    ∙ ap (λ (p : Place). step_seen s ∷ p) (above_seen (t ∷ ts) (length ts) rest)
+    ap (λ (j : ℕ). place_view (take j (s ∷ t ∷ ts))) k
+    ∙ ap (λ (p : Place). step_view s ∷ p) (above_seen (t ∷ ts) (length ts) rest)
 
 -- an inline table is told by its kind
 pub inline_kind : (v : View) (k : ℕ) → k ≡ kind_of v → eqb k 8 ≡ is_inline_table (Some v)

@@ -5,9 +5,9 @@ use Rattle.std.specs.List.{list_any}
 use Rattle.std.proofs.lemmas.Option.{same_Some}
 use Rattle.edit_tree.specs.Assertions.{Step, key, at, same_step}
 use Rattle.edit_tree.specs.Tree.{View, inline_table, table}
-use Rattle.edit_tree.specs.Shown.{Shown, tree_of}
-use Rattle.edit_document.specs.Items.{place_numbered, view_numbered, names_in, key_names, count_in}
-use Rattle.edit_tree.specs.Meant.{SameMembers, SameButOrder, same, tables, inline_tables}
+use Rattle.edit_tree.specs.DocumentViews.{DocumentViews, tree_of}
+use Rattle.edit_document.specs.Items.{node_place, node_view, names_in, key_names, count_in}
+use Rattle.edit_tree.specs.IntendedTrees.{SameMembers, SameButOrder, same, tables, inline_tables}
 use Rattle.edit_document.specs.Compared.{kind_of, nth_part, AreSteps, AreNames, AreKeys, HasNamesOf}
 use Rattle.edit_tree.proofs.SamePlace.{same_step_self, same_step_is}
 use Rattle.edit_document.proofs.SameParts.{part_or, part_less, NothingElse}
@@ -160,33 +160,33 @@ free_tabled v w big kind size there back =
 
 -- ---- names of nodes
 
-abbrev pub At : Shown → ℕ → Type 0
-At d n = tree_of d (place_numbered d n) ≡ Some (view_numbered d n)
+abbrev pub At : DocumentViews → ℕ → Type 0
+At d n = tree_of d (node_place d n) ≡ Some (node_view d n)
 
-abbrev pub Stood : Shown → ℕ → Type 0
-Stood d n = (step : Step) (i : ℕ) → nth_part (view_numbered d n) i ≡ Some step
-    → tree_of d (at (place_numbered d n) step) ≡ None → ⊥
+abbrev pub Stood : DocumentViews → ℕ → Type 0
+Stood d n = (step : Step) (i : ℕ) → nth_part (node_view d n) i ≡ Some step
+    → tree_of d (at (node_place d n) step) ≡ None → ⊥
 
-module _ (d : Shown) (n : ℕ) (e : Shown) (m : ℕ) where
-  part_of : NothingElse e m → (t : Step) → (tree_of e (at (place_numbered e m) t) ≡ None → ⊥)
-      → (j : ℕ) × (nth_part (view_numbered e m) j ≡ Some t)
-  part_of else t some = elim (part_or (view_numbered e m) t (count_in (view_numbered e m))) [
+module _ (d : DocumentViews) (n : ℕ) (e : DocumentViews) (m : ℕ) where
+  part_of : NothingElse e m → (t : Step) → (tree_of e (at (node_place e m) t) ≡ None → ⊥)
+      → (j : ℕ) × (nth_part (node_view e m) j ≡ Some t)
+  part_of else t some = elim (part_or (node_view e m) t (count_in (node_view e m))) [
     | inl k ↦ (k.0, k.2)
-    | inr none ↦ absurd (some (else t (λ i h. none i (part_less (view_numbered e m) i t h) h)))
+    | inr none ↦ absurd (some (else t (λ i h. none i (part_less (node_view e m) i t h) h)))
   ]
 
   -- names that the other has are parts that it has, and the other way round
-  pub parts_by_names : NothingElse e m → AreSteps (view_numbered d n) → AreNames (view_numbered d n)
-      → ((i : ℕ) (t : Step) → nth_part (view_numbered d n) i ≡ Some t
-      → (name : List ℕ) × (slice_get (names_in (view_numbered d n)) i ≡ Some name) × (t ≡ key name))
-      → HasNamesOf d n e m → HasParts (view_numbered d n) (view_numbered e m)
+  pub parts_by_names : NothingElse e m → AreSteps (node_view d n) → AreNames (node_view d n)
+      → ((i : ℕ) (t : Step) → nth_part (node_view d n) i ≡ Some t
+      → (name : List ℕ) × (slice_get (names_in (node_view d n)) i ≡ Some name) × (t ≡ key name))
+      → HasNamesOf d n e m → HasParts (node_view d n) (node_view e m)
   parts_by_names else steps names named has t i h =
       let k = named i t h in
       part_of else t (λ none. has i k.0 k.1
-      (ap (λ (s : Step). tree_of e (at (place_numbered e m) s)) (sym k.2) ∙ none))
+      (ap (λ (s : Step). tree_of e (at (node_place e m) s)) (sym k.2) ∙ none))
 
-  pub names_by_parts : Stood e m → AreNames (view_numbered d n)
-      → HasParts (view_numbered d n) (view_numbered e m)
+  pub names_by_parts : Stood e m → AreNames (node_view d n)
+      → HasParts (node_view d n) (node_view e m)
       → HasNamesOf d n e m
   names_by_parts stands names has i name h none =
       let p = has (key name) i (names i name h) in stands (key name) p.0 p.1 none

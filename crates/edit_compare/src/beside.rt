@@ -3,8 +3,8 @@ ghost use Rattle.std.specs.Prelude.{◌≡◌, ◌<◌, ℕ, true, [], ◌∷◌
 ghost use Rattle.std.specs.Bool.{Decides};
 ghost use Rattle.edit_tree.specs.Assertions.{Step as StepSeen, at};
 ghost use Rattle.edit_document.specs.Compared.{SameBeside, SamePart, SamePartsBut, FindsBeside, tree_below, nth_part};
-ghost use Rattle.edit_document.specs.Items.{place_numbered, view_numbered, place_seen, step_seen, count_in, Numbers};
-ghost use Rattle.edit_tree.specs.Shown.{tree_of};
+ghost use Rattle.edit_document.specs.Items.{node_place, node_view, place_view, step_view, count_in, Numbers};
+ghost use Rattle.edit_tree.specs.DocumentViews.{tree_of};
 
 use crate::compare::{part_at, same_below, same_view};
 use edit_document::{Document, Step};
@@ -12,7 +12,7 @@ use edit_document::{Document, Step};
 /// The index of the node one step below a node.
 pub(crate) fn step_down(document: &Document, number: usize, step: &Step) -> Option<usize>
     requires { number < length document.now.nodes }
-    ensures { Numbers document.now (at (place_numbered document.now number) (step_seen step.now)) result }
+    ensures { Numbers document.now (at (node_place document.now number) (step_view step.now)) result }
 {
     match step {
         Step::Key(key) => document.member(number, key.as_str()),
@@ -21,10 +21,15 @@ pub(crate) fn step_down(document: &Document, number: usize, step: &Step) -> Opti
 }
 
 /// Whether a step leads from a node to its member or element at an index.
-pub(crate) fn leads(document: &Document, number: usize, index: usize, step: &Step) -> bool
+pub(crate) fn is_step_to_child(
+    document: &Document,
+    number: usize,
+    index: usize,
+    step: &Step,
+) -> bool
     requires { number < length document.now.nodes }
     ensures { Decides result
-        (nth_part (view_numbered document.now number) index ≡ Some (step_seen step.now)) }
+        (nth_part (node_view document.now number) index ≡ Some (step_view step.now)) }
 {
     document.is_whole(number);
     match document.member_name(number, index) {
@@ -51,8 +56,8 @@ pub(crate) fn counterpart(
 ) -> Option<usize>
     requires here { number < length document.now.nodes }
     requires there { there < length other.now.nodes }
-    ensures { (step : StepSeen) → nth_part (view_numbered document.now number) index ≡ Some step
-        → Numbers other.now (at (place_numbered other.now there) step) result }
+    ensures { (step : StepSeen) → nth_part (node_view document.now number) index ≡ Some step
+        → Numbers other.now (at (node_place other.now there) step) result }
 {
     document.is_whole(number);
     match document.member_name(number, index) {
@@ -110,11 +115,11 @@ pub(crate) fn same_parts_but(
 ) -> bool
     requires here { number < length document.now.nodes }
     requires there { there < length other.now.nodes }
-    ensures { Decides result (SamePartsBut (step_seen step.now) document.now number other.now there) }
+    ensures { Decides result (SamePartsBut (step_view step.now) document.now number other.now there) }
 {
     let count = document.member_count(number);
     'parts: for index in 0..count {
-        if !leads(document, number, index, step)
+        if !is_step_to_child(document, number, index, step)
             && !same_part(document, number, index, other, there)
         {
             return false;
@@ -133,15 +138,15 @@ pub(crate) fn same_around(
 ) -> bool
     requires here { number < length document.now.nodes }
     requires there { there < length other.now.nodes }
-    ensures same { Decides result (SameBeside (step_seen step.now ∷ [])
-        (tree_below document.now (place_numbered document.now number))
-        (tree_below other.now (place_numbered other.now there))) }
-    ensures lacks { result ≡ true
-        → tree_of document.now (at (place_numbered document.now number) (step_seen step.now)) ≡ None
-        → tree_of other.now (at (place_numbered other.now there) (step_seen step.now)) ≡ None }
+    ensures same { Decides result (SameBeside (step_view step.now ∷ [])
+        (tree_below document.now (node_place document.now number))
+        (tree_below other.now (node_place other.now there))) }
+    ensures absent { result ≡ true
+        → tree_of document.now (at (node_place document.now number) (step_view step.now)) ≡ None
+        → tree_of other.now (at (node_place other.now there) (step_view step.now)) ≡ None }
 {
-    document.is_tree();
-    other.is_tree();
+    document.lemma_tree();
+    other.lemma_tree();
     document.is_whole(number);
     other.is_whole(there);
     document.stands(number);
@@ -158,10 +163,10 @@ pub(crate) fn beside(
     other: &Document,
     place: &[Step],
 ) -> Option<(usize, usize)>
-    ensures { FindsBeside (place_seen place.now) document.now other.now result }
+    ensures { FindsBeside (place_view place.now) document.now other.now result }
 {
-    document.is_tree();
-    other.is_tree();
+    document.lemma_tree();
+    other.lemma_tree();
     let mut number = 0;
     let mut there = 0;
     'steps: for step in place {

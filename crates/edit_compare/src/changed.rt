@@ -3,14 +3,14 @@ ghost use Rattle.std.specs.Prelude.{◌≡◌, ◌<◌, Some, length, slice_get,
 ghost use Rattle.std.specs.Bool.{Decides};
 ghost use Rattle.edit_tree.specs.Assertions.{at, key as key_step};
 ghost use Rattle.edit_document.specs.Compared.{AreApart, ShowsValue, ShowsMembers, ShowsItem};
-ghost use Rattle.edit_document.specs.Items.{place_numbered, view_numbered, names_in, place_seen};
-ghost use Rattle.edit_tree.specs.Meant.{above, is_inline_table, HasReplaced};
-ghost use Rattle.edit_document.specs.NewItemViews.{value_seen, pairs_seen, item_seen};
-ghost use Rattle.edit_tree.specs.Shown.{tree_of};
+ghost use Rattle.edit_document.specs.Items.{node_place, node_view, names_in, place_view};
+ghost use Rattle.edit_tree.specs.IntendedTrees.{above, is_inline_table, HasReplaced};
+ghost use Rattle.edit_document.specs.NewItemViews.{new_value_view, new_pair_views, new_item_view};
+ghost use Rattle.edit_tree.specs.DocumentViews.{tree_of};
 
 use crate::beside::beside;
-use crate::compare::same_word;
-use crate::new_shown::shows_value;
+use crate::compare::is_same_text;
+use crate::new_content::shows_value;
 use edit_document::{Document, NewItem, NewValue, Step};
 
 /// Whether a node has a member of this name with this value.
@@ -22,13 +22,13 @@ fn shows_member(
 ) -> bool
     requires { number < length document.now.nodes }
     ensures { Decides result
-        ((slice_get (names_in (view_numbered document.now number)) index ≡ Some (string_bytes member.now.0))
-        × ShowsValue document.now (at (place_numbered document.now number)
+        ((slice_get (names_in (node_view document.now number)) index ≡ Some (string_bytes member.now.0))
+        × ShowsValue document.now (at (node_place document.now number)
         (key_step (string_bytes member.now.0)))
-        (value_seen member.now.1)) }
+        (new_value_view member.now.1)) }
 {
     let name = member.0.as_str();
-    if !same_word(document.member_name(number, index), Some(name)) {
+    if !is_same_text(document.member_name(number, index), Some(name)) {
         return false;
     }
     match document.member(number, name) {
@@ -38,11 +38,11 @@ fn shows_member(
 }
 
 /// For proofs: no two members of a node have the same name. Does nothing.
-pub(crate) fn is_apart(document: &Document, number: usize)
+pub(crate) fn lemma_unique_names(document: &Document, number: usize)
     requires { number < length document.now.nodes }
-    ensures { AreApart (view_numbered document.now number) }
+    ensures { AreApart (node_view document.now number) }
 {
-    document.has_form();
+    document.lemma_form();
     let _number = number;
 }
 
@@ -54,13 +54,13 @@ fn shows_members(
     is_inline: bool,
 ) -> bool
     requires { number < length document.now.nodes }
-    ensures { Decides result (ShowsMembers document.now (place_numbered document.now number) is_inline
-        (pairs_seen members.now)) }
+    ensures { Decides result (ShowsMembers document.now (node_place document.now number) is_inline
+        (new_pair_views members.now)) }
 {
-    document.is_tree();
+    document.lemma_tree();
     document.is_whole(number);
     document.stands(number);
-    is_apart(document, number);
+    lemma_unique_names(document, number);
     let kind = if is_inline { 8 } else { 9 };
     if document.kind(number) != kind {
         return false;
@@ -80,7 +80,7 @@ fn shows_members(
 fn shows_item(document: &Document, number: usize, item: &NewItem, inside: bool) -> bool
     requires { number < length document.now.nodes }
     ensures { Decides result
-        (ShowsItem document.now (place_numbered document.now number) inside (item_seen item.now)) }
+        (ShowsItem document.now (node_place document.now number) inside (new_item_view item.now)) }
 {
     match item {
         NewItem::Value(value) => shows_value(document, number, value),
@@ -93,7 +93,7 @@ fn shows_item(document: &Document, number: usize, item: &NewItem, inside: bool) 
 
 /// Whether the parent of a place is an inline table.
 fn is_inline_above(document: &Document, place: &[Step]) -> bool
-    ensures { result ≡ is_inline_table (tree_of document.now (above (place_seen place.now))) }
+    ensures { result ≡ is_inline_table (tree_of document.now (above (place_view place.now))) }
 {
     let upper = &place[..place.len().saturating_sub(1)];
     match document.number(upper) {
@@ -104,7 +104,7 @@ fn is_inline_above(document: &Document, place: &[Step]) -> bool
 
 /// Whether `other` equals `document` with the entry at a place replaced by `item`.
 pub fn has_replaced(document: &Document, other: &Document, place: &[Step], item: &NewItem) -> bool
-    ensures { Decides result (HasReplaced (place_seen place.now) (item_seen item.now)
+    ensures { Decides result (HasReplaced (place_view place.now) (new_item_view item.now)
         (tree_of document.now) (tree_of other.now)) }
 {
     let inside = is_inline_above(document, place);

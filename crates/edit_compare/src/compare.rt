@@ -1,14 +1,14 @@
 //! Compares two documents at a node and below it.
 ghost use Rattle.std.specs.Prelude.{◌≡◌, ◌<◌, ◌≤◌, ◌+◌, length, option_map};
 ghost use Rattle.std.specs.Bool.{Decides};
-ghost use Rattle.edit_document.specs.Compared.{IsWhole, NumbersPart, SameBelow, kind_of, word_of};
-ghost use Rattle.edit_document.specs.Items.{place_numbered, view_numbered, names_in};
+ghost use Rattle.edit_document.specs.Compared.{IsWhole, IsChildIndex, SameBelow, kind_of, word_of};
+ghost use Rattle.edit_document.specs.Items.{node_place, node_view, names_in};
 
 use edit_document::Document;
-use edit_tree::nodes::{Content, cut, words_in};
+use edit_tree::nodes::{Content, cut, decoded_str};
 
 /// Whether two optional texts are equal.
-pub(crate) fn same_word(word: Option<&str>, other: Option<&str>) -> bool
+pub(crate) fn is_same_text(word: Option<&str>, other: Option<&str>) -> bool
     ensures { Decides result (option_map (λ s. s.now) word.entry ≡ option_map (λ s. s.now) other.entry) }
 {
     match word {
@@ -23,7 +23,7 @@ pub(crate) fn same_word(word: Option<&str>, other: Option<&str>) -> bool
 /// The index of the node of the member or element at `index`, in the order in which they are defined.
 pub(crate) fn part_at(document: &Document, number: usize, index: usize) -> Option<usize>
     requires { number < length document.now.nodes }
-    ensures { NumbersPart document.now number index result }
+    ensures { IsChildIndex document.now number index result }
 {
     document.is_whole(number);
     match document.member_name(number, index) {
@@ -37,14 +37,14 @@ fn same_names(document: &Document, number: usize, other: &Document, there: usize
     requires here { number < length document.now.nodes }
     requires there { there < length other.now.nodes }
     ensures { Decides result
-        (names_in (view_numbered document.now number) ≡ names_in (view_numbered other.now there)) }
+        (names_in (node_view document.now number) ≡ names_in (node_view other.now there)) }
 {
     let count = document.name_count(number);
     if count != other.name_count(there) {
         return false;
     }
     'names: for index in 0..count {
-        if !same_word(
+        if !is_same_text(
             document.member_name(number, index),
             other.member_name(there, index),
         ) {
@@ -58,7 +58,7 @@ fn same_names(document: &Document, number: usize, other: &Document, there: usize
 pub(crate) fn same_view(document: &Document, number: usize, other: &Document, there: usize) -> bool
     requires here { number < length document.now.nodes }
     requires there { there < length other.now.nodes }
-    ensures { Decides result (view_numbered document.now number ≡ view_numbered other.now there) }
+    ensures { Decides result (node_view document.now number ≡ node_view other.now there) }
 {
     document.is_whole(number);
     other.is_whole(there);
@@ -68,7 +68,7 @@ pub(crate) fn same_view(document: &Document, number: usize, other: &Document, th
     if document.member_count(number) != other.member_count(there) {
         return false;
     }
-    if !same_word(document.word(number), other.word(there)) {
+    if !is_same_text(document.word(number), other.word(there)) {
         return false;
     }
     same_names(document, number, other, there)
@@ -84,12 +84,12 @@ pub(crate) fn same_below(
 ) -> bool
     requires here { number < length document.now.nodes }
     requires there { there < length other.now.nodes }
-    requires depth { 81 ≤ length (place_numbered document.now number) + depth }
-    ensures { Decides result (SameBelow document.now (place_numbered document.now number)
-        other.now (place_numbered other.now there)) }
+    requires depth { 81 ≤ length (node_place document.now number) + depth }
+    ensures { Decides result (SameBelow document.now (node_place document.now number)
+        other.now (node_place other.now there)) }
 {
-    document.is_tree();
-    other.is_tree();
+    document.lemma_tree();
+    other.lemma_tree();
     document.is_whole(number);
     other.is_whole(there);
     document.stands(number);

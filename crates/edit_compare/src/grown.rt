@@ -3,28 +3,28 @@ ghost use Rattle.std.specs.Prelude.{◌≡◌, ◌<◌, ℕ, [], None, Some, len
 ghost use Rattle.std.specs.Bool.{Decides};
 ghost use Rattle.edit_tree.specs.Assertions.{at, key as key_step};
 ghost use Rattle.edit_document.specs.Compared.{tree_below};
-ghost use Rattle.edit_document.specs.Items.{place_numbered, view_numbered, names_in, place_seen};
-ghost use Rattle.edit_tree.specs.Meant.{Grown, Inserted};
-ghost use Rattle.edit_document.specs.NewItemViews.{value_seen};
-ghost use Rattle.edit_tree.specs.Shown.{tree_of};
+ghost use Rattle.edit_document.specs.Items.{node_place, node_view, names_in, place_view};
+ghost use Rattle.edit_tree.specs.IntendedTrees.{Grown, Inserted};
+ghost use Rattle.edit_document.specs.NewItemViews.{new_value_view};
+ghost use Rattle.edit_tree.specs.DocumentViews.{tree_of};
 
 use crate::beside::{beside, same_parts};
-use crate::compare::same_word;
-use crate::new_shown::shows_value;
+use crate::compare::is_same_text;
+use crate::new_content::shows_value;
 use edit_document::{Document, NewValue, Step};
 
 /// The position among a node's members of the one with this name.
 fn name_index(document: &Document, number: usize, key: &str) -> Option<usize>
     requires { number < length document.now.nodes }
     ensures { MatchOption result
-        ((i : ℕ) → slice_get (names_in (view_numbered document.now number)) i ≡ Some key.now → ⊥)
-        (λ k. (slice_get (names_in (view_numbered document.now number)) k ≡ Some key.now)
-        × ((i : ℕ) → i < k → slice_get (names_in (view_numbered document.now number)) i ≡ Some key.now
+        ((i : ℕ) → slice_get (names_in (node_view document.now number)) i ≡ Some key.now → ⊥)
+        (λ k. (slice_get (names_in (node_view document.now number)) k ≡ Some key.now)
+        × ((i : ℕ) → i < k → slice_get (names_in (node_view document.now number)) i ≡ Some key.now
         → ⊥)) }
 {
     let count = document.name_count(number);
     'names: for index in 0..count {
-        if same_word(document.member_name(number, index), Some(key)) {
+        if is_same_text(document.member_name(number, index), Some(key)) {
             return Some(index);
         }
     }
@@ -42,9 +42,9 @@ fn grown_names(
 ) -> bool
     requires here { number < length document.now.nodes }
     requires there { there < length other.now.nodes }
-    requires absent { tree_of document.now (at (place_numbered document.now number) (key_step key.now)) ≡ None }
-    ensures { Decides result (Grown (key_step key.now) (Some (view_numbered document.now number))
-        (Some (view_numbered other.now there))) }
+    requires absent { tree_of document.now (at (node_place document.now number) (key_step key.now)) ≡ None }
+    ensures { Decides result (Grown (key_step key.now) (Some (node_view document.now number))
+        (Some (node_view other.now there))) }
 {
     document.is_whole(number);
     other.is_whole(there);
@@ -64,7 +64,7 @@ fn grown_names(
     }
     'names: for index in 0..count {
         let moved = if index < added { index } else { index + 1 };
-        if !same_word(
+        if !is_same_text(
             document.member_name(number, index),
             other.member_name(there, moved),
         ) {
@@ -85,13 +85,13 @@ fn grown_here(
 ) -> bool
     requires here { number < length document.now.nodes }
     requires there { there < length other.now.nodes }
-    requires absent { tree_of document.now (at (place_numbered document.now number) (key_step key.now)) ≡ None }
-    ensures { Decides result (Inserted [] key.now (value_seen value.now)
-        (tree_below document.now (place_numbered document.now number))
-        (tree_below other.now (place_numbered other.now there))) }
+    requires absent { tree_of document.now (at (node_place document.now number) (key_step key.now)) ≡ None }
+    ensures { Decides result (Inserted [] key.now (new_value_view value.now)
+        (tree_below document.now (node_place document.now number))
+        (tree_below other.now (node_place other.now there))) }
 {
-    document.is_tree();
-    other.is_tree();
+    document.lemma_tree();
+    other.lemma_tree();
     document.is_whole(number);
     other.is_whole(there);
     document.stands(number);
@@ -116,8 +116,8 @@ pub fn has_grown(
     key: &str,
     value: &NewValue,
 ) -> bool
-    requires absent { tree_of document.now (at (place_seen place.now) (key_step key.now)) ≡ None }
-    ensures { Decides result (Inserted (place_seen place.now) key.now (value_seen value.now)
+    requires absent { tree_of document.now (at (place_view place.now) (key_step key.now)) ≡ None }
+    ensures { Decides result (Inserted (place_view place.now) key.now (new_value_view value.now)
         (tree_of document.now) (tree_of other.now)) }
 {
     match beside(document, other, place) {

@@ -2,12 +2,12 @@
 #![tactic(auto)]
 
 mod beside;
-mod beside_unordered;
 mod changed;
 mod compare;
+mod equal_around_unordered;
 mod grown;
 mod kept;
-mod new_shown;
+mod new_content;
 mod removed;
 mod unordered;
 

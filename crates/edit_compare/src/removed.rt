@@ -4,23 +4,23 @@ ghost use Rattle.std.specs.Bool.{Decides};
 ghost use Rattle.edit_tree.specs.Assertions.{Step as StepSeen, at, key as key_step};
 ghost use Rattle.edit_document.specs.Forms.{IfDocument};
 ghost use Rattle.edit_document.specs.Compared.{nth_part, tree_below};
-ghost use Rattle.edit_document.specs.Items.{place_numbered, view_numbered, place_seen, step_seen, Numbers};
-ghost use Rattle.edit_document.specs.Lost.{HasNamesBut, MovedPart, MovedParts, LosesPart, moved_place};
-ghost use Rattle.edit_document.specs.Lost as lost;
-ghost use Rattle.edit_tree.specs.Meant.{Loses, Removed};
-ghost use Rattle.edit_tree.specs.Shown.{tree_of};
+ghost use Rattle.edit_document.specs.Items.{node_place, node_view, place_view, step_view, Numbers};
+ghost use Rattle.edit_document.specs.ItemRemoval.{HasNamesBut, MovedPart, MovedParts, LosesPart, moved_place};
+ghost use Rattle.edit_document.specs.ItemRemoval as lost;
+ghost use Rattle.edit_tree.specs.IntendedTrees.{Loses, Removed};
+ghost use Rattle.edit_tree.specs.DocumentViews.{tree_of};
 
-use crate::beside::{leads, step_down};
-use crate::beside_unordered::beside_unordered;
+use crate::beside::{is_step_to_child, step_down};
 use crate::compare::part_at;
-use crate::kept::kept_steps;
+use crate::equal_around_unordered::equal_around_unordered;
+use crate::kept::steps_to_remaining;
 use crate::unordered::{has_names_of, same_unordered};
 use edit_document::{Document, Step};
 
 /// The index of an array element after a child was removed: elements behind a removed element move down by
 /// one.
 fn moved_index(step: &Step, index: usize) -> usize
-    ensures { result ≡ lost.moved_index (step_seen step.now) index }
+    ensures { result ≡ lost.moved_index (step_view step.now) index }
 {
     match step {
         Step::Key(_) => index,
@@ -38,7 +38,7 @@ fn front(place: &[Step], count: usize) -> &[Step]
 
 /// Whether a step is the key of this name.
 fn is_key(step: &Step, name: &str) -> bool
-    ensures { Decides result (key_step name.now ≡ step_seen step.now) }
+    ensures { Decides result (key_step name.now ≡ step_view step.now) }
 {
     match step {
         Step::Key(key) => name == key.as_str(),
@@ -58,8 +58,8 @@ fn moved_counterpart(
 ) -> Option<usize>
     requires here { number < length document.now.nodes }
     requires there { there < length other.now.nodes }
-    ensures { (s : StepSeen) → nth_part (view_numbered document.now number) index ≡ Some s
-        → Numbers other.now (moved_place (step_seen step.now) (place_numbered other.now there) s) result }
+    ensures { (s : StepSeen) → nth_part (node_view document.now number) index ≡ Some s
+        → Numbers other.now (moved_place (step_view step.now) (node_place other.now there) s) result }
 {
     document.is_whole(number);
     match document.member_name(number, index) {
@@ -80,7 +80,7 @@ fn moved_part(
 ) -> bool
     requires here { number < length document.now.nodes }
     requires there { there < length other.now.nodes }
-    ensures { Decides result (MovedPart (step_seen step.now) document.now number other.now there index) }
+    ensures { Decides result (MovedPart (step_view step.now) document.now number other.now there index) }
 {
     document.is_whole(number);
     let Some(part) = part_at(document, number, index) else {
@@ -103,11 +103,11 @@ fn moved_parts(
 ) -> bool
     requires here { number < length document.now.nodes }
     requires there { there < length other.now.nodes }
-    ensures { Decides result (MovedParts (step_seen step.now) document.now number other.now there) }
+    ensures { Decides result (MovedParts (step_view step.now) document.now number other.now there) }
 {
     let count = document.member_count(number);
     'parts: for index in 0..count {
-        if !leads(document, number, index, step)
+        if !is_step_to_child(document, number, index, step)
             && !moved_part(document, number, index, other, there, step)
         {
             return false;
@@ -126,7 +126,7 @@ fn has_names_but(
 ) -> bool
     requires here { number < length document.now.nodes }
     requires there { there < length other.now.nodes }
-    ensures { Decides result (HasNamesBut (step_seen step.now) document.now number other.now there) }
+    ensures { Decides result (HasNamesBut (step_view step.now) document.now number other.now there) }
 {
     let count = document.name_count(number);
     'names: for index in 0..count {
@@ -141,10 +141,10 @@ fn has_names_but(
 }
 
 /// Whether a node has no child at this step.
-fn lacks(document: &Document, number: usize, step: &Step) -> bool
+fn has_no_child(document: &Document, number: usize, step: &Step) -> bool
     requires { number < length document.now.nodes }
     ensures { Decides result
-        (tree_of document.now (at (place_numbered document.now number) (step_seen step.now)) ≡ None) }
+        (tree_of document.now (at (node_place document.now number) (step_view step.now)) ≡ None) }
 {
     match step_down(document, number, step) {
         Some(_) => false,
@@ -162,10 +162,10 @@ fn loses_view(
 ) -> bool
     requires here { number < length document.now.nodes }
     requires there { there < length other.now.nodes }
-    requires part { tree_of document.now (at (place_numbered document.now number) (step_seen step.now)) ≡ None
+    requires part { tree_of document.now (at (node_place document.now number) (step_view step.now)) ≡ None
         → ⊥ }
-    ensures { Decides result (Loses (step_seen step.now) (Some (view_numbered document.now number))
-        (Some (view_numbered other.now there))) }
+    ensures { Decides result (Loses (step_view step.now) (Some (node_view document.now number))
+        (Some (node_view other.now there))) }
 {
     document.is_whole(number);
     other.is_whole(there);
@@ -186,7 +186,7 @@ fn loses_view(
     if !has_names_of(other, there, document, number) {
         return false;
     }
-    lacks(other, there, step)
+    has_no_child(other, there, step)
 }
 
 /// Whether a node of another document and all below it equal this node with a child removed.
@@ -199,14 +199,14 @@ fn loses_part(
 ) -> bool
     requires here { number < length document.now.nodes }
     requires there { there < length other.now.nodes }
-    requires part { tree_of document.now (at (place_numbered document.now number) (step_seen step.now)) ≡ None
+    requires part { tree_of document.now (at (node_place document.now number) (step_view step.now)) ≡ None
         → ⊥ }
-    ensures { Decides result (LosesPart (step_seen step.now)
-        (tree_below document.now (place_numbered document.now number))
-        (tree_below other.now (place_numbered other.now there))) }
+    ensures { Decides result (LosesPart (step_view step.now)
+        (tree_below document.now (node_place document.now number))
+        (tree_below other.now (node_place other.now there))) }
 {
-    document.is_tree();
-    other.is_tree();
+    document.lemma_tree();
+    other.lemma_tree();
     document.is_whole(number);
     other.is_whole(there);
     document.stands(number);
@@ -219,16 +219,16 @@ fn loses_part(
 
 /// Whether `other` equals `document` with the item at a place removed.
 pub fn has_lost(document: &Document, other: &Document, place: &[Step]) -> bool
-    requires inner { place_seen place.now ≡ [] → ⊥ }
-    requires stands { tree_of document.now (place_seen place.now) ≡ None → ⊥ }
-    ensures { IfDocument document.now.bytes (λ form. Decides result (Removed form (place_seen place.now)
+    requires inner { place_view place.now ≡ [] → ⊥ }
+    requires stands { tree_of document.now (place_view place.now) ≡ None → ⊥ }
+    ensures { IfDocument document.now.bytes (λ form. Decides result (Removed form (place_view place.now)
         (tree_of document.now) (tree_of other.now))) }
 {
-    document.has_form();
-    document.is_tree();
-    other.is_tree();
-    let kept = kept_steps(document, place);
-    let Some((number, there)) = beside_unordered(document, other, front(place, kept)) else {
+    document.lemma_form();
+    document.lemma_tree();
+    other.lemma_tree();
+    let kept = steps_to_remaining(document, place);
+    let Some((number, there)) = equal_around_unordered(document, other, front(place, kept)) else {
         return false;
     };
     document.is_whole(number);

@@ -2,8 +2,8 @@
 ghost use Rattle.std.specs.Prelude.{◌≡◌, ◌<◌, ◌≤◌, ◌+◌, ℕ, Some, None, length};
 ghost use Rattle.std.specs.Bool.{Decides};
 ghost use Rattle.edit_document.specs.Compared.{HasNamesOf, SameButOrderBelow};
-ghost use Rattle.edit_document.specs.Items.{place_numbered, view_numbered};
-ghost use Rattle.edit_tree.specs.Meant.{SameButOrder};
+ghost use Rattle.edit_document.specs.Items.{node_place, node_view};
+ghost use Rattle.edit_tree.specs.IntendedTrees.{SameButOrder};
 
 use crate::beside::counterpart;
 use crate::compare::{part_at, same_view};
@@ -41,8 +41,8 @@ pub(crate) fn same_but_order(
 ) -> bool
     requires here { number < length document.now.nodes }
     requires there { there < length other.now.nodes }
-    ensures { Decides result (SameButOrder (Some (view_numbered document.now number))
-        (Some (view_numbered other.now there))) }
+    ensures { Decides result (SameButOrder (Some (node_view document.now number))
+        (Some (node_view other.now there))) }
 {
     document.is_whole(number);
     other.is_whole(there);
@@ -72,12 +72,12 @@ pub(crate) fn same_unordered(
 ) -> bool
     requires here { number < length document.now.nodes }
     requires there { there < length other.now.nodes }
-    requires depth { 81 ≤ length (place_numbered document.now number) + depth }
-    ensures { Decides result (SameButOrderBelow document.now (place_numbered document.now number)
-        other.now (place_numbered other.now there)) }
+    requires depth { 81 ≤ length (node_place document.now number) + depth }
+    ensures { Decides result (SameButOrderBelow document.now (node_place document.now number)
+        other.now (node_place other.now there)) }
 {
-    document.is_tree();
-    other.is_tree();
+    document.lemma_tree();
+    other.lemma_tree();
     document.is_whole(number);
     other.is_whole(there);
     document.stands(number);

@@ -21,7 +21,7 @@ fn names_near(
 }
 
 /// Adds to `Error::Locked` the first manifest that would change.
-fn held_back(alloc: Global, refusal: Refusal, plan: &UpgradePlan) -> Refusal
+fn explain_locked(alloc: Global, refusal: Refusal, plan: &UpgradePlan) -> Refusal
     ensures { result.error ≡ refusal.error }
 {
     let place = match plan.outputs.first() {
@@ -45,7 +45,7 @@ pub fn explain_delivery(alloc: Global, refusal: Refusal, plan: &UpgradePlan) -> 
     ensures { result.error ≡ refusal.error }
 {
     let help = match &refusal.error {
-        Error::Locked => return held_back(alloc, refusal, plan),
+        Error::Locked => return explain_locked(alloc, refusal, plan),
         Error::DependenciesMissing(missing) => names_near(alloc, missing, plan),
         _ => return refusal,
     };

@@ -24,7 +24,7 @@ fn is_among(texts: &[String], text: &str) -> bool {
 }
 
 /// Whether a selection contains a package.
-pub(crate) fn is_asked(selection: &Selection, package: &Package) -> bool {
+pub(crate) fn is_package_selected(selection: &Selection, package: &Package) -> bool {
     let name = package.name.as_str();
     if selection.workspace || selection.packages.is_empty() {
         return package.member && !is_among(&selection.exclude, name);
@@ -68,7 +68,7 @@ pub(crate) fn without_version(
     inputs: &[Input],
 ) -> Option<Explanation> {
     for package in &workspace.packages {
-        if !is_asked(selection, package) {
+        if !is_package_selected(selection, package) {
             continue;
         }
         let input = input_of(alloc, package, inputs)?;
@@ -107,7 +107,7 @@ fn version_fault(alloc: Global, package: &Package, inputs: &[Input]) -> Option<E
 }
 
 /// The first selected package for whose version the target fails with this error.
-pub(crate) fn refused_version(
+pub(crate) fn find_rejected_version(
     alloc: Global,
     error: &Error,
     target: &TargetVersion,
@@ -117,7 +117,7 @@ pub(crate) fn refused_version(
 ) -> Option<Explanation> {
     let metadata = selection.metadata.as_deref();
     for package in &workspace.packages {
-        if !is_asked(selection, package) {
+        if !is_package_selected(selection, package) {
             continue;
         }
         if let Err(own) = target.bump(alloc, &package.version, metadata) {
@@ -130,7 +130,7 @@ pub(crate) fn refused_version(
 }
 
 /// The root's version, where the target fails with this error for it.
-pub(crate) fn refused_root(
+pub(crate) fn find_rejected_root(
     alloc: Global,
     error: &Error,
     target: &TargetVersion,

@@ -1,7 +1,7 @@
 //! The requirement that cannot be raised to a new version.
 
 use crate::entries::entry_position;
-use crate::members::{Explanation, is_asked};
+use crate::members::{Explanation, is_package_selected};
 use crate::same::is_same;
 use edit_base::Error;
 use edit_base::paths::{folder, join, normal};
@@ -26,7 +26,7 @@ fn points_to(alloc: Global, input: &Input, entry: &PathEntry, package: &Package)
 }
 
 /// The package that an entry's path names, among those that get a new version.
-fn pointed<'a>(
+fn package_at_path<'a>(
     alloc: Global,
     input: &Input,
     entry: &PathEntry,
@@ -34,7 +34,7 @@ fn pointed<'a>(
     workspace: &'a Workspace,
 ) -> Option<&'a Package> {
     for package in &workspace.packages {
-        if is_asked(selection, package) && points_to(alloc, input, entry, package)? {
+        if is_package_selected(selection, package) && points_to(alloc, input, entry, package)? {
             return Some(package);
         }
     }
@@ -61,7 +61,7 @@ fn explained(
 }
 
 /// Whether raising the requirement of an entry fails with this error, whatever the version.
-fn is_refused(alloc: Global, error: &Error, entry: &PathEntry) -> bool {
+fn has_raise_error(alloc: Global, error: &Error, entry: &PathEntry) -> bool {
     match upgrade_requirement(alloc, entry.text.as_str(), &Version::new(0, 0, 0)) {
         Ok(_) => false,
         Err(own) => is_same(alloc, &own, error),
@@ -69,7 +69,7 @@ fn is_refused(alloc: Global, error: &Error, entry: &PathEntry) -> bool {
 }
 
 /// The first requirement of a manifest that causes this error.
-fn refused_in(
+fn find_unraisable_in(
     alloc: Global,
     error: &Error,
     selection: &Selection,
@@ -79,10 +79,10 @@ fn refused_in(
     let manifest = Manifest::read_bytes(alloc, &input.bytes).ok()?;
     let found = path_entries(alloc, &manifest.document).ok()?;
     for entry in &found {
-        if !is_refused(alloc, error, entry) {
+        if !has_raise_error(alloc, error, entry) {
             continue;
         }
-        if let Some(package) = pointed(alloc, input, entry, selection, workspace) {
+        if let Some(package) = package_at_path(alloc, input, entry, selection, workspace) {
             return explained(alloc, input, &manifest.document, entry, package);
         }
     }
@@ -90,7 +90,7 @@ fn refused_in(
 }
 
 /// The first requirement of these manifests that cannot be raised to a new version for this error.
-pub(crate) fn refused_requirement(
+pub(crate) fn find_unraisable(
     alloc: Global,
     error: &Error,
     selection: &Selection,
@@ -98,7 +98,7 @@ pub(crate) fn refused_requirement(
     inputs: &[Input],
 ) -> Option<Explanation> {
     for input in inputs {
-        if let Some(found) = refused_in(alloc, error, selection, workspace, input) {
+        if let Some(found) = find_unraisable_in(alloc, error, selection, workspace, input) {
             return Some(found);
         }
     }

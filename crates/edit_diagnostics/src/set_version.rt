@@ -1,8 +1,8 @@
 //! Explains errors of a plan of new versions.
 ghost use Rattle.std.specs.Prelude.{◌≡◌};
 
-use crate::members::{Explanation, refused_root, refused_version, without_version};
-use crate::requirements::refused_requirement;
+use crate::members::{Explanation, find_rejected_root, find_rejected_version, without_version};
+use crate::requirements::find_unraisable;
 use crate::suggestions::suggestions;
 use edit_base::paths::join;
 use edit_base::{Error, MissingNames};
@@ -64,13 +64,13 @@ fn explained(
         Error::Memory => None,
         Error::NoVersionPlace => without_version(alloc, selection, workspace, inputs),
         Error::InvalidRequirement { .. } | Error::Unsupported { .. } => {
-            refused_requirement(alloc, error, selection, workspace, inputs)
+            find_unraisable(alloc, error, selection, workspace, inputs)
         }
         Error::PackagesMissing(missing) => missing_member(alloc, missing, workspace),
         Error::CannotExclude { .. } => shared_version(alloc, workspace),
-        _ => match refused_version(alloc, error, target, selection, workspace, inputs) {
+        _ => match find_rejected_version(alloc, error, target, selection, workspace, inputs) {
             Some(found) => Some(found),
-            None => refused_root(alloc, error, target, selection, inputs),
+            None => find_rejected_root(alloc, error, target, selection, inputs),
         },
     }
 }

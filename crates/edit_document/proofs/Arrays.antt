@@ -7,13 +7,13 @@ use Rattle.edit_syntax.specs.Grammar.{Between, array, Elements}
 use Rattle.edit_tree.specs.Assertions.{index, at, Kind, leaf, Assertion}
 use Rattle.edit_tree.specs.Tree.{kind_at, count_elements}
 use Rattle.edit_document.specs.DocumentLayout.{Placed}
-use Rattle.edit_tree.specs.Nodes.{Spot}
+use Rattle.edit_tree.specs.Nodes.{ModelNode}
 use Rattle.edit_tree.proofs.SamePlace.{not_root}
 use Rattle.edit_tree.proofs.MoreAssertions.{first_kind}
 use Rattle.edit_document.proofs.AssertedSpots.{Lists, Stands, was_asserted, step_below}
 
 -- an element stands where a spot lists it
-listed_stands : (made : List Assertion) (written : List Placed) (spots : List Spot) (t : ℕ) (s : Spot) (i : ℕ)
+listed_stands : (made : List Assertion) (written : List Placed) (spots : List ModelNode) (t : ℕ) (s : ModelNode) (i : ℕ)
     → Stands made written spots → slice_get spots t ≡ Some s → i < length s.elements → (k : Kind)
     × (kind_at made (at s.place (index i)) ≡ Some k)
 listed_stands made written spots t s i st here lt = pick (slice_get s.elements i) refl
@@ -35,7 +35,7 @@ listed_stands made written spots t s i st here lt = pick (slice_get s.elements i
         )
 
 -- and is listed where it stands
-stands_listed : (made : List Assertion) (written : List Placed) (spots : List Spot) (t : ℕ) (s : Spot) (i : ℕ)
+stands_listed : (made : List Assertion) (written : List Placed) (spots : List ModelNode) (t : ℕ) (s : ModelNode) (i : ℕ)
     (k : Kind) → Stands made written spots → slice_get spots t ≡ Some s
     → kind_at made (at s.place (index i)) ≡ Some k → i < length s.elements
 stands_listed made written spots t s i k st here some =
@@ -43,7 +43,7 @@ stands_listed made written spots t s i k st here some =
     slice_get_within s.elements i c.0 (step_below made written spots t s (index i) st here c.0 c.1)
 
 -- the last element stands, and no more
-pub elements_are : (made : List Assertion) (written : List Placed) (spots : List Spot) (t : ℕ) (s : Spot)
+pub elements_are : (made : List Assertion) (written : List Placed) (spots : List ModelNode) (t : ℕ) (s : ModelNode)
     (i : ℕ) (k : Kind) → Stands made written spots → slice_get spots t ≡ Some s
     → kind_at made (at s.place (index i)) ≡ Some k
     → kind_at made (at s.place (index (suc i))) ≡ None → length s.elements ≡ suc i
@@ -55,7 +55,7 @@ elements_are made written spots t s i k st here some none =
       | inr le ↦ omega arith
     ]
 
-pub elements_none_at : (made : List Assertion) (written : List Placed) (spots : List Spot) (t : ℕ) (s : Spot)
+pub elements_none_at : (made : List Assertion) (written : List Placed) (spots : List ModelNode) (t : ℕ) (s : ModelNode)
     → Stands made written spots → slice_get spots t ≡ Some s → kind_at made (at s.place (index 0)) ≡ None
     → length s.elements ≡ 0
 elements_none_at made written spots t s st here none =
@@ -66,7 +66,7 @@ elements_none_at made written spots t s st here none =
     ]
 
 -- an array has all of its elements
-pub elements_full : (made : List Assertion) (written : List Placed) (spots : List Spot) (t : ℕ) (s : Spot)
+pub elements_full : (made : List Assertion) (written : List Placed) (spots : List ModelNode) (t : ℕ) (s : ModelNode)
     (g : List Between) (es : Elements) → Stands made written spots → slice_get spots t ≡ Some s
     → first_kind made s.place ≡ Some (leaf (array g es))
     → ((i : ℕ) → i < count_elements es → kind_at made (at s.place (index i)) ≡ None → ⊥)

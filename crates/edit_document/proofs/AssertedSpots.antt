@@ -3,17 +3,17 @@ use Rattle.std.proofs.Common.{◌≡◌, ℕ, zero, suc, ◌<◌, ◌≤◌, Boo
 use Rattle.std.specs.Prelude.{slice_get, slice_set}
 use Rattle.std.proofs.lemmas.Option.{slice_get_within, same_Some}
 use Rattle.edit_syntax.specs.declared.span.Span.{Span}
-use Rattle.edit_tree.specs.declared.nodes.Taken.{Taken}
-use Rattle.edit_tree.specs.declared.nodes.Taken.TheVariants.{Header}
+use Rattle.edit_tree.specs.declared.nodes.DefinedBy.{DefinedBy}
+use Rattle.edit_tree.specs.declared.nodes.DefinedBy.TheVariants.{Header}
 use Rattle.edit_document.specs.DocumentLayout.{shape_of_value, Placed, span_at}
 use Rattle.edit_syntax.specs.Grammar.{array}
-use Rattle.edit_tree.specs.Assertions.{Step, key, index, Place, at, same_place, Kind, dotted, leaf, super, header_kind, array_kind, element_kind, Assertion, together, AreShort}
+use Rattle.edit_tree.specs.Assertions.{Step, key, index, Place, at, same_place, Kind, dotted, leaf, super, header_kind, array_kind, element_kind, Assertion, are_compatible, AreShort}
 use Rattle.edit_tree.specs.Tree.{members_of, kind_at, count_elements}
 use Rattle.edit_document.specs.Items.{key_names}
-use Rattle.edit_tree.specs.Taking.{taken_of, joins, stronger}
-use Rattle.edit_tree.specs.Nodes.{Shape, scalar, section, sections, Spot, names_of, StandsAt, below, IsBelow, IsTree}
+use Rattle.edit_tree.specs.Redefinition.{defined_by, joins, merged_definition}
+use Rattle.edit_tree.specs.Nodes.{Shape, scalar, section, sections, ModelNode, names_of, StandsAt, below, IsBelow, IsTree}
 use Rattle.edit_tree.specs.Nodes as shapes
-use Rattle.edit_tree.specs.Walk.{spot_at, with_taken}
+use Rattle.edit_tree.specs.Walk.{model_node_at, with_definition}
 use Rattle.edit_tree.proofs.SamePlace.{same_place_self, same_place_is, other_place, last_same, not_root}
 use Rattle.edit_syntax.proofs.ListElements.{OneSet, changed, other, in_set, slice_get_same}
 use Rattle.edit_tree.proofs.TakenPairs.{together_is, stronger_is}
@@ -75,29 +75,29 @@ shape_of_kind header_kind = section
 shape_of_kind element_kind = section
 shape_of_kind array_kind = sections
 
-pub record Tells (made : List Assertion) (written : List Placed) (s : Spot) : Type 0 where
+pub record Tells (made : List Assertion) (written : List Placed) (s : ModelNode) : Type 0 where
   pub kind : Kind
   pub first : first_kind made s.place ≡ Some kind
   pub shape : s.shape ≡ shape_of_kind kind
-  pub joined : (s.place ≡ [] → ⊥) → (k : Kind) → allowed made s.place k ≡ joins s.taken (taken_of k)
+  pub joined : (s.place ≡ [] → ⊥) → (k : Kind) → allowed made s.place k ≡ joins s.taken (defined_by k)
   pub names : names_of s ≡ key_names (members_of made s.place)
   pub count : is_headed kind ≡ true → length s.elements ≡ elements_below made s.place
   pub span : s.span ≡ span_at written s.place
 
 -- the spots stand for these assertions, of which no two clash
-pub record Stands (made : List Assertion) (written : List Placed) (spots : List Spot) : Type 0 where
+pub record Stands (made : List Assertion) (written : List Placed) (spots : List ModelNode) : Type 0 where
   pub tree : IsTree spots
-  pub tells : (n : ℕ) (s : Spot) → slice_get spots n ≡ Some s → Tells made written s
+  pub tells : (n : ℕ) (s : ModelNode) → slice_get spots n ≡ Some s → Tells made written s
   pub covers : (p : Place) (k : Kind) → kind_at made p ≡ Some k → (n : ℕ) × StandsAt spots n p
   pub rooted : kind_at made [] ≡ None
   pub indexed : (p : Place) (i : ℕ) (k : Kind) → kind_at made (at p (index i)) ≡ Some k → IsIndexed made p i
   pub spans : (p : Place) (s : Span) → span_at written p ≡ Some s → (k : Kind) × (kind_at made p ≡ Some k)
   pub clear : IsClear made
 
-pub stands_start : Stands [] [] (spot_at [] section Header None ∷ [])
+pub stands_start : Stands [] [] (model_node_at [] section Header None ∷ [])
 stands_start = record {
   tree = record {
-    root = (spot_at [] section Header None, refl, refl);
+    root = (model_node_at [] section Header None, refl, refl);
     unique = λ i j s t a b same. only i j s t a b;
     down = λ i j s x a b. absurd (bare i j s x a b);
     up = λ j t b. inl (root j t b);
@@ -119,30 +119,33 @@ stands_start = record {
   clear = record { apart = tt; short = tt };
 }
   where
-    first : (n : ℕ) (s : Spot) → slice_get (spot_at [] section Header None ∷ []) n ≡ Some s
-        → spot_at [] section Header None ≡ s
-    first zero s e = same_Some (spot_at [] section Header None) s e
+    first : (n : ℕ) (s : ModelNode) → slice_get (model_node_at [] section Header None ∷ []) n ≡ Some s
+        → model_node_at [] section Header None ≡ s
+    first zero s e = same_Some (model_node_at [] section Header None) s e
     first (suc n) s e = absurd cc
 
-    only : (i j : ℕ) (s t : Spot) → slice_get (spot_at [] section Header None ∷ []) i ≡ Some s
-        → slice_get (spot_at [] section Header None ∷ []) j ≡ Some t → i ≡ j
+    only : (i j : ℕ) (s t : ModelNode) → slice_get (model_node_at [] section Header None ∷ []) i ≡ Some s
+        → slice_get (model_node_at [] section Header None ∷ []) j ≡ Some t → i ≡ j
     only zero zero s t a b = refl
     only zero (suc j) s t a b = absurd cc
     only (suc i) j s t a b = absurd cc
 
-    nothing : (x : Step) (j : ℕ) → below (spot_at [] section Header None) x ≡ Some j → ⊥
+    nothing : (x : Step) (j : ℕ) → below (model_node_at [] section Header None) x ≡ Some j → ⊥
     nothing (key n) j e = cc
     nothing (index i) j e = cc
 
-    bare : (i j : ℕ) (s : Spot) (x : Step) → slice_get (spot_at [] section Header None ∷ []) i ≡ Some s
+    bare : (i j : ℕ) (s : ModelNode) (x : Step)
+        → slice_get (model_node_at [] section Header None ∷ []) i ≡ Some s
         → below s x ≡ Some j → ⊥
-    bare i j s x a b = nothing x j (ap (λ (u : Spot). below u x) (first i s a) ∙ b)
+    bare i j s x a b = nothing x j (ap (λ (u : ModelNode). below u x) (first i s a) ∙ b)
 
-    root : (j : ℕ) (t : Spot) → slice_get (spot_at [] section Header None ∷ []) j ≡ Some t → t.place ≡ []
-    root j t b = ap (λ (u : Spot). u.place) (sym (first j t b))
+    root : (j : ℕ) (t : ModelNode) → slice_get (model_node_at [] section Header None ∷ []) j ≡ Some t
+        → t.place ≡ []
+    root j t b = ap (λ (u : ModelNode). u.place) (sym (first j t b))
 
 -- a spot that is not the root was asserted
-pub was_asserted : {made : List Assertion} {written : List Placed} {s : Spot} → (t : Tells made written s)
+pub was_asserted : {made : List Assertion} {written : List Placed} {s : ModelNode}
+    → (t : Tells made written s)
     → (s.place ≡ [] → ⊥) → kind_at made s.place ≡ Some t.kind
 was_asserted {made} {written} {s} t ne = sym (first_is made s.place ne) ∙ t.first
 
@@ -157,7 +160,7 @@ short_at (a ∷ made) p k h e = go (same_place a.place p) refl e (short_at made 
     go false t g ih = ih g
 
 -- nothing stands where no spot does
-pub nothing_at : (made : List Assertion) (written : List Placed) (spots : List Spot) (p : Place)
+pub nothing_at : (made : List Assertion) (written : List Placed) (spots : List ModelNode) (p : Place)
     → Stands made written spots → ((n : ℕ) → StandsAt spots n p → ⊥) → kind_at made p ≡ None
 nothing_at made written spots p st none = go (kind_at made p) refl
   where
@@ -166,7 +169,7 @@ nothing_at made written spots p st none = go (kind_at made p) refl
     go (Some k) e = let c = st.covers p k e in absurd (none c.0 c.1)
 
 -- the spot one step below another
-pub step_below : (made : List Assertion) (written : List Placed) (spots : List Spot) (t : ℕ) (s : Spot)
+pub step_below : (made : List Assertion) (written : List Placed) (spots : List ModelNode) (t : ℕ) (s : ModelNode)
     (x : Step) → Stands made written spots → slice_get spots t ≡ Some s → (n : ℕ)
     → StandsAt spots n (at s.place x) → below s x ≡ Some n
 step_below made written spots t s x st e n h = elim (st.tree.up n h.0 h.1) [
@@ -176,11 +179,11 @@ step_below made written spots t s x st e n h = elim (st.tree.up n h.0 h.1) [
       let number : b.above ≡ t = st.tree.unique b.above t b.upper s b.stands e same.0 in
       let upper : b.upper ≡ s = slice_get_same spots t b.upper s (ap (slice_get spots) (sym number) ∙
       b.stands) e in
-      ap (λ (u : Spot). below u x) (sym upper) ∙ ap (below b.upper) (sym same.1) ∙ b.listed
+      ap (λ (u : ModelNode). below u x) (sym upper) ∙ ap (below b.upper) (sym same.1) ∙ b.listed
 ]
 
-pub nothing_below_spot : (made : List Assertion) (written : List Placed) (spots : List Spot) (t : ℕ)
-    (s : Spot) (x : Step) → Stands made written spots → slice_get spots t ≡ Some s → below s x ≡ None
+pub nothing_below_spot : (made : List Assertion) (written : List Placed) (spots : List ModelNode) (t : ℕ)
+    (s : ModelNode) (x : Step) → Stands made written spots → slice_get spots t ≡ Some s → below s x ≡ None
     → kind_at made (at s.place x) ≡ None
 nothing_below_spot made written spots t s x st e none =
     nothing_at made written spots (at s.place x) st
@@ -188,7 +191,7 @@ nothing_below_spot made written spots t s x st e none =
     let clash : None ≡ Some n = sym none ∙ some in cc)
 
 -- nothing stands below a place where nothing stands
-pub nothing_under : (made : List Assertion) (written : List Placed) (spots : List Spot) (p : Place) (x : Step)
+pub nothing_under : (made : List Assertion) (written : List Placed) (spots : List ModelNode) (p : Place) (x : Step)
     → Stands made written spots → (p ≡ [] → ⊥) → kind_at made p ≡ None → kind_at made (at p x) ≡ None
 nothing_under made written spots p x st ne none = nothing_at made written spots (at p x) st
     (λ n h. elim (st.tree.up n h.0 h.1) [
@@ -203,23 +206,24 @@ nothing_under made written spots p x st ne none = nothing_at made written spots 
 
 -- ---- a place that is taken again
 
-and_joins : (made : List Assertion) (p : Place) (k l : Kind) (taken : Taken)
-    → allowed made p l ≡ joins taken (taken_of l) → joins taken (taken_of k) ≡ true
-    → (allowed made p l && together k l) ≡ joins (stronger taken (taken_of k)) (taken_of l)
+and_joins : (made : List Assertion) (p : Place) (k l : Kind) (taken : DefinedBy)
+    → allowed made p l ≡ joins taken (defined_by l) → joins taken (defined_by k) ≡ true
+    → (allowed made p l && are_compatible k l) ≡ joins (merged_definition taken (defined_by k)) (defined_by l)
 and_joins made p k l taken e fits = ap₂ (λ (x : Bool) (y : Bool). x && y) e (together_is k l) ∙
-    sym (stronger_is taken (taken_of k) (taken_of l) fits)
+    sym (stronger_is taken (defined_by k) (defined_by l) fits)
 
-module _ (made : List Assertion) (written : List Placed) (spots : List Spot) (j : ℕ) (s : Spot)
+module _ (made : List Assertion) (written : List Placed) (spots : List ModelNode) (j : ℕ) (s : ModelNode)
     (a : Assertion) (st : Stands made written spots) (here : slice_get spots j ≡ Some s)
     (place : a.place ≡ s.place) (inner : s.place ≡ [] → ⊥)
-    (fits : joins s.taken (taken_of a.kind) ≡ true) (plain : is_element a.kind ≡ false) where
+    (fits : joins s.taken (defined_by a.kind) ≡ true) (plain : is_element a.kind ≡ false) where
   told : Tells made written s
   told = st.tells j s here
 
   stood_kind : kind_at made a.place ≡ Some (st.tells j s here).kind
   stood_kind = ap (kind_at made) place ∙ was_asserted (st.tells j s here) inner
 
-  tells_else : (u : Spot) → Tells made written u → (a.place ≡ u.place → ⊥) → Tells (made ++ a ∷ []) written u
+  tells_else : (u : ModelNode) → Tells made written u → (a.place ≡ u.place → ⊥)
+      → Tells (made ++ a ∷ []) written u
   tells_else u t ne = record {
     kind = t.kind;
     first = first_stays made a u.place t.kind t.first;
@@ -230,7 +234,7 @@ module _ (made : List Assertion) (written : List Placed) (spots : List Spot) (j 
     span = t.span;
   }
 
-  tells_here : Tells (made ++ a ∷ []) written (with_taken s (taken_of a.kind))
+  tells_here : Tells (made ++ a ∷ []) written (with_definition s (defined_by a.kind))
   tells_here =
       let t = st.tells j s here in
       record {
@@ -244,17 +248,17 @@ module _ (made : List Assertion) (written : List Placed) (spots : List Spot) (j 
         span = t.span;
       }
 
-  pub stands_again : Stands (made ++ a ∷ []) written (slice_set spots j (with_taken s (taken_of a.kind)))
+  pub stands_again : Stands (made ++ a ∷ []) written (slice_set spots j (with_definition s (defined_by a.kind)))
   stands_again = record {
-    tree = tree_set spots j s (with_taken s (taken_of a.kind)) st.tree here refl refl refl;
+    tree = tree_set spots j s (with_definition s (defined_by a.kind)) st.tree here refl refl refl;
     tells = λ n u e. go n u
-        (in_set spots j (with_taken s (taken_of a.kind)) n u (slice_get_within spots j s here) e);
+        (in_set spots j (with_definition s (defined_by a.kind)) n u (slice_get_within spots j s here) e);
     covers = λ p k e. elim (kind_back made a p k e) [
       | inl old_kind ↦ let c = st.covers p k old_kind in
-          (c.0, grows_set spots j s (with_taken s (taken_of a.kind)) here refl c.0 p c.1)
+          (c.0, grows_set spots j s (with_definition s (defined_by a.kind)) here refl c.0 p c.1)
       | inr same ↦ (
         j,
-        grows_set spots j s (with_taken s (taken_of a.kind)) here refl j p
+        grows_set spots j s (with_definition s (defined_by a.kind)) here refl j p
             (s, here, sym place ∙ same),
       )
     ];
@@ -270,7 +274,7 @@ module _ (made : List Assertion) (written : List Placed) (spots : List Spot) (j 
         (short_at made a.place (st.tells j s here).kind st.clear.short stood_kind);
   }
     where
-      go : (n : ℕ) (u : Spot) → OneSet spots j (with_taken s (taken_of a.kind)) n u
+      go : (n : ℕ) (u : ModelNode) → OneSet spots j (with_definition s (defined_by a.kind)) n u
           → Tells (made ++ a ∷ []) written u
       go n u (changed same is) = subst (Tells (made ++ a ∷ []) written) (sym is) tells_here
       go n u (other ne g) = tells_else u (st.tells n u g)

@@ -2,13 +2,13 @@
 use Rattle.std.proofs.Common.{◌≡◌, ℕ, suc, ◌<◌, ◌≤◌, Bool, cond, List, [], ◌∷◌, ◌++◌, length, map, Some, None, refl, sym, ap, subst, ◌∙◌, inl, inr, append_assoc, length-append, arith}
 use Rattle.std.proofs.lemmas.List.{append-nil, length_push}
 use Rattle.std.proofs.lemmas.Option.{slice_get_past}
-use Rattle.edit_tree.specs.declared.nodes.Taken.TheVariants.{Dotted}
+use Rattle.edit_tree.specs.declared.nodes.DefinedBy.TheVariants.{Dotted}
 use Rattle.edit_syntax.specs.Grammar.{Between, Value, array, Elements}
 use Rattle.edit_tree.specs.Assertions.{key, index, Place, at, Kind, dotted, leaf, Assertion, asserts, named, of_key, of_value}
 use Rattle.edit_tree.specs.Tree.{kind_at, count_elements}
 use Rattle.edit_document.specs.DocumentLayout.{Placed}
-use Rattle.edit_tree.specs.Nodes.{Spot, StandsAt}
-use Rattle.edit_tree.specs.Walk.{settled_state, is_dotted_within}
+use Rattle.edit_tree.specs.Nodes.{ModelNode, StandsAt}
+use Rattle.edit_tree.specs.Walk.{without_pending, is_dotted_within}
 use Rattle.edit_tree.proofs.SamePlace.{same_place_self, other_place, last_same, not_root, not_below}
 use Rattle.edit_tree.proofs.MoreAssertions.{first_kind, first_stays, first_is}
 use Rattle.edit_tree.proofs.Trees.{Grows}
@@ -24,7 +24,7 @@ use Rattle.edit_document.proofs.WalkedHolders.{Before, IsBefore, bare_at, deeper
 -- ---- before a value
 
 -- behind the key of a pair
-abbrev pub pair_before : List Spot → List Assertion → List Placed → List ℕ → ℕ → Place → Bool → List ℕ
+abbrev pub pair_before : List ModelNode → List Assertion → List Placed → List ℕ → ℕ → Place → Bool → List ℕ
     → List (List ℕ) → Before
 pair_before spots made written base t p within n ns = record {
   spots = spots;
@@ -32,7 +32,7 @@ pair_before spots made written base t p within n ns = record {
   written = written;
   tables = base ++ t ∷ [];
   place = named p (n ∷ ns);
-  waiting = waits (settled_state spots (base ++ t ∷ [])) (n ∷ ns);
+  waiting = waits (without_pending spots (base ++ t ∷ [])) (n ∷ ns);
   keyed = λ v. of_key within (named p (n ∷ ns)) p (n ∷ ns) v;
 }
 
@@ -61,7 +61,7 @@ named_inner : (p : Place) (n : List ℕ) (ns : List (List ℕ)) → named p (n �
 named_inner p n ns e = let l : length (named p (n ∷ ns)) ≡ 0 = ap length e in
     let size = length-append p (map key (n ∷ ns)) in omega arith
 
-pub pair_is_before : (spots : List Spot) (made : List Assertion) (written : List Placed) (base : List ℕ)
+pub pair_is_before : (spots : List ModelNode) (made : List Assertion) (written : List Placed) (base : List ℕ)
     (t : ℕ) (p : Place) (within : Bool) (n : List ℕ) (ns : List (List ℕ)) → Stands made written spots
     → StandsAt spots t p
     → is_dotted_within (length (base ++ t ∷ [])) Dotted ≡ within
@@ -79,19 +79,19 @@ pair_is_before spots made written base t p within n ns st there in_table = recor
 }
 
 -- before an element of an array
-abbrev pub element_before : List Spot → List Assertion → List Placed → List ℕ → ℕ → Place → ℕ → Before
+abbrev pub element_before : List ModelNode → List Assertion → List Placed → List ℕ → ℕ → Place → ℕ → Before
 element_before spots made written base t p i = record {
   spots = spots;
   made = made;
   written = written;
   tables = base ++ t ∷ [];
   place = at p (index i);
-  waiting = settled_state spots (base ++ t ∷ []);
+  waiting = without_pending spots (base ++ t ∷ []);
   keyed = λ v. asserts (at p (index i)) (at p (index i)) (leaf v) ∷ [];
 }
 
 -- the array at a place, of which so many elements stand
-pub record IsArrayAt (spots : List Spot) (made : List Assertion) (t : ℕ) (p : Place)
+pub record IsArrayAt (spots : List ModelNode) (made : List Assertion) (t : ℕ) (p : Place)
     (i total : ℕ) : Type 0 where
   pub there : StandsAt spots t p
   pub size : length there.0.elements ≡ i
@@ -100,7 +100,7 @@ pub record IsArrayAt (spots : List Spot) (made : List Assertion) (t : ℕ) (p : 
   pub first : first_kind made p ≡ Some (leaf (array gap_of all))
   pub whole : total ≡ count_elements all
 
-pub element_is_before : (spots : List Spot) (made : List Assertion) (written : List Placed) (base : List ℕ)
+pub element_is_before : (spots : List ModelNode) (made : List Assertion) (written : List Placed) (base : List ℕ)
     (t : ℕ) (p : Place) (i total : ℕ) → Stands made written spots → IsArrayAt spots made t p i total
     → i < total → IsBefore (element_before spots made written base t p i)
 element_is_before spots made written base t p i total st a lt =
@@ -125,7 +125,7 @@ first_front made (a ∷ more) p k e = ap (λ (xs : List Assertion). first_kind x
     (sym (append_assoc made (a ∷ []) more)) ∙ first_front (made ++ a ∷ []) more p k (first_stays made a p k e)
 
 -- one element more stands
-pub array_more : (spots now : List Spot) (made : List Assertion) (written written2 : List Placed) (t : ℕ)
+pub array_more : (spots now : List ModelNode) (made : List Assertion) (written written2 : List Placed) (t : ℕ)
     (p : Place) (i total : ℕ) (v : Value) → Stands made written spots → IsArrayAt spots made t p i total
     → Stands (made ++ (asserts (at p (index i)) (at p (index i)) (leaf v) ∷ of_value (at p (index i)) v))
     written2 now → Grows spots now
@@ -168,7 +168,7 @@ has_right p v [] ys h = h
 has_right p v (x ∷ xs) ys h = inr (has_right p v xs ys h)
 
 -- an array that was just entered has no element
-pub array_new : (b : Before) (now : List Spot) (written : List Placed) (j : ℕ) (g : List Between)
+pub array_new : (b : Before) (now : List ModelNode) (written : List Placed) (j : ℕ) (g : List Between)
     (es : Elements)
     → IsBefore b → Stands (b.made ++ b.keyed (array g es)) written now → StandsAt now j b.place
     → IsArrayAt now (b.made ++ b.keyed (array g es)) j b.place 0 (count_elements es)

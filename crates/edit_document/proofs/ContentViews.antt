@@ -2,28 +2,28 @@
 use Rattle.std.proofs.Common.{◌≡◌, ℕ, List, length, sym, ap, ◌∙◌}
 use Rattle.edit_tree.specs.declared.nodes.Content.{Content}
 use Rattle.edit_tree.specs.declared.nodes.Node.{Node}
-use Rattle.edit_tree.specs.Shown.{Shown}
+use Rattle.edit_tree.specs.DocumentViews.{DocumentViews}
 use Rattle.edit_tree.specs.Tree.{View}
-use Rattle.edit_tree.specs.Nodes.{Spot, elements_of, shape_of, view_of_shape}
-use Rattle.edit_document.specs.Items.{view_numbered}
+use Rattle.edit_tree.specs.Nodes.{ModelNode, elements_of, shape_of, view_of_shape}
+use Rattle.edit_document.specs.Items.{node_view}
 use Rattle.edit_document.specs.Compared.{kind_of, word_of}
 use Rattle.edit_document.proofs.Views.{Found, names_of_node}
 
 -- what a node with this content shows
-abbrev pub content_view : Shown → Node → Content → View
+abbrev pub content_view : DocumentViews → Node → Content → View
 content_view d node x =
     view_of_shape (shape_of d.bytes x) (names_of_node d.bytes node) (length (elements_of node.members))
 
 -- and of which kind that is
-pub kind_shown : (d : Shown) (nodes : List Node) (spots : List Spot) (n : ℕ) (node : Node) (x : Content)
+pub kind_shown : (d : DocumentViews) (nodes : List Node) (spots : List ModelNode) (n : ℕ) (node : Node) (x : Content)
     → Found d nodes spots n node → node.content ≡ x → kind_of (content_view d node x)
-    ≡ kind_of (view_numbered d n)
+    ≡ kind_of (node_view d n)
 kind_shown d nodes spots n node x f is =
     sym (ap kind_of f.view ∙ ap (λ (y : Content). kind_of (content_view d node y)) is)
 
 -- and in which words
-pub word_shown : (d : Shown) (nodes : List Node) (spots : List Spot) (n : ℕ) (node : Node) (x : Content)
+pub word_shown : (d : DocumentViews) (nodes : List Node) (spots : List ModelNode) (n : ℕ) (node : Node) (x : Content)
     → Found d nodes spots n node → node.content ≡ x → word_of (content_view d node x)
-    ≡ word_of (view_numbered d n)
+    ≡ word_of (node_view d n)
 word_shown d nodes spots n node x f is =
     sym (ap word_of f.view ∙ ap (λ (y : Content). word_of (content_view d node y)) is)

@@ -8,18 +8,18 @@ use Rattle.edit_document.specs.declared.document.Document.TheInside.{Inside}
 use Rattle.edit_syntax.specs.Grammar.{array, Text, lines, byte_order_mark, Spells}
 use Rattle.edit_tree.specs.Assertions.{index, at, assertions, IsDocument}
 use Rattle.edit_syntax.specs.Depth.{text_depth}
-use Rattle.edit_syntax.specs.Marks.{text_marks, IsReadRefusal}
+use Rattle.edit_syntax.specs.SyntaxTokens.{tokens_of_text, IsTokenizeError}
 use Rattle.edit_base.specs.Errors.{IsMemory}
 use Rattle.edit_base.specs.declared.errors.Error.{Error}
 use Rattle.edit_base.specs.declared.errors.Error.TheVariants.{NotToml, Memory}
-use Rattle.edit_tree.specs.Shown.{Shown, ShowsTree, node_at}
-use Rattle.edit_tree.specs.Nodes.{Spot, Holds}
+use Rattle.edit_tree.specs.DocumentViews.{DocumentViews, ShowsTree, node_at}
+use Rattle.edit_tree.specs.Nodes.{ModelNode, RepresentsNodes}
 use Rattle.edit_syntax.specs.FormOf.{form_of}
 use Rattle.edit_tree.specs.Written.{values}
-use Rattle.edit_document.specs.DocumentLayout.{placed, spots_of, nodes_by, shown_by, IsRead}
+use Rattle.edit_document.specs.DocumentLayout.{placed, model_nodes_of, node_views, document_view_by, IsRead}
 use Rattle.edit_tree.specs.Pieces.{IsRange}
 use Rattle.edit_syntax.specs.Reading.{◌>>=◌}
-use Rattle.edit_tree.specs.Walk.{State, start, walked, settled_state}
+use Rattle.edit_tree.specs.Walk.{State, start, walked, without_pending}
 use Rattle.edit_tree.specs.WalkState.{IsToken, KeepsState}
 use Rattle.edit_syntax.proofs.TextLaws.{read_again}
 use Rattle.edit_tree.proofs.Ends.{Ends}
@@ -46,35 +46,35 @@ ends_all bytes form r = behind form.marked (lines form.lines) r.spells.spelled
     behind false rest e = ([], e)
 
 pub tokens_of : (bytes : List ℕ) (form : Text) → Read bytes form
-    → AllByRecursion (IsToken bytes) (text_marks form)
+    → AllByRecursion (IsToken bytes) (tokens_of_text form)
 tokens_of bytes form r = text_tokens bytes form r.spells.well_formed r.utf8 (ends_all bytes form r)
 
 pub walk_of : (bytes : List ℕ) (form : Text) → Read bytes form
-    → Walks (assertions form) (map placed (values form)) (walked bytes (text_marks form) start)
+    → Walks (assertions form) (map placed (values form)) (walked bytes (tokens_of_text form) start)
 walk_of bytes form r = text_walked bytes form r.spells.well_formed r.utf8 (ends_all bytes form r)
 
 -- ---- the form of a text, and what it shows
 
 -- what is walked over is a document
 pub record Walked (bytes : List ℕ) (form : Text) (nodes : List Node) : Type 0 where
-  pub spots : List Spot
-  pub found : spots_of bytes ≡ Some spots
+  pub spots : List ModelNode
+  pub found : model_nodes_of bytes ≡ Some spots
   pub stands : Stands (assertions form) (map placed (values form)) spots
-  pub holds : Holds bytes nodes spots
+  pub holds : RepresentsNodes bytes nodes spots
   pub manifest : IsDocument bytes form
 
 pub walked_is : (bytes : List ℕ) (form : Text) (nodes : List Node) → Read bytes form
-    → KeepsState bytes nodes (walked bytes (text_marks form) start) → Walked bytes form nodes
+    → KeepsState bytes nodes (walked bytes (tokens_of_text form) start) → Walked bytes form nodes
 walked_is bytes form nodes r keeps = go (walk_of bytes form r)
   where
-    go : Walks (assertions form) (map placed (values form)) (walked bytes (text_marks form) start)
+    go : Walks (assertions form) (map placed (values form)) (walked bytes (tokens_of_text form) start)
         → Walked bytes form nodes
     go (ended now tables e st) =
         let manifest : IsDocument bytes form =
         record { grammar = r.spells; short = st.clear.short; no_clash = st.clear.apart } in
         record {
           spots = now;
-          found = ap (λ (o : Option Text). o >>= λ f. walked bytes (text_marks f) start >>= λ s. Some s.spots)
+          found = ap (λ (o : Option Text). o >>= λ f. walked bytes (tokens_of_text f) start >>= λ s. Some s.spots)
               (manifest_form bytes form manifest) ∙ ap (λ (o : Option State). o >>= λ s. Some s.spots) e;
           stands = st;
           holds = subst (KeepsState bytes nodes) e keeps;
@@ -84,11 +84,11 @@ walked_is bytes form nodes r keeps = go (walk_of bytes form r)
 
 -- what is no document is not walked over
 pub refused_is : (bytes : List ℕ) (form : Text) → IsDocument bytes form → IsUtf8 bytes
-    → walked bytes (text_marks form) start ≡ None → ⊥
+    → walked bytes (tokens_of_text form) start ≡ None → ⊥
 refused_is bytes form m u none = go (walk_of bytes form (read_of bytes form m u))
   where
-    go : Walks (assertions form) (map placed (values form)) (walked bytes (text_marks form) start) → ⊥
-    go (ended now tables e st) = let clash : None ≡ Some (settled_state now tables) = sym none ∙ e in cc
+    go : Walks (assertions form) (map placed (values form)) (walked bytes (tokens_of_text form) start) → ⊥
+    go (ended now tables e st) = let clash : None ≡ Some (without_pending now tables) = sym none ∙ e in cc
     go (stuck e clash) = clash (record { apart = m.no_clash; short = m.short })
 
 -- and each of its arrays has all of its elements
@@ -97,10 +97,10 @@ text_full form p g es i kind lt none = any_stands (at p (index i)) (assertions f
     (text_whole form p g es i (has_kind p (array g es) (assertions form) kind) lt) none
 
 pub shows_form : (bytes : List ℕ) (r : ℕ × ℕ) (form : Text) (nodes : List Node) → Walked bytes form nodes
-    → ShowsTree (shown_by bytes r) form
-unfolding shown_by
+    → ShowsTree (document_view_by bytes r) form
+unfolding document_view_by
 shows_form bytes r form nodes w place =
-    ap (λ (o : Option (List Spot)). node_at (nodes_by o) place) w.found ∙
+    ap (λ (o : Option (List ModelNode)). node_at (node_views o) place) w.found ∙
     tree_shown (assertions form) (map placed (values form)) w.spots place w.stands (text_even form)
     (text_full form)
 
@@ -122,7 +122,7 @@ read_is inside form range w = record {
 -- ---- what reading answers
 
 abbrev pub Found : List ℕ → List Mark → Type 0
-Found bytes marks = (form : Text) × Spells bytes form × (text_depth form ≤ 80) × (marks ≡ text_marks form)
+Found bytes marks = (form : Text) × Spells bytes form × (text_depth form ≤ 80) × (marks ≡ tokens_of_text form)
 
 read_form : (bytes seen : List ℕ) (marks : List Mark) → IsUtf8 bytes → seen ≡ bytes → (f : Found seen marks)
     → Read bytes f.0
@@ -135,30 +135,30 @@ pub read_done : (bytes seen : List ℕ) (marks slice : List Mark) (nodes : List 
     → (form : Text) × Walked bytes form nodes
 read_done bytes seen marks slice nodes u same f whole keeps =
     let r = read_form bytes seen marks u same f in
-    let all : slice ≡ text_marks f.0 = whole ∙ f.3 in
-    let k : AllByRecursion (IsToken bytes) (text_marks f.0)
-    → KeepsState bytes nodes (walked bytes (text_marks f.0) start) =
+    let all : slice ≡ tokens_of_text f.0 = whole ∙ f.3 in
+    let k : AllByRecursion (IsToken bytes) (tokens_of_text f.0)
+    → KeepsState bytes nodes (walked bytes (tokens_of_text f.0) start) =
     subst (λ (ms : List Mark). AllByRecursion (IsToken bytes) ms
     → KeepsState bytes nodes (walked bytes ms start)) all keeps in
     (f.0, walked_is bytes f.0 nodes r (k (tokens_of bytes f.0 r)))
 
 pub shows_any : (bytes : List ℕ) (r : ℕ × ℕ) (form f : Text) (nodes : List Node) → Walked bytes form nodes
-    → IsDocument bytes f → ShowsTree (shown_by bytes r) f
+    → IsDocument bytes f → ShowsTree (document_view_by bytes r) f
 shows_any bytes r form f nodes w m =
-    subst (ShowsTree (shown_by bytes r)) (one_form bytes form f w.manifest m)
+    subst (ShowsTree (document_view_by bytes r)) (one_form bytes form f w.manifest m)
     (shows_form bytes r form nodes w)
 
 abbrev pub NotMemory : Error → Type 0
 NotMemory e = IsMemory e → ⊥
 
-memory_or : (n : ℕ) (e : Error) → IsReadRefusal n e → IsMemory e ⊎ NotMemory e
+memory_or : (n : ℕ) (e : Error) → IsTokenizeError n e → IsMemory e ⊎ NotMemory e
 memory_or n (NotToml at) h = inr (λ m. omega arith)
 memory_or n Memory h = inl refl
 memory_or n _ h = absurd h
 
 -- a document is refused for want of memory alone
 pub refused_memory : (bytes seen : List ℕ) (marks slice : List Mark) (form : Text) (e : Error) (n : ℕ)
-    → IsUtf8 bytes → seen ≡ bytes → Found seen marks → slice ≡ marks → IsReadRefusal n e
+    → IsUtf8 bytes → seen ≡ bytes → Found seen marks → slice ≡ marks → IsTokenizeError n e
     → (AllByRecursion (IsToken bytes) slice → NotMemory e → walked bytes slice start ≡ None)
     → IsDocument bytes form → IsMemory e
 refused_memory bytes seen marks slice form e n u same f whole refusal stop m =
@@ -166,9 +166,9 @@ refused_memory bytes seen marks slice form e n u same f whole refusal stop m =
       | inl y ↦ y
       | inr other ↦
           let r = read_form bytes seen marks u same f in
-          let all : slice ≡ text_marks f.0 = whole ∙ f.3 in
-          let s : AllByRecursion (IsToken bytes) (text_marks f.0) → NotMemory e
-          → walked bytes (text_marks f.0) start ≡ None =
+          let all : slice ≡ tokens_of_text f.0 = whole ∙ f.3 in
+          let s : AllByRecursion (IsToken bytes) (tokens_of_text f.0) → NotMemory e
+          → walked bytes (tokens_of_text f.0) start ≡ None =
           subst (λ (ms : List Mark). AllByRecursion (IsToken bytes) ms → NotMemory e
           → walked bytes ms start ≡ None) all stop in
           let none = s (tokens_of bytes f.0 r) other in
@@ -177,21 +177,22 @@ refused_memory bytes seen marks slice form e n u same f whole refusal stop m =
           let one : Some f.0 ≡ Some form = sym here ∙ manifest_form bytes form m in
           let same_form : f.0 ≡ form = cc in
           absurd (refused_is bytes form m u
-          (subst (λ (g : Text). walked bytes (text_marks g) start ≡ None) same_form none))
+          (subst (λ (g : Text). walked bytes (tokens_of_text g) start ≡ None) same_form none))
     ]
 
-pub answer_memory : (r : Result Shown Error) (e e2 : Error) (P : Shown → Type 0) → r ≡ Err e2 → e2 ≡ e
+pub answer_memory : (r : Result DocumentViews Error) (e e2 : Error) (P : DocumentViews → Type 0)
+    → r ≡ Err e2 → e2 ≡ e
     → IsMemory e → MatchResult r P IsMemory
-answer_memory r e e2 P was same m = subst (λ (x : Result Shown Error). MatchResult x P IsMemory) (sym was)
+answer_memory r e e2 P was same m = subst (λ (x : Result DocumentViews Error). MatchResult x P IsMemory) (sym was)
     (subst IsMemory (sym same) m)
 
 -- a text over whose marks no walk ends is no document, whatever form it has
-pub no_document : (bytes : List ℕ) → IsUtf8 bytes → spots_of bytes ≡ None → (form : Text)
+pub no_document : (bytes : List ℕ) → IsUtf8 bytes → model_nodes_of bytes ≡ None → (form : Text)
     → IsDocument bytes form → ⊥
 no_document bytes u none form m =
     refused_is bytes form m u
-    (stops (walked bytes (text_marks form) start)
-    (ap (λ (o : Option Text). o >>= λ f. walked bytes (text_marks f) start >>= λ s. Some s.spots)
+    (stops (walked bytes (tokens_of_text form) start)
+    (ap (λ (o : Option Text). o >>= λ f. walked bytes (tokens_of_text f) start >>= λ s. Some s.spots)
     (sym (manifest_form bytes form m)) ∙ none))
   where
     stops : (o : Option State) → (o >>= λ s. Some s.spots) ≡ None → o ≡ None

@@ -6,10 +6,10 @@ use Rattle.edit_document.specs.declared.entry_part.Part.{Part}
 use Rattle.edit_tree.specs.Assertions.{Step, key, index, Place, at, same_bytes}
 use Rattle.edit_tree.specs.Tree.{View}
 use Rattle.edit_tree.specs.NewItems.{NewValue, a_string, a_truth, a_list, NewItem, a_table}
-use Rattle.edit_tree.specs.Meant.{new_view, item_view}
-use Rattle.edit_tree.specs.Shown.{tree_of}
+use Rattle.edit_tree.specs.IntendedTrees.{new_view, item_view}
+use Rattle.edit_tree.specs.DocumentViews.{tree_of}
 use Rattle.edit_document.specs.Items.{viewed}
-use Rattle.edit_document.specs.EntryParts.{entry_shown, part_place, part_view, IsPart}
+use Rattle.edit_document.specs.EntryParts.{entry_document, part_place, part_view, IsPart}
 use Rattle.edit_document.proofs.EntryTrees.{entry_tree}
 use Rattle.edit_document.proofs.ShownItems.{Pair, found}
 
@@ -22,18 +22,18 @@ same_texts (b ∷ bs) (c ∷ cs) = rw (same_texts bs cs) refl
 
 -- in the document of its entry a part shows what it shows by itself
 pub part_tree : (item : NewItem) (part : Part) → IsPart item part → (q : Place)
-    → tree_of (entry_shown item) (part_place part ++ q) ≡ part_view item part q
+    → tree_of (entry_document item) (part_place part ++ q) ≡ part_view item part q
 part_tree item part h q = entry_tree item (part_place part ++ q) ∙ h.0 q
 
 -- and that stands at its place
 part_here : (item : NewItem) (part : Part) → IsPart item part
-    → tree_of (entry_shown item) (part_place part) ≡ part_view item part []
+    → tree_of (entry_document item) (part_place part) ≡ part_view item part []
 part_here item part h =
-    ap (tree_of (entry_shown item)) (sym (append-nil (part_place part))) ∙ part_tree item part h []
+    ap (tree_of (entry_document item)) (sym (append-nil (part_place part))) ∙ part_tree item part h []
 
 -- what stands at a part
 pub part_said : (item : NewItem) (part : Part) → IsPart item part → (v : View)
-    → part_view item part [] ≡ Some v → viewed (tree_of (entry_shown item) (part_place part)) ≡ v
+    → part_view item part [] ≡ Some v → viewed (tree_of (entry_document item) (part_place part)) ≡ v
 part_said item part h v e = ap viewed (part_here item part h ∙ e)
 
 -- of what stands there
@@ -43,14 +43,14 @@ some_view None e = absurd cc
 
 -- something stands at a part
 pub part_stands : (item : NewItem) (part : Part) → IsPart item part
-    → tree_of (entry_shown item) (part_place part)
-    ≡ Some (viewed (tree_of (entry_shown item) (part_place part)))
+    → tree_of (entry_document item) (part_place part)
+    ≡ Some (viewed (tree_of (entry_document item) (part_place part)))
 part_stands item part h =
-    some_view (tree_of (entry_shown item) (part_place part)) (ap is_some (part_here item part h) ∙ h.1)
+    some_view (tree_of (entry_document item) (part_place part)) (ap is_some (part_here item part h) ∙ h.1)
 
 -- nothing stands one step below a part that shows nothing there
 pub part_absent : (item : NewItem) (part : Part) (s : Step) → IsPart item part
-    → part_view item part (s ∷ []) ≡ None → tree_of (entry_shown item) (at (part_place part) s) ≡ None
+    → part_view item part (s ∷ []) ≡ None → tree_of (entry_document item) (at (part_place part) s) ≡ None
 part_absent item part s h e = part_tree item part h (s ∷ []) ∙ e
 
 -- ---- elements

@@ -6,9 +6,9 @@ use Rattle.std.proofs.lemmas.List.Folds.{list_any-append}
 use Rattle.edit_tree.specs.Assertions.{key, index, Place, same_bytes, same_place}
 use Rattle.edit_tree.specs.Tree.{View, string}
 use Rattle.edit_tree.specs.NewItems.{NewValue, a_string, a_truth, a_list, NewItem, a_value, a_table}
-use Rattle.edit_tree.specs.Meant.{Tree, new_view, item_view}
-use Rattle.edit_tree.specs.Shown.{node_at, tree_of}
-use Rattle.edit_document.specs.EntryParts.{value_places, entry_places, shown_place, entry_shown}
+use Rattle.edit_tree.specs.IntendedTrees.{Tree, new_view, item_view}
+use Rattle.edit_tree.specs.DocumentViews.{node_at, tree_of}
+use Rattle.edit_document.specs.EntryParts.{value_places, entry_places, shown_place, entry_document}
 use Rattle.edit_tree.proofs.SamePlace.{same_place_is}
 use Rattle.edit_document.proofs.ShownItems.{Pair}
 
@@ -124,11 +124,11 @@ entry_among (a_table by_dots ms) (key n ∷ q) v e = member_among ms n q v e
 -- ---- the entry as a document
 
 -- it shows what the entry shows
-pub entry_tree : (item : NewItem) (q : Place) → tree_of (entry_shown item) q ≡ item_view false item q
-unfolding entry_shown
+pub entry_tree : (item : NewItem) (q : Place) → tree_of (entry_document item) q ≡ item_view false item q
+unfolding entry_document
 entry_tree item q = go (item_view false item q) refl
   where
     go : (o : Option View) → item_view false item q ≡ o
-        → tree_of (entry_shown item) q ≡ item_view false item q
+        → tree_of (entry_document item) q ≡ item_view false item q
     go None e = shows_nothing (item_view false item) (entry_places item) q e ∙ sym e
     go (Some v) e = shows_among (item_view false item) (entry_places item) q (entry_among item q v e)

@@ -9,13 +9,13 @@ use Rattle.std.proofs.lemmas.Option.{same_Some}
 use Rattle.edit_syntax.specs.Grammar.{Text, Lines, Spells}
 use Rattle.edit_tree.specs.Assertions.{Place, key, same_step, same_place, IsDocument, assertions}
 use Rattle.edit_tree.specs.Tree.{View, string, truth, whole, fractional, moment, static_array, table_array, inline_table, table, view_at}
-use Rattle.edit_tree.specs.Shown.{node_at}
+use Rattle.edit_tree.specs.DocumentViews.{node_at}
 use Rattle.edit_syntax.specs.FormOf.{form_of}
-use Rattle.edit_syntax.specs.Marks.{text_marks}
+use Rattle.edit_syntax.specs.SyntaxTokens.{tokens_of_text}
 use Rattle.edit_syntax.specs.Reading.{◌>>=◌, read_text, lines_at, is_marked, past_mark}
 use Rattle.edit_tree.specs.Walk.{State, start, walked}
 use Rattle.edit_tree.specs.Written.{values}
-use Rattle.edit_document.specs.DocumentLayout.{placed, spots_of, nodes_by}
+use Rattle.edit_document.specs.DocumentLayout.{placed, model_nodes_of, node_views}
 use Rattle.edit_syntax.proofs.TextLaws.{lines_found, lines_read}
 use Rattle.edit_document.proofs.WalkedLines.{Walked, ended, stuck, text_even}
 use Rattle.edit_tree.proofs.SamePlace.{same_step_is, same_place_is}
@@ -58,21 +58,21 @@ form_spells bytes form e = go (lines_at 80 (length (past_mark bytes) + 1) (past_
 
 -- the nodes of the walk over the marks of a form
 abbrev nodes_along : List ℕ → Option Text → List (Place × View)
-nodes_along bytes o = nodes_by (o >>= λ form. walked bytes (text_marks form) start >>= λ st. Some st.spots)
+nodes_along bytes o = node_views (o >>= λ form. walked bytes (tokens_of_text form) start >>= λ st. Some st.spots)
 
 abbrev nodes_after : Option State → List (Place × View)
-nodes_after o = nodes_by (o >>= λ st. Some st.spots)
+nodes_after o = node_views (o >>= λ st. Some st.spots)
 
 -- what a node of the walk shows stands in the tree
 node_shows : (bytes : List ℕ) (place : Place) (view : View) → is_utf8 bytes ≡ true
-    → node_at (nodes_by (spots_of bytes)) place ≡ Some view → Shows bytes place view
+    → node_at (node_views (model_nodes_of bytes)) place ≡ Some view → Shows bytes place view
 node_shows bytes place view utf8 e = go (form_of bytes) refl
   where
     never : None ≡ Some view → ⊥
     never h = cc
 
     walk : (form : Text) → form_of bytes ≡ Some form → (r : Read bytes form)
-        → Walked (assertions form) (map placed (values form)) (walked bytes (text_marks form) start)
+        → Walked (assertions form) (map placed (values form)) (walked bytes (tokens_of_text form) start)
         → Shows bytes place view
     walk form h r (ended now tables w st) = record {
       form = form;
@@ -141,10 +141,10 @@ seen_is (Some u) v e = ap Some (same_view_is u v e)
 
 -- what is seen at a node of the walk stands in the tree
 pub shows : (bytes : List ℕ) (place : Place) (view : View) → is_utf8 bytes ≡ true
-    → is_seen (node_at (nodes_by (spots_of bytes)) place) view ≡ true → Shows bytes place view
+    → is_seen (node_at (node_views (model_nodes_of bytes)) place) view ≡ true → Shows bytes place view
 shows bytes place view utf8 e = node_shows bytes place view utf8
-    (seen_is (node_at (nodes_by (spots_of bytes)) place) view e)
+    (seen_is (node_at (node_views (model_nodes_of bytes)) place) view e)
 
 -- where the walk stops, no document is
-pub is_none : (bytes : List ℕ) → is_utf8 bytes ≡ true → spots_of bytes ≡ None → IsNone bytes
+pub is_none : (bytes : List ℕ) → is_utf8 bytes ≡ true → model_nodes_of bytes ≡ None → IsNone bytes
 is_none bytes utf8 e form document = no_document bytes (IsUtf8-from_is_utf8 bytes utf8) e form document

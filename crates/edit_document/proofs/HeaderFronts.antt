@@ -3,13 +3,13 @@ use Rattle.std.proofs.Common.{◌≡◌, ℕ, zero, suc, ◌-◌, ◌<◌, Bool,
 use Rattle.std.specs.Prelude.{slice_get, nat_lt, unwrap_or}
 use Rattle.std.proofs.lemmas.Bool.Decides.{nat_tests}
 use Rattle.std.proofs.lemmas.Option.{slice_get_past}
-use Rattle.edit_tree.specs.declared.nodes.Taken.TheVariants.{Super}
+use Rattle.edit_tree.specs.declared.nodes.DefinedBy.TheVariants.{Super}
 use Rattle.edit_tree.specs.Assertions.{key, index, Place, at, Kind, dotted, leaf, super, header_kind, array_kind, element_kind, Assertion, asserts, elements_at, resolved}
 use Rattle.edit_syntax.specs.Grammar.{Value, basic, literal, multi_basic, multi_literal, boolean, integer, float, datetime, array, inline}
 use Rattle.edit_tree.specs.Tree.{kind_at}
 use Rattle.edit_document.specs.DocumentLayout.{shape_of_value, Placed}
-use Rattle.edit_tree.specs.Nodes.{Shape, section, Spot, below}
-use Rattle.edit_tree.specs.Walk.{last_of, last_table, target_of, taken_again, numbered, asserted}
+use Rattle.edit_tree.specs.Nodes.{Shape, section, ModelNode, below}
+use Rattle.edit_tree.specs.Walk.{last_of, last_table, target_of, node_extended, with_index, member_defined}
 use Rattle.edit_tree.proofs.SamePlace.{not_root}
 use Rattle.edit_tree.proofs.SpotNodes.{child_is}
 use Rattle.edit_tree.proofs.SpotTargets.{target_is}
@@ -52,12 +52,12 @@ array_or header_kind = inr (λ e. cc)
 array_or array_kind = inl refl
 array_or element_kind = inr (λ e. cc)
 
-pub super_makes : (made earlier : List Assertion) (written : List Placed) (spots : List Spot) (t : ℕ)
-    (s : Spot) (name : List ℕ) (by : Place) → Stands made written spots → slice_get spots t ≡ Some s
+pub super_makes : (made earlier : List Assertion) (written : List Placed) (spots : List ModelNode) (t : ℕ)
+    (s : ModelNode) (name : List ℕ) (by : Place) → Stands made written spots → slice_get spots t ≡ Some s
     → ((p : Place) → elements_at earlier p ≡ elements_below made p)
     → ((p : Place) → (elements_at earlier p ≡ 0) ⊎ (kind_at made p ≡ Some array_kind))
     → Makes made written spots (asserts by (resolved earlier (at s.place (key name))) super) []
-    (asserted spots t name section Super None)
+    (member_defined spots t name section Super None)
 super_makes made earlier written spots t s name by st here even alone = go (below s (key name)) refl
   where
     p : Place
@@ -66,32 +66,34 @@ super_makes made earlier written spots t s name by st here even alone = go (belo
     a : Assertion
     a = asserts by (resolved earlier (at s.place (key name))) super
 
-    taken_at : (j e : ℕ) (d : Spot) (q : Place) → below s (key name) ≡ Some j → target_of spots j Super ≡ e
+    taken_at : (j e : ℕ) (d : ModelNode) (q : Place) → below s (key name) ≡ Some j
+        → target_of spots j Super ≡ e
         → slice_get spots e ≡ Some d → d.place ≡ q → resolved earlier (at s.place (key name)) ≡ q
         → (q ≡ [] → ⊥)
         → Makes made written spots (asserts by (resolved earlier (at s.place (key name))) super) []
-        (asserted spots t name section Super None)
+        (member_defined spots t name section Super None)
     taken_at j e d q b target stands place is inner =
         makes_along (asserted_old spots t j name section Super None (child_is spots t s name here ∙ b) ∙
-        ap (λ (n : ℕ). numbered n (taken_again spots n Super)) target)
+        ap (λ (n : ℕ). with_index n (node_extended spots n Super)) target)
         (again_makes made written spots e d (asserts by (resolved earlier (at s.place (key name))) super) st
         stands (is ∙ sym place) (λ root. inner (sym place ∙ root)) refl)
 
-    counted : (j : ℕ) (d : Spot) → (stands : slice_get spots j ≡ Some d)
+    counted : (j : ℕ) (d : ModelNode) → (stands : slice_get spots j ≡ Some d)
         → (st.tells j d stands).kind ≡ array_kind → d.place ≡ at s.place (key name)
         → elements_at earlier (at s.place (key name)) ≡ length d.elements
     counted j d stands kind place = even (at s.place (key name)) ∙ ap (elements_below made) (sym place) ∙
         sym ((st.tells j d stands).count (ap is_headed kind))
 
-    last_is : (j : ℕ) (d : Spot) → (stands : slice_get spots j ≡ Some d)
+    last_is : (j : ℕ) (d : ModelNode) → (stands : slice_get spots j ≡ Some d)
         → (st.tells j d stands).kind ≡ array_kind → last_table d.shape d.elements ≡ last_of d.elements
     last_is j d stands kind = ap (λ (x : Shape). last_table x d.elements) ((st.tells j d stands).shape ∙
         ap shape_of_kind kind)
 
-    some : (j : ℕ) (d : Spot) (n : ℕ) → below s (key name) ≡ Some j → (stands : slice_get spots j ≡ Some d)
+    some : (j : ℕ) (d : ModelNode) (n : ℕ) → below s (key name) ≡ Some j
+        → (stands : slice_get spots j ≡ Some d)
         → (st.tells j d stands).kind ≡ array_kind → d.place ≡ at s.place (key name) → length d.elements ≡ n
         → Makes made written spots (asserts by (resolved earlier (at s.place (key name))) super) []
-        (asserted spots t name section Super None)
+        (member_defined spots t name section Super None)
     some j d zero b stands kind place size =
         let none : last_of d.elements ≡ None = slice_get_past d.elements (length d.elements - 1)
         (omega arith) in
@@ -129,10 +131,10 @@ super_makes made earlier written spots t s name by st here even alone = go (belo
                 past (x ∷ xs) (suc i) lt e = past xs i (omega arith) e
 
     -- no array of tables
-    none : (j : ℕ) (d : Spot) → below s (key name) ≡ Some j → (stands : slice_get spots j ≡ Some d)
+    none : (j : ℕ) (d : ModelNode) → below s (key name) ≡ Some j → (stands : slice_get spots j ≡ Some d)
         → ((st.tells j d stands).kind ≡ array_kind → ⊥) → d.place ≡ at s.place (key name)
         → Makes made written spots (asserts by (resolved earlier (at s.place (key name))) super) []
-        (asserted spots t name section Super None)
+        (member_defined spots t name section Super None)
     none j d b stands other place =
         let told = st.tells j d stands in
         let bare : last_table d.shape d.elements ≡ None =
@@ -150,7 +152,7 @@ super_makes made earlier written spots t s name by st here even alone = go (belo
 
     go : (o : Option ℕ) → below s (key name) ≡ o
         → Makes made written spots (asserts by (resolved earlier (at s.place (key name))) super) []
-        (asserted spots t name section Super None)
+        (member_defined spots t name section Super None)
     go None e =
         let nothing = nothing_below_spot made written spots t s (key name) st here e in
         let zero_elements : elements_at earlier (at s.place (key name)) ≡ 0 =

@@ -6,14 +6,14 @@ use Rattle.std.proofs.lemmas.Bool.{and_parts, and_from, or_left, or_right}
 use Rattle.edit_syntax.specs.Grammar.{Text}
 use Rattle.edit_syntax.proofs.Cases.{by_test}
 use Rattle.edit_syntax.proofs.Members.{Among, among_all}
-use Rattle.edit_tree.specs.declared.nodes.Taken.{Taken}
-use Rattle.edit_tree.specs.declared.nodes.Taken.TheVariants.{Dotted, Value, Super, Header, Array, Element}
-use Rattle.edit_tree.specs.Assertions.{Place, Step, at, same_step, same_place, Kind, dotted, leaf, super, header_kind, array_kind, element_kind, Assertion, together, is_array, is_array_at, elements_at, assertions}
+use Rattle.edit_tree.specs.declared.nodes.DefinedBy.{DefinedBy}
+use Rattle.edit_tree.specs.declared.nodes.DefinedBy.TheVariants.{Dotted, Value, Super, Header, Array, Element}
+use Rattle.edit_tree.specs.Assertions.{Place, Step, at, same_step, same_place, Kind, dotted, leaf, super, header_kind, array_kind, element_kind, Assertion, are_compatible, is_array, is_array_at, elements_at, assertions}
 use Rattle.edit_document.specs.DocumentLayout.{placed}
 use Rattle.edit_tree.specs.EditBytes.{is_within}
-use Rattle.edit_document.specs.Lost.{is_named}
-use Rattle.edit_tree.specs.Nodes.{Spot}
-use Rattle.edit_tree.specs.Taking.{taken_of, joins, is_own}
+use Rattle.edit_document.specs.ItemRemoval.{is_named}
+use Rattle.edit_tree.specs.Nodes.{ModelNode}
+use Rattle.edit_tree.specs.Redefinition.{defined_by, joins, is_own}
 use Rattle.edit_tree.specs.Written.{values}
 use Rattle.edit_tree.proofs.AlonePlaces.{dotted_open, first_allows}
 use Rattle.edit_tree.proofs.ArrayCounts.{arrays_alone}
@@ -27,7 +27,7 @@ use Rattle.edit_tree.proofs.SamePlace.{same_place_is, same_place_self}
 
 -- ---- what nothing has for itself
 
-array_kinds : (k : Kind) → together k array_kind ≡ true → owns k ≡ false
+array_kinds : (k : Kind) → are_compatible k array_kind ≡ true → owns k ≡ false
 array_kinds array_kind e = refl
 array_kinds (dotted w) e = absurd (true≢false (sym e))
 array_kinds (leaf v) e = absurd (true≢false (sym e))
@@ -42,15 +42,15 @@ and_false false = refl
 array_open : (made : List Assertion) (t : Place) → allowed made t array_kind ≡ true → IsOpen t made
 array_open [] t e = tt
 array_open (a ∷ made) t e =
-    let h = and_parts (cond (same_place a.place t) (together a.kind array_kind) true)
+    let h = and_parts (cond (same_place a.place t) (are_compatible a.kind array_kind) true)
     (allowed made t array_kind) e in
     (go (same_place a.place t) h.0, array_open made t h.1)
   where
-    go : (b : Bool) → cond b (together a.kind array_kind) true ≡ true → (owns a.kind && b) ≡ false
+    go : (b : Bool) → cond b (are_compatible a.kind array_kind) true ≡ true → (owns a.kind && b) ≡ false
     go true k = ap (λ o. o && true) (array_kinds a.kind k)
     go false k = and_false (owns a.kind)
 
-open_kinds : (k : Kind) → owns k ≡ false → is_array k ≡ false → together k (dotted false) ≡ true
+open_kinds : (k : Kind) → owns k ≡ false → is_array k ≡ false → are_compatible k (dotted false) ≡ true
 open_kinds (dotted w) e f = refl
 open_kinds super e f = refl
 open_kinds (leaf v) e f = absurd (true≢false e)
@@ -65,7 +65,7 @@ open_dotted (a ∷ made) t h e = go (is_array_at t a) (same_place a.place t) ref
     (open_dotted made t h.1)
   where
     here : (b : Bool) → same_place a.place t ≡ b → is_array_at t a ≡ false
-        → cond b (together a.kind (dotted false)) true ≡ true
+        → cond b (are_compatible a.kind (dotted false)) true ≡ true
     here false f g = refl
     here true f g =
         open_kinds a.kind (by_test (owns a.kind)
@@ -76,9 +76,9 @@ open_dotted (a ∷ made) t h e = go (is_array_at t a) (same_place a.place t) ref
     go : (c b : Bool) → is_array_at t a ≡ c → same_place a.place t ≡ b
         → cond c (suc (elements_at made t)) (elements_at made t) ≡ 0
         → (elements_at made t ≡ 0 → allowed made t (dotted false) ≡ true)
-        → (cond b (together a.kind (dotted false)) true && allowed made t (dotted false)) ≡ true
+        → (cond b (are_compatible a.kind (dotted false)) true && allowed made t (dotted false)) ≡ true
     go true b f g e ih = absurd (omega (arith, e))
-    go false b f g e ih = and_from (cond b (together a.kind (dotted false)) true)
+    go false b f g e ih = and_from (cond b (are_compatible a.kind (dotted false)) true)
         (allowed made t (dotted false)) (here b g f) (ih e)
 
 -- something has the place for itself, or nothing does
@@ -95,7 +95,7 @@ own_or (x ∷ xs) p = go (owns x.kind && same_place x.place p) refl (own_or xs p
     go false e (inl a) = inl (a.0, inr a.1, a.2, a.3)
     go false e (inr bare) = inr (e, bare)
 
-own_array : (t : Taken) → is_own t ≡ true → joins t Array ≡ true → ⊥
+own_array : (t : DefinedBy) → is_own t ≡ true → joins t Array ≡ true → ⊥
 own_array Value e f = true≢false (sym f)
 own_array Header e f = true≢false (sym f)
 own_array Element e f = true≢false (sym f)
@@ -103,7 +103,7 @@ own_array Dotted e f = true≢false (sym e)
 own_array Super e f = true≢false (sym e)
 own_array Array e f = true≢false (sym e)
 
-own_dotted : (t : Taken) → is_own t ≡ true → joins t Dotted ≡ true → ⊥
+own_dotted : (t : DefinedBy) → is_own t ≡ true → joins t Dotted ≡ true → ⊥
 own_dotted Value e f = true≢false (sym f)
 own_dotted Header e f = true≢false (sym f)
 own_dotted Element e f = true≢false (sym f)
@@ -113,16 +113,16 @@ own_dotted Array e f = true≢false (sym e)
 
 -- ---- spots
 
-module _ (form : Text) (spots : List Spot) (n : ℕ) (s : Spot)
+module _ (form : Text) (spots : List ModelNode) (n : ℕ) (s : ModelNode)
     (st : Stands (assertions form) (map placed (values form)) spots)
     (here : slice_get spots n ≡ Some s) (inner : s.place ≡ [] → ⊥) where
-  joined : (k : Kind) → allowed (assertions form) s.place k ≡ joins s.taken (taken_of k)
+  joined : (k : Kind) → allowed (assertions form) s.place k ≡ joins s.taken (defined_by k)
   joined k = (st.tells n s here).joined inner k
 
   taken_open : is_own s.taken ≡ false → IsOpen s.place (assertions form)
   taken_open e = go s.taken refl e
     where
-      go : (t : Taken) → s.taken ≡ t → is_own t ≡ false → IsOpen s.place (assertions form)
+      go : (t : DefinedBy) → s.taken ≡ t → is_own t ≡ false → IsOpen s.place (assertions form)
       go Dotted is f = dotted_open (assertions form) s.place
           (joined (dotted false) ∙ ap (λ t. joins t Dotted) is)
       go Super is f = dotted_open (assertions form) s.place

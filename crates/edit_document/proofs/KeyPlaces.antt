@@ -2,16 +2,16 @@
 use Rattle.std.proofs.Common.{◌≡◌, ℕ, Bool, true, false, List, [], ◌∷◌, ◌++◌, map, Option, Some, None, refl, sym, ap, subst, ◌∙◌, ◌⊎◌, inl, inr, append_assoc}
 use Rattle.std.proofs.lemmas.List.{append-nil}
 use Rattle.edit_syntax.specs.declared.span.Span.{Span}
-use Rattle.edit_tree.specs.declared.nodes.Taken.{Taken}
-use Rattle.edit_tree.specs.declared.nodes.Taken.TheVariants.{Dotted, Value, Super}
+use Rattle.edit_tree.specs.declared.nodes.DefinedBy.{DefinedBy}
+use Rattle.edit_tree.specs.declared.nodes.DefinedBy.TheVariants.{Dotted, Value, Super}
 use Rattle.edit_syntax.specs.Grammar.{Value as Written}
 use Rattle.edit_tree.specs.Assertions.{key, Place, at, Kind, dotted, leaf, super, array_kind, Assertion, asserts, named, of_key, elements_at, resolved, fronts, header_place}
 use Rattle.edit_tree.specs.Tree.{kind_at}
 use Rattle.edit_syntax.specs.Reading.{◌>>=◌}
 use Rattle.edit_document.specs.DocumentLayout.{shape_of_value, Placed}
-use Rattle.edit_tree.specs.Taking.{taken_of}
-use Rattle.edit_tree.specs.Nodes.{Shape, section, Spot, StandsAt}
-use Rattle.edit_tree.specs.Walk.{asserted, front_shape, reached}
+use Rattle.edit_tree.specs.Redefinition.{defined_by}
+use Rattle.edit_tree.specs.Nodes.{Shape, section, ModelNode, StandsAt}
+use Rattle.edit_tree.specs.Walk.{member_defined, front_shape, reached}
 use Rattle.edit_tree.proofs.KeyFronts.{reached_none, reached_more}
 use Rattle.edit_tree.proofs.MoreAssertions.{kind_stays, IsClear, clear_front}
 use Rattle.edit_tree.proofs.MoreMembers.{is_element, elements_below, elements_stay}
@@ -22,59 +22,59 @@ use Rattle.edit_document.proofs.HeaderFronts.{super_makes}
 use Rattle.edit_tree.proofs.WalkedTokens.{fore, rear}
 
 -- the spots stand for these assertions, and a place has a number; or the assertions clash
-pub data Lands (spots : List Spot) (made : List Assertion) (written : List Placed) (place : Place)
-    (r : Option (List Spot × ℕ)) : Type 0 where
-  lands : (now : List Spot) (j : ℕ) → r ≡ Some (now, j) → Stands made written now → StandsAt now j place
+pub data Lands (spots : List ModelNode) (made : List Assertion) (written : List Placed) (place : Place)
+    (r : Option (List ModelNode × ℕ)) : Type 0 where
+  lands : (now : List ModelNode) (j : ℕ) → r ≡ Some (now, j) → Stands made written now → StandsAt now j place
       → Grows spots now → Lands spots made written place r
   misses : r ≡ None → (IsClear made → ⊥) → Lands spots made written place r
 
-pub lands_along : {spots : List Spot} {made : List Assertion} {written : List Placed} {place : Place}
-    {r q : Option (List Spot × ℕ)} → q ≡ r → Lands spots made written place r
+pub lands_along : {spots : List ModelNode} {made : List Assertion} {written : List Placed} {place : Place}
+    {r q : Option (List ModelNode × ℕ)} → q ≡ r → Lands spots made written place r
     → Lands spots made written place q
 lands_along e (lands now j h s p g) = lands now j (e ∙ h) s p g
 lands_along e (misses h c) = misses (e ∙ h) c
 
-lands_made : (spots : List Spot) (made : List Assertion) (written more : List Placed) (a : Assertion)
-    (r : Option (List Spot × ℕ)) → Makes made written spots a more r
+lands_made : (spots : List ModelNode) (made : List Assertion) (written more : List Placed) (a : Assertion)
+    (r : Option (List ModelNode × ℕ)) → Makes made written spots a more r
     → Lands spots (made ++ a ∷ []) (written ++ more) a.place r
 lands_made spots made written more a r (makes now j h s p g) = lands now j h s p g
 lands_made spots made written more a r (fails h c) = misses h c
 
 -- the last part of a key, from the table in which it stands
-abbrev pub landed : List Spot → ℕ → List (List ℕ) → Shape → Taken → List ℕ → Shape → Taken → Option Span
-    → Option (List Spot × ℕ)
+abbrev pub landed : List ModelNode → ℕ → List (List ℕ) → Shape → DefinedBy → List ℕ → Shape → DefinedBy → Option Span
+    → Option (List ModelNode × ℕ)
 landed spots t names shape front name last taken span = reached spots t names shape front >>= λ r.
-    asserted r.0 r.1 name last taken span
+    member_defined r.0 r.1 name last taken span
 
-landed_none : (spots : List Spot) (t : ℕ) (shape : Shape) (front : Taken) (name : List ℕ) (last : Shape)
-    (taken : Taken) (span : Option Span) → landed spots t [] shape front name last taken span
-    ≡ asserted spots t name last taken span
+landed_none : (spots : List ModelNode) (t : ℕ) (shape : Shape) (front : DefinedBy) (name : List ℕ) (last : Shape)
+    (taken : DefinedBy) (span : Option Span) → landed spots t [] shape front name last taken span
+    ≡ member_defined spots t name last taken span
 landed_none spots t shape front name last taken span =
-    ap (λ (o : Option (List Spot × ℕ)). o >>= λ r. asserted r.0 r.1 name last taken span)
+    ap (λ (o : Option (List ModelNode × ℕ)). o >>= λ r. member_defined r.0 r.1 name last taken span)
     (reached_none spots t shape front)
 
-landed_more : (spots : List Spot) (t : ℕ) (n : List ℕ) (names : List (List ℕ)) (shape : Shape) (front : Taken)
-    (name : List ℕ) (last : Shape) (taken : Taken) (span : Option Span) (o : Option (List Spot × ℕ))
-    → asserted spots t n shape front None ≡ o
+landed_more : (spots : List ModelNode) (t : ℕ) (n : List ℕ) (names : List (List ℕ)) (shape : Shape) (front : DefinedBy)
+    (name : List ℕ) (last : Shape) (taken : DefinedBy) (span : Option Span) (o : Option (List ModelNode × ℕ))
+    → member_defined spots t n shape front None ≡ o
     → landed spots t (n ∷ names) shape front name last taken span
     ≡ (o >>= λ r. landed r.0 r.1 names shape front name last taken span)
 landed_more spots t n names shape front name last taken span o e =
-    ap (λ (x : Option (List Spot × ℕ)). x >>= λ r. asserted r.0 r.1 name last taken span)
+    ap (λ (x : Option (List ModelNode × ℕ)). x >>= λ r. member_defined r.0 r.1 name last taken span)
     (reached_more spots t n names shape front ∙
-    ap (λ (x : Option (List Spot × ℕ)). x >>= λ q. reached q.0 q.1 names shape front) e) ∙ go o
+    ap (λ (x : Option (List ModelNode × ℕ)). x >>= λ q. reached q.0 q.1 names shape front) e) ∙ go o
   where
-    go : (o : Option (List Spot × ℕ))
-        → ((o >>= λ q. reached q.0 q.1 names shape front) >>= λ r. asserted r.0 r.1 name last taken span)
+    go : (o : Option (List ModelNode × ℕ))
+        → ((o >>= λ q. reached q.0 q.1 names shape front) >>= λ r. member_defined r.0 r.1 name last taken span)
         ≡ (o >>= λ r. landed r.0 r.1 names shape front name last taken span)
     go None = refl
     go (Some r) = refl
 
 -- one part more before those that land
-lands_more : (spots : List Spot) (t : ℕ) (n : List ℕ) (names : List (List ℕ)) (shape : Shape) (front : Taken)
-    (name : List ℕ) (last : Shape) (taken : Taken) (span : Option Span) (made rest : List Assertion)
+lands_more : (spots : List ModelNode) (t : ℕ) (n : List ℕ) (names : List (List ℕ)) (shape : Shape) (front : DefinedBy)
+    (name : List ℕ) (last : Shape) (taken : DefinedBy) (span : Option Span) (made rest : List Assertion)
     (written finally : List Placed) (place : Place) (a : Assertion)
-    → Makes made written spots a [] (asserted spots t n shape front None)
-    → ((now : List Spot) (j : ℕ) → Stands (made ++ a ∷ []) written now → StandsAt now j a.place
+    → Makes made written spots a [] (member_defined spots t n shape front None)
+    → ((now : List ModelNode) (j : ℕ) → Stands (made ++ a ∷ []) written now → StandsAt now j a.place
     → Lands now ((made ++ a ∷ []) ++ rest) finally place
     (landed now j names shape front name last taken span))
     → Lands spots (made ++ a ∷ rest) finally place
@@ -114,7 +114,7 @@ named_more : (p : Place) (n m : List ℕ) (ns : List (List ℕ))
     → named (at p (key n)) (m ∷ ns) ≡ named p (n ∷ m ∷ ns)
 named_more p n m ns = append_assoc p (key n ∷ []) (map key (m ∷ ns))
 
-pub pair_lands : (spots : List Spot) (t : ℕ) (p : Place) (n : List ℕ) (ns : List (List ℕ)) (within : Bool)
+pub pair_lands : (spots : List ModelNode) (t : ℕ) (p : Place) (n : List ℕ) (ns : List (List ℕ)) (within : Bool)
     (by : Place) (v : Written) (span : Option Span) (made : List Assertion) (written : List Placed)
     → Stands made written spots → StandsAt spots t p
     → Lands spots (made ++ of_key within by p (n ∷ ns) v) (written ++ noted (named p (n ∷ ns)) span)
@@ -125,13 +125,13 @@ pair_lands spots t p n [] within by v span made written st there =
     let place : a.place ≡ at there.0.place (key n) = ap (λ (q : Place). at q (key n)) (sym there.2) in
     lands_along (landed_none spots t (front_shape within) Dotted n (shape_of_value v) Value span)
     (lands_made spots made written (noted (at p (key n)) span) a
-    (asserted spots t n (shape_of_value v) Value span)
+    (member_defined spots t n (shape_of_value v) Value span)
     (member_makes made written spots t there.0 n a span st there.1 place refl (λ e. absurd cc) (inr refl)))
 pair_lands spots t p n (m ∷ ns) within by v span made written st there =
     let a : Assertion = asserts by (at p (key n)) (dotted within) in
     let place : a.place ≡ at there.0.place (key n) = ap (λ (q : Place). at q (key n)) (sym there.2) in
-    let first : Makes made written spots a [] (asserted spots t n (front_shape within) Dotted None) =
-    makes_along (ap (λ (s : Shape). asserted spots t n s Dotted None) (dotted_shape within))
+    let first : Makes made written spots a [] (member_defined spots t n (front_shape within) Dotted None) =
+    makes_along (ap (λ (s : Shape). member_defined spots t n s Dotted None) (dotted_shape within))
     (member_makes made written spots t there.0 n a None st there.1 place refl (λ e. absurd cc) (inl refl)) in
     subst (λ (q : Place). Lands spots (made ++ of_key within by p (n ∷ m ∷ ns) v) (written ++ noted q span) q
     (landed spots t (fore n (m ∷ ns)) (front_shape within) Dotted (rear n (m ∷ ns))
@@ -150,33 +150,33 @@ still : (made : List Assertion) (a : Assertion) (earlier : List Assertion) (q : 
 still made a earlier q (inl e) = inl e
 still made a earlier q (inr e) = inr (kind_stays made a q array_kind e)
 
-pub header_lands : (spots : List Spot) (t : ℕ) (p : Place) (n : List ℕ) (ns : List (List ℕ))
+pub header_lands : (spots : List ModelNode) (t : ℕ) (p : Place) (n : List ℕ) (ns : List (List ℕ))
     (earlier : List Assertion) (by by2 : Place) (k : Kind) (made : List Assertion) (written : List Placed)
     → Stands made written spots → StandsAt spots t p
     → ((q : Place) → elements_at earlier q ≡ elements_below made q)
     → ((q : Place) → (elements_at earlier q ≡ 0) ⊎ (kind_at made q ≡ Some array_kind)) → is_element k ≡ false
-    → (taken_of k ≡ Super → ⊥)
+    → (defined_by k ≡ Super → ⊥)
     → Lands spots (made ++
     (fronts earlier by p (n ∷ ns) ++ asserts by2 (header_place earlier p (n ∷ ns)) k ∷ [])) written
     (header_place earlier p (n ∷ ns)) (landed spots t (fore n ns) section Super (rear n ns) (shape_of_kind k)
-    (taken_of k) None)
+    (defined_by k) None)
 header_lands spots t p n [] earlier by by2 k made written st there even alone plain kind =
     let a : Assertion = asserts by2 (at p (key n)) k in
     let place : a.place ≡ at there.0.place (key n) = ap (λ (q : Place). at q (key n)) (sym there.2) in
     subst (λ (w : List Placed). Lands spots (made ++ a ∷ []) w (at p (key n))
-    (landed spots t [] section Super n (shape_of_kind k) (taken_of k) None)) (append-nil written)
-    (lands_along (landed_none spots t section Super n (shape_of_kind k) (taken_of k) None)
-    (lands_made spots made written [] a (asserted spots t n (shape_of_kind k) (taken_of k) None)
+    (landed spots t [] section Super n (shape_of_kind k) (defined_by k) None)) (append-nil written)
+    (lands_along (landed_none spots t section Super n (shape_of_kind k) (defined_by k) None)
+    (lands_made spots made written [] a (member_defined spots t n (shape_of_kind k) (defined_by k) None)
     (member_makes made written spots t there.0 n a None st there.1 place plain kind (inl refl))))
 header_lands spots t p n (m ∷ ns) earlier by by2 k made written st there even alone plain kind =
     let q = resolved earlier (at p (key n)) in
     let a : Assertion = asserts by (resolved earlier (at p (key n))) super in
-    let first : Makes made written spots a [] (asserted spots t n section Super None) =
+    let first : Makes made written spots a [] (member_defined spots t n section Super None) =
     subst (λ (r : Place). Makes made written spots (asserts by (resolved earlier (at r (key n))) super) []
-    (asserted spots t n section Super None)) there.2
+    (member_defined spots t n section Super None)) there.2
     (super_makes made earlier written spots t there.0 n by st there.1 even alone) in
     let rest = fronts earlier by q (m ∷ ns) ++ asserts by2 (header_place earlier q (m ∷ ns)) k ∷ [] in
     lands_more spots t n (fore m ns) section Super (rear m ns) (shape_of_kind k)
-    (taken_of k) None made rest written written (header_place earlier q (m ∷ ns)) a first
+    (defined_by k) None made rest written written (header_place earlier q (m ∷ ns)) a first
     (λ now j stands here. header_lands now j q m ns earlier by by2 k (made ++ a ∷ []) written stands here
     (λ r. even r ∙ sym (elements_stay made a r refl)) (λ r. still made a earlier r (alone r)) plain kind)

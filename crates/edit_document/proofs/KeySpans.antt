@@ -4,12 +4,12 @@ use Rattle.std.specs.Prelude.{slice_get, slice_set}
 use Rattle.std.proofs.lemmas.Option.{slice_get_within}
 use Rattle.edit_syntax.specs.declared.span.Span.{Span}
 use Rattle.edit_syntax.specs.Grammar.{Value as Written}
-use Rattle.edit_tree.specs.Assertions.{key, Place, same_place, Kind, dotted, leaf, Assertion, asserts, named, of_key, together}
+use Rattle.edit_tree.specs.Assertions.{key, Place, same_place, Kind, dotted, leaf, Assertion, asserts, named, of_key, are_compatible}
 use Rattle.edit_tree.specs.Tree.{kind_at}
 use Rattle.edit_document.specs.DocumentLayout.{Placed, span_at}
 use Rattle.edit_syntax.specs.Reading.{◌>>=◌}
-use Rattle.edit_tree.specs.Nodes.{Spot, StandsAt}
-use Rattle.edit_tree.specs.Walk.{State, without_last, settled_state, closed}
+use Rattle.edit_tree.specs.Nodes.{ModelNode, StandsAt}
+use Rattle.edit_tree.specs.Walk.{State, without_last, without_pending, value_closed}
 use Rattle.edit_tree.proofs.SamePlace.{same_place_self, other_place, place_or}
 use Rattle.edit_tree.proofs.Ends.{take_length}
 use Rattle.edit_syntax.proofs.ListElements.{OneSet, changed, other, in_set}
@@ -41,15 +41,15 @@ leaf_refused : (made : List Assertion) (p : Place) (k : Kind) (v : Written) → 
 leaf_refused [] p k v e h = cc
 leaf_refused (a ∷ made) p k v e h = go (same_place a.place p) refl e (leaf_refused made p k v)
   where
-    parts : (cond (same_place a.place p) (together a.kind (leaf v)) true ≡ true)
+    parts : (cond (same_place a.place p) (are_compatible a.kind (leaf v)) true ≡ true)
         × (allowed made p (leaf v) ≡ true)
-    parts = and_parts (cond (same_place a.place p) (together a.kind (leaf v)) true)
+    parts = and_parts (cond (same_place a.place p) (are_compatible a.kind (leaf v)) true)
         (allowed made p (leaf v)) h
 
     go : (b : Bool) → same_place a.place p ≡ b → cond b (Some a.kind) (kind_at made p) ≡ Some k
         → (kind_at made p ≡ Some k → allowed made p (leaf v) ≡ true → ⊥) → ⊥
     go true t g ih = let clash : true ≡ false = sym parts.0 ∙
-        ap (λ (b : Bool). cond b (together a.kind (leaf v)) true) t ∙ leaf_alone a.kind v in cc
+        ap (λ (b : Bool). cond b (are_compatible a.kind (leaf v)) true) t ∙ leaf_alone a.kind v in cc
     go false t g ih = ih g parts.1
 
 pub vacant : (made : List Assertion) (within : Bool) (by p : Place) (n : List ℕ) (ns : List (List ℕ))
@@ -100,8 +100,8 @@ span_off (w ∷ ws) vs q p x y ne = ap (λ (o : Option Span). cond (same_place w
     (span_off ws vs q p x y ne)
 
 -- the spot of the place is told otherwise too
-respanned : (made : List Assertion) (ws vs : List Placed) (spots : List Spot) (q : Place) (x y : Span) (j : ℕ)
-    (s : Spot) → Stands made (ws ++ (q, x) ∷ vs) spots → span_at ws q ≡ None → slice_get spots j ≡ Some s
+respanned : (made : List Assertion) (ws vs : List Placed) (spots : List ModelNode) (q : Place) (x y : Span) (j : ℕ)
+    (s : ModelNode) → Stands made (ws ++ (q, x) ∷ vs) spots → span_at ws q ≡ None → slice_get spots j ≡ Some s
     → s.place ≡ q
     → Stands made (ws ++ (q, y) ∷ vs) (slice_set spots j (record s { span = Some y }))
 respanned made ws vs spots q x y j s st none here place = record {
@@ -116,7 +116,7 @@ respanned made ws vs spots q x y j s st none here place = record {
   clear = st.clear;
 }
   where
-    tell : (n : ℕ) (u : Spot) → OneSet spots j (record s { span = Some y }) n u
+    tell : (n : ℕ) (u : ModelNode) → OneSet spots j (record s { span = Some y }) n u
         → Tells made (ws ++ (q, y) ∷ vs) u
     tell n u (changed same is) =
         let t = st.tells j s here in
@@ -153,11 +153,11 @@ respanned made ws vs spots q x y j s st none here place = record {
     ]
 
 -- the innermost table ends
-pub closed_leads : (before now : List Spot) (made : List Assertion) (ws vs : List Placed) (q : Place)
+pub closed_leads : (before now : List ModelNode) (made : List Assertion) (ws vs : List Placed) (q : Place)
     (x : Span) (base : List ℕ) (j to : ℕ) → Stands made (ws ++ (q, x) ∷ vs) now → span_at ws q ≡ None
     → StandsAt now j q → Grows before now
     → Leads before made (ws ++ (q, record { from = x.from; to = to }) ∷ vs) base
-    (closed (settled_state now (base ++ j ∷ [])) to)
+    (value_closed (without_pending now (base ++ j ∷ [])) to)
 closed_leads before now made ws vs q x base j to st none there grows =
     let s = there.0 in
     let y : Span = record { from = x.from; to = to } in
@@ -167,13 +167,13 @@ closed_leads before now made ws vs q x base j to st none there grows =
     take_length base (j ∷ []) in
     let has : s.span ≡ Some x = (st.tells j s there.1).span ∙ ap (span_at (ws ++ (q, x) ∷ vs)) there.2 ∙
     span_middle ws vs q x none in
-    let made_state : List Spot → List ℕ → Option State = λ ss ts. Some (settled_state ss ts) in
-    let path : closed (settled_state now (base ++ j ∷ [])) to
-    ≡ Some (settled_state (slice_set now j (record s { span = Some y })) base) =
+    let made_state : List ModelNode → List ℕ → Option State = λ ss ts. Some (without_pending ss ts) in
+    let path : value_closed (without_pending now (base ++ j ∷ [])) to
+    ≡ Some (without_pending (slice_set now j (record s { span = Some y })) base) =
     ap (λ (o : Option ℕ). o >>= λ number. slice_get now number >>= λ u. u.span >>= λ span. made_state
     (slice_set now number (record u { span = Some (record { from = span.from; to = to }) }))
     (without_last (base ++ j ∷ []))) (last_push base j)
-    ∙ ap (λ (o : Option Spot). o >>= λ u. u.span >>= λ span. made_state
+    ∙ ap (λ (o : Option ModelNode). o >>= λ u. u.span >>= λ span. made_state
     (slice_set now j (record u { span = Some (record { from = span.from; to = to }) }))
     (without_last (base ++ j ∷ []))) there.1
     ∙ ap (λ (o : Option Span). o >>= λ span. made_state

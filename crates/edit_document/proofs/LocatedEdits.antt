@@ -9,7 +9,7 @@ use Rattle.std.specs.List.Sorted.{IsPermutation}
 use Rattle.std.specs.Str.{IsUtf8}
 use Rattle.edit_syntax.specs.Grammar.{Text, text}
 use Rattle.edit_tree.specs.Assertions.{Place, same_place}
-use Rattle.edit_tree.specs.Written.{Valued, start_of, end_of}
+use Rattle.edit_tree.specs.Written.{PlacedValue, start_of, end_of}
 use Rattle.edit_tree.specs.Literals.{literal_of}
 use Rattle.edit_tree.specs.Replaces.{Edits, new_text, replaced, edited, AreDistinct}
 use Rattle.edit_document.specs.Splices.{Range, ranges_of, IsRangeFor, AreRanges, Locates}
@@ -66,23 +66,24 @@ ranges_moved form edits rs qs h p = record {
 
 -- ---- no two ranges begin at one position
 
-above : (total : ℕ) (x c : Valued × List ℕ) (cs : List (Valued × List ℕ))
+above : (total : ℕ) (x c : PlacedValue × List ℕ) (cs : List (PlacedValue × List ℕ))
     → AllByRecursion (λ q. start_of total x.0 < q.0) (ranges_of total cs) → Among c cs
     → start_of total x.0 < start_of total c.0
 above total x c cs all m = among_all (λ (q : Range). start_of total x.0 < q.0)
     (start_of total c.0, end_of total c.0, c.1) (ranges_of total cs) all
-    (among_map (λ (e : Valued × List ℕ). (start_of total e.0, end_of total e.0, e.1)) c cs m)
+    (among_map (λ (e : PlacedValue × List ℕ). (start_of total e.0, end_of total e.0, e.1)) c cs m)
 
-same_start : (total : ℕ) (cs : List (Valued × List ℕ)) (c d : Valued × List ℕ) → Rises (ranges_of total cs)
+same_start : (total : ℕ) (cs : List (PlacedValue × List ℕ)) (c d : PlacedValue × List ℕ)
+    → Rises (ranges_of total cs)
     → Among c cs → Among d cs → start_of total c.0 ≡ start_of total d.0 → c ≡ d
 same_start total [] c d up m n e = absurd m
 same_start total (x ∷ cs) c d up (inl p) (inl q) e = p ∙ sym q
 same_start total (x ∷ cs) c d up (inl p) (inr n) e =
     let less = above total x d cs up.0 n in
-    let same = ap (λ (z : Valued × List ℕ). start_of total z.0) p in absurd (omega arith)
+    let same = ap (λ (z : PlacedValue × List ℕ). start_of total z.0) p in absurd (omega arith)
 same_start total (x ∷ cs) c d up (inr m) (inl q) e =
     let less = above total x c cs up.0 m in
-    let same = ap (λ (z : Valued × List ℕ). start_of total z.0) q in absurd (omega arith)
+    let same = ap (λ (z : PlacedValue × List ℕ). start_of total z.0) q in absurd (omega arith)
 same_start total (x ∷ cs) c d up (inr m) (inr n) e = same_start total cs c d up.1 m n e
 
 abbrev begins_with : Range → Range → Bool
@@ -94,10 +95,10 @@ starts_differ : (form : Text) (all : Edits) (e f : Place × List ℕ) (r q : Ran
 starts_differ form all e f r q first up m n is other apart =
     by_test (begins_with r q)
     (λ h. let eq : r.0 ≡ q.0 = eqb-true r.0 q.0 h in
-    let same = same_start (length (text form)) (edited all form) (is.0.valued, e.1) (other.0.valued, f.1) up
+    let same = same_start (length (text form)) (edited all form) (is.0.placed_value, e.1) (other.0.placed_value, f.1) up
     (edit_among form all e r first m is) (edit_among form all f q first n other)
     (sym is.0.starts ∙ eq ∙ other.0.starts) in
-    let place : e.0 ≡ f.0 = sym is.0.there ∙ ap (λ (z : Valued × List ℕ). z.0.place) same ∙ other.0.there in
+    let place : e.0 ≡ f.0 = sym is.0.there ∙ ap (λ (z : PlacedValue × List ℕ). z.0.place) same ∙ other.0.there in
     absurd (true≢false (sym (same_place_self e.0) ∙ ap (λ p. same_place e.0 p) place ∙ apart)))
     (λ h. h)
 

@@ -8,14 +8,14 @@ use Rattle.std.proofs.lemmas.List.{append-nil, length_push, map-append}
 use Rattle.std.proofs.lemmas.Option.{slice_get_past}
 use Rattle.std.proofs.lemmas.Slice.Eq.{bytes_eq-Decides}
 use Rattle.edit_syntax.specs.declared.span.Span.{Span}
-use Rattle.edit_tree.specs.declared.nodes.Taken.{Taken}
-use Rattle.edit_tree.specs.declared.nodes.Taken.TheVariants as takings
-use Rattle.edit_tree.specs.declared.nodes.Taken.TheVariants.{Dotted, Super, Header, Array, Element}
+use Rattle.edit_tree.specs.declared.nodes.DefinedBy.{DefinedBy}
+use Rattle.edit_tree.specs.declared.nodes.DefinedBy.TheVariants as takings
+use Rattle.edit_tree.specs.declared.nodes.DefinedBy.TheVariants.{Dotted, Super, Header, Array, Element}
 use Rattle.edit_tree.specs.Assertions.{Step, key, index, Place, at, Kind, Assertion}
 use Rattle.edit_document.specs.DocumentLayout.{Placed}
-use Rattle.edit_tree.specs.Taking.{taken_of, joins}
-use Rattle.edit_tree.specs.Nodes.{Spot, StandsAt, below}
-use Rattle.edit_tree.specs.Walk.{spot_at, target_of, with_taken, taken_again, with_member, with_element, added, element_added, numbered, asserted}
+use Rattle.edit_tree.specs.Redefinition.{defined_by, joins}
+use Rattle.edit_tree.specs.Nodes.{ModelNode, StandsAt, below}
+use Rattle.edit_tree.specs.Walk.{model_node_at, target_of, with_definition, node_extended, with_member, with_element, added, element_added, with_index, member_defined}
 use Rattle.edit_tree.proofs.SamePlace.{not_root}
 use Rattle.edit_syntax.proofs.ListElements.{get_front, get_last, equal_or}
 use Rattle.edit_tree.proofs.SpotNodes.{child_is}
@@ -28,46 +28,47 @@ use Rattle.edit_document.proofs.AssertedSpots.{IsIndexed, noted, shape_of_kind, 
 use Rattle.edit_document.proofs.NewAssertions.{Shows, stands_gained, gained_grows, gained_last}
 
 -- the spots stand for one assertion more, whose place has a number; or it clashes
-pub data Makes (made : List Assertion) (written : List Placed) (spots : List Spot) (a : Assertion)
-    (more : List Placed) (r : Option (List Spot × ℕ)) : Type 0 where
-  makes : (now : List Spot) (j : ℕ) → r ≡ Some (now, j) → Stands (made ++ a ∷ []) (written ++ more) now
+pub data Makes (made : List Assertion) (written : List Placed) (spots : List ModelNode) (a : Assertion)
+    (more : List Placed) (r : Option (List ModelNode × ℕ)) : Type 0 where
+  makes : (now : List ModelNode) (j : ℕ) → r ≡ Some (now, j) → Stands (made ++ a ∷ []) (written ++ more) now
       → StandsAt now j a.place → Grows spots now → Makes made written spots a more r
   fails : r ≡ None → (IsClear (made ++ a ∷ []) → ⊥) → Makes made written spots a more r
 
-pub makes_along : {made : List Assertion} {written : List Placed} {spots : List Spot} {a : Assertion}
-    {more : List Placed} {r q : Option (List Spot × ℕ)} → q ≡ r → Makes made written spots a more r
+pub makes_along : {made : List Assertion} {written : List Placed} {spots : List ModelNode} {a : Assertion}
+    {more : List Placed} {r q : Option (List ModelNode × ℕ)} → q ≡ r → Makes made written spots a more r
     → Makes made written spots a more q
 makes_along e (makes now j h s p g) = makes now j (e ∙ h) s p g
 makes_along e (fails h c) = fails (e ∙ h) c
 
 -- ---- a place that is taken again
 
-again_is : (spots : List Spot) (j : ℕ) (s : Spot) (taken : Taken) (b : Bool) → slice_get spots j ≡ Some s
-    → joins s.taken taken ≡ b → taken_again spots j taken
-    ≡ cond b (Some (slice_set spots j (with_taken s taken))) None
-unfolding taken_again
+again_is : (spots : List ModelNode) (j : ℕ) (s : ModelNode) (taken : DefinedBy) (b : Bool)
+    → slice_get spots j ≡ Some s
+    → joins s.taken taken ≡ b → node_extended spots j taken
+    ≡ cond b (Some (slice_set spots j (with_definition s taken))) None
+unfolding node_extended
 again_is spots j s taken b e h = rw (e, h) refl
 
-pub again_makes : (made : List Assertion) (written : List Placed) (spots : List Spot) (j : ℕ) (s : Spot)
+pub again_makes : (made : List Assertion) (written : List Placed) (spots : List ModelNode) (j : ℕ) (s : ModelNode)
     (a : Assertion) → Stands made written spots → slice_get spots j ≡ Some s → a.place ≡ s.place
     → (s.place ≡ [] → ⊥) → is_element a.kind ≡ false
-    → Makes made written spots a [] (numbered j (taken_again spots j (taken_of a.kind)))
-again_makes made written spots j s a st here place inner plain = go (joins s.taken (taken_of a.kind)) refl
+    → Makes made written spots a [] (with_index j (node_extended spots j (defined_by a.kind)))
+again_makes made written spots j s a st here place inner plain = go (joins s.taken (defined_by a.kind)) refl
   where
-    go : (b : Bool) → joins s.taken (taken_of a.kind) ≡ b
-        → Makes made written spots a [] (numbered j (taken_again spots j (taken_of a.kind)))
+    go : (b : Bool) → joins s.taken (defined_by a.kind) ≡ b
+        → Makes made written spots a [] (with_index j (node_extended spots j (defined_by a.kind)))
     go true fits =
-        let now = slice_set spots j (with_taken s (taken_of a.kind)) in
-        makes now j (ap (numbered j) (again_is spots j s (taken_of a.kind) true here fits))
+        let now = slice_set spots j (with_definition s (defined_by a.kind)) in
+        makes now j (ap (with_index j) (again_is spots j s (defined_by a.kind) true here fits))
         (subst (λ (w : List Placed). Stands (made ++ a ∷ []) w now) (sym (append-nil written))
         (stands_again made written spots j s a st here place inner fits plain))
-        (grows_set spots j s (with_taken s (taken_of a.kind)) here refl j a.place (s, here, sym place))
-        (grows_set spots j s (with_taken s (taken_of a.kind)) here refl)
+        (grows_set spots j s (with_definition s (defined_by a.kind)) here refl j a.place (s, here, sym place))
+        (grows_set spots j s (with_definition s (defined_by a.kind)) here refl)
     go false stops =
-        fails (ap (numbered j) (again_is spots j s (taken_of a.kind) false here stops))
+        fails (ap (with_index j) (again_is spots j s (defined_by a.kind) false here stops))
         (λ clear.
         let fits : allowed made a.place a.kind ≡ true = clash_last made a clear in
-        let says : allowed made a.place a.kind ≡ joins s.taken (taken_of a.kind) =
+        let says : allowed made a.place a.kind ≡ joins s.taken (defined_by a.kind) =
         ap (λ (q : Place). allowed made q a.kind) place ∙ (st.tells j s here).joined inner a.kind in
         let clash : true ≡ false = sym fits ∙ says ∙ stops in
         cc)
@@ -101,7 +102,7 @@ not_same q name ne = go (bytes_eq q name) refl
     go true e = absurd (ne ((bytes_eq-Decides q name).0 e))
     go false e = e
 
-member_gains : (s : Spot) (name : List ℕ) (number : ℕ) → below s (key name) ≡ None
+member_gains : (s : ModelNode) (name : List ℕ) (number : ℕ) → below s (key name) ≡ None
     → Gains s (with_member s name number) (key name) number
 member_gains s name number none = record {
   place = refl;
@@ -114,7 +115,7 @@ member_gains s name number none = record {
     elsewhere (key q) ne = lookup_else s.members name q number (not_same q name (λ e. ne (ap key e)))
     elsewhere (index i) ne = refl
 
-member_shows : (s : Spot) (name : List ℕ) (number : ℕ) → Shows s (with_member s name number) (key name)
+member_shows : (s : ModelNode) (name : List ℕ) (number : ℕ) → Shows s (with_member s name number) (key name)
 member_shows s name number =
     record {
       shape = refl;
@@ -132,12 +133,12 @@ too_long made a p x place le clear =
     let more : length (at p x) ≡ length p + 1 = length_push p x in
     omega arith
 
-pub added_makes : (made : List Assertion) (written : List Placed) (spots : List Spot) (t : ℕ) (s : Spot)
+pub added_makes : (made : List Assertion) (written : List Placed) (spots : List ModelNode) (t : ℕ) (s : ModelNode)
     (name : List ℕ) (a : Assertion) (span : Option Span) → Stands made written spots
     → slice_get spots t ≡ Some s → below s (key name) ≡ None → a.place ≡ at s.place (key name)
     → is_element a.kind ≡ false
     → Makes made written spots a (noted a.place span)
-    (added spots t name (shape_of_kind a.kind) (taken_of a.kind) span)
+    (added spots t name (shape_of_kind a.kind) (defined_by a.kind) span)
 added_makes made written spots t s name a span st here none place plain =
     elim (cases_lt (length s.place) 80) [
       | inl few ↦
@@ -147,13 +148,13 @@ added_makes made written spots t s name a span st here none place plain =
           let indexed : (i : ℕ) → key name ≡ index i → IsIndexed made s.place i = λ i e. absurd cc in
           let unindexed : (k : Kind) → first_kind made s.place ≡ Some k → is_headed k ≡ true
           → is_element a.kind ≡ false = λ k f e. plain in
-          let last = spot_at a.place (shape_of_kind a.kind) (taken_of a.kind) span in
-          let is : added spots t name (shape_of_kind a.kind) (taken_of a.kind) span
+          let last = model_node_at a.place (shape_of_kind a.kind) (defined_by a.kind) span in
+          let is : added spots t name (shape_of_kind a.kind) (defined_by a.kind) span
           ≡ Some (slice_set spots t s2 ++ last ∷ [], length spots) =
-          added_made spots t name (shape_of_kind a.kind) (taken_of a.kind) span s here few
+          added_made spots t name (shape_of_kind a.kind) (defined_by a.kind) span s here few
           ∙ ap (λ (p : Place). Some (
-            slice_set spots t (with_member s name (length spots)) ++ spot_at p (shape_of_kind a.kind)
-                (taken_of a.kind) span ∷ [],
+            slice_set spots t (with_member s name (length spots)) ++ model_node_at p (shape_of_kind a.kind)
+                (defined_by a.kind) span ∷ [],
             length spots,
           )) (sym place) in
           makes (slice_set spots t s2 ++ last ∷ []) (length spots) is
@@ -163,15 +164,15 @@ added_makes made written spots t s name a span st here none place plain =
           (gained_last made written spots t s s2 (key name) a span st here gains shows place unindexed indexed
           few) (gained_grows made written spots t s s2
           (key name) a span st here gains shows place unindexed indexed few)
-      | inr many ↦ fails (added_long spots t name (shape_of_kind a.kind) (taken_of a.kind) span s here many)
+      | inr many ↦ fails (added_long spots t name (shape_of_kind a.kind) (defined_by a.kind) span s here many)
           (too_long made a s.place (key name) place many)
     ]
 
 -- only a value has a span
 abbrev pub IsSpanFor : Kind → Option Span → Type 0
-IsSpanFor k span = (span ≡ None) ⊎ (taken_of k ≡ takings.Value)
+IsSpanFor k span = (span ≡ None) ⊎ (defined_by k ≡ takings.Value)
 
-no_value_again : (t : Taken) → joins t takings.Value ≡ true → ⊥
+no_value_again : (t : DefinedBy) → joins t takings.Value ≡ true → ⊥
 no_value_again Dotted e = cc
 no_value_again takings.Value e = cc
 no_value_again Super e = cc
@@ -180,8 +181,8 @@ no_value_again Array e = cc
 no_value_again Element e = cc
 
 -- a span of a place that is taken again
-more_none : (made : List Assertion) (written : List Placed) (spots : List Spot) (a : Assertion)
-    (span : Option Span) (r : Option (List Spot × ℕ)) (j : ℕ) (s : Spot) → Stands made written spots
+more_none : (made : List Assertion) (written : List Placed) (spots : List ModelNode) (a : Assertion)
+    (span : Option Span) (r : Option (List ModelNode × ℕ)) (j : ℕ) (s : ModelNode) → Stands made written spots
     → slice_get spots j ≡ Some s → a.place ≡ s.place → (s.place ≡ [] → ⊥) → IsSpanFor a.kind span
     → Makes made written spots a [] r → Makes made written spots a (noted a.place span) r
 more_none made written spots a span r j s st here place inner (inl e) m =
@@ -189,42 +190,43 @@ more_none made written spots a span r j s st here place inner (inl e) m =
 more_none made written spots a span r j s st here place inner (inr e) (fails h c) = fails h c
 more_none made written spots a span r j s st here place inner (inr e) (makes now k h stands p g) =
     let fits : allowed made a.place a.kind ≡ true = clash_last made a stands.clear in
-    let says : allowed made a.place a.kind ≡ joins s.taken (taken_of a.kind) =
+    let says : allowed made a.place a.kind ≡ joins s.taken (defined_by a.kind) =
     ap (λ (q : Place). allowed made q a.kind) place ∙ (st.tells j s here).joined inner a.kind in
     absurd (no_value_again s.taken (ap (joins s.taken) (sym e) ∙ sym says ∙ fits))
 
 -- a member is asserted, by any kind but that of a header that goes on below it
-pub member_makes : (made : List Assertion) (written : List Placed) (spots : List Spot) (t : ℕ) (s : Spot)
+pub member_makes : (made : List Assertion) (written : List Placed) (spots : List ModelNode) (t : ℕ) (s : ModelNode)
     (name : List ℕ) (a : Assertion) (span : Option Span) → Stands made written spots
     → slice_get spots t ≡ Some s → a.place ≡ at s.place (key name)
-    → is_element a.kind ≡ false → (taken_of a.kind ≡ Super → ⊥) → IsSpanFor a.kind span
+    → is_element a.kind ≡ false → (defined_by a.kind ≡ Super → ⊥) → IsSpanFor a.kind span
     → Makes made written spots a (noted a.place span)
-    (asserted spots t name (shape_of_kind a.kind) (taken_of a.kind) span)
+    (member_defined spots t name (shape_of_kind a.kind) (defined_by a.kind) span)
 member_makes made written spots t s name a span st here place plain kind spanned =
     go (below s (key name)) refl
   where
     go : (o : Option ℕ) → below s (key name) ≡ o
         → Makes made written spots a (noted a.place span)
-        (asserted spots t name (shape_of_kind a.kind) (taken_of a.kind) span)
+        (member_defined spots t name (shape_of_kind a.kind) (defined_by a.kind) span)
     go None e =
-        makes_along (asserted_new spots t name (shape_of_kind a.kind) (taken_of a.kind) span
+        makes_along (asserted_new spots t name (shape_of_kind a.kind) (defined_by a.kind) span
         (child_is spots t s name here ∙ e))
         (added_makes made written spots t s name a span st here e place plain)
     go (Some j) e =
         let d = st.tree.down t j s (key name) here e in
         let same : a.place ≡ d.0.place = place ∙ sym d.2 in
         let inner : d.0.place ≡ [] → ⊥ = λ root. not_root s.place (key name) (sym d.2 ∙ root) in
-        let target : target_of spots j (taken_of a.kind) ≡ j = target_other spots j (taken_of a.kind) kind in
+        let target : target_of spots j (defined_by a.kind) ≡ j = target_other spots j (defined_by a.kind) kind in
         makes_along
-        (asserted_old spots t j name (shape_of_kind a.kind) (taken_of a.kind) span
+        (asserted_old spots t j name (shape_of_kind a.kind) (defined_by a.kind) span
         (child_is spots t s name here ∙ e) ∙
-        ap (λ (n : ℕ). numbered n (taken_again spots n (taken_of a.kind))) target)
-        (more_none made written spots a span (numbered j (taken_again spots j (taken_of a.kind))) j d.0 st d.1
+        ap (λ (n : ℕ). with_index n (node_extended spots n (defined_by a.kind))) target)
+        (more_none made written spots a span (with_index j (node_extended spots j (defined_by a.kind))) j d.0 st d.1
         same inner spanned (again_makes made written spots j d.0 a st d.1 same inner plain))
 
 -- ---- an element more
 
-element_gains : (s : Spot) (number : ℕ) → Gains s (with_element s number) (index (length s.elements)) number
+element_gains : (s : ModelNode) (number : ℕ)
+    → Gains s (with_element s number) (index (length s.elements)) number
 element_gains s number =
     record {
       place = refl;
@@ -247,7 +249,7 @@ element_gains s number =
       ]
     ]
 
-element_shows : (s : Spot) (number : ℕ) → Shows s (with_element s number) (index (length s.elements))
+element_shows : (s : ModelNode) (number : ℕ) → Shows s (with_element s number) (index (length s.elements))
 element_shows s number =
     record {
       shape = refl;
@@ -258,13 +260,13 @@ element_shows s number =
           (let n : length s.elements + 1 ≡ suc (length s.elements) = omega arith in n);
     }
 
-pub element_makes : (made : List Assertion) (written : List Placed) (spots : List Spot) (t : ℕ) (s : Spot)
+pub element_makes : (made : List Assertion) (written : List Placed) (spots : List ModelNode) (t : ℕ) (s : ModelNode)
     (a : Assertion) (span : Option Span) → Stands made written spots → slice_get spots t ≡ Some s
     → a.place ≡ at s.place (index (length s.elements))
     → ((k : Kind) → first_kind made s.place ≡ Some k → is_headed k ≡ true → is_element a.kind ≡ true)
     → IsIndexed made s.place (length s.elements)
     → Makes made written spots a (noted a.place span)
-    (element_added spots t (shape_of_kind a.kind) (taken_of a.kind) span)
+    (element_added spots t (shape_of_kind a.kind) (defined_by a.kind) span)
 element_makes made written spots t s a span st here place plain lists = elim (cases_lt (length s.place) 80) [
   | inl few ↦
       let x = index (length s.elements) in
@@ -274,19 +276,19 @@ element_makes made written spots t s a span st here place plain lists = elim (ca
       let indexed : (i : ℕ) → index (length s.elements) ≡ index i
       → IsIndexed made s.place i = λ i e. subst (IsIndexed made s.place)
       (let same : length s.elements ≡ i = cc in same) lists in
-      let last = spot_at a.place (shape_of_kind a.kind) (taken_of a.kind) span in
-      let is : element_added spots t (shape_of_kind a.kind) (taken_of a.kind) span
+      let last = model_node_at a.place (shape_of_kind a.kind) (defined_by a.kind) span in
+      let is : element_added spots t (shape_of_kind a.kind) (defined_by a.kind) span
       ≡ Some (slice_set spots t s2 ++ last ∷ [], length spots) =
-      element_made spots t (shape_of_kind a.kind) (taken_of a.kind) span s here few
+      element_made spots t (shape_of_kind a.kind) (defined_by a.kind) span s here few
       ∙ ap (λ (p : Place). Some (
-        slice_set spots t (with_element s (length spots)) ++ spot_at p (shape_of_kind a.kind)
-            (taken_of a.kind) span ∷ [],
+        slice_set spots t (with_element s (length spots)) ++ model_node_at p (shape_of_kind a.kind)
+            (defined_by a.kind) span ∷ [],
         length spots,
       )) (sym place) in
       makes (slice_set spots t s2 ++ last ∷ []) (length spots) is
       (stands_gained made written spots t s s2 x a span st here gains shows place plain indexed few)
       (gained_last made written spots t s s2 x a span st here gains shows place plain indexed few)
       (gained_grows made written spots t s s2 x a span st here gains shows place plain indexed few)
-  | inr many ↦ fails (element_long spots t (shape_of_kind a.kind) (taken_of a.kind) span s here many)
+  | inr many ↦ fails (element_long spots t (shape_of_kind a.kind) (defined_by a.kind) span s here many)
       (too_long made a s.place (index (length s.elements)) place many)
 ]

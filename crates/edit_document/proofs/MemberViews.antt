@@ -10,13 +10,13 @@ use Rattle.edit_tree.specs.declared.nodes.Words.{Words}
 use Rattle.edit_tree.specs.declared.nodes.Content.{Content}
 use Rattle.edit_tree.specs.declared.nodes.Content.TheVariants as content
 use Rattle.edit_tree.specs.declared.nodes.Node.{Node}
-use Rattle.edit_document.specs.declared.document.Seen.{Seen}
+use Rattle.edit_document.specs.declared.document.Datum.{Datum}
 use Rattle.edit_document.specs.declared.place.Step.{Step as WrittenStep}
 use Rattle.edit_tree.specs.Assertions.{Step, key, index, Place, at}
 use Rattle.edit_tree.specs.Tree.{View}
-use Rattle.edit_tree.specs.Shown.{Shown, tree_of}
-use Rattle.edit_tree.specs.Nodes.{Spot, view_of_shape, shown_spot, shape_of, entries_of, elements_of, number_in, below, IsTree}
-use Rattle.edit_document.specs.Items.{step_seen, place_seen, viewed, place_numbered, view_numbered, key_names, names_in, count_in, Numbers, Shows}
+use Rattle.edit_tree.specs.DocumentViews.{DocumentViews, tree_of}
+use Rattle.edit_tree.specs.Nodes.{ModelNode, view_of_shape, model_node_view, shape_of, entries_of, elements_of, number_in, below, IsTree}
+use Rattle.edit_document.specs.Items.{step_view, place_view, viewed, node_place, node_view, key_names, names_in, count_in, Numbers, Shows}
 use Rattle.edit_tree.proofs.SamePlace.{last_same, not_root}
 use Rattle.edit_syntax.proofs.ListElements.{slice_get_same}
 use Rattle.edit_tree.proofs.SpotNodes.{below_node}
@@ -54,8 +54,8 @@ IsDateTime x = (s : Span) × (x ≡ content.DateTime s)
 abbrev pub IsScalar : Content → Type 0
 IsScalar x = IsText x ⊎ (IsTruth x ⊎ (IsInteger x ⊎ (IsFloat x ⊎ IsDateTime x)))
 
-names_of_content : (shown : Shown) (nodes : List Node) (spots : List Spot) (n : ℕ) (node : Node) (x : Content)
-    → Found shown nodes spots n node → node.content ≡ x → names_in (view_numbered shown n)
+names_of_content : (shown : DocumentViews) (nodes : List Node) (spots : List ModelNode) (n : ℕ) (node : Node) (x : Content)
+    → Found shown nodes spots n node → node.content ≡ x → names_in (node_view shown n)
     ≡ names_in (view_of_shape (shape_of shown.bytes x) (names_of_node shown.bytes node)
     (length (elements_of node.members)))
 names_of_content shown nodes spots n node x f is = ap names_in f.view ∙
@@ -63,13 +63,13 @@ names_of_content shown nodes spots n node x f is = ap names_in f.view ∙
     (length (elements_of node.members)))) is
 
 -- what shows no names, and what does
-pub names_none : (shown : Shown) (nodes : List Node) (spots : List Spot) (n : ℕ) (node : Node)
+pub names_none : (shown : DocumentViews) (nodes : List Node) (spots : List ModelNode) (n : ℕ) (node : Node)
     → Found shown nodes spots n node → IsText node.content
     ⊎ (IsTruth node.content
     ⊎ (IsInteger node.content
     ⊎ (IsFloat node.content
     ⊎ (IsDateTime node.content ⊎ ((node.content ≡ content.Array) ⊎ (node.content ≡ content.Tables))))))
-    → names_in (view_numbered shown n) ≡ []
+    → names_in (node_view shown n) ≡ []
 names_none shown nodes spots n node f (inl t) = names_of_content shown nodes spots n node
     (content.Text t.0) f t.1
 names_none shown nodes spots n node f (inr (inl t)) = names_of_content shown nodes spots n node
@@ -85,25 +85,25 @@ names_none shown nodes spots n node f (inr (inr (inr (inr (inr (inl t)))))) =
 names_none shown nodes spots n node f (inr (inr (inr (inr (inr (inr t)))))) =
     names_of_content shown nodes spots n node content.Tables f t
 
-pub names_tabular : (shown : Shown) (nodes : List Node) (spots : List Spot) (n : ℕ) (node : Node)
+pub names_tabular : (shown : DocumentViews) (nodes : List Node) (spots : List ModelNode) (n : ℕ) (node : Node)
     → Found shown nodes spots n node → (node.content ≡ content.Inline) ⊎ (node.content ≡ content.Table)
-    → names_in (view_numbered shown n) ≡ names_of_node shown.bytes node
+    → names_in (node_view shown n) ≡ names_of_node shown.bytes node
 names_tabular shown nodes spots n node f (inl t) =
     names_of_content shown nodes spots n node content.Inline f t ∙ names_keys (names_of_node shown.bytes node)
 names_tabular shown nodes spots n node f (inr t) =
     names_of_content shown nodes spots n node content.Table f t ∙ names_keys (names_of_node shown.bytes node)
 
 -- a node of this content has so many parts
-pub count_shown : (shown : Shown) (nodes : List Node) (spots : List Spot) (n : ℕ) (node : Node) (x : Content)
-    → Found shown nodes spots n node → node.content ≡ x → count_in (view_numbered shown n)
+pub count_shown : (shown : DocumentViews) (nodes : List Node) (spots : List ModelNode) (n : ℕ) (node : Node) (x : Content)
+    → Found shown nodes spots n node → node.content ≡ x → count_in (node_view shown n)
     ≡ count_in (view_of_shape (shape_of shown.bytes x) (names_of_node shown.bytes node)
     (length (elements_of node.members)))
 count_shown shown nodes spots n node x f is = ap count_in f.view ∙
     ap (λ (y : Content). count_in (view_of_shape (shape_of shown.bytes y) (names_of_node shown.bytes node)
     (length (elements_of node.members)))) is
 
-pub count_scalar : (shown : Shown) (nodes : List Node) (spots : List Spot) (n : ℕ) (node : Node)
-    → Found shown nodes spots n node → IsScalar node.content → count_in (view_numbered shown n) ≡ 0
+pub count_scalar : (shown : DocumentViews) (nodes : List Node) (spots : List ModelNode) (n : ℕ) (node : Node)
+    → Found shown nodes spots n node → IsScalar node.content → count_in (node_view shown n) ≡ 0
 count_scalar shown nodes spots n node f (inl t) = count_shown shown nodes spots n node
     (content.Text t.0) f t.1
 count_scalar shown nodes spots n node f (inr (inl t)) = count_shown shown nodes spots n node
@@ -115,28 +115,28 @@ count_scalar shown nodes spots n node f (inr (inr (inr (inl t)))) =
 count_scalar shown nodes spots n node f (inr (inr (inr (inr t)))) =
     count_shown shown nodes spots n node (content.DateTime t.0) f t.1
 
-pub count_elements : (shown : Shown) (nodes : List Node) (spots : List Spot) (n : ℕ) (node : Node)
+pub count_elements : (shown : DocumentViews) (nodes : List Node) (spots : List ModelNode) (n : ℕ) (node : Node)
     → Found shown nodes spots n node → (node.content ≡ content.Array) ⊎ (node.content ≡ content.Tables)
-    → count_in (view_numbered shown n) ≡ length (elements_of node.members)
+    → count_in (node_view shown n) ≡ length (elements_of node.members)
 count_elements shown nodes spots n node f (inl t) = count_shown shown nodes spots n node content.Array f t
 count_elements shown nodes spots n node f (inr t) = count_shown shown nodes spots n node content.Tables f t
 
-pub count_tabular : (shown : Shown) (nodes : List Node) (spots : List Spot) (n : ℕ) (node : Node)
+pub count_tabular : (shown : DocumentViews) (nodes : List Node) (spots : List ModelNode) (n : ℕ) (node : Node)
     → Found shown nodes spots n node → (node.content ≡ content.Inline) ⊎ (node.content ≡ content.Table)
-    → count_in (view_numbered shown n) ≡ length (entries_of shown.bytes node.members)
+    → count_in (node_view shown n) ≡ length (entries_of shown.bytes node.members)
 count_tabular shown nodes spots n node f (inl t) = count_shown shown nodes spots n node content.Inline f t ∙
     count_members shown.bytes node
 count_tabular shown nodes spots n node f (inr t) = count_shown shown nodes spots n node content.Table f t ∙
     count_members shown.bytes node
 
 -- what a node shows
-abbrev pub shows_content : List ℕ → Node → Content → Seen → Type 0
+abbrev pub shows_content : List ℕ → Node → Content → Datum → Type 0
 shows_content text node x s =
     Shows (view_of_shape (shape_of text x) (names_of_node text node) (length (elements_of node.members))) s
 
-pub shows : (shown : Shown) (nodes : List Node) (spots : List Spot) (n : ℕ) (node : Node) (x : Content)
-    (s : Seen) → Found shown nodes spots n node → node.content ≡ x → shows_content shown.bytes node x s
-    → Shows (view_numbered shown n) s
+pub shows : (shown : DocumentViews) (nodes : List Node) (spots : List ModelNode) (n : ℕ) (node : Node) (x : Content)
+    (s : Datum) → Found shown nodes spots n node → node.content ≡ x → shows_content shown.bytes node x s
+    → Shows (node_view shown n) s
 shows shown nodes spots n node x s f is h = subst (λ (v : View). Shows v s) (sym f.view)
     (subst (λ (y : Content). shows_content shown.bytes node y s) (sym is) h)
 
@@ -148,8 +148,9 @@ got xs i Q None h k = sym (slice_get_past xs i h)
 got xs i Q (Some x) h k = sym (slice_get_read xs (length xs) i x.now refl h.0 k)
 
 -- nothing stands one step below a node that has no such part
-absent : (spots : List Spot) (tree : IsTree spots) (n : ℕ) (s : Spot) (x : Step) → slice_get spots n ≡ Some s
-    → below s x ≡ None → (i : ℕ) (t : Spot) → slice_get spots i ≡ Some t → t.place ≡ at s.place x → ⊥
+absent : (spots : List ModelNode) (tree : IsTree spots) (n : ℕ) (s : ModelNode) (x : Step)
+    → slice_get spots n ≡ Some s
+    → below s x ≡ None → (i : ℕ) (t : ModelNode) → slice_get spots i ≡ Some t → t.place ≡ at s.place x → ⊥
 absent spots tree n s x stands none i t g p =
     elim (tree.up i t g) [
       | inl root ↦ not_root s.place x (sym p ∙ root)
@@ -158,54 +159,54 @@ absent spots tree n s x stands none i t g p =
           let number : m.above ≡ n = tree.unique m.above n m.upper s m.stands stands same.0 in
           let spot : m.upper ≡ s = slice_get_same spots n m.upper s (ap (slice_get spots) (sym number) ∙
           m.stands) stands in
-          let some : below s x ≡ Some i = ap (λ (u : Spot). below u x) (sym spot) ∙
+          let some : below s x ≡ Some i = ap (λ (u : ModelNode). below u x) (sym spot) ∙
           ap (below m.upper) (sym same.1) ∙ m.listed in
           let clash : None ≡ Some i = sym none ∙ some in
           absurd cc
     ]
 
 -- the number of what stands one step below a node
-pub part_here : (shown : Shown) (nodes : List Node) (n : ℕ) (node : Node) (x : Step) (r : Option ℕ)
+pub part_here : (shown : DocumentViews) (nodes : List Node) (n : ℕ) (node : Node) (x : Step) (r : Option ℕ)
     → (opens : Opened shown nodes) → (f : Found shown nodes opens.spots n node) → r ≡ below f.spot x
-    → Numbers shown (at (place_numbered shown n) x) r
+    → Numbers shown (at (node_place shown n) x) r
 part_here shown nodes n node x None opens f e = rw (f.place, opens.nodes_are)
     (node_none opens.spots (at f.spot.place x) (absent opens.spots opens.tree n f.spot x f.stands (sym e)))
 part_here shown nodes n node x (Some m) opens f e =
     let s = opens.tree.down n m f.spot x f.stands (sym e) in
-    let place : s.0.place ≡ at (place_numbered shown n) x = s.2 ∙ ap (λ (p : Place). at p x) (sym f.place) in
+    let place : s.0.place ≡ at (node_place shown n) x = s.2 ∙ ap (λ (p : Place). at p x) (sym f.place) in
     let tree = tree_spot shown opens.spots m s.0 opens.nodes_are opens.tree s.1 in
     let view = view_spot shown opens.spots m s.0 opens.nodes_are opens.tree s.1 in
     let lt = slice_get_within opens.spots m s.0 s.1 in
     let l : length shown.nodes ≡ length opens.spots = ap length opens.nodes_are ∙
-    length-map opens.spots shown_spot in (
+    length-map opens.spots model_node_view in (
       ap (tree_of shown) (sym place) ∙ tree ∙ ap (λ (v : View). Some v) (sym view),
       place_spot shown opens.spots m s.0 opens.nodes_are s.1 ∙ place,
       omega arith,
     )
 
-pub member_here : (shown : Shown) (nodes : List Node) (n : ℕ) (node : Node) (name : List ℕ) (r : Option ℕ)
+pub member_here : (shown : DocumentViews) (nodes : List Node) (n : ℕ) (node : Node) (name : List ℕ) (r : Option ℕ)
     → (opens : Opened shown nodes) → Found shown nodes opens.spots n node
     → r ≡ number_in (entries_of shown.bytes node.members) name
-    → Numbers shown (at (place_numbered shown n) (key name)) r
+    → Numbers shown (at (node_place shown n) (key name)) r
 member_here shown nodes n node name r opens f e = part_here shown nodes n node (key name) r opens f
     (e ∙ sym (below_node node f.spot name f.keeps))
 
-pub element_here : (shown : Shown) (nodes : List Node) (n : ℕ) (node : Node) (i : ℕ) (r : Option ℕ)
+pub element_here : (shown : DocumentViews) (nodes : List Node) (n : ℕ) (node : Node) (i : ℕ) (r : Option ℕ)
     → (opens : Opened shown nodes) → Found shown nodes opens.spots n node
     → r ≡ slice_get (elements_of node.members) i
-    → Numbers shown (at (place_numbered shown n) (index i)) r
+    → Numbers shown (at (node_place shown n) (index i)) r
 element_here shown nodes n node i r opens f e = part_here shown nodes n node (index i) r opens f
     (e ∙ ap (λ (es : List ℕ). slice_get es i) f.keeps.elements)
 
 -- a node stands at its place
-pub node_stands : (shown : Shown) (nodes : List Node) (n : ℕ) (node : Node) (opens : Opened shown nodes)
-    → Found shown nodes opens.spots n node → tree_of shown (place_numbered shown n)
-    ≡ Some (view_numbered shown n)
+pub node_stands : (shown : DocumentViews) (nodes : List Node) (n : ℕ) (node : Node) (opens : Opened shown nodes)
+    → Found shown nodes opens.spots n node → tree_of shown (node_place shown n)
+    ≡ Some (node_view shown n)
 node_stands shown nodes n node opens f = ap (tree_of shown) f.place ∙ f.here ∙
     ap (λ (v : View). Some v) (sym (ap viewed (ap (tree_of shown) f.place ∙ f.here)))
 
 -- nothing stands below a place where nothing stands
-step_none : (shown : Shown) (nodes : List Node) (place : Place) (x : Step) → Opened shown nodes
+step_none : (shown : DocumentViews) (nodes : List Node) (place : Place) (x : Step) → Opened shown nodes
     → tree_of shown place ≡ None → tree_of shown (at place x) ≡ None
 step_none shown nodes place x opens none = rw opens.nodes_are
     (node_none opens.spots (at place x) (λ j t g p. elim (opens.tree.up j t g) [
@@ -217,43 +218,43 @@ step_none shown nodes place x opens none = rw opens.nodes_are
           absurd cc
     ]))
 
-pub nothing_below : (shown : Shown) (nodes : List Node) (more place : Place) → Opened shown nodes
+pub nothing_below : (shown : DocumentViews) (nodes : List Node) (more place : Place) → Opened shown nodes
     → tree_of shown place ≡ None → tree_of shown (place ++ more) ≡ None
 nothing_below shown nodes [] place opens none = ap (tree_of shown) (append-nil place) ∙ none
 nothing_below shown nodes (x ∷ more) place opens none =
     ap (tree_of shown) (sym (append_assoc place (x ∷ []) more)) ∙
     nothing_below shown nodes more (at place x) opens (step_none shown nodes place x opens none)
 
-pub root_stands : (shown : Shown) (nodes : List Node) → Opened shown nodes → (0 < length shown.nodes)
-    × (place_numbered shown 0 ≡ [])
+pub root_stands : (shown : DocumentViews) (nodes : List Node) → Opened shown nodes → (0 < length shown.nodes)
+    × (node_place shown 0 ≡ [])
 root_stands shown nodes opens =
     let r = opens.tree.root in
     let l : length shown.nodes ≡ length opens.spots = ap length opens.nodes_are ∙
-    length-map opens.spots shown_spot in
+    length-map opens.spots model_node_view in
     let lt = slice_get_within opens.spots 0 r.0 r.1 in
     (omega arith, place_spot shown opens.spots 0 r.0 opens.nodes_are r.1 ∙ r.2)
 
 -- ---- the walk along a place
 
 pub place_more : (steps : List WrittenStep) (i : ℕ) (step : WrittenStep) → i < length steps
-    → step ≡ get_or steps i step → place_seen (take (i + 1) steps)
-    ≡ at (place_seen (take i steps)) (step_seen step)
+    → step ≡ get_or steps i step → place_view (take (i + 1) steps)
+    ≡ at (place_view (take i steps)) (step_view step)
 place_more steps i step lt is =
-    ap (map step_seen) (take_more steps i step lt) ∙ map-append step_seen (take i steps)
-    (get_or steps i step ∷ []) ∙ ap (λ (x : WrittenStep). at (place_seen (take i steps)) (step_seen x))
+    ap (map step_view) (take_more steps i step lt) ∙ map-append step_view (take i steps)
+    (get_or steps i step ∷ []) ∙ ap (λ (x : WrittenStep). at (place_view (take i steps)) (step_view x))
     (sym is)
 
 -- nothing stands at a place where nothing stands on the way
-pub walk_none : (shown : Shown)
+pub walk_none : (shown : DocumentViews)
     → ((place more : Place) → tree_of shown place ≡ None → tree_of shown (place ++ more) ≡ None)
     → (steps : List WrittenStep) (i : ℕ) (step : WrittenStep) → i < length steps → step ≡ get_or steps i step
-    → (p : Place) → p ≡ place_seen (take i steps) → tree_of shown (at p (step_seen step)) ≡ None
-    → tree_of shown (place_seen steps) ≡ None
+    → (p : Place) → p ≡ place_view (take i steps) → tree_of shown (at p (step_view step)) ≡ None
+    → tree_of shown (place_view steps) ≡ None
 walk_none shown below steps i step lt is p here none =
-    let front : at p (step_seen step) ≡ place_seen (take (i + 1) steps) =
-    ap (λ (q : Place). at q (step_seen step)) here ∙ sym (place_more steps i step lt is) in
-    let whole : place_seen steps ≡ place_seen (take (i + 1) steps) ++ place_seen (drop (i + 1) steps) =
-    ap (map step_seen) (sym (take-append-drop (i + 1) steps)) ∙
-    map-append step_seen (take (i + 1) steps) (drop (i + 1) steps) in
-    ap (tree_of shown) whole ∙ below (place_seen (take (i + 1) steps)) (place_seen (drop (i + 1) steps))
+    let front : at p (step_view step) ≡ place_view (take (i + 1) steps) =
+    ap (λ (q : Place). at q (step_view step)) here ∙ sym (place_more steps i step lt is) in
+    let whole : place_view steps ≡ place_view (take (i + 1) steps) ++ place_view (drop (i + 1) steps) =
+    ap (map step_view) (sym (take-append-drop (i + 1) steps)) ∙
+    map-append step_view (take (i + 1) steps) (drop (i + 1) steps) in
+    ap (tree_of shown) whole ∙ below (place_view (take (i + 1) steps)) (place_view (drop (i + 1) steps))
     (ap (tree_of shown) (sym front) ∙ none)

@@ -7,14 +7,14 @@ use Rattle.std.proofs.lemmas.Bool.Decides.{nat_tests}
 use Rattle.std.proofs.lemmas.Str.{IsUtf8-append, IsUtf8-encode}
 use Rattle.edit_syntax.specs.declared.read.marks.MarkKind.TheVariants as kinds
 use Rattle.edit_syntax.specs.Characters.{quote, apostrophe, backslash, is_blank, All}
-use Rattle.edit_syntax.specs.Strings.{LineEnd, lf, crlf, line_end, Space, blank, break, spaces, IsSpace, Piece, plain, letter, short, long, feed, fold, delimiter, pieces, IsMultiPiece, IsRawPiece, NamesScalar, is_escape, escaped, is_hex, says, says_multi}
+use Rattle.edit_syntax.specs.Strings.{LineEnd, lf, crlf, line_end, Space, blank, break, spaces, IsSpace, Piece, plain, letter, short, long, feed, fold, delimiter, pieces, IsMultiPiece, IsRawPiece, IsScalarCode, is_escape, escaped, is_hex, says, decoded_multi}
 use Rattle.edit_syntax.specs.Grammar.{three, multi_basic, multi_literal, value, IsValue}
 use Rattle.edit_tree.specs.Tree.{string}
 use Rattle.edit_syntax.specs.Reading.{◌>>=◌}
 use Rattle.edit_tree.specs.Nodes.{scalar}
 use Rattle.edit_document.specs.DocumentLayout.{span_of}
-use Rattle.edit_syntax.specs.Marks.{mark}
-use Rattle.edit_tree.specs.Walk.{suffix, multi_said, as_text, State, entered, step}
+use Rattle.edit_syntax.specs.SyntaxTokens.{mark}
+use Rattle.edit_tree.specs.Walk.{suffix, multi_value, as_text, State, value_added, step}
 use Rattle.edit_tree.specs.Walk as walk
 use Rattle.edit_tree.specs.WalkState.{IsToken}
 use Rattle.edit_syntax.proofs.MultiReadAgain.{multi_basic_again, multi_literal_again}
@@ -29,8 +29,8 @@ use Rattle.edit_syntax.proofs.PutBefore.{pieces_rest}
 abbrev IsAny : Piece → Type 0
 IsAny (plain b) = Unit {0}
 IsAny (letter c) = is_escape c ≡ true
-IsAny (short digits) = NamesScalar 4 digits
-IsAny (long digits) = NamesScalar 8 digits
+IsAny (short digits) = IsScalarCode 4 digits
+IsAny (long digits) = IsScalarCode 8 digits
 IsAny (feed e) = Unit {0}
 IsAny (fold ws e more) = All is_blank ws × AllByRecursion IsSpace more
 IsAny delimiter = Unit {0}
@@ -125,7 +125,7 @@ multi_text m xs (delimiter ∷ ps) rest small h u = byte_text xs m (pieces m ps 
 
 -- without the newline that comes first
 whole_text : (m : ℕ) (ps : List Piece) (rest : List ℕ) → m < 128 → AllByRecursion IsAny ps
-    → IsUtf8 (pieces m ps (m ∷ rest)) → IsUtf8 (says_multi m ps)
+    → IsUtf8 (pieces m ps (m ∷ rest)) → IsUtf8 (decoded_multi m ps)
 whole_text m [] rest small h u = multi_text m [] [] rest small h u
 whole_text m (plain b ∷ ps) rest small h u = multi_text m [] (plain b ∷ ps) rest small h u
 whole_text m (letter c ∷ ps) rest small h u = multi_text m [] (letter c ∷ ps) rest small h u
@@ -152,37 +152,37 @@ taken bytes text rest word e ends =
     ap (λ (k : ℕ). take k (word ++ rest)) n ∙ take_length word rest
 
 multi_says : (bytes : List ℕ) (m : ℕ) (ps : List Piece) (rest : List ℕ) → m < 128 → AllByRecursion IsAny ps
-    → multi_said m (pieces m ps (three m [])) ≡ Some (says_multi m ps)
+    → multi_value m (pieces m ps (three m [])) ≡ Some (decoded_multi m ps)
     → three m (pieces m ps (three m rest)) ≡ three m (pieces m ps (three m [])) ++ rest → IsUtf8 bytes
     → Ends bytes (three m (pieces m ps (three m rest)))
-    → (multi_said m (drop 3 (take (length (three m (pieces m ps (three m rest))) - length rest)
-    (suffix bytes (length (three m (pieces m ps (three m rest))))))) >>= as_text) ≡ Some (says_multi m ps)
+    → (multi_value m (drop 3 (take (length (three m (pieces m ps (three m rest))) - length rest)
+    (suffix bytes (length (three m (pieces m ps (three m rest))))))) >>= as_text) ≡ Some (decoded_multi m ps)
 multi_says bytes m ps rest small h again whole u ends =
     let text = three m (pieces m ps (three m rest)) in
     let v = whole_text m ps (m ∷ (m ∷ rest)) small h
     (behind_three bytes m (pieces m ps (three m rest)) small u ends) in
-    ap (λ (s : List ℕ). multi_said m (drop 3 s) >>= as_text)
+    ap (λ (s : List ℕ). multi_value m (drop 3 s) >>= as_text)
     (taken bytes text rest (three m (pieces m ps (three m []))) whole ends) ∙
-    ap (λ (o : Option (List ℕ)). o >>= as_text) again ∙ text_is (says_multi m ps) v
+    ap (λ (o : Option (List ℕ)). o >>= as_text) again ∙ text_is (decoded_multi m ps) v
 
 said_basic : (bytes : List ℕ) (ps : List Piece) (rest : List ℕ) → IsValue (multi_basic ps) → IsUtf8 bytes
     → Ends bytes (value (multi_basic ps) rest)
     → walk.said bytes (mark kinds.MultiBasicString (value (multi_basic ps) rest) rest)
-    ≡ Some (says_multi quote ps)
+    ≡ Some (decoded_multi quote ps)
 unfolding walk.said
 said_basic bytes ps rest h u ends =
     multi_says bytes quote ps rest (lit< tt) (basic_any ps h.0)
-    (ap (option_map (λ (p : List Piece × List ℕ). says_multi quote p.0))
+    (ap (option_map (λ (p : List Piece × List ℕ). decoded_multi quote p.0))
     (multi_basic_again ps [] h.0 h.1 h.2 refl)) (value_rest (multi_basic ps) rest) u ends
 
 said_literal : (bytes : List ℕ) (ps : List Piece) (rest : List ℕ) → IsValue (multi_literal ps) → IsUtf8 bytes
     → Ends bytes (value (multi_literal ps) rest)
     → walk.said bytes (mark kinds.MultiLiteralString (value (multi_literal ps) rest) rest)
-    ≡ Some (says_multi apostrophe ps)
+    ≡ Some (decoded_multi apostrophe ps)
 unfolding walk.said
 said_literal bytes ps rest h u ends =
     multi_says bytes apostrophe ps rest (lit< tt) (raw_any ps h.0)
-    (ap (option_map (λ (p : List Piece × List ℕ). says_multi apostrophe p.0))
+    (ap (option_map (λ (p : List Piece × List ℕ). decoded_multi apostrophe p.0))
     (multi_literal_again ps [] h.0 h.1 refl)) (value_rest (multi_literal ps) rest) u ends
 
 tripled : (m : ℕ) (ps : List Piece) (rest : List ℕ) → three m (pieces m ps (three m rest))
@@ -194,7 +194,7 @@ pub multi_basic_token : (bytes : List ℕ) (ps : List Piece) (rest : List ℕ) �
     → IsToken bytes (mark kinds.MultiBasicString (value (multi_basic ps) rest) rest)
 multi_basic_token bytes ps rest h u ends e =
     let w = tripled quote ps rest in (
-      says_multi quote ps,
+      decoded_multi quote ps,
       said_basic bytes ps rest h u ends,
       (
         ends.0,
@@ -212,7 +212,7 @@ pub multi_literal_token : (bytes : List ℕ) (ps : List Piece) (rest : List ℕ)
     → IsToken bytes (mark kinds.MultiLiteralString (value (multi_literal ps) rest) rest)
 multi_literal_token bytes ps rest h u ends e =
     let w = tripled apostrophe ps rest in (
-      says_multi apostrophe ps,
+      decoded_multi apostrophe ps,
       said_literal bytes ps rest h u ends,
       (
         ends.0,
@@ -228,17 +228,17 @@ multi_literal_token bytes ps rest h u ends e =
 pub multi_basic_step : (bytes : List ℕ) (ps : List Piece) (rest : List ℕ) → IsValue (multi_basic ps)
     → IsUtf8 bytes → Ends bytes (value (multi_basic ps) rest) → (st : State)
     → step bytes (mark kinds.MultiBasicString (value (multi_basic ps) rest) rest) st
-    ≡ entered st (scalar (string (says_multi quote ps))) (Some (span_of (multi_basic ps) rest))
+    ≡ value_added st (scalar (string (decoded_multi quote ps))) (Some (span_of (multi_basic ps) rest))
 unfolding step
 multi_basic_step bytes ps rest h u ends st =
-    ap (λ (o : Option (List ℕ)). o >>= λ x. entered st (scalar (string x))
+    ap (λ (o : Option (List ℕ)). o >>= λ x. value_added st (scalar (string x))
     (Some (span_of (multi_basic ps) rest))) (said_basic bytes ps rest h u ends)
 
 pub multi_literal_step : (bytes : List ℕ) (ps : List Piece) (rest : List ℕ) → IsValue (multi_literal ps)
     → IsUtf8 bytes → Ends bytes (value (multi_literal ps) rest) → (st : State)
     → step bytes (mark kinds.MultiLiteralString (value (multi_literal ps) rest) rest) st
-    ≡ entered st (scalar (string (says_multi apostrophe ps))) (Some (span_of (multi_literal ps) rest))
+    ≡ value_added st (scalar (string (decoded_multi apostrophe ps))) (Some (span_of (multi_literal ps) rest))
 unfolding step
 multi_literal_step bytes ps rest h u ends st =
-    ap (λ (o : Option (List ℕ)). o >>= λ x. entered st (scalar (string x))
+    ap (λ (o : Option (List ℕ)). o >>= λ x. value_added st (scalar (string x))
     (Some (span_of (multi_literal ps) rest))) (said_literal bytes ps rest h u ends)

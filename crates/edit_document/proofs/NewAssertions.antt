@@ -4,13 +4,13 @@ use Rattle.std.specs.Prelude.{slice_get, slice_set}
 use Rattle.std.proofs.lemmas.List.{length_push}
 use Rattle.std.proofs.lemmas.List.Elements.{filter_map-append}
 use Rattle.edit_syntax.specs.declared.span.Span.{Span}
-use Rattle.edit_tree.specs.Assertions.{Step, key, index, Place, at, Kind, Assertion, together}
+use Rattle.edit_tree.specs.Assertions.{Step, key, index, Place, at, Kind, Assertion, are_compatible}
 use Rattle.edit_tree.specs.Tree.{members_of, kind_at}
 use Rattle.edit_document.specs.Items.{name_of_step, key_names}
 use Rattle.edit_document.specs.DocumentLayout.{Placed, span_at}
-use Rattle.edit_tree.specs.Taking.{taken_of, joins}
-use Rattle.edit_tree.specs.Nodes.{Spot, names_of, StandsAt, below}
-use Rattle.edit_tree.specs.Walk.{spot_at}
+use Rattle.edit_tree.specs.Redefinition.{defined_by, joins}
+use Rattle.edit_tree.specs.Nodes.{ModelNode, names_of, StandsAt, below}
+use Rattle.edit_tree.specs.Walk.{model_node_at}
 use Rattle.edit_tree.proofs.SamePlace.{last_same, not_root, not_below, place_or}
 use Rattle.edit_tree.proofs.TakenPairs.{together_is}
 use Rattle.edit_tree.proofs.MoreAssertions.{kind_stays, kind_new, kind_else, kind_back, first_kind, first_stays, first_is, allowed_else, allowed_here, allowed_none, clear_more}
@@ -27,7 +27,7 @@ more_elements (key n) m = m
 more_elements (index i) m = suc m
 
 -- a spot with a step more shows the name or the element more
-pub record Shows (s s2 : Spot) (x : Step) : Type 0 where
+pub record Shows (s s2 : ModelNode) (x : Step) : Type 0 where
   pub shape : s2.shape ≡ s.shape
   pub taken : s2.taken ≡ s.taken
   pub span : s2.span ≡ s.span
@@ -40,7 +40,7 @@ counted : (made : List Assertion) (a : Assertion) (p : Place) (x : Step) → a.p
 counted made a p (key n) place e = elements_stay made a p e
 counted made a p (index i) place e = elements_grow made a p i e place
 
-module _ (made : List Assertion) (written : List Placed) (spots : List Spot) (t : ℕ) (s s2 : Spot) (x : Step)
+module _ (made : List Assertion) (written : List Placed) (spots : List ModelNode) (t : ℕ) (s s2 : ModelNode) (x : Step)
     (a : Assertion) (span : Option Span) (st : Stands made written spots) (here : slice_get spots t ≡ Some s)
     (gains : Gains s s2 x (length spots)) (shows : Shows s s2 x)
     (place : a.place ≡ at s.place x) (element : (k : Kind) → first_kind made s.place ≡ Some k
@@ -55,17 +55,17 @@ module _ (made : List Assertion) (written : List Placed) (spots : List Spot) (t 
   inner : a.place ≡ [] → ⊥
   inner e = not_root s.place x (sym place ∙ e)
 
-  fresh : (i : ℕ) (u : Spot) → slice_get spots i ≡ Some u → u.place ≡ at s.place x → ⊥
+  fresh : (i : ℕ) (u : ModelNode) → slice_get spots i ≡ Some u → u.place ≡ at s.place x → ⊥
   fresh i u e same =
       let k = st.tells i u e in
       let some = was_asserted k (λ root. not_root s.place x (sym same ∙ root)) in
       let clash : None ≡ Some k.kind = sym nothing ∙ ap (kind_at made) (sym same) ∙ some in
       cc
 
-  abbrev last : Spot
-  last = spot_at a.place (shape_of_kind a.kind) (taken_of a.kind) span
+  abbrev last : ModelNode
+  last = model_node_at a.place (shape_of_kind a.kind) (defined_by a.kind) span
 
-  bare : (y : Step) → below (spot_at a.place (shape_of_kind a.kind) (taken_of a.kind) span) y ≡ None
+  bare : (y : Step) → below (model_node_at a.place (shape_of_kind a.kind) (defined_by a.kind) span) y ≡ None
   bare (key n) = refl
   bare (index i) = refl
 
@@ -81,7 +81,7 @@ module _ (made : List Assertion) (written : List Placed) (spots : List Spot) (t 
         first = first_stays made a s.place k.kind k.first;
         shape = shows.shape ∙ k.shape;
         joined = λ root l. allowed_else made a s.place l apart ∙ k.joined root l ∙
-            ap (λ w. joins w (taken_of l)) (sym shows.taken);
+            ap (λ w. joins w (defined_by l)) (sym shows.taken);
         names =
             shows.names ∙ ap (λ (ns : List (List ℕ)). ns ++ key_names (x ∷ [])) k.names ∙
             sym (filter_map-append name_of_step (members_of made s.place) (x ∷ []))
@@ -94,7 +94,7 @@ module _ (made : List Assertion) (written : List Placed) (spots : List Spot) (t 
       (sym gains.place) tells
 
   tells_last : Tells (made ++ a ∷ []) (written ++ noted a.place span)
-      (spot_at a.place (shape_of_kind a.kind) (taken_of a.kind) span)
+      (model_node_at a.place (shape_of_kind a.kind) (defined_by a.kind) span)
   tells_last =
       let under = λ (y : Step). nothing_under made written spots a.place y st inner none in
       record {
@@ -102,7 +102,7 @@ module _ (made : List Assertion) (written : List Placed) (spots : List Spot) (t 
         first = first_is (made ++ a ∷ []) a.place inner ∙ kind_new made a a.place refl none;
         shape = refl;
         joined = λ root l. allowed_here made a a.place l refl ∙
-            ap (λ (b : Bool). b && together a.kind l) (allowed_none made a.place l none) ∙
+            ap (λ (b : Bool). b && are_compatible a.kind l) (allowed_none made a.place l none) ∙
             together_is a.kind l;
         names = ap key_names
             (sym (members_else made a a.place (λ y e. not_below a.place y (sym e)) ∙
@@ -117,7 +117,7 @@ module _ (made : List Assertion) (written : List Placed) (spots : List Spot) (t 
       unwritten (Some w) e = let k = st.spans a.place w e in
           absurd (let clash : None ≡ Some k.0 = sym none ∙ k.1 in cc)
 
-  tells_kept : (i : ℕ) (u : Spot) → (i ≡ t → ⊥) → slice_get spots i ≡ Some u
+  tells_kept : (i : ℕ) (u : ModelNode) → (i ≡ t → ⊥) → slice_get spots i ≡ Some u
       → Tells (made ++ a ∷ []) (written ++ noted a.place span) u
   tells_kept i u ne g =
       let k = st.tells i u g in
@@ -134,35 +134,35 @@ module _ (made : List Assertion) (written : List Placed) (spots : List Spot) (t 
         span = k.span ∙ sym (span_else written a.place u.place span off);
       }
 
-  pub gained_grows : Grows spots (slice_set spots t s2 ++ spot_at a.place (shape_of_kind a.kind)
-      (taken_of a.kind) span ∷ [])
-  gained_grows = grown spots t s s2 (spot_at a.place (shape_of_kind a.kind) (taken_of a.kind) span) x st.tree
+  pub gained_grows : Grows spots (slice_set spots t s2 ++ model_node_at a.place (shape_of_kind a.kind)
+      (defined_by a.kind) span ∷ [])
+  gained_grows = grown spots t s s2 (model_node_at a.place (shape_of_kind a.kind) (defined_by a.kind) span) x st.tree
       here gains fresh place bare
 
-  pub gained_last : StandsAt (slice_set spots t s2 ++ spot_at a.place (shape_of_kind a.kind)
-      (taken_of a.kind) span ∷ []) (length spots) a.place
+  pub gained_last : StandsAt (slice_set spots t s2 ++ model_node_at a.place (shape_of_kind a.kind)
+      (defined_by a.kind) span ∷ []) (length spots) a.place
   gained_last = (
-    spot_at a.place (shape_of_kind a.kind) (taken_of a.kind) span,
-    last_is spots t s s2 (spot_at a.place (shape_of_kind a.kind) (taken_of a.kind) span) x st.tree here gains
+    model_node_at a.place (shape_of_kind a.kind) (defined_by a.kind) span,
+    last_is spots t s s2 (model_node_at a.place (shape_of_kind a.kind) (defined_by a.kind) span) x st.tree here gains
         fresh place bare,
     refl,
   )
 
   pub stands_gained : Stands (made ++ a ∷ []) (written ++ noted a.place span)
-      (slice_set spots t s2 ++ spot_at a.place (shape_of_kind a.kind) (taken_of a.kind) span ∷ [])
+      (slice_set spots t s2 ++ model_node_at a.place (shape_of_kind a.kind) (defined_by a.kind) span ∷ [])
   stands_gained = record {
-    tree = tree_gain spots t s s2 (spot_at a.place (shape_of_kind a.kind) (taken_of a.kind) span) x st.tree
+    tree = tree_gain spots t s s2 (model_node_at a.place (shape_of_kind a.kind) (defined_by a.kind) span) x st.tree
         here gains fresh place bare;
     tells =
-        each_gain spots t s s2 (spot_at a.place (shape_of_kind a.kind) (taken_of a.kind) span) x st.tree here
+        each_gain spots t s s2 (model_node_at a.place (shape_of_kind a.kind) (defined_by a.kind) span) x st.tree here
         gains fresh place bare (Tells (made ++ a ∷ []) (written ++ noted a.place span)) tells_parent
         tells_last tells_kept;
     covers = λ p k e. elim (kind_back made a p k e) [
       | inl earlier ↦ let c = st.covers p k earlier in (c.0, gained_grows c.0 p c.1)
       | inr same ↦ (
         length spots,
-        subst (λ (q : Place). StandsAt (slice_set spots t s2 ++ spot_at a.place (shape_of_kind a.kind)
-            (taken_of a.kind) span ∷ []) (length spots) q) same gained_last,
+        subst (λ (q : Place). StandsAt (slice_set spots t s2 ++ model_node_at a.place (shape_of_kind a.kind)
+            (defined_by a.kind) span ∷ []) (length spots) q) same gained_last,
       )
     ];
     rooted = kind_else made a [] inner ∙ st.rooted;

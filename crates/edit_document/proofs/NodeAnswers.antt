@@ -5,17 +5,17 @@ use Rattle.std.proofs.lemmas.Option.{same_Some}
 use Rattle.edit_syntax.specs.Grammar.{Text}
 use Rattle.edit_document.specs.declared.document.Document.TheInside.{Inside}
 use Rattle.edit_tree.specs.declared.nodes.Node.{Node}
-use Rattle.edit_tree.specs.declared.nodes.Taken.{Taken}
-use Rattle.edit_tree.specs.declared.nodes.Taken.TheVariants.{Dotted, Value, Super, Header, Array, Element}
+use Rattle.edit_tree.specs.declared.nodes.DefinedBy.{DefinedBy}
+use Rattle.edit_tree.specs.declared.nodes.DefinedBy.TheVariants.{Dotted, Value, Super, Header, Array, Element}
 use Rattle.edit_document.specs.declared.one_statement.Statements.TheVariants.{AsMember}
 use Rattle.edit_tree.specs.Assertions.{Step, key, Place, at, assertions, IsDocument}
 use Rattle.edit_document.specs.Compared.{AreNames, nth_part}
-use Rattle.edit_document.specs.DocumentLayout.{placed, IsRead, shown_of}
+use Rattle.edit_document.specs.DocumentLayout.{placed, IsRead, document_view_of}
 use Rattle.edit_tree.specs.EditBytes.{is_one_statement}
-use Rattle.edit_document.specs.Items.{names_in, place_numbered, view_numbered, Numbers}
+use Rattle.edit_document.specs.Items.{names_in, node_place, node_view, Numbers}
 use Rattle.edit_tree.specs.Nodes.{names_of}
 use Rattle.edit_document.specs.OneStatement.{HasMember, Answers}
-use Rattle.edit_tree.specs.Shown.{Shown, tree_of}
+use Rattle.edit_tree.specs.DocumentViews.{DocumentViews, tree_of}
 use Rattle.edit_tree.specs.Written.{values}
 use Rattle.edit_document.proofs.AssertedSpots.{Stands}
 use Rattle.edit_document.proofs.NodeStatements.{value_states, super_states, array_states, headed_states, names_seen, only_states, other_states}
@@ -25,7 +25,7 @@ use Rattle.edit_document.proofs.Views.{Opened, opened, Found, view_spot}
 use Rattle.edit_document.proofs.Wholes.{stands_of}
 
 -- the spots of a document stand for the assertions of its form
-pub stood : (inside : Inside) (d : Shown) (read : IsRead inside) (view : shown_of inside ≡ d)
+pub stood : (inside : Inside) (d : DocumentViews) (read : IsRead inside) (view : document_view_of inside ≡ d)
     → IsUtf8 (string_bytes inside.text) → (form : Text) → IsDocument d.bytes form
     → Stands (assertions form) (map placed (values form)) (opened inside d read view).spots
 unfolding opened
@@ -36,41 +36,41 @@ stood inside d read view u form manifest =
     (stands_of inside read u)
 
 -- a node that is a member
-module _ (d : Shown) (nodes : List Node) (opens : Opened d nodes) (n : ℕ) (node : Node)
+module _ (d : DocumentViews) (nodes : List Node) (opens : Opened d nodes) (n : ℕ) (node : Node)
     (f : Found d nodes opens.spots n node) (form : Text)
     (st : Stands (assertions form) (map placed (values form)) opens.spots) (upper : Place) (name : List ℕ)
-    (place : place_numbered d n ≡ at upper (key name)) where
+    (place : node_place d n ≡ at upper (key name)) where
   there : f.spot.place ≡ at upper (key name)
   there = sym f.place ∙ place
 
-  here_is : is_one_statement form (place_numbered d n) ≡ is_one_statement form f.spot.place
+  here_is : is_one_statement form (node_place d n) ≡ is_one_statement form f.spot.place
   here_is = ap (λ p. is_one_statement form p) f.place
 
-  taken : (t : Taken) → node.taken ≡ t → f.spot.taken ≡ t
+  taken : (t : DefinedBy) → node.taken ≡ t → f.spot.taken ≡ t
   taken t e = sym f.keeps.taken ∙ e
 
-  pub value_answer : node.taken ≡ Value → is_one_statement form (place_numbered d n) ≡ true
+  pub value_answer : node.taken ≡ Value → is_one_statement form (node_place d n) ≡ true
   value_answer e = here_is ∙ value_states form opens.spots n f.spot st f.stands upper name there
       (taken Value e)
 
-  pub super_answer : node.taken ≡ Super → is_one_statement form (place_numbered d n) ≡ false
+  pub super_answer : node.taken ≡ Super → is_one_statement form (node_place d n) ≡ false
   super_answer e = here_is ∙ super_states form opens.spots n f.spot st f.stands upper name there
       (taken Super e)
 
-  pub array_answer : node.taken ≡ Array → is_one_statement form (place_numbered d n) ≡ false
+  pub array_answer : node.taken ≡ Array → is_one_statement form (node_place d n) ≡ false
   array_answer e = here_is ∙ array_states form opens.spots n f.spot st f.stands upper name there
       (taken Array e)
 
-  pub header_answer : node.taken ≡ Header → is_one_statement form (place_numbered d n) ≡ false
+  pub header_answer : node.taken ≡ Header → is_one_statement form (node_place d n) ≡ false
   header_answer e = here_is ∙ headed_states form opens.spots n f.spot st f.stands upper name there Header
       (taken Header e) refl refl
 
-  pub element_answer : node.taken ≡ Element → is_one_statement form (place_numbered d n) ≡ false
+  pub element_answer : node.taken ≡ Element → is_one_statement form (node_place d n) ≡ false
   element_answer e = here_is ∙ headed_states form opens.spots n f.spot st f.stands upper name there Element
       (taken Element e) refl refl
 
   -- the names that are seen are the spot's
-  names_are : node.taken ≡ Dotted → names_in (view_numbered d n) ≡ names_of f.spot
+  names_are : node.taken ≡ Dotted → names_in (node_view d n) ≡ names_of f.spot
   names_are e =
       ap (λ v. names_in v) (view_spot d opens.spots n f.spot opens.nodes_are opens.tree f.stands)
       ∙ names_seen form opens.spots n f.spot st f.stands upper name there (taken Dotted e)
@@ -85,7 +85,7 @@ module _ (d : Shown) (nodes : List Node) (opens : Opened d nodes) (n : ℕ) (nod
   )
 
   pub other_answer : node.taken ≡ Dotted → HasMember d n None
-      → is_one_statement form (place_numbered d n) ≡ false
+      → is_one_statement form (node_place d n) ≡ false
   other_answer e h =
       here_is ∙ other_states form opens.spots n f.spot st f.stands upper name there (taken Dotted e)
       (λ one. h (ap length (names_are e) ∙ one))
@@ -101,11 +101,11 @@ pub first_none : (ns : List (List ℕ)) → slice_get ns 0 ≡ None → length n
 first_none [] e f = omega (arith, f)
 first_none (m ∷ ns) e f = cc
 
-pub only_found : (d : Shown) (n : ℕ) (name : List ℕ) (r : Option ℕ)
-    → length (names_in (view_numbered d n)) ≡ 1 → slice_get (names_in (view_numbered d n)) 0 ≡ Some name
-    → ((step : Step) (i : ℕ) → nth_part (view_numbered d n) i ≡ Some step
-    → tree_of d (at (place_numbered d n) step) ≡ None → ⊥) → AreNames (view_numbered d n)
-    → Numbers d (at (place_numbered d n) (key name)) r → HasMember d n r
+pub only_found : (d : DocumentViews) (n : ℕ) (name : List ℕ) (r : Option ℕ)
+    → length (names_in (node_view d n)) ≡ 1 → slice_get (names_in (node_view d n)) 0 ≡ Some name
+    → ((step : Step) (i : ℕ) → nth_part (node_view d n) i ≡ Some step
+    → tree_of d (at (node_place d n) step) ≡ None → ⊥) → AreNames (node_view d n)
+    → Numbers d (at (node_place d n) (key name)) r → HasMember d n r
 only_found d n name None one first stands names none = absurd (stands (key name) 0 (names 0 name first) none)
 only_found d n name (Some m) one first stands names h =
-    (name, single (names_in (view_numbered d n)) name one first, (h.2, h.1))
+    (name, single (names_in (node_view d n)) name one first, (h.2, h.1))

@@ -3,14 +3,14 @@ use Rattle.std.proofs.Common.{◌≡◌, ℕ, zero, suc, true, false, List, [], 
 use Rattle.std.specs.Prelude.{slice_get}
 use Rattle.std.proofs.lemmas.Option.{same_Some}
 use Rattle.edit_syntax.specs.Grammar.{Value, Text}
-use Rattle.edit_tree.specs.declared.nodes.Taken.{Taken}
-use Rattle.edit_tree.specs.declared.nodes.Taken.TheVariants.{Dotted, Value as ByValue, Super, Header, Array}
-use Rattle.edit_tree.specs.Assertions.{Step, key, index, Place, at, Kind, dotted, leaf, super, header_kind, array_kind, element_kind, Assertion, assertions, together}
+use Rattle.edit_tree.specs.declared.nodes.DefinedBy.{DefinedBy}
+use Rattle.edit_tree.specs.declared.nodes.DefinedBy.TheVariants.{Dotted, Value as ByValue, Super, Header, Array}
+use Rattle.edit_tree.specs.Assertions.{Step, key, index, Place, at, Kind, dotted, leaf, super, header_kind, array_kind, element_kind, Assertion, assertions, are_compatible}
 use Rattle.edit_document.specs.DocumentLayout.{placed}
 use Rattle.edit_tree.specs.EditBytes.{is_one_statement}
 use Rattle.edit_document.specs.Items.{names_in, key_names}
-use Rattle.edit_tree.specs.Nodes.{Spot, names_of, view_of_shape}
-use Rattle.edit_tree.specs.Taking.{taken_of, joins}
+use Rattle.edit_tree.specs.Nodes.{ModelNode, names_of, view_of_shape}
+use Rattle.edit_tree.specs.Redefinition.{defined_by, joins}
 use Rattle.edit_tree.specs.Tree.{kind_at, members_of}
 use Rattle.edit_tree.specs.Written.{values}
 use Rattle.edit_tree.proofs.AlonePlaces.{header_none, array_none, headed_here, first_allows}
@@ -27,7 +27,8 @@ use Rattle.edit_document.proofs.MemberViews.{names_keys}
 use Rattle.edit_document.proofs.Wholes.{name_at, number_at}
 
 -- what goes with an assertion that goes with headers goes with headers too
-goes_through : (j l : Kind) → together j super ≡ true → together j l ≡ true → together l super ≡ true
+goes_through : (j l : Kind) → are_compatible j super ≡ true → are_compatible j l ≡ true
+    → are_compatible l super ≡ true
 goes_through j (dotted b) e f = refl
 goes_through j super e f = refl
 goes_through j header_kind e f = refl
@@ -45,7 +46,7 @@ goes_through header_kind array_kind e f = absurd (true≢false (sym f))
 goes_through array_kind array_kind e f = absurd (true≢false (sym e))
 goes_through element_kind array_kind e f = absurd (true≢false (sym f))
 
-pub array_through : (l : Kind) → together array_kind l ≡ true → together l array_kind ≡ true
+pub array_through : (l : Kind) → are_compatible array_kind l ≡ true → are_compatible l array_kind ≡ true
 array_through array_kind f = refl
 array_through (dotted b) f = absurd (true≢false (sym f))
 array_through (leaf v) f = absurd (true≢false (sym f))
@@ -54,7 +55,7 @@ array_through header_kind f = absurd (true≢false (sym f))
 array_through element_kind f = absurd (true≢false (sym f))
 
 -- a table has its members' names
-table_names : (s : Spot) (k : Kind) → together k (dotted false) ≡ true
+table_names : (s : ModelNode) (k : Kind) → are_compatible k (dotted false) ≡ true
     → names_in (view_of_shape (shape_of_kind k) (names_of s) (length s.elements)) ≡ names_of s
 table_names s (dotted true) e = names_keys (names_of s)
 table_names s (dotted false) e = names_keys (names_of s)
@@ -65,7 +66,7 @@ table_names s array_kind e = absurd (true≢false (sym e))
 table_names s element_kind e = absurd (true≢false (sym e))
 
 -- and no elements
-lists_none : (k : Kind) (i : ℕ) → together k (dotted false) ≡ true → Lists k i → ⊥
+lists_none : (k : Kind) (i : ℕ) → are_compatible k (dotted false) ≡ true → Lists k i → ⊥
 lists_none (dotted b) i e h = h
 lists_none super i e h = h
 lists_none (leaf v) i e h = true≢false (sym e)
@@ -77,7 +78,7 @@ first_apart : zero ≡ suc zero → ⊥
 first_apart e = cc
 
 -- a node whose place is that of a member
-module _ (form : Text) (spots : List Spot) (n : ℕ) (s : Spot)
+module _ (form : Text) (spots : List ModelNode) (n : ℕ) (s : ModelNode)
     (st : Stands (assertions form) (map placed (values form)) spots) (here : slice_get spots n ≡ Some s)
     (q : Place) (name : List ℕ) (place : s.place ≡ at q (key name)) where
   made : List Assertion
@@ -89,10 +90,10 @@ module _ (form : Text) (spots : List Spot) (n : ℕ) (s : Spot)
   inner : s.place ≡ [] → ⊥
   inner root = not_root q (key name) (sym place ∙ root)
 
-  asserted : kind_at (assertions form) s.place ≡ Some (st.tells n s here).kind
-  asserted = was_asserted (st.tells n s here) inner
+  member_defined : kind_at (assertions form) s.place ≡ Some (st.tells n s here).kind
+  member_defined = was_asserted (st.tells n s here) inner
 
-  joined : (k : Kind) → allowed (assertions form) s.place k ≡ joins s.taken (taken_of k)
+  joined : (k : Kind) → allowed (assertions form) s.place k ≡ joins s.taken (defined_by k)
   joined k = (st.tells n s here).joined inner k
 
   keyed : IsKeyed s.place
@@ -109,7 +110,7 @@ module _ (form : Text) (spots : List Spot) (n : ℕ) (s : Spot)
       × (k ≡ leaf v)
   value_kind taken k e = go k e
     where
-      through : (k : Kind) → kind_at (assertions form) s.place ≡ Some k → together k super ≡ true → ⊥
+      through : (k : Kind) → kind_at (assertions form) s.place ≡ Some k → are_compatible k super ≡ true → ⊥
       through k e f =
           true≢false (sym (first_allows (assertions form) s.place k super st.clear.apart e f
           (λ l g. goes_through k l f g))
@@ -128,8 +129,8 @@ module _ (form : Text) (spots : List Spot) (n : ℕ) (s : Spot)
 
   pub value_states : s.taken ≡ ByValue → is_one_statement form s.place ≡ true
   value_states taken =
-      let v = value_kind taken (st.tells n s here).kind asserted in
-      let e = asserted ∙ ap Some v.1 in
+      let v = value_kind taken (st.tells n s here).kind member_defined in
+      let e = member_defined ∙ ap Some v.1 in
       alone_is ∙ subst (λ p. kind_at (assertions form) p ≡ Some (leaf v.0)
       → is_alone (assertions form) p ≡ true) (sym split.2)
       (leaf_alone form split.0 split.1 v.0 st.clear.apart) e
@@ -145,7 +146,7 @@ module _ (form : Text) (spots : List Spot) (n : ℕ) (s : Spot)
       (array_none (assertions form) s.place (joined array_kind ∙ ap (λ t. joins t Array) taken))
 
   -- a header is none
-  pub headed_states : (t : Taken) → s.taken ≡ t → joins t Super ≡ true → joins t Dotted ≡ false
+  pub headed_states : (t : DefinedBy) → s.taken ≡ t → joins t Super ≡ true → joins t Dotted ≡ false
       → is_one_statement form s.place ≡ false
   headed_states t taken e f =
       alone_is ∙ headed_alone (assertions form) s.place (headed_up form s.place
@@ -158,8 +159,8 @@ module _ (form : Text) (spots : List Spot) (n : ℕ) (s : Spot)
     free : allowed (assertions form) s.place (dotted false) ≡ true
     free = joined (dotted false) ∙ ap (λ t. joins t Dotted) taken
 
-    fits : together (st.tells n s here).kind (dotted false) ≡ true
-    fits = first_fits (assertions form) s.place (st.tells n s here).kind (dotted false) asserted free
+    fits : are_compatible (st.tells n s here).kind (dotted false) ≡ true
+    fits = first_fits (assertions form) s.place (st.tells n s here).kind (dotted false) member_defined free
 
     pub names_seen : names_in (view_of_spot s) ≡ names_of s
     names_seen =

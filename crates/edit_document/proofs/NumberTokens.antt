@@ -8,13 +8,13 @@ use Rattle.edit_syntax.specs.declared.read.marks.MarkKind.TheVariants as kinds
 use Rattle.edit_syntax.specs.Characters.{is_ascii, All}
 use Rattle.edit_syntax.specs.Grammar.{Value, integer, float, datetime, value, IsValue}
 use Rattle.edit_syntax.specs.Reading.{◌>>=◌}
-use Rattle.edit_tree.specs.Nodes.{shape_said}
+use Rattle.edit_tree.specs.Nodes.{scalar_shape}
 use Rattle.edit_document.specs.DocumentLayout.{span_of, shape_of_value}
-use Rattle.edit_syntax.specs.Decoding.{Says, delimited}
-use Rattle.edit_syntax.specs.Noting.{value_kind}
-use Rattle.edit_syntax.specs.Marks.{mark}
-use Rattle.edit_tree.specs.Walk.{said, suffix, as_text, State, entered, step}
-use Rattle.edit_tree.specs.WalkState.{IsToken, SaysAt}
+use Rattle.edit_syntax.specs.Decoding.{HasDecodedValue, delimited}
+use Rattle.edit_syntax.specs.AppendedTokens.{value_kind}
+use Rattle.edit_syntax.specs.SyntaxTokens.{mark}
+use Rattle.edit_tree.specs.Walk.{said, suffix, as_text, State, value_added, step}
+use Rattle.edit_tree.specs.WalkState.{IsToken, IsDecodedAt}
 use Rattle.edit_syntax.proofs.DigitLaws.{IsNumber}
 use Rattle.edit_syntax.proofs.ValueEdges.{value_rest, integer_ascii, float_ascii, datetime_ascii}
 use Rattle.edit_tree.proofs.Ends.{Ends, Small, ascii_text}
@@ -65,9 +65,9 @@ number_said bytes _ rest h s ends = absurd s
 
 -- a token that nothing delimits stands in the text with this meaning
 token_at : (k : MarkKind) (bytes text word rest : List ℕ) → text ≡ word ++ rest
-    → delimited k word rest ≡ word ++ rest → Says k word word → (ends : Ends bytes text)
+    → delimited k word rest ≡ word ++ rest → HasDecodedValue k word word → (ends : Ends bytes text)
     → said bytes (mark k text rest) ≡ Some word
-    → (name : List ℕ) × (said bytes (mark k text rest) ≡ Some name) × SaysAt bytes (mark k text rest) name
+    → (name : List ℕ) × (said bytes (mark k text rest) ≡ Some name) × IsDecodedAt bytes (mark k text rest) name
 token_at k bytes text word rest e d says ends is =
     let whole = e ∙ sym d in
     let at = ends.1 ∙ ap (λ (t : List ℕ). ends.0 ++ t) whole in
@@ -93,15 +93,15 @@ number_token bytes _ rest h s ends e = absurd s
 -- the walk takes the mark of a number for what it shows
 pub number_step : (bytes : List ℕ) (v : Value) (rest : List ℕ) → IsValue v → IsNumber v
     → Ends bytes (value v rest) → (st : State) → step bytes (number_mark v rest) st
-    ≡ entered st (shape_of_value v) (Some (span_of v rest))
+    ≡ value_added st (shape_of_value v) (Some (span_of v rest))
 unfolding step
 number_step bytes (integer n) rest h s ends st =
-    ap (λ (o : Option (List ℕ)). o >>= λ x. entered st (shape_said kinds.Integer x)
+    ap (λ (o : Option (List ℕ)). o >>= λ x. value_added st (scalar_shape kinds.Integer x)
     (Some (span_of (integer n) rest))) (number_said bytes (integer n) rest h s ends)
 number_step bytes (float f) rest h s ends st =
-    ap (λ (o : Option (List ℕ)). o >>= λ x. entered st (shape_said kinds.Float x)
+    ap (λ (o : Option (List ℕ)). o >>= λ x. value_added st (scalar_shape kinds.Float x)
     (Some (span_of (float f) rest))) (number_said bytes (float f) rest h s ends)
 number_step bytes (datetime d) rest h s ends st =
-    ap (λ (o : Option (List ℕ)). o >>= λ x. entered st (shape_said kinds.DateTime x)
+    ap (λ (o : Option (List ℕ)). o >>= λ x. value_added st (scalar_shape kinds.DateTime x)
     (Some (span_of (datetime d) rest))) (number_said bytes (datetime d) rest h s ends)
 number_step bytes _ rest h s ends st = absurd s

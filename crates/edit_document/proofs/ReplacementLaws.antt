@@ -10,8 +10,8 @@ use Rattle.edit_syntax.specs.Grammar.{Text, text}
 use Rattle.edit_tree.specs.Assertions.{IsDocument, Place}
 use Rattle.edit_tree.specs.Tree.{is_value_at}
 use Rattle.edit_document.specs.declared.place.Step.{Step as WrittenStep}
-use Rattle.edit_document.specs.Items.{place_seen}
-use Rattle.edit_document.specs.Ranges.{HasRange, edits_seen}
+use Rattle.edit_document.specs.Items.{place_view}
+use Rattle.edit_document.specs.Ranges.{HasRange, edit_views}
 use Rattle.edit_tree.specs.Written.{values}
 use Rattle.edit_tree.specs.Literals.{literal_of}
 use Rattle.edit_tree.specs.Replaces.{Edits, replaced, edited, Swaps, Replaces, AreValues}
@@ -54,60 +54,60 @@ pub range_tells : (form : Text) (p : Place) (r : Option (ℕ × ℕ)) → HasRan
     → is_some r ≡ is_value_at form p
 range_tells form p None h = sym h
 range_tells form p (Some q) h = sym (ap (λ (z : Place). is_value_at form z) (sym h.there) ∙
-    listed_value form h.valued (contained_among h.valued (values form) h.told))
+    listed_value form h.placed_value (contained_among h.placed_value (values form) h.told))
 
 abbrev Written : Type 0
 Written = Vec WrittenStep × String Global
 
 abbrev pub seen : Written → Place × List ℕ
-seen e = (place_seen e.0.items, string_bytes e.1)
+seen e = (place_view e.0.items, string_bytes e.1)
 
 pub value_at : (form : Text) (edits : List Written) (i : ℕ) (e : Written) → i < length edits
-    → e ≡ get_or edits i e → AreValues (edits_seen edits) form
-    → is_value_at form (place_seen e.0.items) ≡ true
+    → e ≡ get_or edits i e → AreValues (edit_views edits) form
+    → is_value_at form (place_view e.0.items) ≡ true
 value_at form [] i e lt is all = absurd (omega arith)
 value_at form (x ∷ edits) zero e lt is all =
-    ap (λ (z : Written). is_value_at form (place_seen z.0.items)) is ∙ all.0
+    ap (λ (z : Written). is_value_at form (place_view z.0.items)) is ∙ all.0
 value_at form (x ∷ edits) (suc i) e lt is all = value_at form edits i e (omega arith) is all.1
 
 more_seen : (edits : List Written) (i : ℕ) (e : Written) → i < length edits → e ≡ get_or edits i e
-    → take (suc i) (edits_seen edits) ≡ take i (edits_seen edits) ++ seen e ∷ []
+    → take (suc i) (edit_views edits) ≡ take i (edit_views edits) ++ seen e ∷ []
 more_seen [] i e lt is = absurd (omega arith)
 more_seen (x ∷ edits) zero e lt is = ap (λ (z : Written). seen z ∷ []) (sym is)
 more_seen (x ∷ edits) (suc i) e lt is = ap (λ (l : Edits). seen x ∷ l) (more_seen edits i e (omega arith) is)
 
 pub seen_more : (edits : List Written) (i : ℕ) (e : Written) → i < length edits → e ≡ get_or edits i e
-    → take (i + 1) (edits_seen edits) ≡ take i (edits_seen edits) ++ seen e ∷ []
+    → take (i + 1) (edit_views edits) ≡ take i (edit_views edits) ++ seen e ∷ []
 seen_more edits i e lt is = let n : i + 1 ≡ suc i = omega arith in
-    ap (λ k. take k (edits_seen edits)) n ∙ more_seen edits i e lt is
+    ap (λ k. take k (edit_views edits)) n ∙ more_seen edits i e lt is
 
 pub ranged_more : (form : Text) (edits : List Written) (i : ℕ) (e : Written) (old new : List Rewrite)
     (r : Rewrite) → i < length edits → e ≡ get_or edits i e → new ≡ old ++ r ∷ []
-    → AreRanges form (take i (edits_seen edits)) (map range_of old) → IsRangeFor form (seen e) (range_of r)
-    → AreRanges form (take (i + 1) (edits_seen edits)) (map range_of new)
+    → AreRanges form (take i (edit_views edits)) (map range_of old) → IsRangeFor form (seen e) (range_of r)
+    → AreRanges form (take (i + 1) (edit_views edits)) (map range_of new)
 ranged_more form edits i e old new r lt is pushed h range =
     subst (λ (l : Edits). AreRanges form l (map range_of new)) (sym (seen_more edits i e lt is))
-    (subst (λ (l : List Range). AreRanges form (take i (edits_seen edits) ++ seen e ∷ []) l)
+    (subst (λ (l : List Range). AreRanges form (take i (edit_views edits) ++ seen e ∷ []) l)
     (sym (ap (map range_of) pushed ∙ map-append range_of old (r ∷ [])))
-    (ranges_push form (take i (edits_seen edits)) (map range_of old) (seen e) (range_of r) h range))
+    (ranges_push form (take i (edit_views edits)) (map range_of old) (seen e) (range_of r) h range))
 
 pub range_seen : (form : Text) (e : Written) (steps : List WrittenStep) (told : List ℕ) (r : Range)
-    → steps ≡ e.0.items → told ≡ string_bytes e.1 → IsRangeFor form (place_seen steps, told) r
+    → steps ≡ e.0.items → told ≡ string_bytes e.1 → IsRangeFor form (place_view steps, told) r
     → IsRangeFor form (seen e) r
 range_seen form e steps told r place said h =
     subst (λ (p : Place × List ℕ). IsRangeFor form p r)
     (ap₂ (λ (l : List WrittenStep) (t : List ℕ). edit_of l t) place said) h
   where
     edit_of : List WrittenStep → List ℕ → Place × List ℕ
-    edit_of l t = (place_seen l, t)
+    edit_of l t = (place_view l, t)
 
 pub all_ranges : (form : Text) (edits : List Written) (i : ℕ) (rs qs : List Rewrite) → length edits ≤ i
-    → qs ≡ rs → AreRanges form (take i (edits_seen edits)) (map range_of rs)
-    → AreRanges form (edits_seen edits) (map range_of qs)
+    → qs ≡ rs → AreRanges form (take i (edit_views edits)) (map range_of rs)
+    → AreRanges form (edit_views edits) (map range_of qs)
 all_ranges form edits i rs qs whole same h =
-    subst (λ (l : List Rewrite). AreRanges form (edits_seen edits) (map range_of l)) (sym same)
+    subst (λ (l : List Rewrite). AreRanges form (edit_views edits) (map range_of l)) (sym same)
     (subst (λ (l : Edits). AreRanges form l (map range_of rs))
-    (take_all i (edits_seen edits) (omega (arith, length-map edits seen))) h)
+    (take_all i (edit_views edits) (omega (arith, length-map edits seen))) h)
 
 -- ---- one value
 

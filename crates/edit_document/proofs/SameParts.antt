@@ -5,15 +5,15 @@ use Rattle.std.proofs.lemmas.Option.{slice_get_within, slice_get-get_or, same_So
 use Rattle.std.proofs.lemmas.Bool.{cases_lt, lt-ltb, ltb-true}
 use Rattle.edit_tree.specs.Assertions.{Step, key, index, Place, at, same_step}
 use Rattle.edit_tree.specs.Tree.{View, string, truth, whole, fractional, moment, static_array, table_array, inline_table, table}
-use Rattle.edit_tree.specs.Shown.{Shown, tree_of}
-use Rattle.edit_document.specs.Items.{place_numbered, view_numbered, names_in, count_in}
-use Rattle.edit_document.specs.Compared.{SameBelow, kind_of, word_of, element_step, nth_part, AreKeys, NumbersPart}
+use Rattle.edit_tree.specs.DocumentViews.{DocumentViews, tree_of}
+use Rattle.edit_document.specs.Items.{node_place, node_view, names_in, count_in}
+use Rattle.edit_document.specs.Compared.{SameBelow, kind_of, word_of, element_step, nth_part, AreKeys, IsChildIndex}
 use Rattle.edit_tree.proofs.SamePlace.{same_step_is, same_step_self}
 
 -- the same stands at the first parts
-abbrev pub SameParts : Shown → ℕ → Shown → ℕ → ℕ → Type 0
-SameParts d n e m count = (j : ℕ) (step : Step) → j < count → nth_part (view_numbered d n) j ≡ Some step
-    → SameBelow d (at (place_numbered d n) step) e (at (place_numbered e m) step)
+abbrev pub SameParts : DocumentViews → ℕ → DocumentViews → ℕ → ℕ → Type 0
+SameParts d n e m count = (j : ℕ) (step : Step) → j < count → nth_part (node_view d n) j ≡ Some step
+    → SameBelow d (at (node_place d n) step) e (at (node_place e m) step)
 
 -- ---- parts of a view
 
@@ -87,53 +87,54 @@ part_or v s (suc n) = go (part_or v s n) (nth_part v n) refl
 
 -- ---- below
 
-abbrev pub NothingElse : Shown → ℕ → Type 0
-NothingElse d n = (step : Step) → ((i : ℕ) → nth_part (view_numbered d n) i ≡ Some step → ⊥)
-    → tree_of d (at (place_numbered d n) step) ≡ None
+abbrev pub NothingElse : DocumentViews → ℕ → Type 0
+NothingElse d n = (step : Step) → ((i : ℕ) → nth_part (node_view d n) i ≡ Some step → ⊥)
+    → tree_of d (at (node_place d n) step) ≡ None
 
-abbrev pub NoneBelow : Shown → Type 0
+abbrev pub NoneBelow : DocumentViews → Type 0
 NoneBelow d = (place more : Place) → tree_of d place ≡ None → tree_of d (place ++ more) ≡ None
 
-pub one_down : (d : Shown) (p : Place) (s : Step) (q : Place)
+pub one_down : (d : DocumentViews) (p : Place) (s : Step) (q : Place)
     → tree_of d (at p s ++ q) ≡ tree_of d (p ++ s ∷ q)
 one_down d p s q = ap (tree_of d) (append_assoc p (s ∷ []) q)
 
-pub same_all : (d : Shown) (n : ℕ) (e : Shown) (m : ℕ) → NoneBelow d → NoneBelow e → NothingElse d n
-    → NothingElse e m → tree_of d (place_numbered d n) ≡ Some (view_numbered d n)
-    → tree_of e (place_numbered e m) ≡ Some (view_numbered e m)
-    → view_numbered d n ≡ view_numbered e m → SameParts d n e m (count_in (view_numbered d n))
-    → SameBelow d (place_numbered d n) e (place_numbered e m)
+pub same_all : (d : DocumentViews) (n : ℕ) (e : DocumentViews) (m : ℕ) → NoneBelow d → NoneBelow e
+    → NothingElse d n
+    → NothingElse e m → tree_of d (node_place d n) ≡ Some (node_view d n)
+    → tree_of e (node_place e m) ≡ Some (node_view e m)
+    → node_view d n ≡ node_view e m → SameParts d n e m (count_in (node_view d n))
+    → SameBelow d (node_place d n) e (node_place e m)
 same_all d n e m below_d below_e else_d else_e here there same parts [] =
-    ap (tree_of d) (append-nil (place_numbered d n)) ∙ here ∙ ap Some same ∙ sym there ∙
-    ap (tree_of e) (sym (append-nil (place_numbered e m)))
+    ap (tree_of d) (append-nil (node_place d n)) ∙ here ∙ ap Some same ∙ sym there ∙
+    ap (tree_of e) (sym (append-nil (node_place e m)))
 same_all d n e m below_d below_e else_d else_e here there same parts (s ∷ q) =
-    elim (part_or (view_numbered d n) s (count_in (view_numbered d n))) [
-      | inl p ↦ sym (one_down d (place_numbered d n) s q) ∙ parts p.0 s p.1 p.2 q ∙
-          one_down e (place_numbered e m) s q
+    elim (part_or (node_view d n) s (count_in (node_view d n))) [
+      | inl p ↦ sym (one_down d (node_place d n) s q) ∙ parts p.0 s p.1 p.2 q ∙
+          one_down e (node_place e m) s q
       | inr none ↦
-          let no : (i : ℕ) → nth_part (view_numbered d n) i ≡ Some s
-          → ⊥ = λ i p. none i (part_less (view_numbered d n) i s p) p in
-          let left = below_d (at (place_numbered d n) s) q (else_d s no) in
-          let right = below_e (at (place_numbered e m) s) q
+          let no : (i : ℕ) → nth_part (node_view d n) i ≡ Some s
+          → ⊥ = λ i p. none i (part_less (node_view d n) i s p) p in
+          let left = below_d (at (node_place d n) s) q (else_d s no) in
+          let right = below_e (at (node_place e m) s) q
           (else_e s (λ i p. no i (ap (λ (v : View). nth_part v i) same ∙ p))) in
-          sym (one_down d (place_numbered d n) s q) ∙ left ∙ sym right ∙ one_down e (place_numbered e m) s q
+          sym (one_down d (node_place d n) s q) ∙ left ∙ sym right ∙ one_down e (node_place e m) s q
     ]
 
 -- what is the same below two nodes is the same at them
-pub same_here : (d : Shown) (n : ℕ) (e : Shown) (m : ℕ) → tree_of d (place_numbered d n)
-    ≡ Some (view_numbered d n) → tree_of e (place_numbered e m) ≡ Some (view_numbered e m)
-    → SameBelow d (place_numbered d n) e (place_numbered e m) → view_numbered d n ≡ view_numbered e m
+pub same_here : (d : DocumentViews) (n : ℕ) (e : DocumentViews) (m : ℕ) → tree_of d (node_place d n)
+    ≡ Some (node_view d n) → tree_of e (node_place e m) ≡ Some (node_view e m)
+    → SameBelow d (node_place d n) e (node_place e m) → node_view d n ≡ node_view e m
 same_here d n e m here there same =
-    same_Some (view_numbered d n) (view_numbered e m)
-    (sym here ∙ ap (tree_of d) (sym (append-nil (place_numbered d n))) ∙ same [] ∙
-    ap (tree_of e) (append-nil (place_numbered e m)) ∙ there)
+    same_Some (node_view d n) (node_view e m)
+    (sym here ∙ ap (tree_of d) (sym (append-nil (node_place d n))) ∙ same [] ∙
+    ap (tree_of e) (append-nil (node_place e m)) ∙ there)
 
 -- and at each of their parts
-pub same_part : (d : Shown) (n : ℕ) (e : Shown) (m : ℕ) (step : Step)
-    → SameBelow d (place_numbered d n) e (place_numbered e m)
-    → SameBelow d (at (place_numbered d n) step) e (at (place_numbered e m) step)
-same_part d n e m step same q = one_down d (place_numbered d n) step q ∙ same (step ∷ q) ∙
-    sym (one_down e (place_numbered e m) step q)
+pub same_part : (d : DocumentViews) (n : ℕ) (e : DocumentViews) (m : ℕ) (step : Step)
+    → SameBelow d (node_place d n) e (node_place e m)
+    → SameBelow d (at (node_place d n) step) e (at (node_place e m) step)
+same_part d n e m step same q = one_down d (node_place d n) step q ∙ same (step ∷ q) ∙
+    sym (one_down e (node_place e m) step q)
 
 -- ---- the same view
 
@@ -175,37 +176,38 @@ same_views v w kv kw a b c d =
 
 -- ---- one part more
 
-pub parts_more : (d : Shown) (n : ℕ) (e : Shown) (m i a b : ℕ) → view_numbered d n ≡ view_numbered e m
-    → SameParts d n e m i → NumbersPart d n i (Some a) → NumbersPart e m i (Some b)
-    → SameBelow d (place_numbered d a) e (place_numbered e b) → SameParts d n e m (i + 1)
+pub parts_more : (d : DocumentViews) (n : ℕ) (e : DocumentViews) (m i a b : ℕ) → node_view d n ≡ node_view e m
+    → SameParts d n e m i → IsChildIndex d n i (Some a) → IsChildIndex e m i (Some b)
+    → SameBelow d (node_place d a) e (node_place e b) → SameParts d n e m (i + 1)
 parts_more d n e m i a b same parts (s, ps, la, pa) (r, pr, lb, pb) below j step lt p q =
     elim (cases_lt j i) [
       | inl l ↦ parts j step l p q
       | inr g ↦
           let here : j ≡ i = omega arith in
-          let one : s ≡ step = same_Some s step (sym ps ∙ ap (nth_part (view_numbered d n)) (sym here) ∙ p) in
+          let one : s ≡ step = same_Some s step (sym ps ∙ ap (nth_part (node_view d n)) (sym here) ∙ p) in
           let two : r ≡ step = same_Some r step (sym pr ∙ ap (λ (v : View). nth_part v i) (sym same) ∙
-          ap (nth_part (view_numbered d n)) (sym here) ∙ p) in
-          let left : place_numbered d a ≡ at (place_numbered d n) step = pa ∙
-          ap (at (place_numbered d n)) one in
-          let right : place_numbered e b ≡ at (place_numbered e m) step = pb ∙
-          ap (at (place_numbered e m)) two in
+          ap (nth_part (node_view d n)) (sym here) ∙ p) in
+          let left : node_place d a ≡ at (node_place d n) step = pa ∙
+          ap (at (node_place d n)) one in
+          let right : node_place e b ≡ at (node_place e m) step = pb ∙
+          ap (at (node_place e m)) two in
           ap (λ (x : Place). tree_of d (x ++ q)) (sym left) ∙ below q ∙
           ap (λ (x : Place). tree_of e (x ++ q)) right
     ]
 
-pub parts_all : (d : Shown) (n : ℕ) (e : Shown) (m i count : ℕ) → SameParts d n e m i → count ≤ i
-    → count ≡ count_in (view_numbered d n) → SameParts d n e m (count_in (view_numbered d n))
+pub parts_all : (d : DocumentViews) (n : ℕ) (e : DocumentViews) (m i count : ℕ) → SameParts d n e m i
+    → count ≤ i
+    → count ≡ count_in (node_view d n) → SameParts d n e m (count_in (node_view d n))
 parts_all d n e m i count parts le c j step lt p q = parts j step (omega arith) p q
 
 -- what is the same at two parts
-pub part_same : (d : Shown) (n : ℕ) (e : Shown) (m i a b : ℕ) → view_numbered d n ≡ view_numbered e m
-    → NumbersPart d n i (Some a) → NumbersPart e m i (Some b)
-    → SameBelow d (place_numbered d n) e (place_numbered e m)
-    → SameBelow d (place_numbered d a) e (place_numbered e b)
+pub part_same : (d : DocumentViews) (n : ℕ) (e : DocumentViews) (m i a b : ℕ) → node_view d n ≡ node_view e m
+    → IsChildIndex d n i (Some a) → IsChildIndex e m i (Some b)
+    → SameBelow d (node_place d n) e (node_place e m)
+    → SameBelow d (node_place d a) e (node_place e b)
 part_same d n e m i a b same (s, ps, la, pa) (r, pr, lb, pb) below q =
     let one : s ≡ r = same_Some s r (sym ps ∙ ap (λ (v : View). nth_part v i) same ∙ pr) in
-    ap (λ (x : Place). tree_of d (x ++ q)) (pa ∙ ap (at (place_numbered d n)) one) ∙
+    ap (λ (x : Place). tree_of d (x ++ q)) (pa ∙ ap (at (node_place d n)) one) ∙
     same_part d n e m r below q ∙ ap (λ (x : Place). tree_of e (x ++ q)) (sym pb)
 
 -- ---- names

@@ -6,10 +6,10 @@ use Rattle.std.proofs.lemmas.Option.{same_Some, slice_get-map}
 use Rattle.edit_tree.specs.Assertions.{Step, key, index, Place, at, same_bytes}
 use Rattle.edit_tree.specs.Tree.{View, string, truth, whole, fractional, moment, static_array, table_array, inline_table, table}
 use Rattle.edit_tree.specs.NewItems.{NewValue, NewItem, a_value, a_table}
-use Rattle.edit_tree.specs.Meant.{new_view, view_of_members, item_view}
-use Rattle.edit_tree.specs.Shown.{Shown, tree_of}
-use Rattle.edit_document.specs.Items.{key_names, names_in, place_numbered, view_numbered, Numbers}
-use Rattle.edit_document.specs.Compared.{kind_of, nth_part, AreSteps, AreKeys, AreApart, ShowsValue, ShowsMembers, ShowsItem, members_shown}
+use Rattle.edit_tree.specs.IntendedTrees.{new_view, view_of_members, item_view}
+use Rattle.edit_tree.specs.DocumentViews.{DocumentViews, tree_of}
+use Rattle.edit_document.specs.Items.{key_names, names_in, node_place, node_view, Numbers}
+use Rattle.edit_document.specs.Compared.{kind_of, nth_part, AreSteps, AreKeys, AreApart, ShowsValue, ShowsMembers, ShowsItem, members_tree}
 use Rattle.edit_tree.proofs.SamePlace.{same_bytes_self, same_bytes_is}
 use Rattle.edit_document.proofs.SameParts.{one_down, NothingElse, NoneBelow}
 use Rattle.edit_document.proofs.MemberViews.{names_keys}
@@ -138,28 +138,28 @@ key_part (m ∷ ms) (suc j) t e = key_part ms j t e
 
 -- ---- nodes
 
-abbrev At : Shown → ℕ → Type 0
-At d n = tree_of d (place_numbered d n) ≡ Some (view_numbered d n)
+abbrev At : DocumentViews → ℕ → Type 0
+At d n = tree_of d (node_place d n) ≡ Some (node_view d n)
 
 -- a member of the node has the name of this pair, and its value
-abbrev pub ShowsPair : Shown → ℕ → ℕ → Pair → Type 0
+abbrev pub ShowsPair : DocumentViews → ℕ → ℕ → Pair → Type 0
 ShowsPair d n i m =
-    (slice_get (names_in (view_numbered d n)) i ≡ Some m.0)
-    × ShowsValue d (at (place_numbered d n) (key m.0)) m.1
+    (slice_get (names_in (node_view d n)) i ≡ Some m.0)
+    × ShowsValue d (at (node_place d n) (key m.0)) m.1
 
-module _ (d : Shown) (n : ℕ) (here : At d n) (b : Bool) (ms : List Pair) where
-  pub members_view : ShowsMembers d (place_numbered d n) b ms → view_of_members b ms ≡ view_numbered d n
+module _ (d : DocumentViews) (n : ℕ) (here : At d n) (b : Bool) (ms : List Pair) where
+  pub members_view : ShowsMembers d (node_place d n) b ms → view_of_members b ms ≡ node_view d n
   members_view h =
-      same_Some (view_of_members b ms) (view_numbered d n)
-      (sym (h []) ∙ ap (tree_of d) (append-nil (place_numbered d n)) ∙ here)
+      same_Some (view_of_members b ms) (node_view d n)
+      (sym (h []) ∙ ap (tree_of d) (append-nil (node_place d n)) ∙ here)
 
-  pub members_count : ShowsMembers d (place_numbered d n) b ms
-      → names_in (view_numbered d n) ≡ map (λ (m : Pair). m.0) ms
+  pub members_count : ShowsMembers d (node_place d n) b ms
+      → names_in (node_view d n) ≡ map (λ (m : Pair). m.0) ms
   members_count h = ap names_in (sym (members_view h)) ∙ members_names b ms
 
   -- each member of a table of new values has its pair
-  pub members_pair : AreApart (view_numbered d n) → (i : ℕ) (m : Pair)
-      → ShowsMembers d (place_numbered d n) b ms
+  pub members_pair : AreApart (node_view d n) → (i : ℕ) (m : Pair)
+      → ShowsMembers d (node_place d n) b ms
       → slice_get ms i ≡ Some m → ShowsPair d n i m
   members_pair distinct i m h e =
       let names = members_count h in
@@ -169,54 +169,54 @@ module _ (d : Shown) (n : ℕ) (here : At d n) (b : Bool) (ms : List Pair) where
       let first = only ms i m once e in (
         ap (λ (ns : List (List ℕ)). slice_get ns i) names ∙ slice_get-map (λ (m : Pair). m.0) ms i
             ∙ ap (option_map (λ (m : Pair). m.0)) e,
-        λ q. one_down d (place_numbered d n) (key m.0) q ∙ h (key m.0 ∷ q)
+        λ q. one_down d (node_place d n) (key m.0) q ∙ h (key m.0 ∷ q)
             ∙ ap (λ (o : Option Pair). option_and_then (λ m. new_view m.1 q) o) first,
       )
 
   -- and a node whose members have the pairs is such a table
-  pub members_show : NoneBelow d → NothingElse d n → AreKeys (view_numbered d n)
-      → AreSteps (view_numbered d n)
-      → kind_of (view_numbered d n) ≡ cond b 8 9 → length (names_in (view_numbered d n)) ≡ length ms
+  pub members_show : NoneBelow d → NothingElse d n → AreKeys (node_view d n)
+      → AreSteps (node_view d n)
+      → kind_of (node_view d n) ≡ cond b 8 9 → length (names_in (node_view d n)) ≡ length ms
       → ((i : ℕ) (m : Pair) → slice_get ms i ≡ Some m → ShowsPair d n i m)
-      → ShowsMembers d (place_numbered d n) b ms
+      → ShowsMembers d (node_place d n) b ms
   members_show below else keys steps kind count each = shows
     where
-      names : names_in (view_numbered d n) ≡ map (λ (m : Pair). m.0) ms
-      names = same_names ms (names_in (view_numbered d n)) count (λ i m e. (each i m e).0)
+      names : names_in (node_view d n) ≡ map (λ (m : Pair). m.0) ms
+      names = same_names ms (names_in (node_view d n)) count (λ i m e. (each i m e).0)
 
-      view : view_numbered d n ≡ view_of_members b ms
-      view = tables_is (view_numbered d n) b (map (λ (m : Pair). m.0) ms) keys kind names ∙
+      view : node_view d n ≡ view_of_members b ms
+      view = tables_is (node_view d n) b (map (λ (m : Pair). m.0) ms) keys kind names ∙
           sym (view_cond b ms)
 
-      none : (t : Step) (q : Place) → ((j : ℕ) → nth_part (view_numbered d n) j ≡ Some t → ⊥)
-          → tree_of d (place_numbered d n ++ t ∷ q) ≡ None
-      none t q no_part = sym (one_down d (place_numbered d n) t q) ∙
-          below (at (place_numbered d n) t) q (else t no_part)
+      none : (t : Step) (q : Place) → ((j : ℕ) → nth_part (node_view d n) j ≡ Some t → ⊥)
+          → tree_of d (node_place d n ++ t ∷ q) ≡ None
+      none t q no_part = sym (one_down d (node_place d n) t q) ∙
+          below (at (node_place d n) t) q (else t no_part)
 
       -- every part is a name
-      named_part : (t : Step) (j : ℕ) → nth_part (view_numbered d n) j ≡ Some t
+      named_part : (t : Step) (j : ℕ) → nth_part (node_view d n) j ≡ Some t
           → (k : List ℕ) × (slice_get (map (λ (m : Pair). m.0) ms) j ≡ Some k) × (t ≡ key k)
       named_part t j h = go b view
         where
-          go : (b : Bool) → view_numbered d n ≡ view_of_members b ms
+          go : (b : Bool) → node_view d n ≡ view_of_members b ms
               → (k : List ℕ) × (slice_get (map (λ (m : Pair). m.0) ms) j ≡ Some k) × (t ≡ key k)
           go true v = key_part ms j t (ap (λ (w : View). nth_part w j) (sym v) ∙ h)
           go false v = key_part ms j t (ap (λ (w : View). nth_part w j) (sym v) ∙ h)
 
       member : (k : List ℕ) (q : Place) (o : Option Pair) → find (λ x. same_bytes x.0 k) ms ≡ o
-          → tree_of d (place_numbered d n ++ key k ∷ q) ≡ option_and_then (λ m. new_view m.1 q) o
+          → tree_of d (node_place d n ++ key k ∷ q) ≡ option_and_then (λ m. new_view m.1 q) o
       member k q (Some m) e =
           let r = found ms k m e in
-          sym (one_down d (place_numbered d n) (key k) q)
-          ∙ ap (λ (j : List ℕ). tree_of d (at (place_numbered d n) (key j) ++ q)) (sym r.2) ∙
+          sym (one_down d (node_place d n) (key k) q)
+          ∙ ap (λ (j : List ℕ). tree_of d (at (node_place d n) (key j) ++ q)) (sym r.2) ∙
           (each r.0 m r.1).1 q
       member k q None e = none (key k) q (λ j h.
           let p = named_part (key k) j h in
           let same : p.0 ≡ k = (let s : key k ≡ key p.0 = p.2 in cc) in
           missed ms k j e (p.1 ∙ ap Some same))
 
-      shows : ShowsMembers d (place_numbered d n) b ms
-      shows [] = ap (tree_of d) (append-nil (place_numbered d n)) ∙ here ∙ ap Some view
+      shows : ShowsMembers d (node_place d n) b ms
+      shows [] = ap (tree_of d) (append-nil (node_place d n)) ∙ here ∙ ap Some view
       shows (key k ∷ q) =
           member k q (find (λ x. same_bytes x.0 k) ms) refl
       shows (index i ∷ q) = none (index i) q (λ j h. let p = named_part (index i) j h in
@@ -225,17 +225,17 @@ module _ (d : Shown) (n : ℕ) (here : At d n) (b : Bool) (ms : List Pair) where
 -- ---- entries
 
 pub item_members : (inside by_dots : Bool) (ms : List Pair) (q : Place)
-    → members_shown (inside || not by_dots) ms q ≡ item_view inside (a_table by_dots ms) q
+    → members_tree (inside || not by_dots) ms q ≡ item_view inside (a_table by_dots ms) q
 item_members inside by_dots ms [] = refl
 item_members inside by_dots ms (t ∷ q) = refl
 
-pub shows_table : (d : Shown) (p : Place) (inside by_dots b : Bool) (ms : List Pair) (r : Bool)
+pub shows_table : (d : DocumentViews) (p : Place) (inside by_dots b : Bool) (ms : List Pair) (r : Bool)
     → b ≡ (inside || not by_dots) → Decides r (ShowsMembers d p b ms)
     → Decides r (ShowsItem d p inside (a_table by_dots ms))
 shows_table d p inside by_dots b ms r is decided = (
-  λ t q. decided.0 t q ∙ ap (λ (c : Bool). members_shown c ms q) is ∙ item_members inside by_dots ms q,
+  λ t q. decided.0 t q ∙ ap (λ (c : Bool). members_tree c ms q) is ∙ item_members inside by_dots ms q,
   λ h. decided.1 (λ q. h q ∙ sym (item_members inside by_dots ms q) ∙
-      ap (λ (c : Bool). members_shown c ms q) (sym is)),
+      ap (λ (c : Bool). members_tree c ms q) (sym is)),
 )
 
 -- something is shown at the place of an entry
@@ -245,12 +245,13 @@ item_some inside (a_table by_dots ms) e = cc
 
 -- ---- the parts of a member
 
-abbrev Pairs : Shown → Place → Option (List ℕ) → Pair → Type 0
+abbrev Pairs : DocumentViews → Place → Option (List ℕ) → Pair → Type 0
 Pairs d p o m = (o ≡ Some m.0) × ShowsValue d (at p (key m.0)) m.1
 
 -- a member that is found
-pub pair_found : (d : Shown) (p : Place) (o : Option (List ℕ)) (m : Pair) (n : ℕ) (r : Bool) → o ≡ Some m.0
-    → Numbers d (at p (key m.0)) (Some n) → Decides r (ShowsValue d (place_numbered d n) m.1)
+pub pair_found : (d : DocumentViews) (p : Place) (o : Option (List ℕ)) (m : Pair) (n : ℕ) (r : Bool)
+    → o ≡ Some m.0
+    → Numbers d (at p (key m.0)) (Some n) → Decides r (ShowsValue d (node_place d n) m.1)
     → Decides r (Pairs d p o m)
 pair_found d p o m n r name numbers decided =
     let there : Decides r (ShowsValue d (at p (key m.0)) m.1) =
@@ -258,6 +259,7 @@ pair_found d p o m n r name numbers decided =
     (λ t. (name, there.0 t), λ h. there.1 h.1)
 
 -- and one that is not
-pub pair_missed : (d : Shown) (p : Place) (o : Option (List ℕ)) (m : Pair) → tree_of d (at p (key m.0)) ≡ None
+pub pair_missed : (d : DocumentViews) (p : Place) (o : Option (List ℕ)) (m : Pair)
+    → tree_of d (at p (key m.0)) ≡ None
     → Pairs d p o m → ⊥
 pair_missed d p o m none h = unshown_at d (at p (key m.0)) m.1 none h.1

@@ -5,10 +5,10 @@ use Rattle.std.specs.List.{AllByRecursion, filter}
 use Rattle.edit_syntax.specs.Grammar.{Value, basic, literal, multi_basic, multi_literal, boolean, integer, float, datetime, array, inline, Between, Elements}
 use Rattle.edit_tree.specs.Assertions.{Step, key, index, Place, at, same_step, Kind, dotted, leaf, super, header_kind, array_kind, element_kind, Assertion, elements_at}
 use Rattle.edit_tree.specs.Tree.{once, members_of, View, static_array, count_elements, inline_table, table, table_array, view_of_value, view_of_kind, kind_at, view_in}
-use Rattle.edit_tree.specs.Shown.{node_at}
+use Rattle.edit_tree.specs.DocumentViews.{node_at}
 use Rattle.edit_document.specs.Items.{key_names}
 use Rattle.edit_document.specs.DocumentLayout.{shape_of_value, Placed}
-use Rattle.edit_tree.specs.Nodes.{Spot, names_of, view_of_shape, shown_spot}
+use Rattle.edit_tree.specs.Nodes.{ModelNode, names_of, view_of_shape, model_node_view}
 use Rattle.edit_tree.proofs.SamePlace.{same_step_self}
 use Rattle.edit_tree.proofs.MoreAssertions.{first_kind, first_is}
 use Rattle.edit_tree.proofs.MoreMembers.{is_headed, steps, has, has_step}
@@ -54,7 +54,7 @@ keys_back (key n ∷ xs) h = ap (λ (ys : List Step). key n ∷ ys) (keys_back x
 keys_back (index i ∷ xs) h = absurd h.0
 
 -- of what has no elements
-members_keys : (made : List Assertion) (written : List Placed) (spots : List Spot) (p : Place) (k : Kind)
+members_keys : (made : List Assertion) (written : List Placed) (spots : List ModelNode) (p : Place) (k : Kind)
     → Stands made written spots → first_kind made p ≡ Some k → ((i : ℕ) → Lists k i → ⊥)
     → members_of made p ≡ map key (key_names (members_of made p))
 members_keys made written spots p k st first other = keys_back (members_of made p)
@@ -111,7 +111,7 @@ AreFull made = (p : Place) (g : List Between) (es : Elements) (i : ℕ)
     → kind_at made p ≡ Some (leaf (array g es)) → i < count_elements es → kind_at made (at p (index i)) ≡ None
     → ⊥
 
-spot_view : (made : List Assertion) (written : List Placed) (spots : List Spot) (n : ℕ) (s : Spot)
+spot_view : (made : List Assertion) (written : List Placed) (spots : List ModelNode) (n : ℕ) (s : ModelNode)
     → Stands made written spots → IsEven made → AreFull made → slice_get spots n ≡ Some s
     → (t : Tells made written s) → view_of_shape s.shape (names_of s) (length s.elements)
     ≡ view_of_kind made s.place t.kind
@@ -147,21 +147,21 @@ spot_view made written spots n s st even full e t =
     counted array_kind same = t.count (ap is_headed same) ∙ sym (even s.place)
     counted element_kind same = t.count (ap is_headed same) ∙ sym (even s.place)
 
-pub tree_shown : (made : List Assertion) (written : List Placed) (spots : List Spot) (p : Place)
+pub tree_shown : (made : List Assertion) (written : List Placed) (spots : List ModelNode) (p : Place)
     → Stands made written spots → IsEven made → AreFull made
-    → node_at (map shown_spot spots) p ≡ view_in made p
+    → node_at (map model_node_view spots) p ≡ view_in made p
 tree_shown made written spots [] st even full =
     let r = st.tree.root in
     let t = st.tells 0 r.0 r.1 in
     let kind : header_kind ≡ t.kind =
     (let same : Some header_kind ≡ Some t.kind = ap (first_kind made) (sym r.2) ∙ t.first in cc) in
-    ap (node_at (map shown_spot spots)) (sym r.2) ∙
+    ap (node_at (map model_node_view spots)) (sym r.2) ∙
     node_first spots 0 r.0 r.1 (λ i u g same. st.tree.unique i 0 u r.0 g r.1 same)
     ∙ ap (λ (v : View). Some v) (spot_view made written spots 0 r.0 st even full r.1 t ∙
     ap (view_of_kind made r.0.place) (sym kind) ∙ ap (λ (q : Place). view_of_kind made q header_kind) r.2)
 tree_shown made written spots (x ∷ xs) st even full = go (kind_at made (x ∷ xs)) refl
   where
-    go : (o : Option Kind) → kind_at made (x ∷ xs) ≡ o → node_at (map shown_spot spots) (x ∷ xs)
+    go : (o : Option Kind) → kind_at made (x ∷ xs) ≡ o → node_at (map model_node_view spots) (x ∷ xs)
         ≡ option_map (view_of_kind made (x ∷ xs)) (kind_at made (x ∷ xs))
     go (Some k) e =
         let c = st.covers (x ∷ xs) k e in
@@ -169,7 +169,7 @@ tree_shown made written spots (x ∷ xs) st even full = go (kind_at made (x ∷ 
         let t = st.tells c.0 s c.1.1 in
         let kind : t.kind ≡ k = (let same : Some t.kind ≡ Some k = sym t.first ∙ ap (first_kind made) c.1.2 ∙
         e in cc) in
-        ap (node_at (map shown_spot spots)) (sym c.1.2) ∙
+        ap (node_at (map model_node_view spots)) (sym c.1.2) ∙
         node_first spots c.0 s c.1.1 (λ i u g same. st.tree.unique i c.0 u s g c.1.1 same)
         ∙ ap (λ (v : View). Some v) (spot_view made written spots c.0 s st even full c.1.1 t ∙
         ap (view_of_kind made s.place) kind ∙ ap (λ (q : Place). view_of_kind made q k) c.1.2)

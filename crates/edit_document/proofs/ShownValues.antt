@@ -7,9 +7,9 @@ use Rattle.std.proofs.lemmas.Option.{same_Some, slice_get-get_or}
 use Rattle.edit_tree.specs.Assertions.{Step, key, index, Place, at}
 use Rattle.edit_tree.specs.Tree.{View, string, truth, whole, fractional, moment, static_array, table_array, inline_table, table}
 use Rattle.edit_tree.specs.NewItems.{NewValue, a_string, a_truth, a_list}
-use Rattle.edit_tree.specs.Meant.{new_view}
-use Rattle.edit_tree.specs.Shown.{Shown, tree_of}
-use Rattle.edit_document.specs.Items.{place_numbered, view_numbered, count_in, Numbers}
+use Rattle.edit_tree.specs.IntendedTrees.{new_view}
+use Rattle.edit_tree.specs.DocumentViews.{DocumentViews, tree_of}
+use Rattle.edit_document.specs.Items.{node_place, node_view, count_in, Numbers}
 use Rattle.edit_document.specs.Compared.{kind_of, word_of, nth_part, ShowsValue}
 use Rattle.edit_document.proofs.SameParts.{one_down, NothingElse, NoneBelow}
 use Rattle.edit_document.proofs.Wholes.{element_was}
@@ -70,83 +70,83 @@ new_some (a_list ss) e = cc
 
 -- ---- nodes
 
-abbrev At : Shown → ℕ → Type 0
-At d n = tree_of d (place_numbered d n) ≡ Some (view_numbered d n)
+abbrev At : DocumentViews → ℕ → Type 0
+At d n = tree_of d (node_place d n) ≡ Some (node_view d n)
 
-module _ (d : Shown) (n : ℕ) (here : At d n) where
-  pub shown_view : (v : NewValue) → ShowsValue d (place_numbered d n) v
-      → new_view v [] ≡ Some (view_numbered d n)
-  shown_view v h = sym (h []) ∙ ap (tree_of d) (append-nil (place_numbered d n)) ∙ here
+module _ (d : DocumentViews) (n : ℕ) (here : At d n) where
+  pub shown_view : (v : NewValue) → ShowsValue d (node_place d n) v
+      → new_view v [] ≡ Some (node_view d n)
+  shown_view v h = sym (h []) ∙ ap (tree_of d) (append-nil (node_place d n)) ∙ here
 
   -- what has no parts shows what it shows, and nothing below
-  leaf_shows : NoneBelow d → NothingElse d n → (x : NewValue) (v : View) → view_numbered d n ≡ v
+  leaf_shows : NoneBelow d → NothingElse d n → (x : NewValue) (v : View) → node_view d n ≡ v
       → ((i : ℕ) → nth_part v i ≡ None) → new_view x [] ≡ Some v
-      → ((t : Step) (q : Place) → new_view x (t ∷ q) ≡ None) → ShowsValue d (place_numbered d n) x
+      → ((t : Step) (q : Place) → new_view x (t ∷ q) ≡ None) → ShowsValue d (node_place d n) x
   leaf_shows below else x v is bare first more [] =
-      ap (tree_of d) (append-nil (place_numbered d n)) ∙ here ∙ ap Some is ∙ sym first
+      ap (tree_of d) (append-nil (node_place d n)) ∙ here ∙ ap Some is ∙ sym first
   leaf_shows below else x v is bare first more (t ∷ q) =
-      let none : (i : ℕ) → nth_part (view_numbered d n) i ≡ Some t → ⊥ =
+      let none : (i : ℕ) → nth_part (node_view d n) i ≡ Some t → ⊥ =
       λ i h. let clash : None ≡ Some t = sym (bare i) ∙ ap (λ (w : View). nth_part w i) (sym is) ∙ h in cc in
-      sym (one_down d (place_numbered d n) t q) ∙ below (at (place_numbered d n) t) q (else t none) ∙
+      sym (one_down d (node_place d n) t q) ∙ below (at (node_place d n) t) q (else t none) ∙
       sym (more t q)
 
   pub string_decides : NoneBelow d → NothingElse d n → (w : List ℕ) (r : Bool)
-      → kind_of (view_numbered d n) ≡ 0
-      → Decides r (word_of (view_numbered d n) ≡ Some w)
-      → Decides r (ShowsValue d (place_numbered d n) (a_string w))
+      → kind_of (node_view d n) ≡ 0
+      → Decides r (word_of (node_view d n) ≡ Some w)
+      → Decides r (ShowsValue d (node_place d n) (a_string w))
   string_decides below else w r k decided = (
-    λ e. leaf_shows below else (a_string w) (string w) (string_is (view_numbered d n) w k (decided.0 e))
+    λ e. leaf_shows below else (a_string w) (string w) (string_is (node_view d n) w k (decided.0 e))
         (λ i. refl) refl (λ t q. refl),
-    λ h. decided.1 (sym (ap word_of (same_Some (string w) (view_numbered d n) (shown_view (a_string w) h)))),
+    λ h. decided.1 (sym (ap word_of (same_Some (string w) (node_view d n) (shown_view (a_string w) h)))),
   )
 
-  pub string_kind : (w : List ℕ) → ShowsValue d (place_numbered d n) (a_string w)
-      → kind_of (view_numbered d n) ≡ 0
-  string_kind w h = sym (ap kind_of (same_Some (string w) (view_numbered d n) (shown_view (a_string w) h)))
+  pub string_kind : (w : List ℕ) → ShowsValue d (node_place d n) (a_string w)
+      → kind_of (node_view d n) ≡ 0
+  string_kind w h = sym (ap kind_of (same_Some (string w) (node_view d n) (shown_view (a_string w) h)))
 
-  pub truth_decides : NoneBelow d → NothingElse d n → (b : Bool) (k : ℕ) → k ≡ kind_of (view_numbered d n)
-      → Decides (eqb k (kind_of (truth b))) (ShowsValue d (place_numbered d n) (a_truth b))
+  pub truth_decides : NoneBelow d → NothingElse d n → (b : Bool) (k : ℕ) → k ≡ kind_of (node_view d n)
+      → Decides (eqb k (kind_of (truth b))) (ShowsValue d (node_place d n) (a_truth b))
   truth_decides below else b k is = (
     λ e. leaf_shows below else (a_truth b) (truth b)
-        (truth_is (view_numbered d n) b (sym is ∙ eqb-true k (kind_of (truth b)) e))
+        (truth_is (node_view d n) b (sym is ∙ eqb-true k (kind_of (truth b)) e))
         (λ i. refl) refl (λ t q. refl),
     λ h. eq-eqb k (kind_of (truth b))
-        (is ∙ sym (ap kind_of (same_Some (truth b) (view_numbered d n) (shown_view (a_truth b) h)))),
+        (is ∙ sym (ap kind_of (same_Some (truth b) (node_view d n) (shown_view (a_truth b) h)))),
   )
 
   -- ---- lists of strings
 
-  pub list_view : (ss : List (List ℕ)) → ShowsValue d (place_numbered d n) (a_list ss)
-      → static_array (length ss) ≡ view_numbered d n
-  list_view ss h = same_Some (static_array (length ss)) (view_numbered d n) (shown_view (a_list ss) h)
+  pub list_view : (ss : List (List ℕ)) → ShowsValue d (node_place d n) (a_list ss)
+      → static_array (length ss) ≡ node_view d n
+  list_view ss h = same_Some (static_array (length ss)) (node_view d n) (shown_view (a_list ss) h)
 
-  pub list_element : (ss : List (List ℕ)) (i : ℕ) (s : List ℕ) → ShowsValue d (place_numbered d n) (a_list ss)
-      → slice_get ss i ≡ Some s → ShowsValue d (at (place_numbered d n) (index i)) (a_string s)
+  pub list_element : (ss : List (List ℕ)) (i : ℕ) (s : List ℕ) → ShowsValue d (node_place d n) (a_list ss)
+      → slice_get ss i ≡ Some s → ShowsValue d (at (node_place d n) (index i)) (a_string s)
   list_element ss i s h e [] =
-      one_down d (place_numbered d n) (index i) [] ∙ h (index i ∷ []) ∙ ap (option_map string) e
-  list_element ss i s h e (t ∷ q) = one_down d (place_numbered d n) (index i) (t ∷ q) ∙ h (index i ∷ t ∷ q)
+      one_down d (node_place d n) (index i) [] ∙ h (index i ∷ []) ∙ ap (option_map string) e
+  list_element ss i s h e (t ∷ q) = one_down d (node_place d n) (index i) (t ∷ q) ∙ h (index i ∷ t ∷ q)
 
-  element_of : (m j : ℕ) (t : Step) → view_numbered d n ≡ static_array m
-      → nth_part (view_numbered d n) j ≡ Some t
+  element_of : (m j : ℕ) (t : Step) → node_view d n ≡ static_array m
+      → nth_part (node_view d n) j ≡ Some t
       → (j < m) × (t ≡ index j)
   element_of m j t is e = element_was m j t (ap (λ (w : View). nth_part w j) (sym is) ∙ e)
 
-  pub list_shows : NoneBelow d → NothingElse d n → (ss : List (List ℕ)) → kind_of (view_numbered d n) ≡ 6
-      → count_in (view_numbered d n) ≡ length ss
+  pub list_shows : NoneBelow d → NothingElse d n → (ss : List (List ℕ)) → kind_of (node_view d n) ≡ 6
+      → count_in (node_view d n) ≡ length ss
       → ((i : ℕ) (s : List ℕ) → slice_get ss i ≡ Some s
-      → ShowsValue d (at (place_numbered d n) (index i)) (a_string s))
-      → ShowsValue d (place_numbered d n) (a_list ss)
+      → ShowsValue d (at (node_place d n) (index i)) (a_string s))
+      → ShowsValue d (node_place d n) (a_list ss)
   list_shows below else ss kind count each = shows
     where
-      is : view_numbered d n ≡ static_array (length ss)
-      is = list_is (view_numbered d n) (length ss) kind count
+      is : node_view d n ≡ static_array (length ss)
+      is = list_is (node_view d n) (length ss) kind count
 
-      none : (t : Step) (q : Place) → ((j : ℕ) → nth_part (view_numbered d n) j ≡ Some t → ⊥)
-          → tree_of d (place_numbered d n ++ t ∷ q) ≡ None
-      none t q no_part = sym (one_down d (place_numbered d n) t q) ∙
-          below (at (place_numbered d n) t) q (else t no_part)
+      none : (t : Step) (q : Place) → ((j : ℕ) → nth_part (node_view d n) j ≡ Some t → ⊥)
+          → tree_of d (node_place d n ++ t ∷ q) ≡ None
+      none t q no_part = sym (one_down d (node_place d n) t q) ∙
+          below (at (node_place d n) t) q (else t no_part)
 
-      past : (i : ℕ) → slice_get ss i ≡ None → (j : ℕ) → nth_part (view_numbered d n) j ≡ Some (index i) → ⊥
+      past : (i : ℕ) → slice_get ss i ≡ None → (j : ℕ) → nth_part (node_view d n) j ≡ Some (index i) → ⊥
       past i e j h =
           let p = element_of (length ss) j (index i) is h in
           let same : i ≡ j = (let step : index i ≡ index j = p.1 in cc) in
@@ -154,26 +154,26 @@ module _ (d : Shown) (n : ℕ) (here : At d n) where
           cc
 
       element : (i : ℕ) (q : Place) (o : Option (List ℕ)) → slice_get ss i ≡ o
-          → tree_of d (place_numbered d n ++ index i ∷ q) ≡ new_view (a_list ss) (index i ∷ q)
+          → tree_of d (node_place d n ++ index i ∷ q) ≡ new_view (a_list ss) (index i ∷ q)
       element i [] (Some s) e =
-          sym (one_down d (place_numbered d n) (index i) []) ∙ each i s e [] ∙ sym (ap (option_map string) e)
-      element i (t ∷ q) (Some s) e = sym (one_down d (place_numbered d n) (index i) (t ∷ q)) ∙
+          sym (one_down d (node_place d n) (index i) []) ∙ each i s e [] ∙ sym (ap (option_map string) e)
+      element i (t ∷ q) (Some s) e = sym (one_down d (node_place d n) (index i) (t ∷ q)) ∙
           each i s e (t ∷ q)
       element i [] None e = none (index i) [] (past i e) ∙ sym (ap (option_map string) e)
       element i (t ∷ q) None e = none (index i) (t ∷ q) (past i e)
 
-      shows : (q : Place) → tree_of d (place_numbered d n ++ q) ≡ new_view (a_list ss) q
-      shows [] = ap (tree_of d) (append-nil (place_numbered d n)) ∙ here ∙ ap Some is
+      shows : (q : Place) → tree_of d (node_place d n ++ q) ≡ new_view (a_list ss) q
+      shows [] = ap (tree_of d) (append-nil (node_place d n)) ∙ here ∙ ap Some is
       shows (index i ∷ q) = element i q (slice_get ss i) refl
       shows (key name ∷ q) =
           none (key name) q (λ j h. let p = element_of (length ss) j (key name) is h in
           let clash : key name ≡ index j = p.1 in cc)
 
 -- what stands at a place shows what its node shows
-pub shown_at : (d : Shown) (p : Place) (m : ℕ) (v : NewValue) (r : Bool) → Numbers d p (Some m)
-    → Decides r (ShowsValue d (place_numbered d m) v) → Decides r (ShowsValue d p v)
+pub shown_at : (d : DocumentViews) (p : Place) (m : ℕ) (v : NewValue) (r : Bool) → Numbers d p (Some m)
+    → Decides r (ShowsValue d (node_place d m) v) → Decides r (ShowsValue d p v)
 shown_at d p m v r numbers decided = subst (λ (q : Place). Decides r (ShowsValue d q v)) numbers.1 decided
 
 -- where nothing stands no value is shown
-pub unshown_at : (d : Shown) (p : Place) (v : NewValue) → tree_of d p ≡ None → ShowsValue d p v → ⊥
+pub unshown_at : (d : DocumentViews) (p : Place) (v : NewValue) → tree_of d p ≡ None → ShowsValue d p v → ⊥
 unshown_at d p v none h = new_some v (sym (h []) ∙ ap (tree_of d) (append-nil p) ∙ none)

@@ -3,8 +3,8 @@ use Rattle.std.proofs.Common.{◌≡◌, ℕ, ◌<◌, ◌≤◌, cond, List, []
 use Rattle.std.specs.Str.{IsUtf8}
 use Rattle.std.specs.List.{AllByRecursion, filter_map, cons_option}
 use Rattle.edit_syntax.specs.Grammar.{value, Text, text, IsValue, AreLines}
-use Rattle.edit_tree.specs.Assertions.{Place, same_place, assertions, NoClash}
-use Rattle.edit_tree.specs.Written.{Valued, values, start_of, end_of}
+use Rattle.edit_tree.specs.Assertions.{Place, same_place, assertions, AreCompatible}
+use Rattle.edit_tree.specs.Written.{PlacedValue, values, start_of, end_of}
 use Rattle.edit_tree.specs.Literals.{literal_of}
 use Rattle.edit_tree.specs.Replaces.{Edits, new_text, replaced, edited}
 use Rattle.edit_document.specs.Splices.{Range, spliced, AreInOrder, ranges_of, IsRangeFor}
@@ -63,7 +63,7 @@ pub record AreRangesFor (form : Text) (edits : Edits) (ranges : List Range) : Ty
 abbrev pub AreFirst : Edits → Type 0
 AreFirst edits = (e : Place × List ℕ) → Among e edits → new_text edits e.0 ≡ Some e.1
 
-abbrev edit_range : ℕ → Valued × List ℕ → Range
+abbrev edit_range : ℕ → PlacedValue × List ℕ → Range
 edit_range total c = (start_of total c.0, end_of total c.0, c.1)
 
 same_range : (r q : Range) → r.0 ≡ q.0 → r.1 ≡ q.1 → r.2 ≡ q.2 → r ≡ q
@@ -71,9 +71,9 @@ same_range r q e f g = λ i. (e i, f i, g i)
 
 -- an edit's value is among the edited ones
 pub edit_among : (form : Text) (edits : Edits) (e : Place × List ℕ) (r : Range) → AreFirst edits
-    → Among e edits → (is : IsRangeFor form e r) → Among (is.0.valued, e.1) (edited edits form)
+    → Among e edits → (is : IsRangeFor form e r) → Among (is.0.placed_value, e.1) (edited edits form)
 edit_among form edits e r first m is =
-    let w = is.0.valued in
+    let w = is.0.placed_value in
     among_filter (edit_of edits) w (w, e.1) (values form) (contained_among w (values form) is.0.told)
     (ap (λ (o : Option (List ℕ)). option_map (λ (said : List ℕ). (w, said)) o)
     (ap (λ (p : Place). new_text edits p) is.0.there ∙ first e m))
@@ -82,7 +82,7 @@ range_edited : (form : Text) (edits : Edits) (e : Place × List ℕ) (r : Range)
     → IsRangeFor form e r → Among r (ranges_of (length (text form)) (edited edits form))
 range_edited form edits e r first m is =
     let total = length (text form) in
-    let c : Valued × List ℕ = (is.0.valued, e.1) in
+    let c : PlacedValue × List ℕ = (is.0.placed_value, e.1) in
     subst (λ (q : Range). Among q (ranges_of total (edited edits form)))
     (sym (same_range r (edit_range total c) is.0.starts is.0.ends is.1))
     (among_map (edit_range total) c (edited edits form) (edit_among form edits e r first m is))
@@ -98,18 +98,18 @@ text_from (e ∷ edits) p said h =
     (λ t. let r = text_from edits p said (sym (ap (λ c. cond c (Some e.1) (new_text edits p)) t) ∙ h) in
     (r.0, inr r.1, r.2, r.3))
 
-edited_from : (w : Valued) (o : Option (List ℕ)) (c : Valued × List ℕ)
+edited_from : (w : PlacedValue) (o : Option (List ℕ)) (c : PlacedValue × List ℕ)
     → option_map (λ (said : List ℕ). (w, said)) o ≡ Some c → (w ≡ c.0) × (o ≡ Some c.1)
 edited_from w None c e = absurd cc
 edited_from w (Some said) c e =
     let both : Some (w, said) ≡ Some c = e in
     let is = some_same (w, said) c both in
-    (ap (λ (z : Valued × List ℕ). z.0) is, ap (λ (z : Valued × List ℕ). Some z.1) is)
+    (ap (λ (z : PlacedValue × List ℕ). z.0) is, ap (λ (z : PlacedValue × List ℕ). Some z.1) is)
   where
-    some_same : (a b : Valued × List ℕ) → Some a ≡ Some b → a ≡ b
+    some_same : (a b : PlacedValue × List ℕ) → Some a ≡ Some b → a ≡ b
     some_same a b h = cc
 
-edited_range : (form : Text) (edits : Edits) (ranges : List Range) → NoClash (assertions form)
+edited_range : (form : Text) (edits : Edits) (ranges : List Range) → AreCompatible (assertions form)
     → AreRangesFor form edits ranges → Covers (ranges_of (length (text form)) (edited edits form)) ranges
 edited_range form edits ranges clash are r m =
     let total = length (text form) in
@@ -118,12 +118,12 @@ edited_range form edits ranges clash are r m =
     let f = edited_from w.0 (new_text edits w.0.place) c.0 w.2 in
     let e = text_from edits w.0.place c.0.1 f.1 in
     let q = are.all e.0 e.1 in
-    let u = q.2.0.valued in
+    let u = q.2.0.placed_value in
     let same : u ≡ c.0.0 = values_unique form u w.0 clash (contained_among u (values form) q.2.0.told) w.1
     (q.2.0.there ∙ e.2) ∙ f.0 in
     subst (λ (z : Range). Among z ranges)
-    (same_range q.0 (edit_range total c.0) (q.2.0.starts ∙ ap (λ (z : Valued). start_of total z) same)
-    (q.2.0.ends ∙ ap (λ (z : Valued). end_of total z) same) (q.2.1 ∙ e.3) ∙ sym c.2)
+    (same_range q.0 (edit_range total c.0) (q.2.0.starts ∙ ap (λ (z : PlacedValue). start_of total z) same)
+    (q.2.0.ends ∙ ap (λ (z : PlacedValue). end_of total z) same) (q.2.1 ∙ e.3) ∙ sym c.2)
     q.1
 
 -- ---- the edited values are enclosed
@@ -142,12 +142,12 @@ pub edits_enclosed : (form : Text) (edits : Edits) → AreLines form.lines → A
 edits_enclosed form edits fine =
     all_filter (λ w. IsValue w.value) (λ c. IsEnclosed (value c.0.value [])) (edit_of edits) (values form)
     (λ w c e h. let f = edited_from w (new_text edits w.place) c e in
-    subst (λ (z : Valued). IsEnclosed (value z.value [])) f.0 (value_enclosed w.value h))
+    subst (λ (z : PlacedValue). IsEnclosed (value z.value [])) f.0 (value_enclosed w.value h))
     (values_fine [] [] form.lines fine)
 
 -- ---- the theorem
 
-pub ranges_are : (form : Text) (edits : Edits) (ranges : List Range) → NoClash (assertions form)
+pub ranges_are : (form : Text) (edits : Edits) (ranges : List Range) → AreCompatible (assertions form)
     → AreLines form.lines → NoneBelow edits → AreFirst edits → AreRangesFor form edits ranges → Rises ranges
     → ranges ≡ ranges_of (length (text form)) (edited edits form)
 ranges_are form edits ranges clash fine free first are up =
@@ -162,7 +162,7 @@ pub record Rewrites (whole : List ℕ) (ranges : List Range) (new : List ℕ) : 
   pub order : AreInOrder whole 0 ranges
   pub bytes : spliced whole 0 ranges ≡ new
 
-pub ranges_rewrite : (form : Text) (edits : Edits) (ranges : List Range) → NoClash (assertions form)
+pub ranges_rewrite : (form : Text) (edits : Edits) (ranges : List Range) → AreCompatible (assertions form)
     → AreLines form.lines → NoneBelow edits → AreFirst edits → AreRangesFor form edits ranges → Rises ranges
     → IsUtf8 (text form) → Rewrites (text form) ranges (text (replaced edits form))
 ranges_rewrite form edits ranges clash fine free first are up utf8 =

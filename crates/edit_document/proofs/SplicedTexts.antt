@@ -8,7 +8,7 @@ use Rattle.std.specs.Str.{IsCharBoundary, IsUtf8}
 use Rattle.std.specs.List.{AllByRecursion}
 use Rattle.edit_syntax.specs.Grammar.{value}
 use Rattle.edit_tree.specs.Literals.{literal_of, literal_bytes}
-use Rattle.edit_tree.specs.Written.{Valued, start_of}
+use Rattle.edit_tree.specs.Written.{PlacedValue, start_of}
 use Rattle.edit_tree.specs.Replaces.{Swaps, rest, next}
 use Rattle.edit_document.specs.Splices.{Range, spliced, AreInOrder, ranges_of}
 use Rattle.edit_syntax.proofs.ValueEdges.{value_rest, IsEnclosed}
@@ -16,7 +16,7 @@ use Rattle.edit_syntax.proofs.ValueEdges.{value_rest, IsEnclosed}
 -- ---- the bytes
 
 -- where a value begins, behind this much of the text
-start_behind : (whole front t : List ℕ) (w : Valued) → whole ≡ front ++ (t ++ value w.value w.after)
+start_behind : (whole front t : List ℕ) (w : PlacedValue) → whole ≡ front ++ (t ++ value w.value w.after)
     → start_of (length whole) w ≡ length (front ++ t)
 start_behind whole front t w e =
     let all = ap length e in
@@ -25,7 +25,7 @@ start_behind whole front t w e =
     let three = length-append front t in
     omega arith
 
-past_value : (whole front t : List ℕ) (w : Valued) → whole ≡ front ++ (t ++ value w.value w.after)
+past_value : (whole front t : List ℕ) (w : PlacedValue) → whole ≡ front ++ (t ++ value w.value w.after)
     → whole ≡ (front ++ (t ++ value w.value [])) ++ w.after
 past_value whole front t w e =
     e ∙ ap (λ (l : List ℕ). front ++ (t ++ l)) (value_rest w.value w.after) ∙
@@ -47,7 +47,7 @@ slice_behind whole front t more e =
     let len : length (front ++ t) - length front ≡ length t = omega (arith, length-append front t) in
     ap₂ (λ n (l : List ℕ). take n l) len rest_is ∙ take-append_seam t more
 
-pub swaps_spliced : (whole front old new : List ℕ) (edits : List (Valued × List ℕ))
+pub swaps_spliced : (whole front old new : List ℕ) (edits : List (PlacedValue × List ℕ))
     → Swaps literal_of edits old new → whole ≡ front ++ old
     → spliced whole (length front) (ranges_of (length whole) edits) ≡ new
 swaps_spliced whole front old new edits (rest t) e = ap (λ (l : List ℕ). drop (length front) l) e ∙
@@ -66,7 +66,7 @@ swaps_spliced whole front old new edits (next t w said more now s) e =
 -- ---- the order
 
 -- each of the values begins and ends with a character of ASCII
-abbrev pub AreEnclosed : List (Valued × List ℕ) → Type 0
+abbrev pub AreEnclosed : List (PlacedValue × List ℕ) → Type 0
 AreEnclosed edits = AllByRecursion (λ e. IsEnclosed (value e.0.value [])) edits
 
 boundary_at : (whole front behind : List ℕ) (b : ℕ) → whole ≡ front ++ b ∷ behind → b < 128
@@ -87,7 +87,7 @@ boundary_past whole front behind b utf8 e low =
     get_or-append_seam front b behind 0 in
     IsCharBoundary-after_ascii whole (length front) utf8 (omega arith) (omega (arith, read))
 
-start_boundary : (whole front t : List ℕ) (w : Valued) → whole ≡ front ++ (t ++ value w.value w.after)
+start_boundary : (whole front t : List ℕ) (w : PlacedValue) → whole ≡ front ++ (t ++ value w.value w.after)
     → IsEnclosed (value w.value []) → IsCharBoundary whole (length (front ++ t))
 start_boundary whole front t w e fence =
     boundary_at whole (front ++ t) (fence.behind ++ w.after) fence.first
@@ -96,7 +96,7 @@ start_boundary whole front t w e fence =
     ap (λ (l : List ℕ). l ++ w.after) fence.begins))
     fence.first_ascii
 
-end_boundary : (whole front t : List ℕ) (w : Valued) → IsUtf8 whole
+end_boundary : (whole front t : List ℕ) (w : PlacedValue) → IsUtf8 whole
     → whole ≡ front ++ (t ++ value w.value w.after) → IsEnclosed (value w.value [])
     → IsCharBoundary whole (length (front ++ (t ++ value w.value [])))
 end_boundary whole front t w utf8 e fence =
@@ -113,7 +113,7 @@ end_boundary whole front t w utf8 e fence =
     subst (λ n. IsCharBoundary whole n) (sym len)
     (boundary_past whole head w.after fence.last utf8 whole_is fence.last_ascii)
 
-pub swaps_in_order : (whole front old new : List ℕ) (edits : List (Valued × List ℕ))
+pub swaps_in_order : (whole front old new : List ℕ) (edits : List (PlacedValue × List ℕ))
     → Swaps literal_of edits old new → IsUtf8 whole → whole ≡ front ++ old → AreEnclosed edits
     → AreInOrder whole (length front) (ranges_of (length whole) edits)
 swaps_in_order whole front old new edits (rest t) utf8 e fences = tt
@@ -155,7 +155,8 @@ behind_strict m n (r ∷ more) le h = (omega (arith, h.0), behind_strict m n mor
 some_long : (text : List ℕ) → IsEnclosed text → 0 < length text
 some_long text fence = let e = ap length fence.begins in omega arith
 
-rises_from : (whole front old new : List ℕ) (edits : List (Valued × List ℕ)) → Swaps literal_of edits old new
+rises_from : (whole front old new : List ℕ) (edits : List (PlacedValue × List ℕ))
+    → Swaps literal_of edits old new
     → whole ≡ front ++ old → AreEnclosed edits
     → Behind (length front) (ranges_of (length whole) edits) × Rises (ranges_of (length whole) edits)
 rises_from whole front old new edits (rest t) e fences = (tt, tt)
@@ -182,6 +183,6 @@ rises_from whole front old new edits (next t w said more now s) e fences =
       ),
     )
 
-pub swaps_rise : (whole new : List ℕ) (edits : List (Valued × List ℕ)) → Swaps literal_of edits whole new
+pub swaps_rise : (whole new : List ℕ) (edits : List (PlacedValue × List ℕ)) → Swaps literal_of edits whole new
     → AreEnclosed edits → Rises (ranges_of (length whole) edits)
 swaps_rise whole new edits s fences = (rises_from whole [] whole new edits s refl fences).1

@@ -8,7 +8,7 @@ use Rattle.edit_syntax.specs.Characters.{quote, comma, equals, left_bracket, rig
 use Rattle.edit_syntax.specs.Strings.{◌·◌, line_end, Piece, pieces, says, IsBasicPiece, Part, bare, basic_part, literal_part, part, IsPart, name, basic_text, literal_text, Dotted, dotted, Key, IsKey}
 use Rattle.edit_syntax.specs.Strings as strings
 use Rattle.edit_syntax.specs.Grammar.{gap, Value, basic, literal, multi_basic, multi_literal, boolean, integer, float, datetime, array, inline, value, IsValue, Elements, no_elements, last_element, element, elements, AreElements, Members, no_members, last_member, member, members, AreMembers, Statement, pair, header, element_header, statement, IsStatement, comment, empty_line, full_line, Lines, one_line, more_lines, lines, AreLines, Text}
-use Rattle.edit_syntax.specs.Marks.{mark, part_mark, dotted_marks, key_marks, value_marks, elements_marks, members_marks, statement_marks, lines_marks, text_marks}
+use Rattle.edit_syntax.specs.SyntaxTokens.{mark, token_of_part, tokens_of_dotted, tokens_of_key, tokens_of_value, tokens_of_elements, tokens_of_members, tokens_of_statement, tokens_of_lines, tokens_of_text}
 use Rattle.edit_tree.specs.Walk.{said}
 use Rattle.edit_tree.specs.WalkState.{IsToken}
 use Rattle.edit_syntax.proofs.PutBefore.{pieces_rest}
@@ -32,7 +32,7 @@ basic_parts ps rest = ap (λ (t : List ℕ). quote ∷ t) (pieces_rest quote ps 
 -- ---- one token
 
 pub part_token : (bytes : List ℕ) (p : Part) (rest : List ℕ) → IsPart p → IsUtf8 bytes
-    → Ends bytes (part p rest) → IsToken bytes (part_mark p rest)
+    → Ends bytes (part p rest) → IsToken bytes (token_of_part p rest)
 part_token bytes (bare text) rest h u ends e = (
   text,
   said_part bytes (bare text) rest h u ends,
@@ -84,7 +84,7 @@ literal_token bytes text rest h u ends e =
 
 dotted_tokens : (bytes : List ℕ) (ds : List Dotted) (rest : List ℕ)
     → AllByRecursion (λ d. All is_blank d.before × All is_blank d.behind × IsPart d.part) ds → IsUtf8 bytes
-    → Ends bytes (dotted ds rest) → AreTokens bytes (dotted_marks ds rest)
+    → Ends bytes (dotted ds rest) → AreTokens bytes (tokens_of_dotted ds rest)
 dotted_tokens bytes [] rest h u ends = tt
 dotted_tokens bytes (d ∷ ds) rest h u ends =
     let here : Ends bytes (part d.part (dotted ds rest)) =
@@ -96,7 +96,7 @@ dotted_tokens bytes (d ∷ ds) rest h u ends =
     )
 
 key_tokens : (bytes : List ℕ) (k : Key) (rest : List ℕ) → IsKey k → IsUtf8 bytes
-    → Ends bytes (strings.key k rest) → AreTokens bytes (key_marks k rest)
+    → Ends bytes (strings.key k rest) → AreTokens bytes (tokens_of_key k rest)
 key_tokens bytes k rest h u ends = (
   part_token bytes k.first (dotted k.others rest) h.0 u ends,
   dotted_tokens bytes k.others rest h.1 u (ends_part bytes k.first (dotted k.others rest) ends),
@@ -106,7 +106,7 @@ key_tokens bytes k rest h u ends = (
 
 mutual
   value_tokens : (bytes : List ℕ) (v : Value) (rest : List ℕ) → IsValue v → IsUtf8 bytes
-      → Ends bytes (value v rest) → AreTokens bytes (value_marks v rest)
+      → Ends bytes (value v rest) → AreTokens bytes (tokens_of_value v rest)
   value_tokens bytes (basic ps) rest h u ends = (basic_token bytes ps rest h u ends, tt)
   value_tokens bytes (literal text) rest h u ends = (literal_token bytes text rest h u ends, tt)
   value_tokens bytes (multi_basic ps) rest h u ends = (multi_basic_token bytes ps rest h u ends, tt)
@@ -121,7 +121,7 @@ mutual
       ends_gap bytes g (elements es (right_bracket ∷ rest))
       (ends_one bytes 91 (gap g (elements es (right_bracket ∷ rest))) ends) in (
         (λ e. absurd cc),
-        tokens_append bytes (elements_marks es (right_bracket ∷ rest))
+        tokens_append bytes (tokens_of_elements es (right_bracket ∷ rest))
             (mark kinds.CloseArray (right_bracket ∷ rest) rest ∷ [])
             (elements_tokens bytes es (right_bracket ∷ rest) h.1 u inside) ((λ e. absurd cc), tt),
       )
@@ -130,13 +130,13 @@ mutual
       ends_gap bytes g (members ms (right_brace ∷ rest))
       (ends_one bytes 123 (gap g (members ms (right_brace ∷ rest))) ends) in (
         (λ e. absurd cc),
-        tokens_append bytes (members_marks ms (right_brace ∷ rest))
+        tokens_append bytes (tokens_of_members ms (right_brace ∷ rest))
             (mark kinds.CloseTable (right_brace ∷ rest) rest ∷ [])
             (members_tokens bytes ms (right_brace ∷ rest) h.1 u inside) ((λ e. absurd cc), tt),
       )
 
   elements_tokens : (bytes : List ℕ) (es : Elements) (rest : List ℕ) → AreElements es → IsUtf8 bytes
-      → Ends bytes (elements es rest) → AreTokens bytes (elements_marks es rest)
+      → Ends bytes (elements es rest) → AreTokens bytes (tokens_of_elements es rest)
   elements_tokens bytes no_elements rest h u ends = tt
   elements_tokens bytes (last_element v g) rest h u ends = value_tokens bytes v (gap g rest) h.0 u ends
   elements_tokens bytes (element v g h2 es) rest h u ends =
@@ -144,15 +144,15 @@ mutual
       let more_ends : Ends bytes (elements es rest) = ends_gap bytes h2 (elements es rest)
       (ends_one bytes comma (gap h2 (elements es rest))
       (ends_gap bytes g (comma ∷ gap h2 (elements es rest)) (ends_value bytes v after ends))) in
-      tokens_append bytes (value_marks v after) (elements_marks es rest)
+      tokens_append bytes (tokens_of_value v after) (tokens_of_elements es rest)
       (value_tokens bytes v after h.0 u ends) (elements_tokens bytes es rest h.3 u more_ends)
 
   members_tokens : (bytes : List ℕ) (ms : Members) (rest : List ℕ) → AreMembers ms → IsUtf8 bytes
-      → Ends bytes (members ms rest) → AreTokens bytes (members_marks ms rest)
+      → Ends bytes (members ms rest) → AreTokens bytes (tokens_of_members ms rest)
   members_tokens bytes no_members rest h u ends = tt
   members_tokens bytes (last_member k a b v c) rest h u ends =
       let after = gap c rest in
-      tokens_append bytes (key_marks k (a ++ (equals ∷ (b ++ value v after)))) (value_marks v after)
+      tokens_append bytes (tokens_of_key k (a ++ (equals ∷ (b ++ value v after)))) (tokens_of_value v after)
       (key_tokens bytes k (a ++ (equals ∷ (b ++ value v after))) h.0 u ends)
       (value_tokens bytes v after h.3 u (ends_pair bytes k a b (value v after) ends))
   members_tokens bytes (member k a b v c d ms) rest h u ends =
@@ -161,9 +161,9 @@ mutual
       let more_ends : Ends bytes (members ms rest) = ends_gap bytes d (members ms rest)
       (ends_one bytes comma (gap d (members ms rest))
       (ends_gap bytes c (comma ∷ gap d (members ms rest)) (ends_value bytes v after value_ends))) in
-      tokens_append bytes (key_marks k (a ++ (equals ∷ (b ++ value v after))) ++ value_marks v after)
-      (members_marks ms rest)
-      (tokens_append bytes (key_marks k (a ++ (equals ∷ (b ++ value v after)))) (value_marks v after)
+      tokens_append bytes (tokens_of_key k (a ++ (equals ∷ (b ++ value v after))) ++ tokens_of_value v after)
+      (tokens_of_members ms rest)
+      (tokens_append bytes (tokens_of_key k (a ++ (equals ∷ (b ++ value v after)))) (tokens_of_value v after)
       (key_tokens bytes k (a ++ (equals ∷ (b ++ value v after))) h.0 u ends)
       (value_tokens bytes v after h.3 u value_ends))
       (members_tokens bytes ms rest h.6 u more_ends)
@@ -171,16 +171,16 @@ mutual
 -- ---- statements and lines
 
 statement_tokens : (bytes : List ℕ) (s : Statement) (rest : List ℕ) → IsStatement s → IsUtf8 bytes
-    → Ends bytes (statement s rest) → AreTokens bytes (statement_marks s rest)
+    → Ends bytes (statement s rest) → AreTokens bytes (tokens_of_statement s rest)
 statement_tokens bytes (pair k a b v) rest h u ends =
-    tokens_append bytes (key_marks k (a ++ (equals ∷ (b ++ value v rest)))) (value_marks v rest)
+    tokens_append bytes (tokens_of_key k (a ++ (equals ∷ (b ++ value v rest)))) (tokens_of_value v rest)
     (key_tokens bytes k (a ++ (equals ∷ (b ++ value v rest))) h.0 u ends)
     (value_tokens bytes v rest h.3 u (ends_pair bytes k a b (value v rest) ends))
 statement_tokens bytes (header a k b) rest h u ends =
     let key_ends : Ends bytes (strings.key k (b ++ (right_bracket ∷ rest))) =
     ends_past bytes a (strings.key k (b ++ (right_bracket ∷ rest)))
     (ends_one bytes left_bracket (a ++ strings.key k (b ++ (right_bracket ∷ rest))) ends) in
-    tokens_append bytes (key_marks k (b ++ (right_bracket ∷ rest)))
+    tokens_append bytes (tokens_of_key k (b ++ (right_bracket ∷ rest)))
     (mark kinds.Header (statement (header a k b) rest) rest ∷ [])
     (key_tokens bytes k (b ++ (right_bracket ∷ rest)) h.1 u key_ends) ((λ e. absurd cc), tt)
 statement_tokens bytes (element_header a k b) rest h u ends =
@@ -188,12 +188,12 @@ statement_tokens bytes (element_header a k b) rest h u ends =
     let key_ends : Ends bytes (strings.key k end) = ends_past bytes a (strings.key k end)
     (ends_one bytes left_bracket (a ++ strings.key k end)
     (ends_one bytes left_bracket (left_bracket ∷ (a ++ strings.key k end)) ends)) in
-    tokens_append bytes (key_marks k end)
+    tokens_append bytes (tokens_of_key k end)
     (mark kinds.ElementHeader (statement (element_header a k b) rest) rest ∷ [])
     (key_tokens bytes k end h.1 u key_ends) ((λ e. absurd cc), tt)
 
 lines_tokens : (bytes : List ℕ) (ls : Lines) → AreLines ls → IsUtf8 bytes → Ends bytes (lines ls)
-    → AreTokens bytes (lines_marks ls)
+    → AreTokens bytes (tokens_of_lines ls)
 lines_tokens bytes (one_line (empty_line a c)) h u ends = tt
 lines_tokens bytes (one_line (full_line a st b c)) h u ends =
     statement_tokens bytes st (b ++ comment c []) h.1 u
@@ -203,11 +203,11 @@ lines_tokens bytes (more_lines (empty_line a c) e ls) h u ends =
     (ends_line_end bytes e (lines ls) (ends_line bytes (empty_line a c) (line_end e (lines ls)) ends))
 lines_tokens bytes (more_lines (full_line a st b c) e ls) h u ends =
     let after = b ++ comment c (line_end e (lines ls)) in
-    tokens_append bytes (statement_marks st after) (lines_marks ls)
+    tokens_append bytes (tokens_of_statement st after) (tokens_of_lines ls)
     (statement_tokens bytes st after h.0.1 u (ends_past bytes a (statement st after) ends))
     (lines_tokens bytes ls h.1 u
     (ends_line_end bytes e (lines ls) (ends_line bytes (full_line a st b c) (line_end e (lines ls)) ends)))
 
 pub text_tokens : (bytes : List ℕ) (form : Text) → AreLines form.lines → IsUtf8 bytes
-    → Ends bytes (lines form.lines) → AllByRecursion (IsToken bytes) (text_marks form)
+    → Ends bytes (lines form.lines) → AllByRecursion (IsToken bytes) (tokens_of_text form)
 text_tokens bytes form h u ends = lines_tokens bytes form.lines h u ends

@@ -7,11 +7,11 @@ use Rattle.edit_document.specs.declared.document.Document.TheInside.{Inside}
 use Rattle.edit_syntax.specs.Grammar.{Text, text}
 use Rattle.edit_tree.specs.Assertions.{Place, same_place, Assertion, Kind, assertions, IsDocument}
 use Rattle.edit_tree.specs.Tree.{View, table, members_of, view_of_kind, kind_at, view_in, is_value_at}
-use Rattle.edit_tree.specs.Shown.{Shown, tree_of}
-use Rattle.edit_tree.specs.Nodes.{Holds}
-use Rattle.edit_document.specs.DocumentLayout.{span_of, placed, span_at, shown_of, IsRead}
-use Rattle.edit_document.specs.Items.{place_numbered}
-use Rattle.edit_tree.specs.Written.{Valued, values, IsWrittenAt}
+use Rattle.edit_tree.specs.DocumentViews.{DocumentViews, tree_of}
+use Rattle.edit_tree.specs.Nodes.{RepresentsNodes}
+use Rattle.edit_document.specs.DocumentLayout.{span_of, placed, span_at, document_view_of, IsRead}
+use Rattle.edit_document.specs.Items.{node_place}
+use Rattle.edit_tree.specs.Written.{PlacedValue, values, IsWrittenAt}
 use Rattle.edit_tree.proofs.SamePlace.{same_place_self, same_place_is}
 use Rattle.edit_syntax.proofs.Members.{Among, among_contained}
 use Rattle.edit_tree.proofs.UniqueValues.{value_listed}
@@ -22,15 +22,16 @@ use Rattle.edit_syntax.proofs.Cases.{by_test}
 
 -- ---- the span that is told at a place is that of a value there
 
-span_told : (ws : List Valued) (p : Place) (s : Span) → span_at (map placed ws) p ≡ Some s → (w : Valued)
+span_told : (ws : List PlacedValue) (p : Place) (s : Span) → span_at (map placed ws) p ≡ Some s
+    → (w : PlacedValue)
     × Among w ws × (w.place ≡ p) × (s ≡ span_of w.value w.after)
 span_told [] p s e = absurd cc
 span_told (w ∷ ws) p s e = go (same_place w.place p) refl e (span_told ws p s)
   where
     go : (b : Bool) → same_place w.place p ≡ b
         → cond b (Some (span_of w.value w.after)) (span_at (map placed ws) p) ≡ Some s
-        → (span_at (map placed ws) p ≡ Some s → (v : Valued) × Among v ws × (v.place ≡ p)
-        × (s ≡ span_of v.value v.after)) → (v : Valued) × Among v (w ∷ ws) × (v.place ≡ p)
+        → (span_at (map placed ws) p ≡ Some s → (v : PlacedValue) × Among v ws × (v.place ≡ p)
+        × (s ≡ span_of v.value v.after)) → (v : PlacedValue) × Among v (w ∷ ws) × (v.place ≡ p)
         × (s ≡ span_of v.value v.after)
     go true t h ih = (
       w,
@@ -41,7 +42,7 @@ span_told (w ∷ ws) p s e = go (same_place w.place p) refl e (span_told ws p s)
     )
     go false t h ih = let r = ih h in (r.0, inr r.1, r.2, r.3)
 
-told_span : (ws : List Valued) (w : Valued) (p : Place) → Among w ws → w.place ≡ p → (s : Span)
+told_span : (ws : List PlacedValue) (w : PlacedValue) (p : Place) → Among w ws → w.place ≡ p → (s : Span)
     × (span_at (map placed ws) p ≡ Some s)
 told_span [] w p m e = absurd m
 told_span (v ∷ ws) w p m e = go (same_place v.place p) refl m (λ h. told_span ws w p h e)
@@ -52,7 +53,7 @@ told_span (v ∷ ws) w p m e = go (same_place v.place p) refl m (λ h. told_span
     go true t h ih = (span_of v.value v.after, refl)
     go false t (inl h) ih =
         let same : same_place v.place p ≡ true = ap (λ (q : Place). same_place q p)
-        (ap (λ (z : Valued). z.place) (sym h) ∙ e) ∙ same_place_self p in
+        (ap (λ (z : PlacedValue). z.place) (sym h) ∙ e) ∙ same_place_self p in
         let clash : true ≡ false = sym same ∙ t in
         absurd cc
     go false t (inr h) ih = ih h
@@ -71,8 +72,8 @@ value_span form bytes p manifest h = let w = value_listed form p manifest.no_cla
     told_span (values form) w.0 p w.1 w.2
 
 -- where nothing stands there is no value
-pub none_value : (inside : Inside) (shown : Shown) (form : Text) (p : Place) → IsRead inside
-    → shown_of inside ≡ shown → IsDocument shown.bytes form → tree_of shown p ≡ None
+pub none_value : (inside : Inside) (shown : DocumentViews) (form : Text) (p : Place) → IsRead inside
+    → document_view_of inside ≡ shown → IsDocument shown.bytes form → tree_of shown p ≡ None
     → is_value_at form p ≡ false
 none_value inside shown form p read view manifest none =
     by_test (is_value_at form p)
@@ -87,16 +88,16 @@ none_value inside shown form p read view manifest none =
 -- ---- nodes
 
 -- the span of a node is the one that is told at its place
-node_span : (inside : Inside) (shown : Shown) (n : ℕ) (node : Node) (form : Text) (p : Place)
-    → (read : IsRead inside) → shown_of inside ≡ shown → IsDocument shown.bytes form
-    → place_numbered shown n ≡ p → n < length shown.nodes → node ≡ get_or inside.nodes.items n node
+node_span : (inside : Inside) (shown : DocumentViews) (n : ℕ) (node : Node) (form : Text) (p : Place)
+    → (read : IsRead inside) → document_view_of inside ≡ shown → IsDocument shown.bytes form
+    → node_place shown n ≡ p → n < length shown.nodes → node ≡ get_or inside.nodes.items n node
     → node.span ≡ span_at (map placed (values form)) p
 node_span inside shown n node form p read view manifest there lt is =
     let opens : Opened shown inside.nodes.items =
     record {
       spots = read.spots;
       nodes_are = open_spots inside shown read view;
-      holds = subst (λ (b : List ℕ). Holds b inside.nodes.items read.spots)
+      holds = subst (λ (b : List ℕ). RepresentsNodes b inside.nodes.items read.spots)
           (shown_bytes inside shown view) read.holds;
       tree = read.tree;
     } in
@@ -106,8 +107,8 @@ node_span inside shown n node form p read view manifest there lt is =
     (sym (form_same inside shown form read view manifest))
 
 -- nor is one where a node has no span
-pub spanless_value : (inside : Inside) (shown : Shown) (form : Text) (p : Place) (n : ℕ) (node : Node)
-    → IsRead inside → shown_of inside ≡ shown → IsDocument shown.bytes form → place_numbered shown n ≡ p
+pub spanless_value : (inside : Inside) (shown : DocumentViews) (form : Text) (p : Place) (n : ℕ) (node : Node)
+    → IsRead inside → document_view_of inside ≡ shown → IsDocument shown.bytes form → node_place shown n ≡ p
     → n < length shown.nodes
     → node ≡ get_or inside.nodes.items n node → node.span ≡ None → is_value_at form p ≡ false
 spanless_value inside shown form p n node read view manifest there lt is none =
@@ -121,9 +122,9 @@ spanless_value inside shown form p n node read view manifest there lt is none =
     none_span t h = cc
 
 -- and where it has one, it tells where the value is written
-pub spanned_value : (inside : Inside) (shown : Shown) (form : Text) (p : Place) (n : ℕ) (node : Node)
-    (s : Span) (len : ℕ) → IsRead inside → shown_of inside ≡ shown → IsDocument shown.bytes form
-    → place_numbered shown n ≡ p → n < length shown.nodes
+pub spanned_value : (inside : Inside) (shown : DocumentViews) (form : Text) (p : Place) (n : ℕ) (node : Node)
+    (s : Span) (len : ℕ) → IsRead inside → document_view_of inside ≡ shown → IsDocument shown.bytes form
+    → node_place shown n ≡ p → n < length shown.nodes
     → node ≡ get_or inside.nodes.items n node → node.span ≡ Some s → len ≡ length (string_bytes inside.text)
     → IsWrittenAt form p (len - s.from) (len - s.to)
 spanned_value inside shown form p n node s len read view manifest there lt is some size =
@@ -132,7 +133,7 @@ spanned_value inside shown form p n node s len read view manifest there lt is so
     let w = span_told (values form) p s
     (sym (node_span inside shown n node form p read view manifest there lt is) ∙ some) in
     record {
-      valued = w.0;
+      placed_value = w.0;
       told = among_contained w.0 (values form) w.1;
       there = w.2;
       starts = ap (λ (k : ℕ). k - s.from) whole ∙ ap (λ (z : Span). length (text form) - z.from) w.3;

@@ -4,15 +4,15 @@ use Rattle.std.specs.Prelude.{slice_get}
 use Rattle.std.proofs.lemmas.List.{append-nil}
 use Rattle.std.proofs.lemmas.Option.{same_Some}
 use Rattle.edit_syntax.specs.declared.read.marks.MarkKind.TheVariants as kinds
-use Rattle.edit_tree.specs.declared.nodes.Taken.TheVariants.{Super, Header, Array, Element}
+use Rattle.edit_tree.specs.declared.nodes.DefinedBy.TheVariants.{Super, Header, Array, Element}
 use Rattle.edit_syntax.specs.Strings.{name, Dotted as DottedPart, Key}
-use Rattle.edit_tree.specs.Assertions.{key, index, Place, at, same_place, together, resolved, Kind, dotted, leaf, super, header_kind, array_kind, element_kind, Assertion, asserts, names, elements_at, fronts, header_place}
+use Rattle.edit_tree.specs.Assertions.{key, index, Place, at, same_place, are_compatible, resolved, Kind, dotted, leaf, super, header_kind, array_kind, element_kind, Assertion, asserts, names, elements_at, fronts, header_place}
 use Rattle.edit_tree.specs.Tree.{kind_at}
 use Rattle.edit_document.specs.DocumentLayout.{Placed}
 use Rattle.edit_syntax.specs.Reading.{◌>>=◌}
-use Rattle.edit_tree.specs.Nodes.{section, sections, Spot, StandsAt}
-use Rattle.edit_tree.specs.Walk.{State, element_added, settled_state, settled, turned, headed, element_headed, step, walked}
-use Rattle.edit_syntax.specs.Marks.{mark}
+use Rattle.edit_tree.specs.Nodes.{section, sections, ModelNode, StandsAt}
+use Rattle.edit_tree.specs.Walk.{State, element_added, without_pending, pending_defined, turned, headed, array_table_opened, step, walked}
+use Rattle.edit_syntax.specs.SyntaxTokens.{mark}
 use Rattle.edit_tree.proofs.SamePlace.{not_root}
 use Rattle.edit_tree.proofs.MoreAssertions.{first_kind, first_is, kind_stays, kind_new, IsClear, clear_front, clash_last, allowed}
 use Rattle.edit_tree.proofs.MoreMembers.{is_headed, elements_below, elements_stay}
@@ -32,20 +32,21 @@ unfolding step
 header_step bytes from rest st = refl
 
 element_step : (bytes from rest : List ℕ) (st : State) → step bytes (mark kinds.ElementHeader from rest) st
-    ≡ element_headed st
+    ≡ array_table_opened st
 unfolding step
 element_step bytes from rest st = refl
 
 -- the walk stands behind a statement under the header of a place, or the assertions clash
-pub data Stated (before : List Spot) (made : List Assertion) (written : List Placed) (place : Place)
+pub data PlacedStatement (before : List ModelNode) (made : List Assertion) (written : List Placed) (place : Place)
     (r : Option State) : Type 0 where
-  stated : (now : List Spot) (j : ℕ) → r ≡ Some (settled_state now (j ∷ [])) → Stands made written now
-      → StandsAt now j place → Grows before now → Stated before made written place r
-  halts : r ≡ None → (IsClear made → ⊥) → Stated before made written place r
+  placed_statements : (now : List ModelNode) (j : ℕ) → r ≡ Some (without_pending now (j ∷ []))
+      → Stands made written now
+      → StandsAt now j place → Grows before now → PlacedStatement before made written place r
+  halts : r ≡ None → (IsClear made → ⊥) → PlacedStatement before made written place r
 
-pub stated_along : {before : List Spot} {made : List Assertion} {written : List Placed} {place : Place}
-    {r q : Option State} → q ≡ r → Stated before made written place r → Stated before made written place q
-stated_along e (stated now j h s p g) = stated now j (e ∙ h) s p g
+pub stated_along : {before : List ModelNode} {made : List Assertion} {written : List Placed} {place : Place}
+    {r q : Option State} → q ≡ r → PlacedStatement before made written place r → PlacedStatement before made written place q
+stated_along e (placed_statements now j h s p g) = placed_statements now j (e ∙ h) s p g
 stated_along e (halts h c) = halts (e ∙ h) c
 
 -- ---- pairs
@@ -53,21 +54,21 @@ stated_along e (halts h c) = halts (e ∙ h) c
 abbrev pub key_names : Key → List (List ℕ)
 key_names k = map (λ (d : DottedPart). name d.part) k.others
 
-pub pair_stated : (before : List Spot) (made : List Assertion) (written : List Placed) (t : ℕ) (p : Place)
+pub pair_stated : (before : List ModelNode) (made : List Assertion) (written : List Placed) (t : ℕ) (p : Place)
     (r : Option State) → StandsAt before t p → Leads before made written (t ∷ []) r
-    → Stated before made written p r
-pair_stated before made written t p r there (leads now e s g) = stated now t e s (g t p there) g
+    → PlacedStatement before made written p r
+pair_stated before made written t p r there (leads now e s g) = placed_statements now t e s (g t p there) g
 pair_stated before made written t p r there (stops e c) = halts e c
 
 -- ---- headers
 
-pub header_stated : (bytes : List ℕ) (spots : List Spot) (t : ℕ) (made : List Assertion)
+pub header_stated : (bytes : List ℕ) (spots : List ModelNode) (t : ℕ) (made : List Assertion)
     (written : List Placed)
     (k : Key) (whole rest : List ℕ) → Stands made written spots → IsEven made
-    → Stated spots (made ++ (fronts made (header_place made [] (names k)) [] (names k) ++ asserts
+    → PlacedStatement spots (made ++ (fronts made (header_place made [] (names k)) [] (names k) ++ asserts
     (header_place made [] (names k)) (header_place made [] (names k)) header_kind ∷ [])) written
     (header_place made [] (names k))
-    (walked bytes (mark kinds.Header whole rest ∷ []) (waits (settled_state spots (t ∷ [])) (names k)))
+    (walked bytes (mark kinds.Header whole rest ∷ []) (waits (without_pending spots (t ∷ [])) (names k)))
 header_stated bytes spots t made written k whole rest st even =
     let q = header_place made [] (names k) in
     let root = st.tree.root in
@@ -77,21 +78,21 @@ header_stated bytes spots t made written k whole rest st even =
     go (settled_enters spots (t ∷ []) 0 (name k.first) (key_names k) Super section Header None
     (made ++ (fronts made q [] (names k) ++ asserts q q header_kind ∷ [])) written q lands)
   where
-    path : walked bytes (mark kinds.Header whole rest ∷ []) (waits (settled_state spots (t ∷ [])) (names k))
-        ≡ headed (waits (settled_state spots (t ∷ [])) (names k))
-    path = walked_one bytes (mark kinds.Header whole rest) (waits (settled_state spots (t ∷ [])) (names k)) ∙
-        header_step bytes whole rest (waits (settled_state spots (t ∷ [])) (names k))
+    path : walked bytes (mark kinds.Header whole rest ∷ []) (waits (without_pending spots (t ∷ [])) (names k))
+        ≡ headed (waits (without_pending spots (t ∷ [])) (names k))
+    path = walked_one bytes (mark kinds.Header whole rest) (waits (without_pending spots (t ∷ [])) (names k)) ∙
+        header_step bytes whole rest (waits (without_pending spots (t ∷ [])) (names k))
 
     go : Enters spots (made ++ (fronts made (header_place made [] (names k)) [] (names k) ++ asserts
         (header_place made [] (names k)) (header_place made [] (names k)) header_kind ∷ [])) written (t ∷ [])
         (header_place made [] (names k))
-        (settled (waits (settled_state spots (t ∷ [])) (names k)) 0 Super section Header None)
-        → Stated spots (made ++ (fronts made (header_place made [] (names k)) [] (names k) ++ asserts
+        (pending_defined (waits (without_pending spots (t ∷ [])) (names k)) 0 Super section Header None)
+        → PlacedStatement spots (made ++ (fronts made (header_place made [] (names k)) [] (names k) ++ asserts
         (header_place made [] (names k)) (header_place made [] (names k)) header_kind ∷ [])) written
         (header_place made [] (names k))
-        (walked bytes (mark kinds.Header whole rest ∷ []) (waits (settled_state spots (t ∷ [])) (names k)))
+        (walked bytes (mark kinds.Header whole rest ∷ []) (waits (without_pending spots (t ∷ [])) (names k)))
     go (enters now j e s p g) =
-        stated now j (path ∙ ap (λ (o : Option (State × ℕ)). o >>= λ r. Some (turned r)) e) s p g
+        placed_statements now j (path ∙ ap (λ (o : Option (State × ℕ)). o >>= λ r. Some (turned r)) e) s p g
     go (bars e c) = halts (path ∙ ap (λ (o : Option (State × ℕ)). o >>= λ r. Some (turned r)) e) c
 
 -- ---- headers of elements
@@ -102,12 +103,12 @@ array_first : (k : Kind) (made : List Assertion) (p : Place) → kind_at made p 
 array_first k [] p e h = absurd cc
 array_first k (a ∷ made) p e h = go (same_place a.place p) refl e (array_first k made p)
   where
-    parts : (cond (same_place a.place p) (together a.kind array_kind) true ≡ true)
+    parts : (cond (same_place a.place p) (are_compatible a.kind array_kind) true ≡ true)
         × (allowed made p array_kind ≡ true)
-    parts = and_parts (cond (same_place a.place p) (together a.kind array_kind) true)
+    parts = and_parts (cond (same_place a.place p) (are_compatible a.kind array_kind) true)
         (allowed made p array_kind) h
 
-    only : (j : Kind) → together j array_kind ≡ true → j ≡ array_kind
+    only : (j : Kind) → are_compatible j array_kind ≡ true → j ≡ array_kind
     only (dotted b) t = absurd cc
     only (leaf v) t = absurd cc
     only super t = absurd cc
@@ -118,7 +119,7 @@ array_first k (a ∷ made) p e h = go (same_place a.place p) refl e (array_first
     go : (b : Bool) → same_place a.place p ≡ b → cond b (Some a.kind) (kind_at made p) ≡ Some k
         → (kind_at made p ≡ Some k → allowed made p array_kind ≡ true → k ≡ array_kind) → k ≡ array_kind
     go true t g ih = sym (same_Some a.kind k g) ∙
-        only a.kind (sym (ap (λ (b : Bool). cond b (together a.kind array_kind) true) t) ∙ parts.0)
+        only a.kind (sym (ap (λ (b : Bool). cond b (are_compatible a.kind array_kind) true) t) ∙ parts.0)
     go false t g ih = ih g parts.1
 
 array_place : (made : List Assertion) (by q : Place) → (q ≡ [] → ⊥)
@@ -150,7 +151,7 @@ fronts_stay made earlier by p (n ∷ m ∷ ns) q =
     ∙ fronts_stay (made ++ a ∷ []) earlier by (resolved earlier (at p (key n))) (m ∷ ns) q ∙
     elements_stay made a q refl
 
-module _ (bytes : List ℕ) (spots : List Spot) (t : ℕ) (made : List Assertion) (written : List Placed)
+module _ (bytes : List ℕ) (spots : List ModelNode) (t : ℕ) (made : List Assertion) (written : List Placed)
     (k : Key) (whole rest : List ℕ) (st : Stands made written spots) (even : IsEven made) where
   abbrev array_at : Place
   array_at = header_place made [] (names k)
@@ -168,9 +169,9 @@ module _ (bytes : List ℕ) (spots : List Spot) (t : ℕ) (made : List Assertion
   one_element = asserts own own element_kind
 
   abbrev waiting : State
-  waiting = waits (settled_state spots (t ∷ [])) (names k)
+  waiting = waits (without_pending spots (t ∷ [])) (names k)
 
-  element_path : walked bytes (mark kinds.ElementHeader whole rest ∷ []) waiting ≡ element_headed waiting
+  element_path : walked bytes (mark kinds.ElementHeader whole rest ∷ []) waiting ≡ array_table_opened waiting
   element_path = walked_one bytes (mark kinds.ElementHeader whole rest) waiting ∙
       element_step bytes whole rest waiting
 
@@ -187,7 +188,7 @@ module _ (bytes : List ℕ) (spots : List Spot) (t : ℕ) (made : List Assertion
   array_made = sym (append_assoc made supers (one_array ∷ []))
 
   -- what is asserted as an array of tables was made by headers
-  by_headers : (now : List Spot) (s : Spot) (j : ℕ)
+  by_headers : (now : List ModelNode) (s : ModelNode) (j : ℕ)
       → (st2 : Stands (made ++ (supers ++ one_array ∷ [])) written now) → (here : slice_get now j ≡ Some s)
       → s.place ≡ array_at → is_headed (st2.tells j s here).kind ≡ true
   by_headers now s j st2 here place =
@@ -202,7 +203,8 @@ module _ (bytes : List ℕ) (spots : List Spot) (t : ℕ) (made : List Assertion
       ap is_headed kind
 
   -- as many elements stand below the array as were asserted before this statement
-  counted : (now : List Spot) (s : Spot) (j : ℕ) → Stands (made ++ (supers ++ one_array ∷ [])) written now
+  counted : (now : List ModelNode) (s : ModelNode) (j : ℕ)
+      → Stands (made ++ (supers ++ one_array ∷ [])) written now
       → slice_get now j ≡ Some s → s.place ≡ array_at → length s.elements ≡ elements_at made array_at
   counted now s j st2 here place =
       (st2.tells j s here).count (by_headers now s j st2 here place) ∙
@@ -211,27 +213,27 @@ module _ (bytes : List ℕ) (spots : List Spot) (t : ℕ) (made : List Assertion
       ∙ elements_stay (made ++ supers) one_array array_at refl ∙
       fronts_stay made made own [] (names k) array_at ∙ sym (even array_at)
 
-  element_second : (now : List Spot) (j : ℕ) → settled waiting 0 Super sections Array None
-      ≡ Some (settled_state now (t ∷ []), j) → Grows spots now
+  element_second : (now : List ModelNode) (j : ℕ) → pending_defined waiting 0 Super sections Array None
+      ≡ Some (without_pending now (t ∷ []), j) → Grows spots now
       → Makes (made ++ (supers ++ one_array ∷ [])) written now one_element []
       (element_added now j section Element None)
-      → Stated spots (made ++ (supers ++ one_array ∷ one_element ∷ [])) written own
+      → PlacedStatement spots (made ++ (supers ++ one_array ∷ one_element ∷ [])) written own
       (walked bytes (mark kinds.ElementHeader whole rest ∷ []) waiting)
   element_second now j e grows (makes later i f s p g) =
-      stated later i
+      placed_statements later i
       (element_path ∙ ap (λ (o : Option (State × ℕ)). o >>= λ r. with_element_of r) e ∙
-      ap (λ (o : Option (List Spot × ℕ)). o >>= λ x. Some (turned (settled_state x.0 (t ∷ []), x.1))) f)
+      ap (λ (o : Option (List ModelNode × ℕ)). o >>= λ x. Some (turned (without_pending x.0 (t ∷ []), x.1))) f)
       (subst (λ (xs : List Assertion). Stands xs written later) all_made
       (subst (λ (w : List Placed). Stands ((made ++ (supers ++ one_array ∷ [])) ++ one_element ∷ []) w later)
       (append-nil written) s)) p (grows_then spots now later grows g)
   element_second now j e grows (fails f c) =
       halts (element_path ∙ ap (λ (o : Option (State × ℕ)). o >>= λ r. with_element_of r) e ∙
-      ap (λ (o : Option (List Spot × ℕ)). o >>= λ x. Some (turned (settled_state x.0 (t ∷ []), x.1))) f)
+      ap (λ (o : Option (List ModelNode × ℕ)). o >>= λ x. Some (turned (without_pending x.0 (t ∷ []), x.1))) f)
       (λ clear. c (subst IsClear (sym all_made) clear))
 
   element_first : Enters spots (made ++ (supers ++ one_array ∷ [])) written (t ∷ []) array_at
-      (settled waiting 0 Super sections Array None)
-      → Stated spots (made ++ (supers ++ one_array ∷ one_element ∷ [])) written own
+      (pending_defined waiting 0 Super sections Array None)
+      → PlacedStatement spots (made ++ (supers ++ one_array ∷ one_element ∷ [])) written own
       (walked bytes (mark kinds.ElementHeader whole rest ∷ []) waiting)
   element_first (enters now j e s p g) =
       let place : one_element.place ≡ at p.0.place (index (length p.0.elements)) =
@@ -250,7 +252,7 @@ module _ (bytes : List ℕ) (spots : List Spot) (t : ℕ) (made : List Assertion
       (λ clear. c (clear_front (made ++ (supers ++ one_array ∷ [])) (one_element ∷ [])
       (subst IsClear (sym all_made) clear)))
 
-  pub element_stated : Stated spots (made ++ (supers ++ one_array ∷ one_element ∷ [])) written own
+  pub element_stated : PlacedStatement spots (made ++ (supers ++ one_array ∷ one_element ∷ [])) written own
       (walked bytes (mark kinds.ElementHeader whole rest ∷ []) waiting)
   element_stated =
       element_first (settled_enters spots (t ∷ []) 0 (name k.first) (key_names k) Super sections Array None

@@ -7,19 +7,19 @@ use Rattle.std.proofs.lemmas.List.{append-nil}
 use Rattle.edit_syntax.specs.declared.read.marks.Mark.{Mark}
 use Rattle.edit_syntax.specs.declared.read.marks.MarkKind.TheVariants as kinds
 use Rattle.edit_syntax.specs.declared.span.Span.{Span}
-use Rattle.edit_tree.specs.declared.nodes.Taken.TheVariants.{Dotted}
+use Rattle.edit_tree.specs.declared.nodes.DefinedBy.TheVariants.{Dotted}
 use Rattle.edit_syntax.specs.Characters.{quote}
 use Rattle.edit_syntax.specs.Strings.{Piece, says, basic_text, literal_text}
 use Rattle.edit_syntax.specs.Grammar.{Value, basic, literal, boolean, value, IsValue}
 use Rattle.edit_tree.specs.Assertions.{index, Place, at, Assertion, of_value}
 use Rattle.edit_tree.specs.Tree.{string, truth, kind_at}
-use Rattle.edit_tree.specs.Written.{Valued, valued, inside}
+use Rattle.edit_tree.specs.Written.{PlacedValue, placed_value, inside}
 use Rattle.edit_document.specs.DocumentLayout.{shape_of_value, span_of, Placed, placed, span_at}
 use Rattle.edit_syntax.specs.Reading.{◌>>=◌}
-use Rattle.edit_tree.specs.Nodes.{Shape, scalar, Spot, StandsAt}
+use Rattle.edit_tree.specs.Nodes.{Shape, scalar, ModelNode, StandsAt}
 use Rattle.edit_tree.specs.Nodes as shapes
-use Rattle.edit_tree.specs.Walk.{State, said, settled_state, is_dotted_within, entered_at, entered, opened, closed, step, walked}
-use Rattle.edit_syntax.specs.Marks.{mark}
+use Rattle.edit_tree.specs.Walk.{State, said, without_pending, is_dotted_within, value_added_at, value_added, opened, value_closed, step, walked}
+use Rattle.edit_syntax.specs.SyntaxTokens.{mark}
 use Rattle.edit_tree.proofs.Ends.{Ends}
 use Rattle.edit_tree.proofs.MoreAssertions.{IsClear, clear_front}
 use Rattle.edit_tree.proofs.Trees.{Grows, grows_then}
@@ -32,20 +32,20 @@ use Rattle.edit_document.proofs.KeyWalks.{Leads, leads, stops, leads_along, Ente
 use Rattle.edit_document.proofs.KeySpans.{closed_leads}
 
 -- where the values of a list are written
-abbrev pub spans : List Valued → List Placed
+abbrev pub spans : List PlacedValue → List Placed
 spans ws = map placed ws
 
 -- ---- scalars
 
 abbrev pub IsStep : List ℕ → Mark → Shape → Span → Type 0
-IsStep bytes m shape span = (st : State) → step bytes m st ≡ entered st shape (Some span)
+IsStep bytes m shape span = (st : State) → step bytes m st ≡ value_added st shape (Some span)
 
 pub basic_step : (bytes : List ℕ) (ps : List Piece) (rest : List ℕ) → IsValue (basic ps) → IsUtf8 bytes
     → Ends bytes (basic_text ps rest) → IsStep bytes (mark kinds.BasicString (basic_text ps rest) rest)
     (scalar (string (says quote ps))) (span_of (basic ps) rest)
 unfolding step said
 basic_step bytes ps rest h u ends st =
-    ap (λ (o : Option (List ℕ)). o >>= λ x. entered st (scalar (string x)) (Some (span_of (basic ps) rest)))
+    ap (λ (o : Option (List ℕ)). o >>= λ x. value_added st (scalar (string x)) (Some (span_of (basic ps) rest)))
     (said_basic bytes ps rest 0 h u ends)
 
 pub literal_step : (bytes text rest : List ℕ) → IsValue (literal text) → IsUtf8 bytes
@@ -54,7 +54,7 @@ pub literal_step : (bytes text rest : List ℕ) → IsValue (literal text) → I
     (span_of (literal text) rest)
 unfolding step said
 literal_step bytes text rest h u ends st =
-    ap (λ (o : Option (List ℕ)). o >>= λ x. entered st (scalar (string x))
+    ap (λ (o : Option (List ℕ)). o >>= λ x. value_added st (scalar (string x))
     (Some (span_of (literal text) rest))) (said_literal bytes text rest 0 h u ends)
 
 pub true_step : (bytes rest : List ℕ) → IsStep bytes (mark kinds.True (value (boolean true) rest) rest)
@@ -71,7 +71,7 @@ false_step bytes rest st = refl
 -- place of the
 -- value, and what is asserted there for a value
 pub record Before : Type 0 where
-  pub spots : List Spot
+  pub spots : List ModelNode
   pub made : List Assertion
   pub written : List Placed
   pub tables : List ℕ
@@ -82,7 +82,7 @@ pub record Before : Type 0 where
 pub record IsBefore (b : Before) : Type 0 where
   pub enters_at : (v : Value) (span : Span)
       → Enters b.spots (b.made ++ b.keyed v) (b.written ++ (b.place, span) ∷ []) b.tables b.place
-      (entered_at b.waiting (shape_of_value v) (Some span))
+      (value_added_at b.waiting (shape_of_value v) (Some span))
   pub vacant_at : (v : Value) → IsClear (b.made ++ b.keyed v) → kind_at b.made b.place ≡ None
   pub low : (v : Value) → kind_at (b.keyed v) (at b.place (index 0)) ≡ None
   pub told : (v : Value) → HasLeaf b.place v (b.keyed v)
@@ -111,7 +111,7 @@ abbrev pub made_by : Before → Value → List Assertion
 made_by b v = b.made ++ (b.keyed v ++ of_value b.place v)
 
 abbrev pub written_by : Before → Value → List ℕ → List Placed
-written_by b v rest = b.written ++ spans (valued b.place v rest ∷ inside b.place v rest)
+written_by b v rest = b.written ++ spans (placed_value b.place v rest ∷ inside b.place v rest)
 
 abbrev pub LeadsBy : Before → Value → List ℕ → Option State → Type 0
 LeadsBy b v rest r = Leads b.spots (made_by b v) (written_by b v rest) b.tables r
@@ -121,21 +121,21 @@ pub scalar_leads : (bytes : List ℕ) (mk : Mark) (b : Before) (v : Value) (rest
     → inside b.place v rest ≡ [] → IsBefore b → LeadsBy b v rest (walked bytes (mk ∷ []) b.waiting)
 scalar_leads bytes mk b v rest act none empty h =
     subst (λ (xs : List Assertion). Leads b.spots (b.made ++ (b.keyed v ++ xs))
-    (b.written ++ spans (valued b.place v rest ∷ inside b.place v rest)) b.tables
+    (b.written ++ spans (placed_value b.place v rest ∷ inside b.place v rest)) b.tables
     (walked bytes (mk ∷ []) b.waiting)) (sym none)
-    (subst (λ (ws : List Valued). Leads b.spots (b.made ++ (b.keyed v ++ []))
-    (b.written ++ spans (valued b.place v rest ∷ ws)) b.tables (walked bytes (mk ∷ []) b.waiting)) (sym empty)
+    (subst (λ (ws : List PlacedValue). Leads b.spots (b.made ++ (b.keyed v ++ []))
+    (b.written ++ spans (placed_value b.place v rest ∷ ws)) b.tables (walked bytes (mk ∷ []) b.waiting)) (sym empty)
     (subst (λ (xs : List Assertion). Leads b.spots (b.made ++ xs)
     (b.written ++ (b.place, span_of v rest) ∷ []) b.tables (walked bytes (mk ∷ []) b.waiting))
     (sym (append-nil (b.keyed v)))
     (go (h.enters_at v (span_of v rest)))))
   where
     path : walked bytes (mk ∷ []) b.waiting
-        ≡ (entered_at b.waiting (shape_of_value v) (Some (span_of v rest)) >>= λ r. Some r.0)
+        ≡ (value_added_at b.waiting (shape_of_value v) (Some (span_of v rest)) >>= λ r. Some r.0)
     path = walked_one bytes mk b.waiting ∙ act b.waiting
 
     go : Enters b.spots (b.made ++ b.keyed v) (b.written ++ (b.place, span_of v rest) ∷ []) b.tables b.place
-        (entered_at b.waiting (shape_of_value v) (Some (span_of v rest)))
+        (value_added_at b.waiting (shape_of_value v) (Some (span_of v rest)))
         → Leads b.spots (b.made ++ b.keyed v) (b.written ++ (b.place, span_of v rest) ∷ []) b.tables
         (walked bytes (mk ∷ []) b.waiting)
     go (enters now j e s p g) = leads now (path ∙ ap (λ (o : Option (State × ℕ)). o >>= λ r. Some r.0) e) s g
@@ -150,7 +150,7 @@ unfolding step
 open_array bytes from rest st = refl
 
 pub close_array : (bytes from rest : List ℕ) (st : State)
-    → step bytes (mark kinds.CloseArray from rest) st ≡ closed st (length rest)
+    → step bytes (mark kinds.CloseArray from rest) st ≡ value_closed st (length rest)
 unfolding step
 close_array bytes from rest st = refl
 
@@ -161,7 +161,7 @@ unfolding step
 open_table bytes from rest st = refl
 
 pub close_table : (bytes from rest : List ℕ) (st : State)
-    → step bytes (mark kinds.CloseTable from rest) st ≡ closed st (length rest)
+    → step bytes (mark kinds.CloseTable from rest) st ≡ value_closed st (length rest)
 unfolding step
 close_table bytes from rest st = refl
 
@@ -178,7 +178,7 @@ module _ (bytes : List ℕ) (v : Value) (rest behind : List ℕ) (first_mark las
     (opens : (st : State)
     → step bytes first_mark st ≡ opened st (shape_of_value v)
     (Some (record { from = length (value v rest); to = length behind })))
-    (ends_here : (st : State) → step bytes last_mark st ≡ closed st (length rest)) where
+    (ends_here : (st : State) → step bytes last_mark st ≡ value_closed st (length rest)) where
   abbrev first_span : Span
   first_span = record { from = length (value v rest); to = length behind }
 
@@ -195,13 +195,13 @@ module _ (bytes : List ℕ) (v : Value) (rest behind : List ℕ) (first_mark las
   all_made = append_assoc b.made (b.keyed v) (of_value b.place v)
 
   -- behind what it holds comes its last mark
-  closing : (now : List Spot) (j : ℕ)
+  closing : (now : List ModelNode) (j : ℕ)
       → Stands (b.made ++ b.keyed v)
       (b.written ++ (b.place, record { from = length (value v rest); to = length behind }) ∷ []) now
       → StandsAt now j b.place → Grows b.spots now
       → Leads now (keyed_made ++ inner) ((b.written ++ (b.place, first_span) ∷ []) ++ inner_spans)
-      (b.tables ++ j ∷ []) (walked bytes marks (settled_state now (b.tables ++ j ∷ [])))
-      → LeadsBy b v rest (walked bytes (marks ++ last_mark ∷ []) (settled_state now (b.tables ++ j ∷ [])))
+      (b.tables ++ j ∷ []) (walked bytes marks (without_pending now (b.tables ++ j ∷ [])))
+      → LeadsBy b v rest (walked bytes (marks ++ last_mark ∷ []) (without_pending now (b.tables ++ j ∷ [])))
   closing now j st_open there grows (leads later e st g2) =
       let none = unwritten_at b v h st_open.clear in
       let st2 : Stands (keyed_made ++ inner) (b.written ++ (b.place, first_span) ∷ inner_spans) later =
@@ -209,44 +209,44 @@ module _ (bytes : List ℕ) (v : Value) (rest behind : List ℕ) (first_mark las
       (append_assoc b.written ((b.place, first_span) ∷ []) inner_spans) st in
       let done = closed_leads b.spots later (keyed_made ++ inner) b.written inner_spans b.place first_span
       b.tables j (length rest) st2 none (g2 j b.place there) (grows_then b.spots now later grows g2) in
-      let path : walked bytes (marks ++ last_mark ∷ []) (settled_state now (b.tables ++ j ∷ []))
-      ≡ closed (settled_state later (b.tables ++ j ∷ [])) (length rest) =
-      walked_append bytes marks (last_mark ∷ []) (settled_state now (b.tables ++ j ∷ []))
+      let path : walked bytes (marks ++ last_mark ∷ []) (without_pending now (b.tables ++ j ∷ []))
+      ≡ value_closed (without_pending later (b.tables ++ j ∷ [])) (length rest) =
+      walked_append bytes marks (last_mark ∷ []) (without_pending now (b.tables ++ j ∷ []))
       ∙ ap (λ (o : Option State). o >>= walked bytes (last_mark ∷ [])) e ∙
-      walked_one bytes last_mark (settled_state later (b.tables ++ j ∷ [])) ∙
-      ends_here (settled_state later (b.tables ++ j ∷ [])) in
+      walked_one bytes last_mark (without_pending later (b.tables ++ j ∷ [])) ∙
+      ends_here (without_pending later (b.tables ++ j ∷ [])) in
       subst (λ (xs : List Assertion). Leads b.spots xs
-      (b.written ++ spans (valued b.place v rest ∷ inside b.place v rest)) b.tables
-      (walked bytes (marks ++ last_mark ∷ []) (settled_state now (b.tables ++ j ∷ [])))) all_made
+      (b.written ++ spans (placed_value b.place v rest ∷ inside b.place v rest)) b.tables
+      (walked bytes (marks ++ last_mark ∷ []) (without_pending now (b.tables ++ j ∷ [])))) all_made
       (leads_along path done)
   closing now j st_open there grows (stops e clash) =
       stops
-      (walked_append bytes marks (last_mark ∷ []) (settled_state now (b.tables ++ j ∷ [])) ∙
+      (walked_append bytes marks (last_mark ∷ []) (without_pending now (b.tables ++ j ∷ [])) ∙
       ap (λ (o : Option State). o >>= walked bytes (last_mark ∷ [])) e)
       (λ clear. clash (subst IsClear (sym all_made) clear))
 
-  pub holder_leads : ((now : List Spot) (j : ℕ)
+  pub holder_leads : ((now : List ModelNode) (j : ℕ)
       → Stands (b.made ++ b.keyed v)
       (b.written ++ (b.place, record { from = length (value v rest); to = length behind }) ∷ []) now
       → StandsAt now j b.place → Grows b.spots now
       → Leads now ((b.made ++ b.keyed v) ++ of_value b.place v)
       ((b.written ++ (b.place, record { from = length (value v rest); to = length behind }) ∷ []) ++ spans
       (inside b.place v rest)) (b.tables ++ j ∷ [])
-      (walked bytes marks (settled_state now (b.tables ++ j ∷ []))))
+      (walked bytes marks (without_pending now (b.tables ++ j ∷ []))))
       → LeadsBy b v rest (walked bytes (first_mark ∷ (marks ++ last_mark ∷ [])) b.waiting)
   holder_leads into = go (h.enters_at v first_span)
     where
       go : Enters b.spots (b.made ++ b.keyed v)
           (b.written ++ (b.place, record { from = length (value v rest); to = length behind }) ∷ []) b.tables
-          b.place (entered_at b.waiting (shape_of_value v)
+          b.place (value_added_at b.waiting (shape_of_value v)
           (Some (record { from = length (value v rest); to = length behind })))
           → LeadsBy b v rest (walked bytes (first_mark ∷ (marks ++ last_mark ∷ [])) b.waiting)
       go (enters now j e st there grows) =
-          let first : step bytes first_mark b.waiting ≡ Some (settled_state now (b.tables ++ j ∷ [])) =
+          let first : step bytes first_mark b.waiting ≡ Some (without_pending now (b.tables ++ j ∷ [])) =
           opens b.waiting ∙ ap
           (λ (o : Option (State × ℕ)). o >>= λ r. Some (record r.0 { tables = r.0.tables ++ r.1 ∷ [] })) e in
           leads_along (walked_first bytes first_mark (marks ++ last_mark ∷ []) b.waiting
-          (settled_state now (b.tables ++ j ∷ [])) first)
+          (without_pending now (b.tables ++ j ∷ [])) first)
           (closing now j st there grows (into now j st there grows))
       go (bars e clash) =
           stops

@@ -12,9 +12,9 @@ use Rattle.edit_tree.specs.Assertions.{Place, Assertion, names, prefix_after, of
 use Rattle.edit_tree.specs.Written.{in_statement, in_lines, values}
 use Rattle.edit_document.specs.DocumentLayout.{Placed, placed}
 use Rattle.edit_syntax.specs.Reading.{◌>>=◌}
-use Rattle.edit_tree.specs.Nodes.{Spot, StandsAt}
-use Rattle.edit_tree.specs.Walk.{State, settled_state, start, walked}
-use Rattle.edit_syntax.specs.Marks.{mark, value_marks, statement_marks, lines_marks, text_marks}
+use Rattle.edit_tree.specs.Nodes.{ModelNode, StandsAt}
+use Rattle.edit_tree.specs.Walk.{State, without_pending, start, walked}
+use Rattle.edit_syntax.specs.SyntaxTokens.{mark, tokens_of_value, tokens_of_statement, tokens_of_lines, tokens_of_text}
 use Rattle.edit_tree.proofs.Ends.{Ends, ends_past, ends_one, ends_pair, ends_line, ends_line_end}
 use Rattle.edit_tree.proofs.MoreAssertions.{IsClear, clear_front}
 use Rattle.edit_document.proofs.AssertedSpots.{Stands, stands_start}
@@ -24,23 +24,23 @@ use Rattle.edit_tree.proofs.WalkedTokens.{waits, walked_key}
 use Rattle.edit_document.proofs.WalkedValues.{value_leads}
 use Rattle.edit_document.proofs.BeforeValues.{pair_before, pair_is_before}
 use Rattle.edit_document.proofs.WalkedHolders.{spans}
-use Rattle.edit_document.proofs.WalkedHeaders.{Stated, stated, halts, stated_along, key_names, pair_stated, header_stated, element_stated}
+use Rattle.edit_document.proofs.WalkedHeaders.{PlacedStatement, placed_statements, halts, stated_along, key_names, pair_stated, header_stated, element_stated}
 
 -- ---- statements
 
-statement_stated : (bytes : List ℕ) (s : Statement) (rest : List ℕ) (spots : List Spot)
+statement_stated : (bytes : List ℕ) (s : Statement) (rest : List ℕ) (spots : List ModelNode)
     (made : List Assertion) (written : List Placed) (t : ℕ) (p : Place) → IsStatement s → IsUtf8 bytes
     → Ends bytes (statement s rest)
     → Stands made written spots → IsEven made → StandsAt spots t p
-    → Stated spots (made ++ of_statement made p s) (written ++ spans (in_statement p s rest))
-    (prefix_after made p s) (walked bytes (statement_marks s rest) (settled_state spots (t ∷ [])))
+    → PlacedStatement spots (made ++ of_statement made p s) (written ++ spans (in_statement p s rest))
+    (prefix_after made p s) (walked bytes (tokens_of_statement s rest) (without_pending spots (t ∷ [])))
 statement_stated bytes (pair k a b v) rest spots made written t p h u ends st even there =
     let before = pair_before spots made written [] t p false (name k.first) (key_names k) in
-    stated_along (walked_key bytes k (a ++ (equals ∷ (b ++ value v rest))) (value_marks v rest)
-    (settled_state spots (t ∷ [])) h.0 u ends)
+    stated_along (walked_key bytes k (a ++ (equals ∷ (b ++ value v rest))) (tokens_of_value v rest)
+    (without_pending spots (t ∷ [])) h.0 u ends)
     (pair_stated spots (made ++ of_statement made p (pair k a b v))
     (written ++ spans (in_statement p (pair k a b v) rest)) t p
-    (walked bytes (value_marks v rest) (waits (settled_state spots (t ∷ [])) (names k))) there
+    (walked bytes (tokens_of_value v rest) (waits (without_pending spots (t ∷ [])) (names k))) there
     (value_leads bytes v rest before h.3 u (ends_pair bytes k a b (value v rest) ends)
     (pair_is_before spots made written [] t p false (name k.first) (key_names k) st there refl)))
 statement_stated bytes (header a k b) rest spots made written t p h u ends st even there =
@@ -48,12 +48,12 @@ statement_stated bytes (header a k b) rest spots made written t p h u ends st ev
     let key_ends : Ends bytes (strings.key k (b ++ (right_bracket ∷ rest))) =
     ends_past bytes a (strings.key k (b ++ (right_bracket ∷ rest)))
     (ends_one bytes left_bracket (a ++ strings.key k (b ++ (right_bracket ∷ rest))) ends) in
-    subst (λ (w : List Placed). Stated spots (made ++ of_statement made p (header a k b)) w
+    subst (λ (w : List Placed). PlacedStatement spots (made ++ of_statement made p (header a k b)) w
     (prefix_after made p (header a k b))
-    (walked bytes (statement_marks (header a k b) rest) (settled_state spots (t ∷ []))))
+    (walked bytes (tokens_of_statement (header a k b) rest) (without_pending spots (t ∷ []))))
     (sym (append-nil written))
     (stated_along (walked_key bytes k (b ++ (right_bracket ∷ rest)) (mark kinds.Header whole rest ∷ [])
-    (settled_state spots (t ∷ [])) h.1 u key_ends)
+    (without_pending spots (t ∷ [])) h.1 u key_ends)
     (header_stated bytes spots t made written k whole rest st even))
 statement_stated bytes (element_header a k b) rest spots made written t p h u ends st even there =
     let whole = statement (element_header a k b) rest in
@@ -61,19 +61,20 @@ statement_stated bytes (element_header a k b) rest spots made written t p h u en
     let key_ends : Ends bytes (strings.key k end) = ends_past bytes a (strings.key k end)
     (ends_one bytes left_bracket (a ++ strings.key k end)
     (ends_one bytes left_bracket (left_bracket ∷ (a ++ strings.key k end)) ends)) in
-    subst (λ (w : List Placed). Stated spots (made ++ of_statement made p (element_header a k b)) w
+    subst (λ (w : List Placed). PlacedStatement spots (made ++ of_statement made p (element_header a k b)) w
     (prefix_after made p (element_header a k b))
-    (walked bytes (statement_marks (element_header a k b) rest) (settled_state spots (t ∷ []))))
+    (walked bytes (tokens_of_statement (element_header a k b) rest) (without_pending spots (t ∷ []))))
     (sym (append-nil written))
     (stated_along (walked_key bytes k end (mark kinds.ElementHeader whole rest ∷ [])
-    (settled_state spots (t ∷ [])) h.1 u key_ends)
+    (without_pending spots (t ∷ [])) h.1 u key_ends)
     (element_stated bytes spots t made written k whole rest st even))
 
 -- ---- lines
 
 -- the walk ends with these assertions, or they clash
 pub data Walked (made : List Assertion) (written : List Placed) (r : Option State) : Type 0 where
-  ended : (now : List Spot) (tables : List ℕ) → r ≡ Some (settled_state now tables) → Stands made written now
+  ended : (now : List ModelNode) (tables : List ℕ) → r ≡ Some (without_pending now tables)
+      → Stands made written now
       → Walked made written r
   stuck : r ≡ None → (IsClear made → ⊥) → Walked made written r
 
@@ -86,19 +87,19 @@ clear_lines made p (more_lines (full_line a s b c) e ls) h =
     (clear_lines (made ++ of_statement made p s) (prefix_after made p s) ls h)
 
 -- a statement and then lines
-then_lines : (bytes : List ℕ) (xs ys : List Mark) (st : State) (spots : List Spot)
+then_lines : (bytes : List ℕ) (xs ys : List Mark) (st : State) (spots : List ModelNode)
     (made finally : List Assertion) (written rest : List Placed) (p : Place)
-    → Stated spots made written p (walked bytes xs st) → (IsClear finally → IsClear made)
-    → ((now : List Spot) (j : ℕ) → Stands made written now → StandsAt now j p
-    → Walked finally rest (walked bytes ys (settled_state now (j ∷ []))))
+    → PlacedStatement spots made written p (walked bytes xs st) → (IsClear finally → IsClear made)
+    → ((now : List ModelNode) (j : ℕ) → Stands made written now → StandsAt now j p
+    → Walked finally rest (walked bytes ys (without_pending now (j ∷ []))))
     → Walked finally rest (walked bytes (xs ++ ys) st)
-then_lines bytes xs ys st spots made finally written rest p (stated now j e s there g) back then =
+then_lines bytes xs ys st spots made finally written rest p (placed_statements now j e s there g) back then =
     go (then now j s there)
   where
-    path : walked bytes (xs ++ ys) st ≡ walked bytes ys (settled_state now (j ∷ []))
+    path : walked bytes (xs ++ ys) st ≡ walked bytes ys (without_pending now (j ∷ []))
     path = walked_append bytes xs ys st ∙ ap (λ (o : Option State). o >>= walked bytes ys) e
 
-    go : Walked finally rest (walked bytes ys (settled_state now (j ∷ [])))
+    go : Walked finally rest (walked bytes ys (without_pending now (j ∷ [])))
         → Walked finally rest (walked bytes (xs ++ ys) st)
     go (ended later tables f s2) = ended later tables (path ∙ f) s2
     go (stuck f c) = stuck (path ∙ f) c
@@ -106,18 +107,18 @@ then_lines bytes xs ys st spots made finally written rest p (halts e c) back the
     stuck (walked_append bytes xs ys st ∙ ap (λ (o : Option State). o >>= walked bytes ys) e)
     (λ clear. c (back clear))
 
-last_line : {spots : List Spot} {made : List Assertion} {written : List Placed} {p : Place} {r : Option State}
-    → Stated spots made written p r → Walked made written r
-last_line (stated now j e s there g) = ended now (j ∷ []) e s
+last_line : {spots : List ModelNode} {made : List Assertion} {written : List Placed} {p : Place} {r : Option State}
+    → PlacedStatement spots made written p r → Walked made written r
+last_line (placed_statements now j e s there g) = ended now (j ∷ []) e s
 last_line (halts e c) = stuck e c
 
-pub lines_walked : (bytes : List ℕ) (ls : Lines) (spots : List Spot) (made : List Assertion)
+pub lines_walked : (bytes : List ℕ) (ls : Lines) (spots : List ModelNode) (made : List Assertion)
     (written : List Placed) (t : ℕ) (p : Place) → AreLines ls → IsUtf8 bytes → Ends bytes (lines ls)
     → Stands made written spots → IsEven made → StandsAt spots t p
     → Walked (of_lines made p ls) (written ++ spans (in_lines made p ls))
-    (walked bytes (lines_marks ls) (settled_state spots (t ∷ [])))
+    (walked bytes (tokens_of_lines ls) (without_pending spots (t ∷ [])))
 lines_walked bytes (one_line (empty_line a c)) spots made written t p h u ends st even there =
-    ended spots (t ∷ []) (walked_none bytes (settled_state spots (t ∷ [])))
+    ended spots (t ∷ []) (walked_none bytes (without_pending spots (t ∷ [])))
     (subst (λ (w : List Placed). Stands made w spots) (sym (append-nil written)) st)
 lines_walked bytes (one_line (full_line a s b c)) spots made written t p h u ends st even there =
     last_line (statement_stated bytes s (b ++ comment c []) spots made written t p h.1 u
@@ -134,14 +135,14 @@ lines_walked bytes (more_lines (full_line a s b c) e ls) spots made written t p 
     let here = spans (in_statement p s after) in
     let one = statement_stated bytes s after spots made written t p h.0.1 u
     (ends_past bytes a (statement s after) ends) st even there in
-    let all = then_lines bytes (statement_marks s after) (lines_marks ls)
-    (settled_state spots (t ∷ [])) spots next (of_lines next (prefix_after made p s) ls) (written ++ here)
+    let all = then_lines bytes (tokens_of_statement s after) (tokens_of_lines ls)
+    (without_pending spots (t ∷ [])) spots next (of_lines next (prefix_after made p s) ls) (written ++ here)
     ((written ++ here) ++ spans (in_lines next (prefix_after made p s) ls)) (prefix_after made p s) one
     (clear_lines next (prefix_after made p s) ls)
     (λ now j st2 there2. lines_walked bytes ls now next (written ++ here) j
     (prefix_after made p s) h.1 u more_ends st2 (even_statement made p s even) there2) in
     subst (λ (w : List Placed). Walked (of_lines made p (more_lines (full_line a s b c) e ls)) w
-    (walked bytes (lines_marks (more_lines (full_line a s b c) e ls)) (settled_state spots (t ∷ []))))
+    (walked bytes (tokens_of_lines (more_lines (full_line a s b c) e ls)) (without_pending spots (t ∷ []))))
     (append_assoc written here (spans (in_lines next (prefix_after made p s) ls)) ∙
     ap (λ (w : List Placed). written ++ w)
     (sym (map-append placed (in_statement p s after) (in_lines next (prefix_after made p s) ls)))) all
@@ -149,7 +150,7 @@ lines_walked bytes (more_lines (full_line a s b c) e ls) spots made written t p 
 -- the walk over the marks of a text
 pub text_walked : (bytes : List ℕ) (form : Text) → AreLines form.lines → IsUtf8 bytes
     → Ends bytes (lines form.lines)
-    → Walked (assertions form) (map placed (values form)) (walked bytes (text_marks form) start)
+    → Walked (assertions form) (map placed (values form)) (walked bytes (tokens_of_text form) start)
 text_walked bytes form h u ends = lines_walked bytes form.lines _ [] [] 0 [] h u ends stands_start
     (λ p. refl) stands_start.tree.root
 

@@ -4,17 +4,17 @@ use Rattle.std.specs.Prelude.{IsUtf8}
 use Rattle.std.proofs.lemmas.List.{append-nil, map-append}
 use Rattle.edit_syntax.specs.declared.read.marks.MarkKind.TheVariants as kinds
 use Rattle.edit_syntax.specs.declared.span.Span.{Span}
-use Rattle.edit_tree.specs.declared.nodes.Taken.TheVariants.{Dotted}
+use Rattle.edit_tree.specs.declared.nodes.DefinedBy.TheVariants.{Dotted}
 use Rattle.edit_syntax.specs.Characters.{comma, equals, right_bracket, right_brace}
 use Rattle.edit_syntax.specs.Strings.{name, basic_text, literal_text, Dotted as DottedPart, Key}
 use Rattle.edit_syntax.specs.Grammar.{gap, Value, basic, literal, multi_basic, multi_literal, boolean, integer, float, datetime, array, inline, Elements, no_elements, last_element, element, Members, no_members, last_member, member, value, elements, members, IsValue, AreElements, AreMembers}
 use Rattle.edit_tree.specs.Assertions.{index, Place, at, leaf, Assertion, asserts, names, named, of_key, of_value, of_elements, of_members}
 use Rattle.edit_tree.specs.Tree.{count_elements}
-use Rattle.edit_tree.specs.Written.{valued, inside, in_elements, in_members}
+use Rattle.edit_tree.specs.Written.{placed_value, inside, in_elements, in_members}
 use Rattle.edit_document.specs.DocumentLayout.{Placed, placed}
-use Rattle.edit_tree.specs.Nodes.{Spot, StandsAt}
-use Rattle.edit_tree.specs.Walk.{settled_state, is_dotted_within, walked}
-use Rattle.edit_syntax.specs.Marks.{mark, key_marks, value_marks, elements_marks, members_marks}
+use Rattle.edit_tree.specs.Nodes.{ModelNode, StandsAt}
+use Rattle.edit_tree.specs.Walk.{without_pending, is_dotted_within, walked}
+use Rattle.edit_syntax.specs.SyntaxTokens.{mark, tokens_of_key, tokens_of_value, tokens_of_elements, tokens_of_members}
 use Rattle.edit_tree.proofs.Ends.{Ends, ends_one, ends_pair, ends_gap, ends_value}
 use Rattle.edit_tree.proofs.Trees.{grows_same}
 use Rattle.edit_document.proofs.AssertedSpots.{Stands}
@@ -29,11 +29,11 @@ use Rattle.edit_document.proofs.BeforeValues.{pair_before, pair_is_before, eleme
 -- ---- values and members
 
 -- before the value of a key in an inline table
-abbrev member_before : List Spot → List Assertion → List Placed → List ℕ → ℕ → Place → Key → Before
+abbrev member_before : List ModelNode → List Assertion → List Placed → List ℕ → ℕ → Place → Key → Before
 member_before spots made written base t p k = pair_before spots made written base t p true (name k.first)
     (map (λ (d : DottedPart). name d.part) k.others)
 
-member_is_before : (spots : List Spot) (made : List Assertion) (written : List Placed) (base : List ℕ) (t : ℕ)
+member_is_before : (spots : List ModelNode) (made : List Assertion) (written : List Placed) (base : List ℕ) (t : ℕ)
     (p : Place) (k : Key) → Stands made written spots → StandsAt spots t p
     → is_dotted_within (length (base ++ t ∷ [])) Dotted ≡ true
     → IsBefore (member_before spots made written base t p k)
@@ -44,7 +44,7 @@ member_is_before spots made written base t p k st there deep =
 mutual
   pub value_leads : (bytes : List ℕ) (v : Value) (rest : List ℕ) (b : Before) → IsValue v → IsUtf8 bytes
       → Ends bytes (value v rest) → IsBefore b
-      → LeadsBy b v rest (walked bytes (value_marks v rest) b.waiting)
+      → LeadsBy b v rest (walked bytes (tokens_of_value v rest) b.waiting)
   value_leads bytes (basic ps) rest b h u ends at_value =
       scalar_leads bytes (mark kinds.BasicString (basic_text ps rest) rest) b (basic ps) rest
       (basic_step bytes ps rest h u ends) refl refl at_value
@@ -85,7 +85,7 @@ mutual
       holder_leads bytes (array g es) rest (gap g (elements es (right_bracket ∷ rest)))
       (mark kinds.OpenArray (value (array g es) rest) (gap g (elements es (right_bracket ∷ rest))))
       (mark kinds.CloseArray (right_bracket ∷ rest) rest)
-      (elements_marks es (right_bracket ∷ rest)) b at_value
+      (tokens_of_elements es (right_bracket ∷ rest)) b at_value
       (open_array bytes (value (array g es) rest) (gap g (elements es (right_bracket ∷ rest))))
       (close_array bytes (right_bracket ∷ rest) rest)
       (λ now j st there grows. elements_lead bytes es (right_bracket ∷ rest) now
@@ -103,21 +103,21 @@ mutual
       } in
       holder_leads bytes (inline g ms) rest (gap g (members ms (right_brace ∷ rest)))
       (mark kinds.OpenTable (value (inline g ms) rest) (gap g (members ms (right_brace ∷ rest))))
-      (mark kinds.CloseTable (right_brace ∷ rest) rest) (members_marks ms (right_brace ∷ rest)) b at_value
+      (mark kinds.CloseTable (right_brace ∷ rest) rest) (tokens_of_members ms (right_brace ∷ rest)) b at_value
       (open_table bytes (value (inline g ms) rest) (gap g (members ms (right_brace ∷ rest))))
       (close_table bytes (right_brace ∷ rest) rest)
       (λ now j st there grows. members_lead bytes ms (right_brace ∷ rest) now
       (b.made ++ b.keyed (inline g ms)) (b.written ++ (b.place, open_span) ∷ []) b.tables j b.place h.1 u
       in_braces st there (at_value.deep j))
 
-  pub elements_lead : (bytes : List ℕ) (es : Elements) (rest : List ℕ) (spots : List Spot)
+  pub elements_lead : (bytes : List ℕ) (es : Elements) (rest : List ℕ) (spots : List ModelNode)
       (made : List Assertion) (written : List Placed) (base : List ℕ) (t : ℕ) (p : Place) (i total : ℕ)
       → AreElements es → IsUtf8 bytes → Ends bytes (elements es rest)
       → Stands made written spots → IsArrayAt spots made t p i total → i + count_elements es ≡ total
       → Leads spots (made ++ of_elements p i es) (written ++ spans (in_elements p i es rest)) (base ++ t ∷ [])
-      (walked bytes (elements_marks es rest) (settled_state spots (base ++ t ∷ [])))
+      (walked bytes (tokens_of_elements es rest) (without_pending spots (base ++ t ∷ [])))
   elements_lead bytes no_elements rest spots made written base t p i total h u ends st a count =
-      leads spots (walked_none bytes (settled_state spots (base ++ t ∷ [])))
+      leads spots (walked_none bytes (without_pending spots (base ++ t ∷ [])))
       (subst (λ (xs : List Assertion). Stands xs (written ++ []) spots) (sym (append-nil made))
       (subst (λ (w : List Placed). Stands made w spots) (sym (append-nil written)) st)) (grows_same spots)
   elements_lead bytes (last_element v g) rest spots made written base t p i total h u ends st a count =
@@ -126,17 +126,17 @@ mutual
   elements_lead bytes (element v g h2 es) rest spots made written base t p i total h u ends st a count =
       let after = gap g (comma ∷ gap h2 (elements es rest)) in
       let before = element_before spots made written base t p i in
-      let one = valued (at p (index i)) v after ∷ inside (at p (index i)) v after in
+      let one = placed_value (at p (index i)) v after ∷ inside (at p (index i)) v after in
       let asserted_one = asserts (at p (index i)) (at p (index i)) (leaf v) ∷ of_value (at p (index i)) v in
       let more_ends : Ends bytes (elements es rest) = ends_gap bytes h2 (elements es rest)
       (ends_one bytes comma (gap h2 (elements es rest))
       (ends_gap bytes g (comma ∷ gap h2 (elements es rest)) (ends_value bytes v after ends))) in
       let first : Leads spots (made ++ asserted_one) (written ++ spans one) (base ++ t ∷ [])
-      (walked bytes (value_marks v after) (settled_state spots (base ++ t ∷ []))) =
+      (walked bytes (tokens_of_value v after) (without_pending spots (base ++ t ∷ []))) =
       value_leads bytes v after before h.0 u ends
       (element_is_before spots made written base t p i total st a (omega arith)) in
-      let all = leads_then bytes (value_marks v after) (elements_marks es rest)
-      (settled_state spots (base ++ t ∷ [])) spots (made ++ asserted_one) (of_elements p (suc i) es)
+      let all = leads_then bytes (tokens_of_value v after) (tokens_of_elements es rest)
+      (without_pending spots (base ++ t ∷ [])) spots (made ++ asserted_one) (of_elements p (suc i) es)
       (written ++ spans one) (spans (in_elements p (suc i) es rest)) (base ++ t ∷ []) (base ++ t ∷ []) first
       (λ now st2 grows. elements_lead bytes es rest now (made ++ asserted_one) (written ++ spans one) base t p
       (suc i) total h.3 u more_ends st2
@@ -150,48 +150,48 @@ mutual
       append_assoc written (spans one) (spans (in_elements p (suc i) es rest)) ∙
       ap (λ (w : List Placed). written ++ w) (sym (map-append placed one (in_elements p (suc i) es rest))) in
       subst (λ (xs : List Assertion). Leads spots xs (written ++ spans (one ++ in_elements p (suc i) es rest))
-      (base ++ t ∷ []) (walked bytes (elements_marks (element v g h2 es) rest)
-      (settled_state spots (base ++ t ∷ [])))) same_made
+      (base ++ t ∷ []) (walked bytes (tokens_of_elements (element v g h2 es) rest)
+      (without_pending spots (base ++ t ∷ [])))) same_made
       (subst (λ (w : List Placed). Leads spots ((made ++ asserted_one) ++ of_elements p (suc i) es) w
-      (base ++ t ∷ []) (walked bytes (elements_marks (element v g h2 es) rest)
-      (settled_state spots (base ++ t ∷ [])))) same_spans all)
+      (base ++ t ∷ []) (walked bytes (tokens_of_elements (element v g h2 es) rest)
+      (without_pending spots (base ++ t ∷ [])))) same_spans all)
 
-  pub members_lead : (bytes : List ℕ) (ms : Members) (rest : List ℕ) (spots : List Spot)
+  pub members_lead : (bytes : List ℕ) (ms : Members) (rest : List ℕ) (spots : List ModelNode)
       (made : List Assertion) (written : List Placed) (base : List ℕ) (t : ℕ) (p : Place) → AreMembers ms
       → IsUtf8 bytes → Ends bytes (members ms rest)
       → Stands made written spots → StandsAt spots t p → is_dotted_within (length (base ++ t ∷ [])) Dotted
       ≡ true
       → Leads spots (made ++ of_members p ms) (written ++ spans (in_members p ms rest)) (base ++ t ∷ [])
-      (walked bytes (members_marks ms rest) (settled_state spots (base ++ t ∷ [])))
+      (walked bytes (tokens_of_members ms rest) (without_pending spots (base ++ t ∷ [])))
   members_lead bytes no_members rest spots made written base t p h u ends st there deep =
-      leads spots (walked_none bytes (settled_state spots (base ++ t ∷ [])))
+      leads spots (walked_none bytes (without_pending spots (base ++ t ∷ [])))
       (subst (λ (xs : List Assertion). Stands xs (written ++ []) spots) (sym (append-nil made))
       (subst (λ (w : List Placed). Stands made w spots) (sym (append-nil written)) st)) (grows_same spots)
   members_lead bytes (last_member k a b v c) rest spots made written base t p h u ends st there deep =
       let after = gap c rest in
-      leads_along (walked_key bytes k (a ++ (equals ∷ (b ++ value v after))) (value_marks v after)
-      (settled_state spots (base ++ t ∷ [])) h.0 u ends)
+      leads_along (walked_key bytes k (a ++ (equals ∷ (b ++ value v after))) (tokens_of_value v after)
+      (without_pending spots (base ++ t ∷ [])) h.0 u ends)
       (value_leads bytes v after (member_before spots made written base t p k) h.3 u
       (ends_pair bytes k a b (value v after) ends)
       (member_is_before spots made written base t p k st there deep))
   members_lead bytes (member k a b v c d ms) rest spots made written base t p h u ends st there deep =
       let after = gap c (comma ∷ gap d (members ms rest)) in
       let before = member_before spots made written base t p k in
-      let one = valued (named p (names k)) v after ∷ inside (named p (names k)) v after in
+      let one = placed_value (named p (names k)) v after ∷ inside (named p (names k)) v after in
       let asserted_one = of_key true (named p (names k)) p (names k) v ++ of_value (named p (names k)) v in
       let value_ends : Ends bytes (value v after) = ends_pair bytes k a b (value v after) ends in
       let more_ends : Ends bytes (members ms rest) = ends_gap bytes d (members ms rest)
       (ends_one bytes comma (gap d (members ms rest))
       (ends_gap bytes c (comma ∷ gap d (members ms rest)) (ends_value bytes v after value_ends))) in
       let first : Leads spots (made ++ asserted_one) (written ++ spans one) (base ++ t ∷ [])
-      (walked bytes (key_marks k (a ++ (equals ∷ (b ++ value v after))) ++ value_marks v after)
-      (settled_state spots (base ++ t ∷ []))) =
-      leads_along (walked_key bytes k (a ++ (equals ∷ (b ++ value v after))) (value_marks v after)
-      (settled_state spots (base ++ t ∷ [])) h.0 u ends)
+      (walked bytes (tokens_of_key k (a ++ (equals ∷ (b ++ value v after))) ++ tokens_of_value v after)
+      (without_pending spots (base ++ t ∷ []))) =
+      leads_along (walked_key bytes k (a ++ (equals ∷ (b ++ value v after))) (tokens_of_value v after)
+      (without_pending spots (base ++ t ∷ [])) h.0 u ends)
       (value_leads bytes v after before h.3 u value_ends
       (member_is_before spots made written base t p k st there deep)) in
-      let all = leads_then bytes (key_marks k (a ++ (equals ∷ (b ++ value v after))) ++ value_marks v after)
-      (members_marks ms rest) (settled_state spots (base ++ t ∷ [])) spots (made ++ asserted_one)
+      let all = leads_then bytes (tokens_of_key k (a ++ (equals ∷ (b ++ value v after))) ++ tokens_of_value v after)
+      (tokens_of_members ms rest) (without_pending spots (base ++ t ∷ [])) spots (made ++ asserted_one)
       (of_members p ms) (written ++ spans one) (spans (in_members p ms rest)) (base ++ t ∷ [])
       (base ++ t ∷ []) first
       (λ now st2 grows. members_lead bytes ms rest now (made ++ asserted_one)
@@ -203,8 +203,8 @@ mutual
       append_assoc written (spans one) (spans (in_members p ms rest)) ∙
       ap (λ (w : List Placed). written ++ w) (sym (map-append placed one (in_members p ms rest))) in
       subst (λ (xs : List Assertion). Leads spots xs (written ++ spans (one ++ in_members p ms rest))
-      (base ++ t ∷ []) (walked bytes (members_marks (member k a b v c d ms) rest)
-      (settled_state spots (base ++ t ∷ [])))) same_made
+      (base ++ t ∷ []) (walked bytes (tokens_of_members (member k a b v c d ms) rest)
+      (without_pending spots (base ++ t ∷ [])))) same_made
       (subst (λ (w : List Placed). Leads spots ((made ++ asserted_one) ++ of_members p ms) w (base ++ t ∷ [])
-      (walked bytes (members_marks (member k a b v c d ms) rest) (settled_state spots (base ++ t ∷ []))))
+      (walked bytes (tokens_of_members (member k a b v c d ms) rest) (without_pending spots (base ++ t ∷ []))))
       same_spans all)

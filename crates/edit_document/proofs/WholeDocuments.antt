@@ -8,17 +8,17 @@ use Rattle.edit_tree.specs.Assertions.{Step, key, index, Place, at, Kind, dotted
 use Rattle.edit_tree.specs.Tree.{View, kind_at}
 use Rattle.edit_tree.specs.Written.{values}
 use Rattle.edit_document.specs.DocumentLayout.{placed, Placed, IsRead}
-use Rattle.edit_tree.specs.Nodes.{Shape, listed, inline as inlined, section, sections, Spot, names_of, view_of_shape, below, IsTree}
-use Rattle.edit_document.specs.Items.{view_numbered}
-use Rattle.edit_tree.specs.Shown.{Shown, tree_of, node_at}
+use Rattle.edit_tree.specs.Nodes.{Shape, listed, inline as inlined, section, sections, ModelNode, names_of, view_of_shape, below, IsTree}
+use Rattle.edit_document.specs.Items.{node_view}
+use Rattle.edit_tree.specs.DocumentViews.{DocumentViews, tree_of, node_at}
 use Rattle.edit_document.specs.Compared.{nth_part, AreSteps, AreNames, AreKeys, IsWhole}
 use Rattle.edit_tree.proofs.SamePlace.{not_root, last_same}
 use Rattle.edit_syntax.proofs.ListElements.{slice_get_same}
 use Rattle.edit_document.proofs.Views.{view_of_spot, Opened, opened, Found, view_spot, tree_spot, node_none}
 use Rattle.edit_tree.specs.declared.nodes.Node.{Node}
-use Rattle.edit_document.specs.DocumentLayout.{shown_of}
+use Rattle.edit_document.specs.DocumentLayout.{document_view_of}
 use Rattle.edit_tree.proofs.MoreAssertions.{first_kind}
-use Rattle.edit_tree.specs.Assertions.{NoClash}
+use Rattle.edit_tree.specs.Assertions.{AreCompatible}
 use Rattle.edit_tree.proofs.Keyed.{tabular, AreUnder, under_tables, first_table, found_under}
 use Rattle.edit_document.proofs.AssertedSpots.{Stands, Lists, shape_of_kind, was_asserted, short_at}
 use Rattle.edit_document.proofs.Wholes.{stands_of, name_at, element_is, keys_below, named_below, numbered_below}
@@ -44,7 +44,8 @@ shape_tabular (leaf (float f)) e = absurd cc
 shape_tabular (leaf (datetime d)) e = absurd cc
 
 -- names stand below tables alone
-keyed : (made : List Assertion) (p : Place) (k l : Kind) (name : List ℕ) → NoClash made → AreUnder made made
+keyed : (made : List Assertion) (p : Place) (k l : Kind) (name : List ℕ) → AreCompatible made
+    → AreUnder made made
     → first_kind made p ≡ Some k → kind_at made (at p (key name)) ≡ Some l → (shape_of_kind k ≡ section)
     ⊎ (shape_of_kind k ≡ inlined)
 keyed made [] k l name clash under here below = let same : header_kind ≡ k = same_Some header_kind k here in
@@ -72,8 +73,9 @@ lists_shape super i h = absurd h
 lists_shape header_kind i h = absurd h
 lists_shape element_kind i h = absurd h
 
-below_listed : (spots : List Spot) (tree : IsTree spots) (n : ℕ) (s : Spot) (x : Step)
-    → slice_get spots n ≡ Some s → (j : ℕ) (t : Spot) → slice_get spots j ≡ Some t → t.place ≡ at s.place x
+below_listed : (spots : List ModelNode) (tree : IsTree spots) (n : ℕ) (s : ModelNode) (x : Step)
+    → slice_get spots n ≡ Some s → (j : ℕ) (t : ModelNode) → slice_get spots j ≡ Some t
+    → t.place ≡ at s.place x
     → (m : ℕ) × (below s x ≡ Some m)
 below_listed spots tree n s x here j t there p =
     elim (tree.up j t there) [
@@ -83,20 +85,20 @@ below_listed spots tree n s x here j t there p =
           let number : m.above ≡ n = tree.unique m.above n m.upper s m.stands here same.0 in
           let spot : m.upper ≡ s = slice_get_same spots n m.upper s (ap (slice_get spots) (sym number) ∙
           m.stands) here in
-          (j, ap (λ (u : Spot). below u x) (sym spot) ∙ ap (below m.upper) (sym same.1) ∙ m.listed)
+          (j, ap (λ (u : ModelNode). below u x) (sym spot) ∙ ap (below m.upper) (sym same.1) ∙ m.listed)
     ]
 
 -- a shape in place of a spot's own
-in_shape : (s : Spot) (a : Shape) (i : ℕ) (step : Step) → s.shape ≡ a
+in_shape : (s : ModelNode) (a : Shape) (i : ℕ) (step : Step) → s.shape ≡ a
     → nth_part (view_of_shape a (names_of s) (length s.elements)) i ≡ Some step
     → nth_part (view_of_spot s) i ≡ Some step
 in_shape s a i step e h =
     ap (λ (x : Shape). nth_part (view_of_shape x (names_of s) (length s.elements)) i) e ∙ h
 
-pub unnumbered : (made : List Assertion) (written : List Placed) (spots : List Spot) (n : ℕ) (s : Spot)
+pub unnumbered : (made : List Assertion) (written : List Placed) (spots : List ModelNode) (n : ℕ) (s : ModelNode)
     (step : Step) → AreUnder made made → Stands made written spots → slice_get spots n ≡ Some s
     → ((i : ℕ) → nth_part (view_of_spot s) i ≡ Some step → ⊥)
-    → (j : ℕ) (t : Spot) → slice_get spots j ≡ Some t → t.place ≡ at s.place step → ⊥
+    → (j : ℕ) (t : ModelNode) → slice_get spots j ≡ Some t → t.place ≡ at s.place step → ⊥
 unnumbered made written spots n s (index i) under st here none j t there p =
     let k = st.tells n s here in
     let b = below_listed spots st.tree n s (index i) here j t there p in
@@ -113,18 +115,18 @@ unnumbered made written spots n s (key name) under st here none j t there p =
     let k = st.tells n s here in
     let b = below_listed spots st.tree n s (key name) here j t there p in
     let at_name = name_at s.members name b.0 b.1 in
-    let asserted : kind_at made (at s.place (key name)) ≡ Some (st.tells j t there).kind =
+    let member_defined : kind_at made (at s.place (key name)) ≡ Some (st.tells j t there).kind =
     ap (kind_at made) (sym p) ∙ was_asserted (st.tells j t there)
     (λ root. not_root s.place (key name) (sym p ∙ root)) in
     let named : slice_get (map key (names_of s)) at_name.0 ≡ Some (key name) =
     slice_get-map key (names_of s) at_name.0 ∙ ap (option_map key) at_name.1 in
-    elim (keyed made s.place k.kind (st.tells j t there).kind name st.clear.apart under k.first asserted) [
+    elim (keyed made s.place k.kind (st.tells j t there).kind name st.clear.apart under k.first member_defined) [
       | inl e ↦ none at_name.0 (in_shape s section at_name.0 (key name) (k.shape ∙ e) named)
       | inr e ↦ none at_name.0 (in_shape s inlined at_name.0 (key name) (k.shape ∙ e) named)
     ]
 
 -- a place that stands is short
-pub short_spot : (made : List Assertion) (written : List Placed) (spots : List Spot) (n : ℕ) (s : Spot)
+pub short_spot : (made : List Assertion) (written : List Placed) (spots : List ModelNode) (n : ℕ) (s : ModelNode)
     → Stands made written spots → slice_get spots n ≡ Some s → length s.place ≤ 80
 short_spot made written spots n s st here = go s.place refl
   where
@@ -135,7 +137,7 @@ short_spot made written spots n s st here = go s.place refl
 
 -- ---- what a document tells of a node
 
-whole_of : (d : Shown) (nodes : List Node) (made : List Assertion) (written : List Placed) (n : ℕ)
+whole_of : (d : DocumentViews) (nodes : List Node) (made : List Assertion) (written : List Placed) (n : ℕ)
     (node : Node) (opens : Opened d nodes) → Found d nodes opens.spots n node → AreUnder made made
     → Stands made written opens.spots → IsWhole d n
 whole_of d nodes made written n node opens f under st = record {
@@ -145,9 +147,9 @@ whole_of d nodes made written n node opens f under st = record {
       ∙ node_none opens.spots (at f.spot.place step)
       (unnumbered made written opens.spots n f.spot step under st f.stands
       (λ i e. none i (ap (λ (v : View). nth_part v i) view ∙ e)));
-  stands = λ step i numbered none.
+  stands = λ step i with_index none.
       let b = numbered_below made written opens.spots n f.spot st f.stands i step
-      (sym (ap (λ (v : View). nth_part v i) view) ∙ numbered) in
+      (sym (ap (λ (v : View). nth_part v i) view) ∙ with_index) in
       let s = opens.tree.down n b.0.0 f.spot step f.stands b.0.1 in
       let clash : None ≡ Some (view_of_spot s.0) = sym none ∙
       ap (λ (p : Place). tree_of d (at p step)) f.place ∙ ap (tree_of d) (sym s.2) ∙
@@ -161,11 +163,11 @@ whole_of d nodes made written n node opens f under st = record {
       (short_spot made written opens.spots n f.spot st f.stands);
 }
   where
-    view : view_numbered d n ≡ view_of_spot f.spot
+    view : node_view d n ≡ view_of_spot f.spot
     view = view_spot d opens.spots n f.spot opens.nodes_are opens.tree f.stands
 
-pub whole : (inside : Inside) (d : Shown) (n : ℕ) (node : Node) (read : IsRead inside)
-    (view : shown_of inside ≡ d) → IsUtf8 (string_bytes inside.text)
+pub whole : (inside : Inside) (d : DocumentViews) (n : ℕ) (node : Node) (read : IsRead inside)
+    (view : document_view_of inside ≡ d) → IsUtf8 (string_bytes inside.text)
     → Found d inside.nodes.items (opened inside d read view).spots n node → IsWhole d n
 unfolding opened
 whole inside d n node read view u f = whole_of d inside.nodes.items (assertions read.form)

@@ -12,10 +12,10 @@ use Rattle.edit_tree.specs.Assertions.{Step, key, index, Kind, dotted, leaf, sup
 use Rattle.edit_tree.specs.Tree.{View}
 use Rattle.edit_syntax.specs.Reading.{◌>>=◌}
 use Rattle.edit_tree.specs.Walk.{State, start, walked}
-use Rattle.edit_syntax.specs.Marks.{text_marks}
+use Rattle.edit_syntax.specs.SyntaxTokens.{tokens_of_text}
 use Rattle.edit_tree.specs.Written.{values}
-use Rattle.edit_document.specs.DocumentLayout.{placed, Placed, spots_of, IsRead, shape_of_value}
-use Rattle.edit_tree.specs.Nodes.{Shape, scalar, listed, inline as inlined, section, sections, Spot, names_of, view_of_shape, below}
+use Rattle.edit_document.specs.DocumentLayout.{placed, Placed, model_nodes_of, IsRead, shape_of_value}
+use Rattle.edit_tree.specs.Nodes.{Shape, scalar, listed, inline as inlined, section, sections, ModelNode, names_of, view_of_shape, below}
 use Rattle.edit_document.specs.Items.{names_in, key_names}
 use Rattle.edit_document.specs.Compared.{element_step, nth_part, AreNames, AreKeys}
 use Rattle.edit_document.proofs.Views.{view_of_spot}
@@ -36,13 +36,13 @@ stands_of inside read u = go (walk_of bytes form (read_of bytes form read.manife
     form : Text
     form = read.form
 
-    go : Walks (assertions form) (map placed (values form)) (walked bytes (text_marks form) start)
+    go : Walks (assertions form) (map placed (values form)) (walked bytes (tokens_of_text form) start)
         → Stands (assertions form) (map placed (values form)) read.spots
     go (ended now tables e st) =
-        let made : spots_of bytes ≡ Some now =
-        ap (λ (o : Option Text). o >>= λ f. walked bytes (text_marks f) start >>= λ s. Some s.spots)
+        let made : model_nodes_of bytes ≡ Some now =
+        ap (λ (o : Option Text). o >>= λ f. walked bytes (tokens_of_text f) start >>= λ s. Some s.spots)
         (manifest_form bytes form read.manifest) ∙ ap (λ (o : Option State). o >>= λ s. Some s.spots) e in
-        subst (λ (ss : List Spot). Stands (assertions form) (map placed (values form)) ss)
+        subst (λ (ss : List ModelNode). Stands (assertions form) (map placed (values form)) ss)
         (same_Some now read.spots (sym made ∙ read.found)) st
     go (stuck e clash) =
         absurd (clash (record {
@@ -99,7 +99,7 @@ key_was (n ∷ ns) zero step e = (n, refl, sym (same_Some (key n) step e))
 key_was (n ∷ ns) (suc i) step e = key_was ns i step e
 
 -- the parts of a shape
-abbrev Parts : Spot → Shape → Type 0
+abbrev Parts : ModelNode → Shape → Type 0
 Parts s shape = (i : ℕ) (step : Step) → nth_part (view_of_shape shape (names_of s) (length s.elements)) i
     ≡ Some step
     → ((m : ℕ) × (below s step ≡ Some m))
@@ -108,7 +108,7 @@ Parts s shape = (i : ℕ) (step : Step) → nth_part (view_of_shape shape (names
     ⊎ ((slice_get (names_in (view_of_shape shape (names_of s) (length s.elements))) i ≡ None)
     × (step ≡ index i)))
 
-parts_tabular : (s : Spot) (i : ℕ) (step : Step) → slice_get (map key (names_of s)) i ≡ Some step
+parts_tabular : (s : ModelNode) (i : ℕ) (step : Step) → slice_get (map key (names_of s)) i ≡ Some step
     → ((m : ℕ) × (below s step ≡ Some m))
     × ((name : List ℕ) × (slice_get (key_names (map key (names_of s))) i ≡ Some name) × (step ≡ key name))
 parts_tabular s i step e =
@@ -118,7 +118,7 @@ parts_tabular s i step e =
       (k.0, ap (λ (ns : List (List ℕ)). slice_get ns i) (names_keys (names_of s)) ∙ k.1, k.2),
     )
 
-parts_listed : (s : Spot) (i : ℕ) (step : Step) → element_step (length s.elements) i ≡ Some step
+parts_listed : (s : ModelNode) (i : ℕ) (step : Step) → element_step (length s.elements) i ≡ Some step
     → ((m : ℕ) × (below s step ≡ Some m)) × (step ≡ index i)
 parts_listed s i step e =
     let k = element_was (length s.elements) i step e in
@@ -152,7 +152,7 @@ scalar_bare header_kind v e = absurd cc
 scalar_bare array_kind v e = absurd cc
 scalar_bare element_kind v e = absurd cc
 
-parts_of : (s : Spot) (shape : Shape) → ((v : View) → shape ≡ scalar v → IsBare v) → Parts s shape
+parts_of : (s : ModelNode) (shape : Shape) → ((v : View) → shape ≡ scalar v → IsBare v) → Parts s shape
 parts_of s (scalar v) bare i step e = absurd (let clash : None ≡ Some step = sym ((bare v refl).1 i) ∙ e in
     cc)
 parts_of s listed bare i step e = let p = parts_listed s i step e in (p.0, inr (refl, p.1))
@@ -165,7 +165,7 @@ name_tabular : (names : List (List ℕ)) (i : ℕ) (name : List ℕ)
 name_tabular names i name e = slice_get-map key names i ∙
     ap (option_map key) (ap (λ (ns : List (List ℕ)). slice_get ns i) (sym (names_keys names)) ∙ e)
 
-names_of_shape : (s : Spot) (shape : Shape) → ((v : View) → shape ≡ scalar v → IsBare v)
+names_of_shape : (s : ModelNode) (shape : Shape) → ((v : View) → shape ≡ scalar v → IsBare v)
     → AreNames (view_of_shape shape (names_of s) (length s.elements))
 names_of_shape s (scalar v) bare i name e =
     absurd (let clash : None ≡ Some name = sym (ap (λ (ns : List (List ℕ)). slice_get ns i) (bare v refl).0) ∙
@@ -175,7 +175,7 @@ names_of_shape s sections bare i name e = absurd cc
 names_of_shape s inlined bare i name e = name_tabular (names_of s) i name e
 names_of_shape s section bare i name e = name_tabular (names_of s) i name e
 
-keys_of_shape : (s : Spot) (shape : Shape) → ((v : View) → shape ≡ scalar v → IsBare v)
+keys_of_shape : (s : ModelNode) (shape : Shape) → ((v : View) → shape ≡ scalar v → IsBare v)
     → AreKeys (view_of_shape shape (names_of s) (length s.elements))
 keys_of_shape s (scalar v) bare = (bare v refl).2
 keys_of_shape s listed bare = tt
@@ -183,18 +183,18 @@ keys_of_shape s sections bare = tt
 keys_of_shape s inlined bare = ap (map key) (sym (names_keys (names_of s)))
 keys_of_shape s section bare = ap (map key) (sym (names_keys (names_of s)))
 
-pub keys_below : (made : List Assertion) (written : List Placed) (spots : List Spot) (n : ℕ) (s : Spot)
+pub keys_below : (made : List Assertion) (written : List Placed) (spots : List ModelNode) (n : ℕ) (s : ModelNode)
     → Stands made written spots → slice_get spots n ≡ Some s → AreKeys (view_of_spot s)
 keys_below made written spots n s st here = let t = st.tells n s here in
     keys_of_shape s s.shape (λ v e. scalar_bare t.kind v (sym t.shape ∙ e))
 
-pub named_below : (made : List Assertion) (written : List Placed) (spots : List Spot) (n : ℕ) (s : Spot)
+pub named_below : (made : List Assertion) (written : List Placed) (spots : List ModelNode) (n : ℕ) (s : ModelNode)
     → Stands made written spots → slice_get spots n ≡ Some s → AreNames (view_of_spot s)
 named_below made written spots n s st here = let t = st.tells n s here in
     names_of_shape s s.shape (λ v e. scalar_bare t.kind v (sym t.shape ∙ e))
 
 -- what a view numbers stands below its spot
-pub numbered_below : (made : List Assertion) (written : List Placed) (spots : List Spot) (n : ℕ) (s : Spot)
+pub numbered_below : (made : List Assertion) (written : List Placed) (spots : List ModelNode) (n : ℕ) (s : ModelNode)
     → Stands made written spots → slice_get spots n ≡ Some s → Parts s s.shape
 numbered_below made written spots n s st here = let t = st.tells n s here in
     parts_of s s.shape (λ v e. scalar_bare t.kind v (sym t.shape ∙ e))

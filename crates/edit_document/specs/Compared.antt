@@ -2,22 +2,22 @@
 use Rattle.std.specs.Prelude.{Bool, ◌≡◌, ℕ, ◌<◌, ◌≤◌, true, false, nat_lt, if◌then◌else◌, List, ◌∷◌, [], ◌++◌, length, slice_get, Option, Some, None, MatchOption, ◌⊎◌, map, ⊤}
 use Rattle.edit_tree.specs.Assertions.{Step, key, index, Place, at}
 use Rattle.edit_tree.specs.Tree.{View, string, truth, whole, fractional, moment, static_array, table_array, inline_table, table}
-use Rattle.edit_tree.specs.Shown.{Shown, tree_of}
+use Rattle.edit_tree.specs.DocumentViews.{DocumentViews, tree_of}
 use Rattle.edit_tree.specs.EditBytes.{is_within}
 use Rattle.edit_tree.specs.NewItems.{NewValue, NewItem}
-use Rattle.edit_tree.specs.Meant.{Tree, SameButOrder, new_view, view_of_members, member_view, item_view}
-use Rattle.edit_document.specs.Items.{place_numbered, view_numbered, names_in, key_names}
+use Rattle.edit_tree.specs.IntendedTrees.{Tree, SameButOrder, new_view, view_of_members, member_view, item_view}
+use Rattle.edit_document.specs.Items.{node_place, node_view, names_in, key_names}
 
 -- the trees at and below two places are equal
-abbrev pub SameBelow : Shown → Place → Shown → Place → Type 0
+abbrev pub SameBelow : DocumentViews → Place → DocumentViews → Place → Type 0
 SameBelow d p e r = (q : Place) → tree_of d (p ++ q) ≡ tree_of e (r ++ q)
 
 -- the tree at and below a place of a document
-abbrev pub tree_below : Shown → Place → Tree
+abbrev pub tree_below : DocumentViews → Place → Tree
 tree_below d place q = tree_of d (place ++ q)
 
 -- the trees at and below two places are equal except for the order of members
-abbrev pub SameButOrderBelow : Shown → Place → Shown → Place → Type 0
+abbrev pub SameButOrderBelow : DocumentViews → Place → DocumentViews → Place → Type 0
 SameButOrderBelow d p e r = (q : Place) → SameButOrder (tree_of d (p ++ q)) (tree_of e (r ++ q))
 
 -- the two trees are equal except at and below the place
@@ -25,29 +25,29 @@ abbrev pub SameBeside : Place → Tree → Tree → Type 0
 SameBeside place old new = (q : Place) → is_within place q ≡ false → new q ≡ old q
 
 -- the tree at and below a place is that of a new value
-abbrev pub ShowsValue : Shown → Place → NewValue → Type 0
+abbrev pub ShowsValue : DocumentViews → Place → NewValue → Type 0
 ShowsValue d place v = (q : Place) → tree_of d (place ++ q) ≡ new_view v q
 
 -- the tree of a table of new values, inline or made by a dotted key; places are relative to it
-abbrev pub members_shown : Bool → List (List ℕ × NewValue) → Tree
-members_shown is_inline ms [] = Some (view_of_members is_inline ms)
-members_shown is_inline ms (step ∷ q) = member_view ms step q
+abbrev pub members_tree : Bool → List (List ℕ × NewValue) → Tree
+members_tree is_inline ms [] = Some (view_of_members is_inline ms)
+members_tree is_inline ms (step ∷ q) = member_view ms step q
 
 -- the tree at and below a place is that of a table of new values, inline or made by a dotted key
-abbrev pub ShowsMembers : Shown → Place → Bool → List (List ℕ × NewValue) → Type 0
-ShowsMembers d place is_inline ms = (q : Place) → tree_of d (place ++ q) ≡ members_shown is_inline ms q
+abbrev pub ShowsMembers : DocumentViews → Place → Bool → List (List ℕ × NewValue) → Type 0
+ShowsMembers d place is_inline ms = (q : Place) → tree_of d (place ++ q) ≡ members_tree is_inline ms q
 
 -- the tree at and below a place is that of a new entry, which is inside an inline table or not
-abbrev pub ShowsItem : Shown → Place → Bool → NewItem → Type 0
+abbrev pub ShowsItem : DocumentViews → Place → Bool → NewItem → Type 0
 ShowsItem d place inside item = (q : Place) → tree_of d (place ++ q) ≡ item_view inside item q
 
 -- the node at this index is at the place
-abbrev pub IsNumber : Shown → Place → ℕ → Type 0
-IsNumber d place n = (n < length d.nodes) × (place_numbered d n ≡ place)
+abbrev pub IsNumber : DocumentViews → Place → ℕ → Type 0
+IsNumber d place n = (n < length d.nodes) × (node_place d n ≡ place)
 
 -- The result has the indices of the nodes at a place in two documents that are equal except at and below it;
 -- it is `None` only where they differ elsewhere or the second has no item at the place.
-abbrev pub FindsBeside : Place → Shown → Shown → Option (ℕ × ℕ) → Type 0
+abbrev pub FindsBeside : Place → DocumentViews → DocumentViews → Option (ℕ × ℕ) → Type 0
 FindsBeside place d e r =
     MatchOption r (SameBeside place (tree_of d) (tree_of e) → tree_of e place ≡ None)
     (λ f. SameBeside place (tree_of d) (tree_of e) × IsNumber d place f.0 × IsNumber e place f.1)
@@ -111,38 +111,38 @@ AreKeys (table ms) = ms ≡ map key (key_names ms)
 AreKeys v = ⊤
 
 -- the children of a node are those in its view and no others; it has at most 80 steps
-pub record IsWhole (d : Shown) (number : ℕ) : Type 0 where
-  pub parts : (step : Step) → ((i : ℕ) → nth_part (view_numbered d number) i ≡ Some step → ⊥)
-      → tree_of d (at (place_numbered d number) step) ≡ None
-  pub stands : (step : Step) (i : ℕ) → nth_part (view_numbered d number) i ≡ Some step
-      → tree_of d (at (place_numbered d number) step) ≡ None → ⊥
-  pub steps : AreSteps (view_numbered d number)
-  pub names : AreNames (view_numbered d number)
-  pub keys : AreKeys (view_numbered d number)
-  pub short : length (place_numbered d number) ≤ 80
+pub record IsWhole (d : DocumentViews) (number : ℕ) : Type 0 where
+  pub parts : (step : Step) → ((i : ℕ) → nth_part (node_view d number) i ≡ Some step → ⊥)
+      → tree_of d (at (node_place d number) step) ≡ None
+  pub stands : (step : Step) (i : ℕ) → nth_part (node_view d number) i ≡ Some step
+      → tree_of d (at (node_place d number) step) ≡ None → ⊥
+  pub steps : AreSteps (node_view d number)
+  pub names : AreNames (node_view d number)
+  pub keys : AreKeys (node_view d number)
+  pub short : length (node_place d number) ≤ 80
 
 -- the trees at the child of this index and at the corresponding child of another node are equal
-abbrev pub SamePart : Shown → ℕ → Shown → ℕ → ℕ → Type 0
+abbrev pub SamePart : DocumentViews → ℕ → DocumentViews → ℕ → ℕ → Type 0
 SamePart d n e m i =
-    (part : Step) → nth_part (view_numbered d n) i ≡ Some part
-    → SameBelow d (at (place_numbered d n) part) e (at (place_numbered e m) part)
+    (part : Step) → nth_part (node_view d n) i ≡ Some part
+    → SameBelow d (at (node_place d n) part) e (at (node_place e m) part)
 
 -- the trees at each child of a node, except the one at `step`, and at the corresponding child of another node
 -- are equal
-abbrev pub SamePartsBut : Step → Shown → ℕ → Shown → ℕ → Type 0
+abbrev pub SamePartsBut : Step → DocumentViews → ℕ → DocumentViews → ℕ → Type 0
 SamePartsBut step d n e m =
-    (i : ℕ) → (part : Step) → nth_part (view_numbered d n) i ≡ Some part → (part ≡ step → ⊥)
-    → SameBelow d (at (place_numbered d n) part) e (at (place_numbered e m) part)
+    (i : ℕ) → (part : Step) → nth_part (node_view d n) i ≡ Some part → (part ≡ step → ⊥)
+    → SameBelow d (at (node_place d n) part) e (at (node_place e m) part)
 
 -- each member name of a node is a member name of another node
-abbrev pub HasNamesOf : Shown → ℕ → Shown → ℕ → Type 0
+abbrev pub HasNamesOf : DocumentViews → ℕ → DocumentViews → ℕ → Type 0
 HasNamesOf d n e m =
-    (i : ℕ) → (name : List ℕ) → slice_get (names_in (view_numbered d n)) i ≡ Some name
-    → tree_of e (at (place_numbered e m) (key name)) ≡ None → ⊥
+    (i : ℕ) → (name : List ℕ) → slice_get (names_in (node_view d n)) i ≡ Some name
+    → tree_of e (at (node_place e m) (key name)) ≡ None → ⊥
 
 -- the index of the node of the child at an index
-abbrev pub NumbersPart : Shown → ℕ → ℕ → Option ℕ → Type 0
-NumbersPart d number i r =
-    MatchOption r (nth_part (view_numbered d number) i ≡ None)
-    (λ n. (step : Step) × (nth_part (view_numbered d number) i ≡ Some step) × (n < length d.nodes)
-    × (place_numbered d n ≡ at (place_numbered d number) step))
+abbrev pub IsChildIndex : DocumentViews → ℕ → ℕ → Option ℕ → Type 0
+IsChildIndex d number i r =
+    MatchOption r (nth_part (node_view d number) i ≡ None)
+    (λ n. (step : Step) × (nth_part (node_view d number) i ≡ Some step) × (n < length d.nodes)
+    × (node_place d n ≡ at (node_place d number) step))

@@ -3,27 +3,27 @@ use Rattle.std.specs.Prelude.{◌≡◌, ℕ, List, [], ◌∷◌, length, map, 
 use Rattle.edit_syntax.specs.declared.span.Span.{Span}
 use Rattle.edit_document.specs.declared.document.Document.TheInside.{Inside}
 use Rattle.edit_syntax.specs.Characters.{quote, apostrophe}
-use Rattle.edit_syntax.specs.Strings.{says, says_multi}
+use Rattle.edit_syntax.specs.Strings.{says, decoded_multi}
 use Rattle.edit_syntax.specs.Numbers.{integer_text, float_text, datetime_text}
 use Rattle.edit_syntax.specs.Grammar.{Value, basic, literal, multi_basic, multi_literal, boolean, integer, float, datetime, array, inline, value, Text}
 use Rattle.edit_tree.specs.Assertions.{IsDocument, Place, same_place}
 use Rattle.edit_tree.specs.Tree.{View, string, truth, whole, fractional, moment, view_at}
 use Rattle.edit_syntax.specs.Reading.{◌>>=◌}
-use Rattle.edit_syntax.specs.Marks.{text_marks}
+use Rattle.edit_syntax.specs.SyntaxTokens.{tokens_of_text}
 use Rattle.edit_tree.specs.Pieces.{pieces_of, IsRange}
-use Rattle.edit_tree.specs.Shown.{Shown, node_at}
-use Rattle.edit_tree.specs.Nodes.{Shape, scalar, Spot, shown_spot, Holds, IsTree}
+use Rattle.edit_tree.specs.DocumentViews.{DocumentViews, node_at}
+use Rattle.edit_tree.specs.Nodes.{Shape, scalar, ModelNode, model_node_view, RepresentsNodes, IsTree}
 use Rattle.edit_tree.specs.Nodes as shapes
 use Rattle.edit_syntax.specs.FormOf.{form_of}
 use Rattle.edit_tree.specs.Walk.{start, walked}
-use Rattle.edit_tree.specs.Written.{Valued, values}
+use Rattle.edit_tree.specs.Written.{PlacedValue, values}
 
 -- the shape of a value, without its members and elements
 abbrev pub shape_of_value : Value → Shape
 shape_of_value (basic ps) = scalar (string (says quote ps))
 shape_of_value (literal text) = scalar (string text)
-shape_of_value (multi_basic ps) = scalar (string (says_multi quote ps))
-shape_of_value (multi_literal ps) = scalar (string (says_multi apostrophe ps))
+shape_of_value (multi_basic ps) = scalar (string (decoded_multi quote ps))
+shape_of_value (multi_literal ps) = scalar (string (decoded_multi apostrophe ps))
 shape_of_value (boolean b) = scalar (truth b)
 shape_of_value (integer n) = scalar (whole (integer_text n []))
 shape_of_value (float f) = scalar (fractional (float_text f []))
@@ -42,7 +42,7 @@ abbrev pub Placed : Type 0
 Placed = Place × Span
 
 -- the place of a value with its span
-abbrev pub placed : Valued → Placed
+abbrev pub placed : PlacedValue → Placed
 placed w = (w.place, span_of w.value w.after)
 
 -- the span of the value at a place
@@ -53,33 +53,33 @@ span_at (w ∷ ws) place = if same_place w.0 place then Some w.1 else span_at ws
 -- ---- documents
 
 -- the nodes that the walk over the tokens of a text builds
-abbrev pub spots_of : List ℕ → Option (List Spot)
-spots_of bytes = form_of bytes >>= λ form. walked bytes (text_marks form) start >>= λ st. Some st.spots
+abbrev pub model_nodes_of : List ℕ → Option (List ModelNode)
+model_nodes_of bytes = form_of bytes >>= λ form. walked bytes (tokens_of_text form) start >>= λ st. Some st.spots
 
 -- the places and views of these nodes; empty where there are none
-abbrev pub nodes_by : Option (List Spot) → List (Place × View)
-nodes_by None = []
-nodes_by (Some spots) = map shown_spot spots
+abbrev pub node_views : Option (List ModelNode) → List (Place × View)
+node_views None = []
+node_views (Some spots) = map model_node_view spots
 
 -- the view of a document from its text and the range that the last edit wrote
-unfoldable pub shown_by : List ℕ → ℕ × ℕ → Shown
-shown_by bytes written =
-    record { bytes = bytes; nodes = nodes_by (spots_of bytes); pieces = pieces_of bytes written }
+unfoldable pub document_view_by : List ℕ → ℕ × ℕ → DocumentViews
+document_view_by bytes written =
+    record { bytes = bytes; nodes = node_views (model_nodes_of bytes); pieces = pieces_of bytes written }
 
 -- the view of a document from its fields
-abbrev pub shown_of : Inside → Shown
-shown_of d = shown_by (string_bytes d.text) d.written
+abbrev pub document_view_of : Inside → DocumentViews
+document_view_of d = document_view_by (string_bytes d.text) d.written
 
 -- the invariant of a document: its nodes are those of its text, with the tree of its syntax tree and the
 -- spans of its values
 pub record IsRead (d : Inside) : Type 0 where
-  pub spots : List Spot
-  pub found : spots_of (string_bytes d.text) ≡ Some spots
+  pub spots : List ModelNode
+  pub found : model_nodes_of (string_bytes d.text) ≡ Some spots
   pub form : Text
   pub manifest : IsDocument (string_bytes d.text) form
-  pub holds : Holds (string_bytes d.text) d.nodes.items spots
+  pub holds : RepresentsNodes (string_bytes d.text) d.nodes.items spots
   pub written : IsRange (string_bytes d.text) d.written
   pub tree : IsTree spots
-  pub views : (place : Place) → node_at (map shown_spot spots) place ≡ view_at form place
-  pub spans : (n : ℕ) (s : Spot) → slice_get spots n ≡ Some s
+  pub views : (place : Place) → node_at (map model_node_view spots) place ≡ view_at form place
+  pub spans : (n : ℕ) (s : ModelNode) → slice_get spots n ≡ Some s
       → s.span ≡ span_at (map placed (values form)) s.place

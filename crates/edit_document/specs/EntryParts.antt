@@ -8,10 +8,10 @@ use Rattle.edit_document.specs.declared.entry_part.Said.{Said}
 use Rattle.edit_document.specs.declared.entry_part.Said.TheVariants.{Text, Truth, List as Listed, Members}
 use Rattle.edit_tree.specs.Assertions.{key, index, Place}
 use Rattle.edit_tree.specs.Tree.{View, string, truth, static_array}
-use Rattle.edit_tree.specs.Shown.{Shown}
+use Rattle.edit_tree.specs.DocumentViews.{DocumentViews}
 use Rattle.edit_tree.specs.NewItems.{NewValue, a_list, NewItem, a_value, a_table}
-use Rattle.edit_document.specs.NewItemViews.{value_seen, pairs_seen, item_text}
-use Rattle.edit_tree.specs.Meant.{Tree, new_view, view_of_members, item_view}
+use Rattle.edit_document.specs.NewItemViews.{new_value_view, new_pair_views, item_text}
+use Rattle.edit_tree.specs.IntendedTrees.{Tree, new_view, view_of_members, item_view}
 
 -- ---- an entry as a document
 
@@ -30,8 +30,8 @@ abbrev pub shown_place : Tree → Place → Option (Place × View)
 shown_place tree q = option_map (λ v. (q, v)) (tree q)
 
 -- the document that consists of the entry: its text, its places and their views
-unfoldable pub entry_shown : NewItem → Shown
-entry_shown item = record {
+unfoldable pub entry_document : NewItem → DocumentViews
+entry_document item = record {
   bytes = item_text item;
   nodes = filter_map (shown_place (item_view false item)) (entry_places item);
   pieces = item_text item ∷ [];
@@ -49,9 +49,9 @@ part_place (MemberElement m i) = key (string_bytes m.now.0) ∷ index i ∷ []
 -- the tree of a part of a new entry; places are relative to the part
 abbrev pub part_view : NewItem → Part → Tree
 part_view item Whole q = item_view false item q
-part_view item (Member m) q = new_view (value_seen m.now.1) q
-part_view item (Element v i) q = new_view (value_seen v.now) (index i ∷ q)
-part_view item (MemberElement m i) q = new_view (value_seen m.now.1) (index i ∷ q)
+part_view item (Member m) q = new_view (new_value_view m.now.1) q
+part_view item (Element v i) q = new_view (new_value_view v.now) (index i ∷ q)
+part_view item (MemberElement m i) q = new_view (new_value_view m.now.1) (index i ∷ q)
 
 -- it is a part of this entry: its place has an item, and the tree there is that of the part
 abbrev pub IsPart : NewItem → Part → Type 0
@@ -65,8 +65,8 @@ IsPart-prop item part = hlevel props
 -- ---- values of parts
 
 -- the view of a value of a part
-abbrev pub said_view : Said → View
-said_view (Text s) = string s.now
-said_view (Truth b) = truth b
-said_view (Listed l) = static_array (length l.now)
-said_view (Members ms dotted) = view_of_members (not dotted) (pairs_seen ms.now)
+abbrev pub part_value_view : Said → View
+part_value_view (Text s) = string s.now
+part_value_view (Truth b) = truth b
+part_value_view (Listed l) = static_array (length l.now)
+part_value_view (Members ms dotted) = view_of_members (not dotted) (new_pair_views ms.now)

@@ -5,42 +5,42 @@ use Rattle.edit_document.specs.declared.item.Keys.{Keys}
 use Rattle.edit_document.specs.declared.item.Source.{Source}
 use Rattle.edit_document.specs.declared.item.Source.TheVariants.{Node, Part}
 use Rattle.edit_document.specs.declared.entry_part.EntryPart.{EntryPart}
-use Rattle.edit_document.specs.EntryParts.{entry_shown, part_place}
-use Rattle.edit_document.specs.NewItemViews.{item_seen}
+use Rattle.edit_document.specs.EntryParts.{entry_document, part_place}
+use Rattle.edit_document.specs.NewItemViews.{new_item_view}
 use Rattle.edit_tree.specs.Assertions.{Place}
 use Rattle.edit_tree.specs.Tree.{View}
-use Rattle.edit_tree.specs.Shown.{Shown, tree_of}
-use Rattle.edit_document.specs.Items.{viewed, place_numbered, names_in}
+use Rattle.edit_tree.specs.DocumentViews.{DocumentViews, tree_of}
+use Rattle.edit_document.specs.Items.{viewed, node_place, names_in}
 
 -- ---- parts of new entries
 
 -- the document that consists of the entry of a part
-abbrev pub entry_of : EntryPart → Shown
-entry_of p = entry_shown (item_seen p.item.now)
+abbrev pub entry_of : EntryPart → DocumentViews
+entry_of p = entry_document (new_item_view p.item.now)
 
 -- the view of a part
 abbrev pub part_shown : EntryPart → View
 part_shown p = viewed (tree_of (entry_of p) (part_place p.part))
 
 -- the part at a place, or `None` where there is none
-abbrev pub FindsPart : Shown → Place → Option EntryPart → Type 0
+abbrev pub FindsPart : DocumentViews → Place → Option EntryPart → Type 0
 FindsPart d place r =
     MatchOption r (tree_of d place ≡ None) (λ p. (entry_of p ≡ d) × (part_place p.part ≡ place))
 
 -- ---- items
 
 -- the document of a source
-abbrev pub source_document : Source → Shown
+abbrev pub source_document : Source → DocumentViews
 source_document (Node n) = n.document.now
 source_document (Part p) = entry_of p
 
 -- the place of a source in its document
 abbrev pub source_place : Source → Place
-source_place (Node n) = place_numbered n.document.now n.number
+source_place (Node n) = node_place n.document.now n.number
 source_place (Part p) = part_place p.part
 
 -- the document of an item; for a part of a new entry, the document that consists of the entry
-abbrev pub document_of : Item → Shown
+abbrev pub document_of : Item → DocumentViews
 document_of i = source_document i.source
 
 -- the place of an item in its document
@@ -52,7 +52,7 @@ abbrev pub view_of : Item → View
 view_of i = viewed (tree_of (document_of i) (place_of i))
 
 -- the item at a place, or `None` where there is none
-abbrev pub Finds : Shown → Place → Option Item → Type 0
+abbrev pub Finds : DocumentViews → Place → Option Item → Type 0
 Finds d place r =
     MatchOption r (tree_of d place ≡ None) (λ i. (document_of i ≡ d) × (place_of i ≡ place)
     × (tree_of d place ≡ Some (view_of i)))

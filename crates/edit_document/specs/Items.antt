@@ -3,22 +3,22 @@ use Rattle.std.specs.Prelude.{◌≡◌, ℕ, ◌<◌, Bool, true, false, List, 
 use Rattle.std.specs.List.{filter_map}
 use Rattle.edit_document.specs.declared.place.Step.{Step as WrittenStep}
 use Rattle.edit_document.specs.declared.place.Step.TheVariants.{Key, Index}
-use Rattle.edit_document.specs.declared.document.Seen.{Seen}
-use Rattle.edit_document.specs.declared.document.Seen.TheVariants as seen
+use Rattle.edit_document.specs.declared.document.Datum.{Datum}
+use Rattle.edit_document.specs.declared.document.Datum.TheVariants as seen
 use Rattle.edit_tree.specs.Assertions.{Step, key, index, Place}
 use Rattle.edit_tree.specs.Tree.{View, string, truth, whole, fractional, moment, static_array, table_array, inline_table, table}
-use Rattle.edit_tree.specs.Shown.{Shown, tree_of}
+use Rattle.edit_tree.specs.DocumentViews.{DocumentViews, tree_of}
 
 -- ---- places
 
 -- the model of a step of the code
-abbrev pub step_seen : WrittenStep → Step
-step_seen (Key name) = key (string_bytes name)
-step_seen (Index i) = index i
+abbrev pub step_view : WrittenStep → Step
+step_view (Key name) = key (string_bytes name)
+step_view (Index i) = index i
 
 -- the model of a place of the code
-abbrev pub place_seen : List WrittenStep → Place
-place_seen steps = map step_seen steps
+abbrev pub place_view : List WrittenStep → Place
+place_view steps = map step_view steps
 
 -- ---- views
 
@@ -96,15 +96,15 @@ type_name_of (table members) = codes "table"
 -- ---- nodes by index
 
 -- the place of the node at an index
-abbrev pub place_numbered : Shown → ℕ → Place
-place_numbered d n = (unwrap_or (slice_get d.nodes n) ([], table [])).0
+abbrev pub node_place : DocumentViews → ℕ → Place
+node_place d n = (unwrap_or (slice_get d.nodes n) ([], table [])).0
 
 -- the view of the node at an index
-abbrev pub view_numbered : Shown → ℕ → View
-view_numbered d n = viewed (tree_of d (place_numbered d n))
+abbrev pub node_view : DocumentViews → ℕ → View
+node_view d n = viewed (tree_of d (node_place d n))
 
 -- the content that a node returns is that of the view
-abbrev pub Shows : View → Seen → Type 0
+abbrev pub Shows : View → Datum → Type 0
 Shows (string bytes) (seen.Text s) = s.now ≡ bytes
 Shows (truth b) (seen.Truth c) = c ≡ b
 Shows (whole digits) seen.Integer = ⊤
@@ -117,7 +117,7 @@ Shows (table_array n) seen.Tables = ⊤
 Shows _ _ = ⊥
 
 -- the index of the node at a place, or `None` where there is no item
-abbrev pub Numbers : Shown → Place → Option ℕ → Type 0
+abbrev pub Numbers : DocumentViews → Place → Option ℕ → Type 0
 Numbers d place r = MatchOption r (tree_of d place
-    ≡ None) (λ n. (tree_of d place ≡ Some (view_numbered d n)) × (place_numbered d n ≡ place)
+    ≡ None) (λ n. (tree_of d place ≡ Some (node_view d n)) × (node_place d n ≡ place)
     × (n < length d.nodes))

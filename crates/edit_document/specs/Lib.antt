@@ -13,5 +13,5 @@ pub use Rattle.edit_syntax.specs.Strings
 pub use Rattle.edit_syntax.specs.Numbers
 pub use Rattle.edit_syntax.specs.Grammar
 pub mod OneStatement
-pub mod Lost
+pub mod ItemRemoval
 pub mod Forms

@@ -11,23 +11,23 @@ use Rattle.edit_tree.specs.Assertions.{Place}
 use Rattle.edit_syntax.specs.Grammar.{value}
 
 -- the model of a `NewValue`
-abbrev pub value_seen : WrittenValue → NewValue
-value_seen (Str s) = a_string (string_bytes s)
-value_seen (Truth b) = a_truth b
-value_seen (Strings v) = a_list (map string_bytes v.items)
+abbrev pub new_value_view : WrittenValue → NewValue
+new_value_view (Str s) = a_string (string_bytes s)
+new_value_view (Truth b) = a_truth b
+new_value_view (Strings v) = a_list (map string_bytes v.items)
 
 -- the model of a name with a new value
-abbrev pub pair_seen : String Global × WrittenValue → List ℕ × NewValue
-pair_seen m = (string_bytes m.0, value_seen m.1)
+abbrev pub new_pair_view : String Global × WrittenValue → List ℕ × NewValue
+new_pair_view m = (string_bytes m.0, new_value_view m.1)
 
 -- the model of a list of names with new values
-abbrev pub pairs_seen : List (String Global × WrittenValue) → List (List ℕ × NewValue)
-pairs_seen members = map pair_seen members
+abbrev pub new_pair_views : List (String Global × WrittenValue) → List (List ℕ × NewValue)
+new_pair_views members = map new_pair_view members
 
 -- the model of a `NewItem`
-abbrev pub item_seen : WrittenItem → NewItem
-item_seen (Value v) = a_value (value_seen v)
-item_seen (Inline members dotted) = a_table dotted (pairs_seen members.items)
+abbrev pub new_item_view : WrittenItem → NewItem
+new_item_view (Value v) = a_value (new_value_view v)
+new_item_view (Inline members dotted) = a_table dotted (new_pair_views members.items)
 
 -- the text of an entry written as a value
 abbrev pub item_text : NewItem → List ℕ

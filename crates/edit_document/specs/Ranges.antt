@@ -8,9 +8,9 @@ use Rattle.edit_document.specs.declared.place.Step.{Step as WrittenStep}
 use Rattle.edit_syntax.specs.Grammar.{Between, Value, inline, Members, Text, text}
 use Rattle.edit_tree.specs.Assertions.{Place}
 use Rattle.edit_tree.specs.Tree.{is_value_at}
-use Rattle.edit_document.specs.Items.{place_seen}
+use Rattle.edit_document.specs.Items.{place_view}
 use Rattle.edit_tree.specs.Replaces.{Edits}
-use Rattle.edit_tree.specs.Written.{Valued, values, start_of, IsWrittenAt}
+use Rattle.edit_tree.specs.Written.{PlacedValue, values, start_of, IsWrittenAt}
 
 -- the range of the value at the place, or `None` where no value is written there
 abbrev pub HasRange : Text → Place → Option (ℕ × ℕ) → Type 0
@@ -23,23 +23,23 @@ is_table_value _ = false
 
 -- the inline table at the place begins at this offset
 pub record StartsTable (form : Text) (place : Place) (start : ℕ) : Type 0 where
-  pub valued : Valued
-  pub told : Contains (values form) valued
-  pub there : valued.place ≡ place
+  pub placed_value : PlacedValue
+  pub told : Contains (values form) placed_value
+  pub there : placed_value.place ≡ place
   pub between : List Between
   pub all : Members
-  pub is : valued.value ≡ inline between all
-  pub starts : start ≡ start_of (length (text form)) valued
+  pub is : placed_value.value ≡ inline between all
+  pub starts : start ≡ start_of (length (text form)) placed_value
 
 -- the offset of the inline table at the place, or `None` where none is written there
 abbrev pub HasTable : Text → Place → Option ℕ → Type 0
 HasTable form place r =
-    MatchOption r ((w : Valued) → Contains (values form) w → w.place ≡ place → is_table_value w.value ≡ false)
+    MatchOption r ((w : PlacedValue) → Contains (values form) w → w.place ≡ place → is_table_value w.value ≡ false)
     (StartsTable form place)
 
 -- the model of the code's places with their new texts
-abbrev pub edits_seen : List (Vec WrittenStep × String Global) → Edits
-edits_seen edits = map (λ e. (place_seen e.0.items, string_bytes e.1)) edits
+abbrev pub edit_views : List (Vec WrittenStep × String Global) → Edits
+edit_views edits = map (λ e. (place_view e.0.items, string_bytes e.1)) edits
 
 -- the edit of one place
 abbrev pub one_edit : Place → List ℕ → Edits

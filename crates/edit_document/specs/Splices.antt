@@ -5,7 +5,7 @@ use Rattle.edit_document.specs.declared.replace.Rewrite.{Rewrite}
 use Rattle.edit_tree.specs.Literals.{literal_bytes}
 use Rattle.edit_syntax.specs.Grammar.{Text}
 use Rattle.edit_tree.specs.Assertions.{Place, IsDocument}
-use Rattle.edit_tree.specs.Written.{Valued, start_of, end_of, IsWrittenAt}
+use Rattle.edit_tree.specs.Written.{PlacedValue, start_of, end_of, IsWrittenAt}
 use Rattle.edit_tree.specs.Replaces.{Edits, AreValues, AreDistinct, AreOutside}
 
 -- the start and the end of a range, and the text whose literal replaces it
@@ -28,7 +28,7 @@ AreInOrder text at (r ∷ more) =
     (at ≤ r.0) × (r.0 ≤ r.1) × IsCharBoundary text r.0 × IsCharBoundary text r.1 × AreInOrder text r.1 more
 
 -- the ranges of values in a text of this length, each with its new text
-abbrev pub ranges_of : ℕ → List (Valued × List ℕ) → List Range
+abbrev pub ranges_of : ℕ → List (PlacedValue × List ℕ) → List Range
 ranges_of total edits = map (λ e. (start_of total e.0, end_of total e.0, e.1)) edits
 
 -- the range is that of the value at the place of an edit, with the new text of that edit

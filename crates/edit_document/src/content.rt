@@ -3,26 +3,29 @@ ghost use Rattle.std.specs.Prelude.{◌≡◌, ◌<◌, [], length, option_map};
 ghost use Rattle.edit_syntax.specs.Grammar.{Text};
 ghost use Rattle.edit_document.specs.Compared.{IsWhole, kind_of, word_of};
 ghost use Rattle.edit_document.specs.Forms.{IfDocument};
-ghost use Rattle.edit_document.specs.Items.{place_numbered, view_numbered};
-ghost use Rattle.edit_document.specs.Lost.{is_named};
+ghost use Rattle.edit_document.specs.Items.{node_place, node_view};
+ghost use Rattle.edit_document.specs.ItemRemoval.{is_named};
 ghost use Rattle.edit_tree.specs.Assertions.{IsDocument};
-ghost use Rattle.edit_tree.specs.Taking as taking;
+ghost use Rattle.edit_tree.specs.Redefinition as taking;
 
 use crate::document::Document;
-use edit_tree::nodes::{Content, Taken, cut, words_in};
+use edit_tree::nodes::{Content, DefinedBy, cut, decoded_str};
 
 /// Whether a node was defined by a value or by its own header, not only by keys that pass through it.
-fn is_own(taken: Taken) -> bool
+fn is_own(taken: DefinedBy) -> bool
     ensures { result ≡ taking.is_own taken }
 {
-    matches!(taken, Taken::Value | Taken::Header | Taken::Element)
+    matches!(
+        taken,
+        DefinedBy::Value | DefinedBy::Header | DefinedBy::Element
+    )
 }
 
 impl Document {
     /// The kind of a node, as a number.
     pub fn kind(&self, number: usize) -> u8
         requires { number < length self.now.nodes }
-        ensures { result ≡ kind_of (view_numbered self.now number) }
+        ensures { result ≡ kind_of (node_view self.now number) }
     {
         let node = &self.nodes[number];
         match &node.content {
@@ -41,11 +44,11 @@ impl Document {
     /// The decoded text of a string, or a number, a date or a time as written.
     pub fn word(&self, number: usize) -> Option<&str>
         requires { number < length self.now.nodes }
-        ensures { option_map (λ s. s.now) result ≡ word_of (view_numbered self.now number) }
+        ensures { option_map (λ s. s.now) result ≡ word_of (node_view self.now number) }
     {
         let node = &self.nodes[number];
         match &node.content {
-            Content::Text(words) => Some(words_in(self.text.as_str(), words)),
+            Content::Text(words) => Some(decoded_str(self.text.as_str(), words)),
             Content::Integer(span) => Some(cut(self.text.as_str(), *span)),
             Content::Float(span) => Some(cut(self.text.as_str(), *span)),
             Content::DateTime(span) => Some(cut(self.text.as_str(), *span)),
@@ -70,9 +73,9 @@ impl Document {
     /// Whether a node was defined by a pair or a header of its own, not only by keys that pass through it.
     pub fn is_named(&self, number: usize) -> bool
         requires here { number < length self.now.nodes }
-        requires inner { place_numbered self.now number ≡ [] → ⊥ }
+        requires inner { node_place self.now number ≡ [] → ⊥ }
         ensures { IfDocument self.now.bytes (λ form. result
-            ≡ is_named form (place_numbered self.now number)) }
+            ≡ is_named form (node_place self.now number)) }
     {
         let _text = self.text.as_str();
         let node = &self.nodes[number];

@@ -3,19 +3,19 @@ ghost use Rattle.std.specs.Prelude.{◌≡◌, Some, None, ◌<◌, ◌≤◌, [
 ghost use Rattle.edit_tree.specs.Assertions.{Place, at, key as key_step, index as index_step, IsDocument};
 ghost use Rattle.edit_base.specs.Errors.{IsMemory};
 ghost use Rattle.edit_document.specs.Forms.{IfDocument};
-ghost use Rattle.edit_document.specs.DocumentLayout.{nodes_by, spots_of};
+ghost use Rattle.edit_document.specs.DocumentLayout.{node_views, model_nodes_of};
 ghost use Rattle.edit_document.specs.ItemViews.{Finds};
 ghost use Rattle.edit_syntax.specs.Grammar.{Text};
-ghost use Rattle.edit_tree.specs.Shown.{tree_of, ShowsTree};
+ghost use Rattle.edit_tree.specs.DocumentViews.{tree_of, ShowsTree};
 ghost use Rattle.edit_document.specs.Ranges.{HasRange};
-ghost use Rattle.edit_syntax.specs.Marks.{IsReadRefusal};
-ghost use Rattle.edit_document.specs.Items.{place_numbered, view_numbered, names_in, count_in, place_seen, Shows, Numbers};
+ghost use Rattle.edit_syntax.specs.SyntaxTokens.{IsTokenizeError};
+ghost use Rattle.edit_document.specs.Items.{node_place, node_view, names_in, count_in, place_view, Shows, Numbers};
 
 use crate::item::Item;
 use crate::place::Step;
 use edit_base::errors::CargoResult;
 use edit_syntax::read::read_marks;
-use edit_tree::nodes::{Content, Node, words_in};
+use edit_tree::nodes::{Content, Node, decoded_str};
 use edit_tree::walk::nodes_of;
 use std::alloc::Global;
 use std::fmt;
@@ -31,20 +31,20 @@ pub struct Document {
 }
 
 impl Model for Document {
-    ghost use Rattle.edit_tree.specs.Shown.{Shown};
+    ghost use Rattle.edit_tree.specs.DocumentViews.{DocumentViews};
 
-    ghost Value = { Shown };
+    ghost Value = { DocumentViews };
 
-    ghost use Rattle.edit_document.specs.DocumentLayout.{shown_of, IsRead};
+    ghost use Rattle.edit_document.specs.DocumentLayout.{document_view_of, IsRead};
 
-    ghost view = { shown_of };
+    ghost view = { document_view_of };
 
     ghost invariant = { IsRead };
 }
 
 /// The content of a node as others see it, without its members.
 #[derive(Clone, Copy)]
-pub(crate) enum Seen<'a> {
+pub(crate) enum Datum<'a> {
     Text(&'a str),
     Truth(bool),
     Integer,
@@ -66,7 +66,7 @@ impl Document {
         // Every text that is a document is read, whichever form it is spelled from, unless memory runs out.
         ensures only { IfDocument text.now (λ form. MatchResult result (λ d. ShowsTree d form) IsMemory) }
         ensures pieces { IfOk result (λ d. length d.pieces ≤ 1) }
-        ensures refused { IfErr result (IsReadRefusal (length text.now)) }
+        ensures refused { IfErr result (IsTokenizeError (length text.now)) }
     {
         let marks = read_marks(alloc, text.as_bytes())?;
         let nodes = nodes_of(alloc, text, marks.as_slice())?;
@@ -88,28 +88,28 @@ impl Document {
     }
 
     /// The content of the node at an index.
-    pub(crate) fn seen(&self, number: usize) -> Seen<'_>
+    pub(crate) fn seen(&self, number: usize) -> Datum<'_>
         requires { number < length self.now.nodes }
-        ensures { Shows (view_numbered self.now number) result }
+        ensures { Shows (node_view self.now number) result }
     {
         let node = &self.nodes[number];
         match &node.content {
-            Content::Text(words) => Seen::Text(words_in(self.text.as_str(), words)),
-            Content::Truth(truth) => Seen::Truth(*truth),
-            Content::Integer(_) => Seen::Integer,
-            Content::Float(_) => Seen::Float,
-            Content::DateTime(_) => Seen::DateTime,
-            Content::Array => Seen::Array,
-            Content::Inline => Seen::Inline,
-            Content::Table => Seen::Table,
-            Content::Tables => Seen::Tables,
+            Content::Text(words) => Datum::Text(decoded_str(self.text.as_str(), words)),
+            Content::Truth(truth) => Datum::Truth(*truth),
+            Content::Integer(_) => Datum::Integer,
+            Content::Float(_) => Datum::Float,
+            Content::DateTime(_) => Datum::DateTime,
+            Content::Array => Datum::Array,
+            Content::Inline => Datum::Inline,
+            Content::Table => Datum::Table,
+            Content::Tables => Datum::Tables,
         }
     }
 
     /// The number of members or elements of a node.
     pub fn member_count(&self, number: usize) -> usize
         requires { number < length self.now.nodes }
-        ensures { result ≡ count_in (view_numbered self.now number) }
+        ensures { result ≡ count_in (node_view self.now number) }
     {
         let node = &self.nodes[number];
         match &node.content {
@@ -126,7 +126,7 @@ impl Document {
     /// The number of keys of a node; 0 where it is not a table.
     pub fn name_count(&self, number: usize) -> usize
         requires { number < length self.now.nodes }
-        ensures { result ≡ length (names_in (view_numbered self.now number)) }
+        ensures { result ≡ length (names_in (node_view self.now number)) }
     {
         let node = &self.nodes[number];
         match &node.content {
@@ -145,7 +145,7 @@ impl Document {
     pub fn member_name(&self, number: usize, index: usize) -> Option<&str>
         requires { number < length self.now.nodes }
         ensures { option_map (λ s. s.now) result
-            ≡ slice_get (names_in (view_numbered self.now number)) index }
+            ≡ slice_get (names_in (node_view self.now number)) index }
     {
         let node = &self.nodes[number];
         match &node.content {
@@ -163,7 +163,7 @@ impl Document {
     /// The node of the member of this key.
     pub fn member(&self, number: usize, key: &str) -> Option<usize>
         requires { number < length self.now.nodes }
-        ensures { Numbers self.now (at (place_numbered self.now number) (key_step key.now)) result }
+        ensures { Numbers self.now (at (node_place self.now number) (key_step key.now)) result }
     {
         let node = &self.nodes[number];
         node.members.get(self.text.as_str(), key)
@@ -172,7 +172,7 @@ impl Document {
     /// For proofs: a place exists where the node is. Does nothing.
     pub fn stands(&self, number: usize)
         requires { number < length self.now.nodes }
-        ensures { tree_of self.now (place_numbered self.now number) ≡ Some (view_numbered self.now number) }
+        ensures { tree_of self.now (node_place self.now number) ≡ Some (node_view self.now number) }
     {
         let _node = &self.nodes[number];
     }
@@ -180,15 +180,15 @@ impl Document {
     /// The node of the element at an index.
     pub fn element(&self, number: usize, index: usize) -> Option<usize>
         requires { number < length self.now.nodes }
-        ensures { Numbers self.now (at (place_numbered self.now number) (index_step index)) result }
+        ensures { Numbers self.now (at (node_place self.now number) (index_step index)) result }
     {
         let node = &self.nodes[number];
         node.members.elements().get(index).copied()
     }
 
     /// For proofs: the root exists, and nothing exists below a place that does not exist. Does nothing.
-    pub fn is_tree(&self)
-        ensures root { (0 < length self.now.nodes) × (place_numbered self.now 0 ≡ []) }
+    pub fn lemma_tree(&self)
+        ensures root { (0 < length self.now.nodes) × (node_place self.now 0 ≡ []) }
         ensures below { (place more : Place) → tree_of self.now place ≡ None
             → tree_of self.now (place ++ more) ≡ None }
     {
@@ -197,9 +197,9 @@ impl Document {
 
     /// The index of the node at a place.
     pub fn number(&self, place: &[Step]) -> Option<usize>
-        ensures { Numbers self.now (place_seen place.now) result }
+        ensures { Numbers self.now (place_view place.now) result }
     {
-        self.is_tree();
+        self.lemma_tree();
         let mut number = 0;
         'steps: for step in place {
             match step {
@@ -213,7 +213,7 @@ impl Document {
 
     /// For proofs: the text is a document, and its tree is that of each form the text has. Does nothing;
     /// callers with a borrowed document call it to learn these two facts.
-    pub fn has_form(&self)
+    pub fn lemma_form(&self)
         ensures some { (form : Text) × IsDocument self.now.bytes form }
         ensures shows { IfDocument self.now.bytes (λ form. ShowsTree self.now form) }
     {
@@ -222,7 +222,7 @@ impl Document {
 
     /// The byte range of the value at a place, or `None` where no value is written there.
     pub fn value_range(&self, place: &[Step]) -> Option<(usize, usize)>
-        ensures { IfDocument self.now.bytes (λ form. HasRange form (place_seen place.now) result) }
+        ensures { IfDocument self.now.bytes (λ form. HasRange form (place_view place.now) result) }
     {
         let len = self.text.len();
         let number = self.number(place)?;
@@ -235,7 +235,7 @@ impl Document {
 
     /// The item at a place.
     pub fn item(&self, place: &[Step]) -> Option<Item<'_>>
-        ensures { Finds self.now (place_seen place.now) result }
+        ensures { Finds self.now (place_view place.now) result }
     {
         match self.number(place) {
             Some(number) => Some(Item::new(self, number)),
@@ -244,8 +244,8 @@ impl Document {
     }
 
     /// For proofs: the tree of a document is determined by its text.
-    fn shows_text(&self)
-        ensures { self.now.nodes ≡ nodes_by (spots_of self.now.bytes) }
+    fn lemma_text(&self)
+        ensures { self.now.nodes ≡ node_views (model_nodes_of self.now.bytes) }
     {
         let _nodes = &self.nodes;
     }
@@ -255,10 +255,10 @@ impl Document {
         ensures same { IfOk result (λ d. d ≡ self.now) }
         ensures refused { IfErr result IsMemory }
     {
-        self.has_form();
-        self.shows_text();
+        self.lemma_form();
+        self.lemma_text();
         let copy = Document::read(alloc, self.as_str())?;
-        copy.shows_text();
+        copy.lemma_text();
         Ok(copy.with_pieces_of(self))
     }
 

@@ -2,9 +2,9 @@
 ghost use Rattle.std.specs.Prelude.{◌≡◌, find, map, option_map, slice_get, string_bytes};
 ghost use Rattle.edit_tree.specs.Assertions.{same_bytes};
 ghost use Rattle.edit_document.specs.EntryParts.{IsPart, IsPart-prop};
-ghost use Rattle.edit_document.specs.NewItemViews.{item_seen, pair_seen, pairs_seen};
+ghost use Rattle.edit_document.specs.NewItemViews.{new_item_view, new_pair_view, new_pair_views};
 
-use crate::document::Seen;
+use crate::document::Datum;
 use crate::new_item::{NewItem, NewValue};
 
 /// The path from a new entry to one of its parts.
@@ -35,20 +35,20 @@ pub(crate) enum Said<'a> {
 pub(crate) struct EntryPart<'a> {
     item: &'a NewItem,
     part: Part<'a>,
-    ghost stands: { IsPart (item_seen item.now) part } by { IsPart-prop (item_seen item.now) part },
+    ghost stands: { IsPart (new_item_view item.now) part } by { IsPart-prop (new_item_view item.now) part },
 }
 
 impl<'a> Said<'a> {
     ghost use Rattle.std.specs.Prelude.{◌≡◌, ◌∷◌, [], Some, false, option_map};
     ghost use Rattle.edit_tree.specs.Assertions.{index as index_step};
-    ghost use Rattle.edit_document.specs.EntryParts.{said_view};
-    ghost use Rattle.edit_tree.specs.Meant.{new_view, item_view};
-    ghost use Rattle.edit_document.specs.NewItemViews.{value_seen};
+    ghost use Rattle.edit_document.specs.EntryParts.{part_value_view};
+    ghost use Rattle.edit_tree.specs.IntendedTrees.{new_view, item_view};
+    ghost use Rattle.edit_document.specs.NewItemViews.{new_value_view};
     ghost use Rattle.edit_tree.specs.Tree.{string};
 
     /// The value of a `NewValue`.
     fn value(value: &'a NewValue) -> Said<'a>
-        ensures { new_view (value_seen value.now) [] ≡ Some (said_view result) }
+        ensures { new_view (new_value_view value.now) [] ≡ Some (part_value_view result) }
     {
         match value {
             NewValue::Str(text) => Said::Text(text.as_str()),
@@ -59,7 +59,7 @@ impl<'a> Said<'a> {
 
     /// The value of a `NewItem`.
     fn entry(item: &'a NewItem) -> Said<'a>
-        ensures { item_view false (item_seen item.now) [] ≡ Some (said_view result) }
+        ensures { item_view false (new_item_view item.now) [] ≡ Some (part_value_view result) }
     {
         match item {
             NewItem::Value(value) => Said::value(value),
@@ -70,7 +70,7 @@ impl<'a> Said<'a> {
     /// The string at an index, where the value is a list that has it.
     fn text(value: &'a NewValue, index: usize) -> Option<&'a str>
         ensures { option_map (λ s. string s.now) result
-            ≡ new_view (value_seen value.now) (index_step index ∷ []) }
+            ≡ new_view (new_value_view value.now) (index_step index ∷ []) }
     {
         match value {
             NewValue::Str(_) | NewValue::Bool(_) => None,
@@ -84,8 +84,8 @@ impl<'a> Said<'a> {
 
 /// The first member of this name.
 fn named<'a>(members: &'a [(String, NewValue)], name: &str) -> Option<&'a (String, NewValue)>
-    ensures { option_map (λ m. pair_seen m.now) result
-        ≡ find (λ m. same_bytes m.0 name.now) (pairs_seen members.now) }
+    ensures { option_map (λ m. new_pair_view m.now) result
+        ≡ find (λ m. same_bytes m.0 name.now) (new_pair_views members.now) }
 {
     'members: for member in members {
         if is_named(member, name) {
@@ -97,7 +97,7 @@ fn named<'a>(members: &'a [(String, NewValue)], name: &str) -> Option<&'a (Strin
 
 /// The name of the member at an index.
 fn nth_name<'a>(members: &'a [(String, NewValue)], index: usize) -> Option<&'a str>
-    ensures { option_map (λ s. s.now) result ≡ slice_get (map (λ m. m.0) (pairs_seen members.now)) index }
+    ensures { option_map (λ s. s.now) result ≡ slice_get (map (λ m. m.0) (new_pair_views members.now)) index }
 {
     let member = members.get(index)?;
     Some(member.0.as_str())
@@ -113,10 +113,10 @@ fn is_named(member: &(String, NewValue), name: &str) -> bool
 impl<'a> EntryPart<'a> {
     ghost use Rattle.std.specs.Prelude.{◌≡◌, [], Some, length, option_map, slice_get};
     ghost use Rattle.edit_tree.specs.Assertions.{at, key as key_step, index as index_step};
-    ghost use Rattle.edit_document.specs.EntryParts.{part_place, said_view};
+    ghost use Rattle.edit_document.specs.EntryParts.{part_place, part_value_view};
     ghost use Rattle.edit_document.specs.ItemViews.{entry_of, part_shown, FindsPart};
     ghost use Rattle.edit_document.specs.Items.{Shows, count_in, names_in};
-    ghost use Rattle.edit_tree.specs.Shown.{tree_of};
+    ghost use Rattle.edit_tree.specs.DocumentViews.{tree_of};
 
     /// The entry itself as a part.
     pub(crate) fn whole(item: &'a NewItem) -> EntryPart<'a>
@@ -130,7 +130,7 @@ impl<'a> EntryPart<'a> {
 
     /// The value of the part.
     fn said(self) -> Said<'a>
-        ensures { part_shown self.entry ≡ said_view result }
+        ensures { part_shown self.entry ≡ part_value_view result }
     {
         match self.part {
             Part::Whole => Said::entry(self.item),
@@ -148,14 +148,14 @@ impl<'a> EntryPart<'a> {
     }
 
     /// The content of the part, without its members.
-    pub(crate) fn seen(self) -> Seen<'a>
+    pub(crate) fn seen(self) -> Datum<'a>
         ensures { Shows (part_shown self.entry) result }
     {
         match self.said() {
-            Said::Text(text) => Seen::Text(text),
-            Said::Truth(truth) => Seen::Truth(truth),
-            Said::List(_) => Seen::Array,
-            Said::Members(_, dotted) => if dotted { Seen::Table } else { Seen::Inline },
+            Said::Text(text) => Datum::Text(text),
+            Said::Truth(truth) => Datum::Truth(truth),
+            Said::List(_) => Datum::Array,
+            Said::Members(_, dotted) => if dotted { Datum::Table } else { Datum::Inline },
         }
     }
 

@@ -1,12 +1,12 @@
 //! Read-only views of the items of a document. No call here allocates.
 ghost use Rattle.std.specs.Prelude.{◌<◌, length};
 
-use crate::document::{Document, Seen};
+use crate::document::{Datum, Document};
 use crate::entry_part::EntryPart;
 
 /// A node of a document, by its index.
 #[derive(Clone, Copy, Debug)]
-struct NodeOf<'a> {
+struct NodeRef<'a> {
     document: &'a Document,
     number: usize,
     ghost numbered: { number < length document.now.nodes },
@@ -15,7 +15,7 @@ struct NodeOf<'a> {
 /// Where an item comes from: a node of a document, or a part of a new entry.
 #[derive(Clone, Copy, Debug)]
 enum Source<'a> {
-    Node(NodeOf<'a>),
+    Node(NodeRef<'a>),
     Part(EntryPart<'a>),
 }
 
@@ -25,15 +25,15 @@ pub struct Item<'a> {
     source: Source<'a>,
 }
 
-impl<'a> NodeOf<'a> {
+impl<'a> NodeRef<'a> {
     ghost use Rattle.edit_tree.specs.Assertions.{at as below, key as key_step, index as index_step};
-    ghost use Rattle.edit_document.specs.Items.{place_numbered};
+    ghost use Rattle.edit_document.specs.Items.{node_place};
     ghost use Rattle.edit_document.specs.ItemViews.{Finds};
 
     /// The member of a table under this key.
     fn member(self, key: &str) -> Option<Item<'a>>
         ensures { Finds self.entry.document.now
-            (below (place_numbered self.entry.document.now self.entry.number) (key_step key.now)) result }
+            (below (node_place self.entry.document.now self.entry.number) (key_step key.now)) result }
     {
         let document = self.document;
         match document.member(self.number, key) {
@@ -45,7 +45,7 @@ impl<'a> NodeOf<'a> {
     /// The element of an array at an index.
     fn element(self, index: usize) -> Option<Item<'a>>
         ensures { Finds self.entry.document.now
-            (below (place_numbered self.entry.document.now self.entry.number) (index_step index)) result }
+            (below (node_place self.entry.document.now self.entry.number) (index_step index)) result }
     {
         let document = self.document;
         match document.element(self.number, index) {
@@ -58,8 +58,8 @@ impl<'a> NodeOf<'a> {
 impl<'a> Item<'a> {
     ghost use Rattle.std.specs.Prelude.{◌≡◌, ◌<◌, Some, true, false, MatchOption, length, option_map, slice_get};
     ghost use Rattle.edit_tree.specs.Assertions.{Place, at as below, key as key_step, index as index_step};
-    ghost use Rattle.edit_tree.specs.Shown.{Shown, tree_of};
-    ghost use Rattle.edit_document.specs.Items.{place_numbered, string_in, truth_in, names_in, count_in, is_string, is_inline, is_tabular, is_static_array, type_name_of, Shows};
+    ghost use Rattle.edit_tree.specs.DocumentViews.{DocumentViews, tree_of};
+    ghost use Rattle.edit_document.specs.Items.{node_place, string_in, truth_in, names_in, count_in, is_string, is_inline, is_tabular, is_static_array, type_name_of, Shows};
     ghost use Rattle.edit_document.specs.EntryParts.{part_place};
     ghost use Rattle.edit_document.specs.ItemViews.{document_of, place_of, view_of, entry_of, keys_left, Finds, FindsPart};
 
@@ -67,9 +67,9 @@ impl<'a> Item<'a> {
     pub(crate) fn new(document: &'a Document, number: usize) -> Item<'a>
         requires { number < length document.now.nodes }
         ensures document { document_of result ≡ document.now }
-        ensures place { place_of result ≡ place_numbered document.now number }
+        ensures place { place_of result ≡ node_place document.now number }
     {
-        let node = NodeOf { document, number };
+        let node = NodeRef { document, number };
         Item {
             source: Source::Node(node),
         }
@@ -87,7 +87,7 @@ impl<'a> Item<'a> {
 
     /// The item of a part of a new entry, if the part was found.
     fn of_found(part: Option<EntryPart<'a>>) -> Option<Item<'a>>
-        ensures { (d : Shown) → (place : Place) → FindsPart d place part.entry → Finds d place result }
+        ensures { (d : DocumentViews) → (place : Place) → FindsPart d place part.entry → Finds d place result }
     {
         match part {
             Some(part) => {
@@ -109,7 +109,7 @@ impl<'a> Item<'a> {
     }
 
     /// The content of the item, without its members.
-    fn seen(self) -> Seen<'a>
+    fn seen(self) -> Datum<'a>
         ensures { Shows (view_of self.entry) result }
     {
         match self.source {
@@ -123,9 +123,9 @@ impl<'a> Item<'a> {
         ensures { option_map (λ s. s.now) result ≡ string_in (view_of self.entry) }
     {
         match self.seen() {
-            Seen::Text(text) => Some(text),
-            Seen::Truth(_) | Seen::Inline | Seen::Table | Seen::Tables => None,
-            Seen::Integer | Seen::Float | Seen::DateTime | Seen::Array => None,
+            Datum::Text(text) => Some(text),
+            Datum::Truth(_) | Datum::Inline | Datum::Table | Datum::Tables => None,
+            Datum::Integer | Datum::Float | Datum::DateTime | Datum::Array => None,
         }
     }
 
@@ -134,9 +134,9 @@ impl<'a> Item<'a> {
         ensures { result ≡ truth_in (view_of self.entry) }
     {
         match self.seen() {
-            Seen::Truth(truth) => Some(truth),
-            Seen::Text(_) | Seen::Inline | Seen::Table | Seen::Tables => None,
-            Seen::Integer | Seen::Float | Seen::DateTime | Seen::Array => None,
+            Datum::Truth(truth) => Some(truth),
+            Datum::Text(_) | Datum::Inline | Datum::Table | Datum::Tables => None,
+            Datum::Integer | Datum::Float | Datum::DateTime | Datum::Array => None,
         }
     }
 
@@ -147,9 +147,9 @@ impl<'a> Item<'a> {
             × (document_of i ≡ document_of self.entry) × (place_of i ≡ place_of self.entry)) }
     {
         match self.seen() {
-            Seen::Text(_) | Seen::Truth(_) | Seen::Inline | Seen::Table | Seen::Tables => None,
-            Seen::Integer | Seen::Float | Seen::DateTime => None,
-            Seen::Array => Some(self),
+            Datum::Text(_) | Datum::Truth(_) | Datum::Inline | Datum::Table | Datum::Tables => None,
+            Datum::Integer | Datum::Float | Datum::DateTime => None,
+            Datum::Array => Some(self),
         }
     }
 
@@ -218,9 +218,9 @@ impl<'a> Item<'a> {
         ensures { result ≡ is_string (view_of self.entry) }
     {
         match self.seen() {
-            Seen::Text(_) => true,
-            Seen::Truth(_) | Seen::Inline | Seen::Table | Seen::Tables => false,
-            Seen::Integer | Seen::Float | Seen::DateTime | Seen::Array => false,
+            Datum::Text(_) => true,
+            Datum::Truth(_) | Datum::Inline | Datum::Table | Datum::Tables => false,
+            Datum::Integer | Datum::Float | Datum::DateTime | Datum::Array => false,
         }
     }
 
@@ -229,9 +229,9 @@ impl<'a> Item<'a> {
         ensures { result ≡ is_tabular (view_of self.entry) }
     {
         match self.seen() {
-            Seen::Text(_) | Seen::Truth(_) | Seen::Tables => false,
-            Seen::Integer | Seen::Float | Seen::DateTime | Seen::Array => false,
-            Seen::Inline | Seen::Table => true,
+            Datum::Text(_) | Datum::Truth(_) | Datum::Tables => false,
+            Datum::Integer | Datum::Float | Datum::DateTime | Datum::Array => false,
+            Datum::Inline | Datum::Table => true,
         }
     }
 
@@ -240,9 +240,9 @@ impl<'a> Item<'a> {
         ensures { result ≡ is_inline (view_of self.entry) }
     {
         match self.seen() {
-            Seen::Inline => true,
-            Seen::Text(_) | Seen::Truth(_) | Seen::Table | Seen::Tables => false,
-            Seen::Integer | Seen::Float | Seen::DateTime | Seen::Array => false,
+            Datum::Inline => true,
+            Datum::Text(_) | Datum::Truth(_) | Datum::Table | Datum::Tables => false,
+            Datum::Integer | Datum::Float | Datum::DateTime | Datum::Array => false,
         }
     }
 
@@ -252,15 +252,15 @@ impl<'a> Item<'a> {
         ensures { result.now ≡ type_name_of (view_of self.entry) }
     {
         match self.seen() {
-            Seen::Text(_) => "string",
-            Seen::Truth(_) => "boolean",
-            Seen::Integer => "integer",
-            Seen::Float => "float",
-            Seen::DateTime => "datetime",
-            Seen::Array => "array",
-            Seen::Inline => "inline table",
-            Seen::Table => "table",
-            Seen::Tables => "array of tables",
+            Datum::Text(_) => "string",
+            Datum::Truth(_) => "boolean",
+            Datum::Integer => "integer",
+            Datum::Float => "float",
+            Datum::DateTime => "datetime",
+            Datum::Array => "array",
+            Datum::Inline => "inline table",
+            Datum::Table => "table",
+            Datum::Tables => "array of tables",
         }
     }
 }

@@ -7,10 +7,10 @@ ghost use Rattle.edit_syntax.specs.Grammar.{value as value_text};
 ghost use Rattle.edit_syntax.specs.Strings.{key as key_text};
 ghost use Rattle.edit_tree.specs.Assertions.{Place};
 ghost use Rattle.edit_document.specs.ItemViews.{document_of, place_of};
-ghost use Rattle.edit_tree.specs.Meant.{item_view};
-ghost use Rattle.edit_tree.specs.Shown.{tree_of};
+ghost use Rattle.edit_tree.specs.IntendedTrees.{item_view};
+ghost use Rattle.edit_tree.specs.DocumentViews.{tree_of};
 ghost use Rattle.edit_tree.specs.NewItems.{a_list, new_value, new_key, new_pair, new_entry, new_table};
-ghost use Rattle.edit_document.specs.NewItemViews.{value_seen, pair_seen, pairs_seen, item_seen, item_text, is_dotted};
+ghost use Rattle.edit_document.specs.NewItemViews.{new_value_view, new_pair_view, new_pair_views, new_item_view, item_text, is_dotted};
 
 use crate::entry_part::EntryPart;
 use crate::item::Item;
@@ -41,7 +41,7 @@ impl NewItem {
     /// The entry as an item, to be read before it is written; a dotted entry is a table.
     pub fn view(&self) -> Item<'_>
         ensures document { (q : Place) →
-            tree_of (document_of result) q ≡ item_view false (item_seen self.now) q }
+            tree_of (document_of result) q ≡ item_view false (new_item_view self.now) q }
         ensures place { place_of result ≡ [] }
     {
         Item::of_part(EntryPart::whole(self))
@@ -50,7 +50,7 @@ impl NewItem {
     /// The entry written as a value: a literal, `{ k = v, k = v }`, or `{}` (TOML 1.0.0, "Keys" to "Inline
     /// Table").
     pub fn text(&self, alloc: Global) -> CargoResult<String>
-        ensures text { IfOk result (λ s. string_bytes s ≡ item_text (item_seen self.now)) }
+        ensures text { IfOk result (λ s. string_bytes s ≡ item_text (new_item_view self.now)) }
         ensures refused { IfErr result IsMemory }
     {
         let mut out = String::new(alloc);
@@ -60,7 +60,7 @@ impl NewItem {
 
     /// Whether the entry is written as a dotted key.
     fn is_dotted(&self) -> bool
-        ensures { result ≡ is_dotted (item_seen self.now) }
+        ensures { result ≡ is_dotted (new_item_view self.now) }
     {
         match self {
             NewItem::Value(_) => false,
@@ -72,7 +72,7 @@ impl NewItem {
 /// Appends what follows the key of an entry: ` = ` and the entry as a value, or `.workspace = true`.
 pub fn push_entry(out: &mut String, item: &NewItem) -> Result<(), AllocError>
     ensures { OnOk result (string_bytes out.new
-        ≡ string_bytes out.old ++ new_entry (item_seen item.now) []) }
+        ≡ string_bytes out.old ++ new_entry (new_item_view item.now) []) }
 {
     if item.is_dotted() {
         out.push_str(".workspace = true")
@@ -84,7 +84,7 @@ pub fn push_entry(out: &mut String, item: &NewItem) -> Result<(), AllocError>
 
 /// Appends an entry written as a value.
 fn push_item(out: &mut String, item: &NewItem) -> Result<(), AllocError>
-    ensures { OnOk result (string_bytes out.new ≡ string_bytes out.old ++ item_text (item_seen item.now)) }
+    ensures { OnOk result (string_bytes out.new ≡ string_bytes out.old ++ item_text (new_item_view item.now)) }
 {
     match item {
         NewItem::Value(value) => push_value(out, value),
@@ -95,7 +95,7 @@ fn push_item(out: &mut String, item: &NewItem) -> Result<(), AllocError>
 /// Appends a value as a literal.
 pub fn push_value(out: &mut String, value: &NewValue) -> Result<(), AllocError>
     ensures { OnOk result (string_bytes out.new
-        ≡ string_bytes out.old ++ value_text (new_value (value_seen value.now)) []) }
+        ≡ string_bytes out.old ++ value_text (new_value (new_value_view value.now)) []) }
 {
     match value {
         NewValue::Str(text) => push_literal(out, text.as_str()),
@@ -124,7 +124,7 @@ fn push_list(out: &mut String, list: &[String]) -> Result<(), AllocError>
 /// Appends an inline table: `{ k = v, k = v }`, or `{}` where it has no member.
 fn push_table(out: &mut String, members: &[(String, NewValue)]) -> Result<(), AllocError>
     ensures { OnOk result (string_bytes out.new
-        ≡ string_bytes out.old ++ value_text (new_table (pairs_seen members.now)) []) }
+        ≡ string_bytes out.old ++ value_text (new_table (new_pair_views members.now)) []) }
 {
     let [first, others @ ..] = members else {
         return out.push_str("{}");
@@ -141,7 +141,7 @@ fn push_table(out: &mut String, members: &[(String, NewValue)]) -> Result<(), Al
 /// Appends a pair of an inline table: its key, ` = ` and its literal.
 pub(crate) fn push_pair(out: &mut String, member: &(String, NewValue)) -> Result<(), AllocError>
     ensures { OnOk result (string_bytes out.new
-        ≡ string_bytes out.old ++ new_pair (string_bytes member.now.0) (value_seen member.now.1) []) }
+        ≡ string_bytes out.old ++ new_pair (string_bytes member.now.0) (new_value_view member.now.1) []) }
 {
     push_member(out, member.0.as_str(), &member.1)
 }
@@ -149,7 +149,7 @@ pub(crate) fn push_pair(out: &mut String, member: &(String, NewValue)) -> Result
 /// Appends a pair: a key, ` = ` and a literal.
 pub fn push_member(out: &mut String, name: &str, value: &NewValue) -> Result<(), AllocError>
     ensures { OnOk result (string_bytes out.new
-        ≡ string_bytes out.old ++ new_pair name.now (value_seen value.now) []) }
+        ≡ string_bytes out.old ++ new_pair name.now (new_value_view value.now) []) }
 {
     push_key(out, name)?;
     out.push_str(" = ")?;

@@ -4,12 +4,12 @@ ghost use Rattle.edit_syntax.specs.Grammar.{Text};
 ghost use Rattle.edit_tree.specs.Assertions.{IsDocument, Place, at, key as key_step};
 ghost use Rattle.edit_tree.specs.EditBytes.{is_one_statement};
 ghost use Rattle.edit_document.specs.Forms.{IfDocument};
-ghost use Rattle.edit_document.specs.Items.{place_numbered, place_seen};
+ghost use Rattle.edit_document.specs.Items.{node_place, place_view};
 ghost use Rattle.edit_document.specs.OneStatement.{HasMember, Answers};
 
 use crate::document::Document;
 use crate::place::Step;
-use edit_tree::nodes::Taken;
+use edit_tree::nodes::DefinedBy;
 
 /// The number of statements that name the place of a node, as far as the node alone determines it.
 #[derive(Clone, Copy)]
@@ -25,9 +25,9 @@ pub(crate) enum Statements {
 /// Whether a place is not the root and ends with a key.
 fn is_member(place: &[Step]) -> bool
     ensures yes { result ≡ true → (upper : Place) × (name : List ℕ)
-        × (place_seen place.now ≡ at upper (key_step name)) }
+        × (place_view place.now ≡ at upper (key_step name)) }
     ensures no { result ≡ false → (upper : Place) → (name : List ℕ)
-        → place_seen place.now ≡ at upper (key_step name) → ⊥ }
+        → place_view place.now ≡ at upper (key_step name) → ⊥ }
 {
     let [_upper @ .., last] = place else {
         return false;
@@ -58,18 +58,18 @@ impl Document {
     fn statements(&self, number: usize) -> Statements
         requires { number < length self.now.nodes }
         ensures { (form : Text) → (upper : Place) → (name : List ℕ) → IsDocument self.now.bytes form
-            → place_numbered self.now number ≡ at upper (key_step name)
+            → node_place self.now number ≡ at upper (key_step name)
             → Answers form self.now number result }
     {
         let _text = self.text.as_str();
         let node = &self.nodes[number];
         match node.taken {
-            Taken::Value => Statements::One,
-            Taken::Super => Statements::Other,
-            Taken::Header => Statements::Other,
-            Taken::Array => Statements::Other,
-            Taken::Element => Statements::Other,
-            Taken::Dotted => match self.only_member(number) {
+            DefinedBy::Value => Statements::One,
+            DefinedBy::Super => Statements::Other,
+            DefinedBy::Header => Statements::Other,
+            DefinedBy::Array => Statements::Other,
+            DefinedBy::Element => Statements::Other,
+            DefinedBy::Dotted => match self.only_member(number) {
                 Some(next) => Statements::AsMember(next),
                 None => Statements::Other,
             },
@@ -79,9 +79,9 @@ impl Document {
     /// Whether exactly one pair has a key that leads to or through the place, and no header does. False for
     /// the root and for elements of arrays. Does not allocate.
     pub fn one_statement(&self, place: &[Step]) -> bool
-        ensures { IfDocument self.now.bytes (λ form. result ≡ is_one_statement form (place_seen place.now)) }
+        ensures { IfDocument self.now.bytes (λ form. result ≡ is_one_statement form (place_view place.now)) }
     {
-        self.has_form();
+        self.lemma_form();
         if !is_member(place) {
             return false;
         }

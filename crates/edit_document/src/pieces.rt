@@ -55,14 +55,14 @@ impl Document {
     }
 
     /// For proofs: the pieces joined are the text. Does nothing.
-    pub(crate) fn has_pieces(&self)
+    pub(crate) fn lemma_pieces(&self)
         ensures { (r : ℕ × ℕ) × IsRange self.now.bytes r × (self.now.pieces ≡ pieces_of self.now.bytes r) }
     {
         let _nodes = &self.nodes;
     }
 
     /// The document with another range as that of the last edit.
-    pub(crate) fn with_written(self, written: (usize, usize)) -> Document
+    pub(crate) fn with_last_edit(self, written: (usize, usize)) -> Document
         requires range { IsRange self.bytes written }
         ensures bytes { result.bytes ≡ self.bytes }
         ensures nodes { result.nodes ≡ self.nodes }
@@ -87,6 +87,6 @@ impl Document {
         ensures nodes { result.nodes ≡ self.nodes }
         ensures pieces { result.pieces ≡ other.now.pieces }
     {
-        self.with_written(other.written)
+        self.with_last_edit(other.written)
     }
 }

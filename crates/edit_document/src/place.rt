@@ -2,7 +2,7 @@
 ghost use Rattle.std.specs.Prelude.{◌≡◌, IfErr, IfOk};
 ghost use Rattle.edit_base.specs.Errors.{IsMemory};
 ghost use Rattle.edit_tree.specs.Assertions.{at, key};
-ghost use Rattle.edit_document.specs.Items.{place_seen, step_seen};
+ghost use Rattle.edit_document.specs.Items.{place_view, step_view};
 
 use edit_base::CargoResult;
 use std::alloc::Global;
@@ -18,8 +18,8 @@ pub enum Step {
 pub type Place = Vec<Step>;
 
 /// A copy of a step.
-fn copied_step(alloc: Global, step: &Step) -> CargoResult<Step>
-    ensures ok { IfOk result (λ s. step_seen s ≡ step_seen step.now) }
+fn clone_step(alloc: Global, step: &Step) -> CargoResult<Step>
+    ensures ok { IfOk result (λ s. step_view s ≡ step_view step.now) }
     ensures refused { IfErr result IsMemory }
 {
     match step {
@@ -33,12 +33,12 @@ fn copied_step(alloc: Global, step: &Step) -> CargoResult<Step>
 
 /// A copy of a place.
 pub fn copied_place(alloc: Global, steps: &[Step]) -> CargoResult<Place>
-    ensures ok { IfOk result (λ p. place_seen p.items ≡ place_seen steps.now) }
+    ensures ok { IfOk result (λ p. place_view p.items ≡ place_view steps.now) }
     ensures refused { IfErr result IsMemory }
 {
     let mut place = Vec::with_capacity(alloc, steps.len())?;
     'steps: for step in steps {
-        let copy = copied_step(alloc, step)?;
+        let copy = clone_step(alloc, step)?;
         place.push(copy)?;
     }
     Ok(place)
@@ -46,7 +46,7 @@ pub fn copied_place(alloc: Global, steps: &[Step]) -> CargoResult<Place>
 
 /// The place of a member of the table at a place.
 pub fn member_place(alloc: Global, steps: &[Step], name: &str) -> CargoResult<Place>
-    ensures ok { IfOk result (λ p. place_seen p.items ≡ at (place_seen steps.now) (key name.now)) }
+    ensures ok { IfOk result (λ p. place_view p.items ≡ at (place_view steps.now) (key name.now)) }
     ensures refused { IfErr result IsMemory }
 {
     let mut place = copied_place(alloc, steps)?;

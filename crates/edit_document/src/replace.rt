@@ -3,13 +3,13 @@ ghost use Rattle.std.specs.Prelude.{◌≡◌, ◌≤◌, ◌+◌, IfOk, IfErr, 
 ghost use Rattle.edit_base.specs.Errors.{IsMemory};
 ghost use Rattle.edit_syntax.specs.Grammar.{Text, text as text_of};
 ghost use Rattle.edit_document.specs.Forms.{IfDocument};
-ghost use Rattle.edit_document.specs.Items.{place_seen};
+ghost use Rattle.edit_document.specs.Items.{place_view};
 ghost use Rattle.edit_tree.specs.Literals.{literal_bytes};
 ghost use Rattle.edit_tree.specs.Pieces.{IsAmong, IsSwapped};
-ghost use Rattle.edit_document.specs.Ranges.{one_edit, edits_seen};
-ghost use Rattle.edit_tree.specs.Replaces.{Edits, replaced, written, emptied, AreValues, AreDistinct, AreOutside, Replaces};
+ghost use Rattle.edit_document.specs.Ranges.{one_edit, edit_views};
+ghost use Rattle.edit_tree.specs.Replaces.{Edits, replaced, written, tree_without_below, AreValues, AreDistinct, AreOutside, Replaces};
 ghost use Rattle.edit_tree.specs.Assertions.{Place as PlaceSeen};
-ghost use Rattle.edit_tree.specs.Shown.{tree_of};
+ghost use Rattle.edit_tree.specs.DocumentViews.{tree_of};
 ghost use Rattle.edit_document.specs.Splices.{range_of, spliced, AreInOrder, IsRangeFor, Locates};
 ghost use Rattle.edit_tree.specs.Tree.{is_value_at, view_at};
 
@@ -63,18 +63,18 @@ pub(crate) fn splice_unordered(
 impl Document {
     /// Whether a value is written at a place, as the value of a pair or as an element of an array.
     pub fn is_value(&self, place: &[Step]) -> bool
-        ensures { IfDocument self.now.bytes (λ form. result ≡ is_value_at form (place_seen place.now)) }
+        ensures { IfDocument self.now.bytes (λ form. result ≡ is_value_at form (place_view place.now)) }
     {
         self.value_range(place).is_some()
     }
 
     /// The replacement of the value at a place.
     fn rewrite_of<'a>(&self, place: &[Step], text: &'a str) -> Rewrite<'a>
-        requires { IfDocument self.now.bytes (λ form. is_value_at form (place_seen place.now) ≡ true) }
+        requires { IfDocument self.now.bytes (λ form. is_value_at form (place_view place.now) ≡ true) }
         ensures { IfDocument self.now.bytes (λ form. IsRangeFor form
-            (record { 0 = place_seen place.now; 1 = text.now }) (range_of result)) }
+            (record { 0 = place_view place.now; 1 = text.now }) (range_of result)) }
     {
-        self.has_form();
+        self.lemma_form();
         match self.value_range(place) {
             Some((start, end)) => Rewrite { start, end, text },
             None => unreachable!(),
@@ -89,15 +89,15 @@ impl Document {
         place: &[Step],
         text: &str,
     ) -> CargoResult<(String, (usize, usize))>
-        requires is_value { IfDocument self.now.bytes (λ form. is_value_at form (place_seen place.now)
+        requires is_value { IfDocument self.now.bytes (λ form. is_value_at form (place_view place.now)
             ≡ true) }
         ensures replaces { IfOk result (λ r.
-            Replaces (one_edit (place_seen place.now) text.now) self.now.bytes (string_bytes r.0)) }
+            Replaces (one_edit (place_view place.now) text.now) self.now.bytes (string_bytes r.0)) }
         ensures swapped { IfOk result (λ r.
             IsSwapped self.now.bytes (literal_bytes text.now) (string_bytes r.0) r.1) }
         ensures refused { IfErr result IsMemory }
     {
-        self.has_form();
+        self.lemma_form();
         match self.value_range(place) {
             Some((start, end)) => {
                 let new = splice(alloc, self.as_str(), &[Rewrite { start, end, text }])?;
@@ -112,19 +112,19 @@ impl Document {
     /// The document's text with the values at several places replaced by string literals. The places may be
     /// in any order; none may lie inside another.
     pub fn with_literals(&self, alloc: Global, edits: &[(Place, String)]) -> CargoResult<String>
-        requires values { IfDocument self.now.bytes (λ form. AreValues (edits_seen edits.now) form) }
-        requires distinct { AreDistinct (edits_seen edits.now) }
-        requires outside { AreOutside (edits_seen edits.now) }
+        requires values { IfDocument self.now.bytes (λ form. AreValues (edit_views edits.now) form) }
+        requires distinct { AreDistinct (edit_views edits.now) }
+        requires outside { AreOutside (edit_views edits.now) }
         ensures bytes { IfOk result (λ s. IfDocument self.now.bytes (λ form. string_bytes s ≡ text_of
-            (replaced (edits_seen edits.now) form))) }
+            (replaced (edit_views edits.now) form))) }
         ensures replaces { IfOk result (λ s.
-            Replaces (edits_seen edits.now) self.now.bytes (string_bytes s)) }
+            Replaces (edit_views edits.now) self.now.bytes (string_bytes s)) }
         ensures tree { IfOk result (λ s. IfDocument (string_bytes s) (λ form. (at : PlaceSeen)
-            → let edits = edits_seen edits.now in
-            view_at form at ≡ written edits (emptied edits (tree_of self.now)) at)) }
+            → let edits = edit_views edits.now in
+            view_at form at ≡ written edits (tree_without_below edits (tree_of self.now)) at)) }
         ensures refused { IfErr result IsMemory }
     {
-        self.has_form();
+        self.lemma_form();
         let mut rewrites = Vec::with_capacity(alloc, edits.len())?;
         for edit in edits {
             rewrites.push(self.rewrite_of(&edit.0, edit.1.as_str()))?;
@@ -135,23 +135,23 @@ impl Document {
     /// Replaces the value at a place by a string literal, which becomes a piece of the text. On an error the
     /// document is unchanged.
     pub fn set_literal(&mut self, alloc: Global, place: &[Step], text: &str) -> CargoResult<()>
-        requires is_value { IfDocument self.old.bytes (λ form. is_value_at form (place_seen place.now)
+        requires is_value { IfDocument self.old.bytes (λ form. is_value_at form (place_view place.now)
             ≡ true) }
         ensures bytes { IfOk result (λ _.
-            Replaces (one_edit (place_seen place.now) text.now) self.old.bytes self.new.bytes) }
+            Replaces (one_edit (place_view place.now) text.now) self.old.bytes self.new.bytes) }
         ensures tree { IfOk result (λ _. (at : PlaceSeen)
-            → let edit = one_edit (place_seen place.now) text.now in
-            tree_of self.new at ≡ written edit (emptied edit (tree_of self.old)) at) }
+            → let edit = one_edit (place_view place.now) text.now in
+            tree_of self.new at ≡ written edit (tree_without_below edit (tree_of self.old)) at) }
         ensures piece { IfOk result (λ _. IsAmong (literal_bytes text.now) self.new.pieces) }
         ensures pieces { IfOk result (λ _. length self.new.pieces ≤ length self.old.pieces + 2) }
         ensures err { IfErr result (λ _. self.new ≡ self.old) }
         ensures refused { IfErr result IsMemory }
     {
-        self.has_form();
-        self.has_pieces();
+        self.lemma_form();
+        self.lemma_pieces();
         let (new_text, written) = self.with_literal(alloc, place, text)?;
         let new = Document::read(alloc, new_text.as_str())?;
-        *self = new.with_written(written);
+        *self = new.with_last_edit(written);
         Ok(())
     }
 }

@@ -3,15 +3,15 @@ use Rattle.std.proofs.Common.{◌≡◌, ◌<◌, ◌+◌, ℕ, List, [], ◌∷
 use Rattle.std.specs.List.{flat_map}
 use Rattle.std.proofs.lemmas.List.{append-nil, append_assoc, length-map, length-take-le, map_more}
 use Rattle.std.proofs.lemmas.List.Concat.{flat_map-append}
-use Rattle.edit_fetch.specs.CurlConfig.{CurlOption, config_text, in_a_row, next, option_line, parting, valued}
+use Rattle.edit_fetch.specs.CurlConfig.{CurlOption, config_text, in_a_row, next, option_line, transfer_separator, valued}
 
-parting_later : (n : ℕ) → parting (suc n) ≡ next ∷ []
+parting_later : (n : ℕ) → transfer_separator (suc n) ≡ next ∷ []
 parting_later n =
     let later : eqb (suc n) 0 ≡ false = search rules in
     ap (λ b. cond b [] (next ∷ [])) later
 
 in_a_row_push : (ts : List (List CurlOption)) (t : List CurlOption)
-    → in_a_row (ts ++ t ∷ []) ≡ in_a_row ts ++ (parting (length ts) ++ t)
+    → in_a_row (ts ++ t ∷ []) ≡ in_a_row ts ++ (transfer_separator (length ts) ++ t)
 in_a_row_push [] t = append-nil t
 in_a_row_push (first ∷ ts) t =
     let between : List CurlOption → List CurlOption = λ options. (next ∷ []) ++ options in
@@ -21,10 +21,10 @@ in_a_row_push (first ∷ ts) t =
     ∙ ap (λ p. (first ++ flat_map between ts) ++ (p ++ t)) (sym (parting_later (length ts)))
 
 config_text_push : (ts : List (List CurlOption)) (t : List CurlOption)
-    → config_text (ts ++ t ∷ []) ≡ config_text ts ++ flat_map option_line (parting (length ts) ++ t)
+    → config_text (ts ++ t ∷ []) ≡ config_text ts ++ flat_map option_line (transfer_separator (length ts) ++ t)
 config_text_push ts t =
     ap (flat_map option_line) (in_a_row_push ts t)
-    ∙ flat_map-append option_line (in_a_row ts) (parting (length ts) ++ t)
+    ∙ flat_map-append option_line (in_a_row ts) (transfer_separator (length ts) ++ t)
 
 length-front : {X Y : Type 0} (f : X → Y) (xs : List X) (i : ℕ) → i < length xs
     → length (map f (take i xs)) ≡ i
@@ -33,13 +33,13 @@ length-front f xs i within = length-map (take i xs) f ∙ length-take-le i xs (o
 -- the text for one transfer more
 pub config_text_more : {X : Type 0} (f : X → List CurlOption) (xs : List X) (i : ℕ) (x : X)
     (old new : List ℕ) → i < length xs → x ≡ get_or xs i x
-    → old ≡ config_text (map f (take i xs)) → new ≡ old ++ flat_map option_line (parting i ++ f x)
+    → old ≡ config_text (map f (take i xs)) → new ≡ old ++ flat_map option_line (transfer_separator i ++ f x)
     → new ≡ config_text (map f (take (i + 1) xs))
 config_text_more f xs i x old new within is so_far added =
     let more : map f (take (i + 1) xs) ≡ map f (take i xs) ++ f x ∷ [] = map_more f xs i x within
     ∙ ap (λ y. map f (take i xs) ++ f y ∷ []) (sym is) in
-    added ∙ ap (λ s. s ++ flat_map option_line (parting i ++ f x)) so_far
-    ∙ ap (λ n. config_text (map f (take i xs)) ++ flat_map option_line (parting n ++ f x))
+    added ∙ ap (λ s. s ++ flat_map option_line (transfer_separator i ++ f x)) so_far
+    ∙ ap (λ n. config_text (map f (take i xs)) ++ flat_map option_line (transfer_separator n ++ f x))
     (sym (length-front f xs i within))
     ∙ sym (ap config_text more ∙ config_text_push (map f (take i xs)) (f x))
 

@@ -4,7 +4,7 @@ use Rattle.std.specs.List.{AllZip}
 use Rattle.std.specs.Option.{option_or}
 use Rattle.std.proofs.lemmas.List.{take_more}
 use Rattle.std.proofs.lemmas.Slice.Zip.{all_zipped_more}
-use Rattle.edit_fetch.specs.Settings.{AreReadAt, IsReadAt, Values, first_values, values_or}
+use Rattle.edit_fetch.specs.Settings.{AreReadAt, IsReadAt, Values, first_values, merge_values}
 use Rattle.edit_sources.specs.declared.config.Config.{Config}
 use Rattle.edit_store.specs.Store.{Files}
 
@@ -26,12 +26,12 @@ same_values a b offline retry timeout proxy cainfo =
     ∙ ap (λ x. record b { cainfo = x }) cainfo
 
 first_values_push : (xs : List Values) (v : Values)
-    → first_values (xs ++ v ∷ []) ≡ values_or (first_values xs) v
+    → first_values (xs ++ v ∷ []) ≡ merge_values (first_values xs) v
 first_values_push [] v = same_values _ _ (or_none v.offline) (or_none v.retry) (or_none v.timeout)
     (or_none v.proxy) (or_none v.cainfo)
 first_values_push (x ∷ xs) v =
     let all = first_values xs in
-    ap (values_or x) (first_values_push xs v)
+    ap (merge_values x) (first_values_push xs v)
     ∙ same_values _ _ (or_assoc x.offline all.offline v.offline) (or_assoc x.retry all.retry v.retry)
     (or_assoc x.timeout all.timeout v.timeout) (or_assoc x.proxy all.proxy v.proxy)
     (or_assoc x.cainfo all.cainfo v.cainfo)
@@ -48,7 +48,7 @@ read_none files own = record { later = []; read = tt; first = sym (first_values_
 
 pub read_more : (files : Files) (configs : List Config) (i : ℕ) (c : Config) (own old new v : Values)
     → i < length configs → c ≡ get_or configs i c → ReadSoFar files (take i configs) own old
-    → IsReadAt (string_bytes c.path) (files (string_bytes c.path)) v → new ≡ values_or old v
+    → IsReadAt (string_bytes c.path) (files (string_bytes c.path)) v → new ≡ merge_values old v
     → ReadSoFar files (take (i + 1) configs) own new
 read_more files configs i c own old new v within is so_far read items =
     let R : Config → Values → Type 0
@@ -59,6 +59,6 @@ read_more files configs i c own old new v within is so_far read items =
       later = so_far.later ++ v ∷ [];
       read = subst (λ cs. AllZip R cs (so_far.later ++ v ∷ [])) (sym more)
           (all_zipped_more R (take i configs) so_far.later c v so_far.read read);
-      first = items ∙ ap (λ x. values_or x v) so_far.first
+      first = items ∙ ap (λ x. merge_values x v) so_far.first
           ∙ sym (first_values_push (own ∷ so_far.later) v);
     }

@@ -36,5 +36,5 @@ source_line key address =
     codes "source." ++ (quoted key ++ (codes ".registry = " ++ value_line address))
 
 -- the line that gives a source its placeholder URL
-abbrev pub stand_in_line : AddresslessSource → List ℕ
-stand_in_line s = source_line s.key.now (stand_in_address s.key.now)
+abbrev pub placeholder_line : AddresslessSource → List ℕ
+placeholder_line s = source_line s.key.now (stand_in_address s.key.now)

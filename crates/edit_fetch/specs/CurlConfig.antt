@@ -48,8 +48,8 @@ abbrev pub next : CurlOption
 next = bare (codes "next")
 
 -- the options before a transfer that follows `before` others
-abbrev pub parting : ℕ → List CurlOption
-parting before = if before == 0 then [] else next ∷ []
+abbrev pub transfer_separator : ℕ → List CurlOption
+transfer_separator before = if before == 0 then [] else next ∷ []
 
 -- the options of several transfers, separated by `next`
 abbrev pub in_a_row : List (List CurlOption) → List CurlOption
@@ -60,8 +60,8 @@ abbrev pub config_text : List (List CurlOption) → List ℕ
 config_text transfers = flat_map option_line (in_a_row transfers)
 
 -- the byte that an escape stands for, given the byte after the backslash
-abbrev pub meant : ℕ → ℕ
-meant b =
+abbrev pub unescaped_byte : ℕ → ℕ
+unescaped_byte b =
     if b == 116 then 9
     else if b == 110 then 10
     else if b == 114 then 13
@@ -72,7 +72,7 @@ meant b =
 -- after a backslash
 abbrev pub unquoted : Bool → List ℕ → List ℕ
 unquoted escaped [] = []
-unquoted true (b ∷ bs) = meant b ∷ unquoted false bs
+unquoted true (b ∷ bs) = unescaped_byte b ∷ unquoted false bs
 unquoted false (b ∷ bs) =
     if b == 34 then [] else if b == 92 then unquoted true bs else b ∷ unquoted false bs
 

@@ -1,11 +1,11 @@
 -- The plan of the transfers for lookups, and the files that hold it.
 use Rattle.std.specs.Prelude.{◌≡◌, ◌≢◌, ℕ, ◌+◌, List, [], ◌∷◌, ◌++◌, Option, Some, None, Bool, true, false, ◌||◌, nat_eq, codes, drop, length, MatchBool, MatchOption, option_map, string_bytes, if◌then◌else◌}
 use Rattle.std.specs.List.{ends_with, starts_with}
-use Rattle.edit_lookups.specs.Cached.{cached_path, validator_path}
+use Rattle.edit_lookups.specs.CachePaths.{cached_path, validator_path}
 use Rattle.edit_base.specs.declared.errors.DeviceCall.{DeviceCall}
 use Rattle.edit_base.specs.declared.errors.Error.{Error}
 use Rattle.edit_base.specs.declared.errors.Error.TheVariants.{Device}
-use Rattle.edit_lookups.specs.Lookups.{LookupText, SaysLookups}
+use Rattle.edit_lookups.specs.Lookups.{LookupText, HasLookupLines}
 use Rattle.edit_lookups.specs.Validators.{IsValidatorOf}
 use Rattle.edit_fetch.specs.Tokens.{token_of}
 use Rattle.edit_fetch.specs.Transfers.{requests_text}
@@ -14,8 +14,8 @@ use Rattle.edit_fetch.specs.declared.transfers.Request.{Request}
 use Rattle.edit_store.specs.Store.{Files, raised}
 
 -- whether the entries of a registry are fetched: it uses the sparse protocol
-abbrev pub is_fetched : List ℕ → Bool
-is_fetched address =
+abbrev pub is_sparse_registry : List ℕ → Bool
+is_sparse_registry address =
     starts_with nat_eq address (codes "sparse+http://")
     || starts_with nat_eq address (codes "sparse+https://")
 
@@ -46,26 +46,26 @@ pub record IsRequest (files : Files) (plan : FetchPlan) (number : ℕ) (lookup :
 pub data AreRequests (files : Files) (plan : FetchPlan) : List LookupText → List Request → Type 0 where
   none : AreRequests files plan [] []
   passed : (lookups : List LookupText) (requests : List Request) (lookup : LookupText)
-      → AreRequests files plan lookups requests → is_fetched lookup.address ≡ false
+      → AreRequests files plan lookups requests → is_sparse_registry lookup.address ≡ false
       → AreRequests files plan (lookups ++ lookup ∷ []) requests
   fetched : (lookups : List LookupText) (requests : List Request) (lookup : LookupText) (request : Request)
-      → AreRequests files plan lookups requests → is_fetched lookup.address ≡ true
+      → AreRequests files plan lookups requests → is_sparse_registry lookup.address ≡ true
       → IsRequest files plan (length lookups + 1) lookup request
       → AreRequests files plan (lookups ++ lookup ∷ []) (requests ++ request ∷ [])
 
 -- the requests that are made: none offline
-abbrev pub AreMade : Files → FetchPlan → List LookupText → List Request → Type 0
-AreMade files plan lookups requests =
+abbrev pub AreEffectiveRequests : Files → FetchPlan → List LookupText → List Request → Type 0
+AreEffectiveRequests files plan lookups requests =
     MatchBool plan.settings.now.offline (requests ≡ []) (AreRequests files plan lookups requests)
 
 -- the path of a file in the working folder
-abbrev pub room_file : List ℕ → List ℕ → List ℕ
-room_file room name = room ++ 47 ∷ name
+abbrev pub working_file : List ℕ → List ℕ → List ℕ
+working_file room name = room ++ 47 ∷ name
 
 -- every file is unchanged except `lookups` and `curl` in the working folder
-abbrev pub SameButRoom : List ℕ → Files → Files → Type 0
-SameButRoom room old new =
-    (path : List ℕ) → path ≢ room_file room (codes "lookups") → path ≢ room_file room (codes "curl")
+abbrev pub HasSameFilesElsewhere : List ℕ → Files → Files → Type 0
+HasSameFilesElsewhere room old new =
+    (path : List ℕ) → path ≢ working_file room (codes "lookups") → path ≢ working_file room (codes "curl")
     → new path ≡ old path
 
 -- the device failed in some call, which was counted
@@ -76,16 +76,16 @@ pub record HasFailedIn (before now : ℕ) (e : Error) : Type 0 where
 
 -- the text is not a valid file of lookups
 abbrev pub IsUnreadable : List ℕ → Type 0
-IsUnreadable text = (lookups : List LookupText) → SaysLookups text lookups → ⊥
+IsUnreadable text = (lookups : List LookupText) → HasLookupLines text lookups → ⊥
 
 -- the files that are written for a text of lookups: the text, and the configuration for the requests of its
 -- lookups; `count` is the number of the requests
 pub record IsPlanned (old new : Files) (plan : FetchPlan) (text : List ℕ) (count : ℕ) : Type 0 where
   pub lookups : List LookupText
   pub requests : List Request
-  pub said : SaysLookups text lookups
-  pub made : AreMade old plan lookups requests
-  pub kept : new (room_file plan.room.now (codes "lookups")) ≡ Some text
-  pub written : new (room_file plan.room.now (codes "curl"))
+  pub said : HasLookupLines text lookups
+  pub made : AreEffectiveRequests old plan lookups requests
+  pub kept : new (working_file plan.room.now (codes "lookups")) ≡ Some text
+  pub written : new (working_file plan.room.now (codes "curl"))
       ≡ Some (requests_text plan.settings.now plan.room.now requests)
   pub counted : count ≡ length requests

@@ -35,8 +35,8 @@ abbrev pub no_values : Values
 no_values = record { offline = None; retry = None; timeout = None; proxy = None; cainfo = None }
 
 -- merges two settings: where the first does not set a value, that of the later one counts
-abbrev pub values_or : Values → Values → Values
-values_or first later = record {
+abbrev pub merge_values : Values → Values → Values
+merge_values first later = record {
   offline = option_or first.offline later.offline;
   retry = option_or first.retry later.retry;
   timeout = option_or first.timeout later.timeout;
@@ -47,7 +47,7 @@ values_or first later = record {
 -- merges several settings: of each value the first that is set
 abbrev pub first_values : List Values → Values
 first_values [] = no_values
-first_values (first ∷ later) = values_or first (first_values later)
+first_values (first ∷ later) = merge_values first (first_values later)
 
 -- the effective settings
 pub record Settings : Type 0 where
@@ -107,22 +107,22 @@ pub data IsNoDocument (bytes : List ℕ) : Type 0 where
   not_toml : parse_document bytes ≡ None → IsNoDocument bytes
 
 -- the settings of the bytes of a file; none where they are no TOML document
-pub data SaysValues (base bytes : List ℕ) (values : Values) : Type 0 where
+pub data HasValues (base bytes : List ℕ) (values : Values) : Type 0 where
   document : (members : Members) → IsUtf8 bytes → parse_document bytes ≡ Some members
-      → values ≡ values_in base members → SaysValues base bytes values
-  nothing : IsNoDocument bytes → values ≡ no_values → SaysValues base bytes values
+      → values ≡ values_in base members → HasValues base bytes values
+  nothing : IsNoDocument bytes → values ≡ no_values → HasValues base bytes values
 
 -- the settings of the file at a path; relative paths are joined to the parent of the file's folder
-pub record SaysAt (path bytes : List ℕ) (values : Values) : Type 0 where
+pub record HasValuesAt (path bytes : List ℕ) (values : Values) : Type 0 where
   pub folder : List ℕ
   pub base : List ℕ
   pub own : IsFolderOf path folder
   pub above : IsFolderOf folder base
-  pub says : SaysValues base bytes values
+  pub says : HasValues base bytes values
 
 abbrev pub IsReadAt : List ℕ → Option (List ℕ) → Values → Type 0
 IsReadAt path None values = values ≡ no_values
-IsReadAt path (Some bytes) values = SaysAt path bytes values
+IsReadAt path (Some bytes) values = HasValuesAt path bytes values
 
 -- the settings of the files of these configurations, in their order
 abbrev pub AreReadAt : Files → List Config → List Values → Type 0

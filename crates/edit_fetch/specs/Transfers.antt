@@ -67,15 +67,15 @@ protocol_options url =
     valued (codes "proto") (protocols url) ∷ valued (codes "proto-redir") (protocols url) ∷ []
 
 -- the path of a file of a transfer: its number, and a suffix
-abbrev pub numbered : List ℕ → ℕ → List ℕ → List ℕ
-numbered room number ending = room ++ 47 ∷ (decimal number ++ ending)
+abbrev pub transfer_file : List ℕ → ℕ → List ℕ → List ℕ
+transfer_file room number ending = room ++ 47 ∷ (decimal number ++ ending)
 
 -- the URL of an entry, and the files for the body, the ETag and the outcome
 unfoldable pub file_options : List ℕ → Request → List CurlOption
 file_options room request =
     valued (codes "url") request.url.items
-    ∷ valued (codes "output") (numbered room request.number [])
-    ∷ valued (codes "etag-save") (numbered room request.number (codes ".etag"))
+    ∷ valued (codes "output") (transfer_file room request.number [])
+    ∷ valued (codes "etag-save") (transfer_file room request.number (codes ".etag"))
     ∷ valued (codes "write-out")
     (decimal request.number ++ codes "\t%{response_code}\t%{exitcode}\t%{num_redirects}\t%{errormsg}\n")
     ∷ []

@@ -18,14 +18,14 @@ registry_part name = take (length name - 6 - 17) (drop 17 name)
 abbrev pub is_name : List ℕ → Bool
 is_name part = list_all is_name_byte part
 
-abbrev pub is_between : List ℕ → Bool
-is_between name =
+abbrev pub has_index_affixes : List ℕ → Bool
+has_index_affixes name =
     starts_with nat_eq name (codes "CARGO_REGISTRIES_") && ends_with nat_eq name (codes "_INDEX")
 
 -- whether a variable of this name sets a registry's index
 abbrev pub is_index_variable : List ℕ → Bool
 is_index_variable name =
-    nat_lt 23 (length name) && (is_between name && is_name (registry_part name))
+    nat_lt 23 (length name) && (has_index_affixes name && is_name (registry_part name))
 
 -- a byte of the registry's key: in lower case
 abbrev pub key_byte : ℕ → ℕ

@@ -2,7 +2,7 @@
 ghost use Rattle.std.specs.Prelude.{◌≡◌, ◌++◌, All, IfOk, OnOk, find, option_map, string_bytes};
 ghost use Rattle.std.specs.List.{flat_map};
 ghost use Rattle.std.specs.Str.{bytes_eq};
-ghost use Rattle.edit_fetch.specs.Addressless.{IsAddressless, is_empty_definition, is_empty_source, is_own_key, source_line, stand_in_address, stand_in_line};
+ghost use Rattle.edit_fetch.specs.Addressless.{IsAddressless, is_empty_definition, is_empty_source, is_own_key, source_line, stand_in_address, placeholder_line};
 ghost use Rattle.edit_sources.specs.Configured.{all_definitions, configuration, source_view};
 ghost use Rattle.edit_sources.specs.SourceReplacement.{definitions_of, first};
 
@@ -129,7 +129,7 @@ fn push_source(text: &mut Vec<u8>, key: &[u8], address: &[u8]) -> Result<(), All
 /// The lines of a configuration file that give each of these sources its placeholder URL, so that an upgrade
 /// can be planned and can recognise the crates of these sources.
 pub fn sources_text(alloc: Global, sources: &[AddresslessSource<'_>]) -> Result<Vec<u8>, AllocError>
-    ensures { IfOk result (λ v. v.items ≡ flat_map stand_in_line sources.now) }
+    ensures { IfOk result (λ v. v.items ≡ flat_map placeholder_line sources.now) }
 {
     let mut text = Vec::new(alloc);
     for source in sources {

@@ -1,7 +1,7 @@
 //! Writes a configuration file of curl.
 ghost use Rattle.std.specs.Prelude.{◌≡◌, ◌++◌, OnOk};
 ghost use Rattle.std.specs.List.{flat_map};
-ghost use Rattle.edit_fetch.specs.CurlConfig.{bare, escape_of, option_line, parting, quoted, valued};
+ghost use Rattle.edit_fetch.specs.CurlConfig.{bare, escape_of, option_line, transfer_separator, quoted, valued};
 
 use std::alloc::AllocError;
 
@@ -64,8 +64,8 @@ pub(crate) fn push_valued(text: &mut Vec<u8>, name: &str, value: &[u8]) -> Resul
 }
 
 /// Appends the line `next` between transfers, unless this is the first one.
-pub(crate) fn push_parting(text: &mut Vec<u8>, before: usize) -> Result<(), AllocError>
-    ensures { OnOk result (text.new.items ≡ text.old.items ++ flat_map option_line (parting before)) }
+pub(crate) fn push_separator(text: &mut Vec<u8>, before: usize) -> Result<(), AllocError>
+    ensures { OnOk result (text.new.items ≡ text.old.items ++ flat_map option_line (transfer_separator before)) }
 {
     if before != 0 {
         push_bare(text, "next")?;

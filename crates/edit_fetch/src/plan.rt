@@ -1,10 +1,10 @@
 //! Plans the transfers for lookups and writes the files that curl reads.
 ghost use Rattle.std.specs.Prelude.{◌≡◌, ◌≤◌, ◌⊎◌, Some, true, IfErr, IfOk, MatchOption, OnOk, codes};
 ghost use Rattle.edit_base.specs.Errors.{IsMemory};
-ghost use Rattle.edit_fetch.specs.Plans.{HasFailedIn, IsPlanned, IsUnreadable, SameButRoom, room_file};
+ghost use Rattle.edit_fetch.specs.Plans.{HasFailedIn, IsPlanned, IsUnreadable, HasSameFilesElsewhere, working_file};
 ghost use Rattle.edit_store.specs.Store.{SameBut, SameFiles};
 
-use crate::requests::requests_made;
+use crate::requests::effective_requests;
 use crate::settings::NetSettings;
 use crate::tokens::Token;
 use crate::transfers::requests_text;
@@ -25,7 +25,7 @@ pub struct FetchPlan<'a> {
 }
 
 /// Writes a file of the working folder.
-fn write_in_room<S: Store>(
+fn write_working_file<S: Store>(
     alloc: Global,
     store: &mut S,
     room: &str,
@@ -33,8 +33,8 @@ fn write_in_room<S: Store>(
     bytes: &[u8],
 ) -> CargoResult<()>
     ensures written { OnOk result ((S.view store.old).tells ≡ true
-        → (S.view store.new).file_at (room_file room.now name.now) ≡ Some bytes.now) }
-    ensures others { SameBut (room_file room.now name.now) (S.view store.old).file_at
+        → (S.view store.new).file_at (working_file room.now name.now) ≡ Some bytes.now) }
+    ensures others { SameBut (working_file room.now name.now) (S.view store.old).file_at
         (S.view store.new).file_at }
     ensures tells { (S.view store.new).tells ≡ (S.view store.old).tells }
     ensures later { (S.view store.old).faults ≤ (S.view store.new).faults }
@@ -57,20 +57,20 @@ fn write_plan<S: Store>(
     config: &[u8],
 ) -> CargoResult<()>
     ensures lookups { OnOk result ((S.view store.old).tells ≡ true
-        → (S.view store.new).file_at (room_file room.now (codes "lookups")) ≡ Some text.now) }
+        → (S.view store.new).file_at (working_file room.now (codes "lookups")) ≡ Some text.now) }
     ensures config { OnOk result ((S.view store.old).tells ≡ true
-        → (S.view store.new).file_at (room_file room.now (codes "curl")) ≡ Some config.now) }
-    ensures others { SameButRoom room.now (S.view store.old).file_at (S.view store.new).file_at }
+        → (S.view store.new).file_at (working_file room.now (codes "curl")) ≡ Some config.now) }
+    ensures others { HasSameFilesElsewhere room.now (S.view store.old).file_at (S.view store.new).file_at }
     ensures tells { (S.view store.new).tells ≡ (S.view store.old).tells }
     ensures later { (S.view store.old).faults ≤ (S.view store.new).faults }
     ensures refused { IfErr result (λ e. IsMemory e
         ⊎ HasFailedIn (S.view store.old).faults (S.view store.new).faults e) }
 {
-    match write_in_room(alloc, store, room, "lookups", text) {
+    match write_working_file(alloc, store, room, "lookups", text) {
         Ok(()) => {}
         Err(error) => return Err(error),
     }
-    match write_in_room(alloc, store, room, "curl", config) {
+    match write_working_file(alloc, store, room, "curl", config) {
         Ok(()) => Ok(()),
         Err(error) => Err(error),
     }
@@ -91,7 +91,7 @@ pub fn fetch_plan<S: Store>(
         × SameFiles (S.view store.old).file_at (S.view store.new).file_at)
         (λ n. (S.view store.old).tells ≡ true → IsPlanned (S.view store.old).file_at
         (S.view store.new).file_at plan.now text.now n)) }
-    ensures others { SameButRoom plan.now.room.now (S.view store.old).file_at (S.view store.new).file_at }
+    ensures others { HasSameFilesElsewhere plan.now.room.now (S.view store.old).file_at (S.view store.new).file_at }
     ensures tells { (S.view store.new).tells ≡ (S.view store.old).tells }
     ensures refused { IfErr result (λ e. IsMemory e
         ⊎ HasFailedIn (S.view store.old).faults (S.view store.new).faults e) }
@@ -99,7 +99,7 @@ pub fn fetch_plan<S: Store>(
     let Some(lookups) = read_lookups(alloc, text)? else {
         return Ok(None);
     };
-    let requests = match requests_made(alloc, store, plan, &lookups) {
+    let requests = match effective_requests(alloc, store, plan, &lookups) {
         Ok(requests) => requests,
         Err(error) => return Err(error),
     };
@@ -138,7 +138,7 @@ retry = \"3\"
 ";
 
     #[test]
-    fn one_of_two(rt: HostRuntime) -> Result<(), Fail> {
+    fn plans_only_sparse_lookups(rt: HostRuntime) -> Result<(), Fail> {
         let settings = NetSettings {
             offline: false,
             retry: 3,

@@ -1,8 +1,8 @@
 //! The requests for lookups.
 ghost use Rattle.std.specs.Prelude.{◌≡◌, ◌++◌, ◌⊎◌, true, IfErr, IfOk, map, option_map, string_bytes};
 ghost use Rattle.edit_base.specs.Errors.{IsMemory};
-ghost use Rattle.edit_fetch.specs.Plans.{AreMade, AreRequests, IsCachedEtag, IsRequest, fetched_url, is_fetched, with_slash};
-ghost use Rattle.edit_lookups.specs.Cached.{cached_path, validator_path};
+ghost use Rattle.edit_fetch.specs.Plans.{AreEffectiveRequests, AreRequests, IsCachedEtag, IsRequest, fetched_url, is_sparse_registry, with_slash};
+ghost use Rattle.edit_lookups.specs.CachePaths.{cached_path, validator_path};
 ghost use Rattle.edit_lookups.specs.Lookups.{lookup_text};
 ghost use Rattle.edit_sources.specs.ConfigurationFiles.{HasFailed};
 ghost use Rattle.edit_store.specs.Store.{OnlyReads};
@@ -16,8 +16,8 @@ use edit_store::Store;
 use std::alloc::{AllocError, Global};
 
 /// Whether a registry uses the sparse protocol, so that its entries are fetched.
-fn is_fetched(address: &[u8]) -> bool
-    ensures { result ≡ is_fetched address.now }
+fn is_sparse_registry(address: &[u8]) -> bool
+    ensures { result ≡ is_sparse_registry address.now }
 {
     address.starts_with(b"sparse+http://") || address.starts_with(b"sparse+https://")
 }
@@ -121,7 +121,7 @@ pub(crate) fn requests<'a, S: Store>(
 {
     let mut requests = Vec::new(alloc);
     for (i, lookup) in lookups.iter().enumerate() {
-        if !is_fetched(lookup.address.as_bytes()) {
+        if !is_sparse_registry(lookup.address.as_bytes()) {
             continue;
         }
         match request(alloc, store, plan, i + 1, lookup) {
@@ -133,7 +133,7 @@ pub(crate) fn requests<'a, S: Store>(
 }
 
 /// The requests for lookups; none offline.
-pub(crate) fn requests_made<'a, S: Store>(
+pub(crate) fn effective_requests<'a, S: Store>(
     alloc: Global,
     store: &mut S,
     plan: &FetchPlan<'a>,
@@ -141,7 +141,7 @@ pub(crate) fn requests_made<'a, S: Store>(
 ) -> CargoResult<Vec<Request<'a>>>
     ensures store { OnlyReads (S.view store.old) (S.view store.new) }
     ensures requests { IfOk result (λ v. (S.view store.old).tells ≡ true
-        → AreMade (S.view store.old).file_at plan.now (map lookup_text lookups.now) v.items) }
+        → AreEffectiveRequests (S.view store.old).file_at plan.now (map lookup_text lookups.now) v.items) }
     ensures refused { IfErr result (λ e. IsMemory e
         ⊎ HasFailed (S.view store.old).faults (S.view store.new).faults e) }
 {

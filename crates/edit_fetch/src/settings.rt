@@ -1,7 +1,7 @@
 //! The network settings of cargo that affect transfers.
 ghost use Rattle.std.specs.Prelude.{◌≡◌, ◌⊎◌, true, IfErr, IfOk};
 ghost use Rattle.edit_base.specs.Errors.{IsMemory};
-ghost use Rattle.edit_fetch.specs.Settings.{AreSettings, no_values, settings_of, settings_view, values_of, values_or};
+ghost use Rattle.edit_fetch.specs.Settings.{AreSettings, no_values, settings_of, settings_view, values_of, merge_values};
 ghost use Rattle.edit_sources.specs.ConfigurationFiles.{HasFailed};
 ghost use Rattle.edit_store.specs.Store.{OnlyReads};
 
@@ -54,8 +54,8 @@ fn no_values() -> NetValues
 }
 
 /// Merges two settings: where `first` does not set a value, that of `later` counts.
-fn values_or(first: NetValues, later: NetValues) -> NetValues
-    ensures { values_of result ≡ values_or (values_of first) (values_of later) }
+fn merge_values(first: NetValues, later: NetValues) -> NetValues
+    ensures { values_of result ≡ merge_values (values_of first) (values_of later) }
 {
     NetValues {
         offline: first.offline.or(later.offline),
@@ -100,7 +100,7 @@ pub fn net_settings<S: Store>(
             Ok(later) => later,
             Err(error) => return Err(error),
         };
-        values = values_or(values, later);
+        values = merge_values(values, later);
     }
     Ok(settings_of(values))
 }
@@ -115,7 +115,7 @@ mod tests {
     const CONFIG: &[u8] = b"[net]\nretry = 7\n[http]\ntimeout = 5\ncainfo = \"ca.pem\"\n";
 
     #[test]
-    fn of_both(rt: HostRuntime) -> Result<(), Fail> {
+    fn environment_before_file(rt: HostRuntime) -> Result<(), Fail> {
         let mut store = MemoryStore::new(rt.alloc());
         store.write(rt.alloc(), "/w/.cargo/config.toml", CONFIG)?;
         let configs = read_configs(rt.alloc(), &mut store, "/w/Cargo.toml", None)?;

@@ -81,7 +81,7 @@ mod tests {
     use std::test::Fail;
 
     #[test]
-    fn of_a_registry(rt: HostRuntime) -> Result<(), Fail> {
+    fn names_token_variable(rt: HostRuntime) -> Result<(), Fail> {
         let variable = token_variable(rt.alloc(), "my-registry")?.ok_or("no variable")?;
         assert_eq!(rt; variable.as_str(), "CARGO_REGISTRIES_MY_REGISTRY_TOKEN");
         let address = registry_address(rt.alloc(), "HTTPS://Index.Example")?.ok_or("no address")?;

@@ -2,9 +2,9 @@
 ghost use Rattle.std.specs.Prelude.{◌≡◌, ◌==◌, ◌++◌, true, IfOk, IsSome, OnOk, decimal, map, option_map, string_bytes};
 ghost use Rattle.std.specs.List.{flat_map, list_any};
 ghost use Rattle.edit_fetch.specs.CurlConfig.{in_a_row, option_line, options_in, without_nuls};
-ghost use Rattle.edit_fetch.specs.Transfers.{begins_at_loopback, common_options, etag_options, file_options, has_either, header_text, is_header_text, is_https, is_loopback, is_secure, named_options, numbered, protocol_options, protocols, requests_text, sent_etag, sent_token, time_options, token_options, transfer_options};
+ghost use Rattle.edit_fetch.specs.Transfers.{begins_at_loopback, common_options, etag_options, file_options, has_either, header_text, is_header_text, is_https, is_loopback, is_secure, named_options, transfer_file, protocol_options, protocols, requests_text, sent_etag, sent_token, time_options, token_options, transfer_options};
 
-use crate::curl_config::{push_bare, push_parting, push_valued};
+use crate::curl_config::{push_bare, push_separator, push_valued};
 use crate::settings::NetSettings;
 use std::alloc::{AllocError, Global};
 
@@ -144,8 +144,13 @@ fn push_protocols(text: &mut Vec<u8>, url: &[u8]) -> Result<(), AllocError>
 }
 
 /// The path of a file of a transfer.
-fn numbered(alloc: Global, room: &str, number: usize, ending: &str) -> Result<String, AllocError>
-    ensures { IfOk result (λ s. string_bytes s ≡ numbered room.now number ending.now) }
+fn transfer_file(
+    alloc: Global,
+    room: &str,
+    number: usize,
+    ending: &str,
+) -> Result<String, AllocError>
+    ensures { IfOk result (λ s. string_bytes s ≡ transfer_file room.now number ending.now) }
 {
     format!(in alloc; "{room}/{number}{ending}")
 }
@@ -162,8 +167,8 @@ fn push_files(
         ≡ text.old.items ++ flat_map option_line (file_options room.now request.now)) }
 {
     let number = request.number;
-    let body = numbered(alloc, room, number, "")?;
-    let etag = numbered(alloc, room, number, ".etag")?;
+    let body = transfer_file(alloc, room, number, "")?;
+    let etag = transfer_file(alloc, room, number, ".etag")?;
     let outcome = format!(in alloc;
         "{number}\t%{{response_code}}\t%{{exitcode}}\t%{{num_redirects}}\t%{{errormsg}}\n"
     )?;
@@ -249,7 +254,7 @@ fn transfers_text(
 {
     let mut text = Vec::new(alloc);
     for (i, request) in requests.iter().enumerate() {
-        push_parting(&mut text, i)?;
+        push_separator(&mut text, i)?;
         push_transfer(alloc, &mut text, settings, room, request)?;
     }
     Ok(text)

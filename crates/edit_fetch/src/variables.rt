@@ -1,7 +1,7 @@
 //! Registries that environment variables define, as lines of a configuration file of cargo.
 ghost use Rattle.std.specs.Prelude.{◌≡◌, ◌++◌, ◌<◌, ◌==◌, IfOk, OnOk, length, map};
 ghost use Rattle.std.specs.List.{flat_map, list_any};
-ghost use Rattle.edit_fetch.specs.Variables.{dashed, dashed_byte, default_registry_text, is_between, is_index_variable, is_name, is_name_byte, key_byte, registry_key, registry_line, registry_lines, registry_part, variable_lines, variable_texts};
+ghost use Rattle.edit_fetch.specs.Variables.{dashed, dashed_byte, default_registry_text, has_index_affixes, is_index_variable, is_name, is_name_byte, key_byte, registry_key, registry_line, registry_lines, registry_part, variable_lines, variable_texts};
 
 use crate::toml_text::push_value_line;
 use edit_sources::registry::CRATES_IO_INDEX;
@@ -31,8 +31,8 @@ fn is_name(part: &[u8]) -> bool
 }
 
 /// Whether a name begins with `CARGO_REGISTRIES_` and ends with `_INDEX`.
-fn is_between(name: &[u8]) -> bool
-    ensures { result ≡ is_between name.now }
+fn has_index_affixes(name: &[u8]) -> bool
+    ensures { result ≡ has_index_affixes name.now }
 {
     name.starts_with(b"CARGO_REGISTRIES_") && name.ends_with(b"_INDEX")
 }
@@ -41,7 +41,7 @@ fn is_between(name: &[u8]) -> bool
 fn is_index_variable(name: &[u8]) -> bool
     ensures { result ≡ is_index_variable name.now }
 {
-    23 < name.len() && is_between(name) && is_name(registry_part(name))
+    23 < name.len() && has_index_affixes(name) && is_name(registry_part(name))
 }
 
 /// Maps a byte of a variable's name to that of a key: in lower case.

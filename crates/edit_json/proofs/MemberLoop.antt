@@ -1,4 +1,4 @@
--- A loop over the members of an object: what was read so far, and what is left to read.
+-- A loop over the members of an object: the members that were read so far, and the tokens that are left.
 use Rattle.std.proofs.Common.{◌≡◌, ℕ, ◌-◌, ◌<◌, ◌≤◌, List, length, Some, None, refl, ◌∙◌, arith}
 use Rattle.json.specs.Token.{Token}
 use Rattle.json.specs.Json.{members, read_key, value}
@@ -8,7 +8,7 @@ use Rattle.serde_json.specs.Read.{converted, of_members}
 use Rattle.edit_json.specs.Reads.{ReadsMembers, ReadsValue}
 use Rattle.edit_json.proofs.GrammarLemmas.{member_read, members_over}
 
--- the members that a reader passed on its way from the first tokens to the second have this property
+-- the members between the first tokens and the second have this property
 abbrev pub HasRead : ℕ → (Members → Type 0) → List Token → List Token → Type 0
 HasRead depth Shows first reader =
     (n : ℕ) × (length reader ≤ n) × (old : Members)
@@ -19,10 +19,11 @@ module _ (depth : ℕ) (Shows : Members → Type 0) (first : List Token) where
   pub begin : Shows no_members → HasRead depth Shows first first
   begin none = (length first, omega arith, no_members, refl, omega arith, none)
 
-  -- a member more, after which another property holds
+  -- one more member, after which another property holds
   pub member-more : (reader behind rest : List Token) (key : List ℕ) (d : Data) (After : Members → Type 0)
       → HasRead depth Shows first reader
-      → read_key reader ≡ Some (Some key, behind) → ReadsValue depth behind d rest → length rest < length behind
+      → read_key reader ≡ Some (Some key, behind) → ReadsValue depth behind d rest
+      → length rest < length behind
       → ((ms : Members) → Shows ms → After (put key d ms)) → HasRead depth After first rest
   member-more reader behind rest key d After so_far named reads less shows =
       let shorter = read_key-shorter reader (Some key) behind named in (
@@ -35,7 +36,8 @@ module _ (depth : ℕ) (Shows : Members → Type 0) (first : List Token) where
       )
 
   -- the closing brace
-  pub over : (reader rest : List Token) → HasRead depth Shows first reader → read_key reader ≡ Some (None, rest)
+  pub over : (reader rest : List Token) → HasRead depth Shows first reader
+      → read_key reader ≡ Some (None, rest)
       → (ms : Members) × ReadsMembers depth first ms rest × Shows ms
   over reader rest so_far ended = (
     so_far.2,

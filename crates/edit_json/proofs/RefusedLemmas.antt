@@ -149,7 +149,8 @@ module _ (depth : ℕ) (first : List Token) where
   pub member_refused : (reader behind : List Token) (k : List ℕ) → LeavesMembers depth first reader
       → read_key reader ≡ Some (Some k, behind)
       → ((j : json.Json) (rest : List Token) → value depth behind ≡ Some (j, rest) → HasSmallNumbers j → ⊥)
-      → (ms : json.Members) (after : List Token) → members (value depth) (length first) first ≡ Some (ms, after)
+      → (ms : json.Members) (after : List Token)
+      → members (value depth) (length first) first ≡ Some (ms, after)
       → HoldSmallNumbers ms → ⊥
   member_refused reader behind k leaves key refused ms after e small =
       let left = leaves ms after e small in
@@ -158,7 +159,8 @@ module _ (depth : ℕ) (first : List Token) where
 
   -- there is no key
   pub no_key : (reader : List Token) → LeavesMembers depth first reader → read_key reader ≡ None
-      → (ms : json.Members) (after : List Token) → members (value depth) (length first) first ≡ Some (ms, after)
+      → (ms : json.Members) (after : List Token)
+      → members (value depth) (length first) first ≡ Some (ms, after)
       → HoldSmallNumbers ms → ⊥
   no_key reader leaves none ms after e small =
       let left = leaves ms after e small in

@@ -1,4 +1,4 @@
--- The packages that a lock file has gained, by name.
+-- The packages that only the current lock file has, by name.
 use Rattle.std.proofs.Common.{◌≡◌, ◌∷◌, ◌++◌, [], List, ℕ, Bool, true, false, cond, Option, Some, None, map, not, ap, refl, ◌∙◌, string_bytes}
 use Rattle.std.specs.Prelude.{◌||◌, ◌&&◌, Vec}
 use Rattle.std.specs.List.{filter}
@@ -10,9 +10,9 @@ use Rattle.std.proofs.lemmas.List.{map-append}
 use Rattle.std.proofs.lemmas.List.Elements.{filter-append}
 use Rattle.std.proofs.lemmas.List.Folds.{list_any-append}
 use Rattle.edit_lock.specs.LockFile.{Package, spec_of}
-use Rattle.edit_lock.specs.Standing.{changes, locks}
-use Rattle.edit_lock.specs.Views.{gained_seen, pair_of, pairs_seen}
-use Rattle.edit_lock.specs.declared.index.Gained.{Gained}
+use Rattle.edit_lock.specs.AdaptedCalls.{changes, locks}
+use Rattle.edit_lock.specs.Views.{new_packages_view, pair_of, new_package_pairs}
+use Rattle.edit_lock.specs.declared.index.NewPackage.{NewPackage}
 
 either : (a b : Bool) → (a || (b || false)) ≡ cond b true a
 either true true = refl
@@ -45,27 +45,27 @@ gained-more had packages p =
     ∙ ap (λ (e : List (List ℕ × List ℕ)). map pair_of (filter t packages) ++ e)
     (ap (map pair_of) (filter-one t p) ∙ new-one (had (spec_of p)) p)
 
--- what is found at a name
-pub found-seen : (found : Option (Vec Gained Global))
-    → option_map_or (λ g. gained_seen g.items) found [] ≡ gained_seen (option_map_or (λ g. g.items) found [])
+-- the result of a lookup of a name
+pub found-seen : (found : Option (Vec NewPackage Global))
+    → option_map_or (λ g. new_packages_view g.items) found [] ≡ new_packages_view (option_map_or (λ g. g.items) found [])
 found-seen None = refl
 found-seen (Some g) = refl
 
 -- the packages of a name, as pairs
-pair-step : (g : Gained) (xs : List Gained) (ys : List (List ℕ × List ℕ)) (b : Bool)
-    → gained_seen xs ≡ map (λ e. e.1) ys
-    → gained_seen (cond b (g ∷ xs) xs)
+pair-step : (g : NewPackage) (xs : List NewPackage) (ys : List (List ℕ × List ℕ)) (b : Bool)
+    → new_packages_view xs ≡ map (λ e. e.1) ys
+    → new_packages_view (cond b (g ∷ xs) xs)
     ≡ map (λ e. e.1) (cond b ((string_bytes g.name, string_bytes g.spec) ∷ ys) ys)
 pair-step g xs ys true e = ap (λ (l : List (List ℕ)). string_bytes g.spec ∷ l) e
 pair-step g xs ys false e = e
 
-pub of-pairs : (q : List ℕ) (gained : List Gained)
-    → gained_seen (filter (λ g. bytes_eq q (string_bytes g.name)) gained)
-    ≡ map (λ e. e.1) (filter (λ e. bytes_eq q e.0) (pairs_seen gained))
+pub of-pairs : (q : List ℕ) (gained : List NewPackage)
+    → new_packages_view (filter (λ g. bytes_eq q (string_bytes g.name)) gained)
+    ≡ map (λ e. e.1) (filter (λ e. bytes_eq q e.0) (new_package_pairs gained))
 of-pairs q [] = refl
 of-pairs q (g ∷ gs) =
     pair-step g (filter (λ g. bytes_eq q (string_bytes g.name)) gs)
-    (filter (λ e. bytes_eq q e.0) (pairs_seen gs)) (bytes_eq q (string_bytes g.name)) (of-pairs q gs)
+    (filter (λ e. bytes_eq q e.0) (new_package_pairs gs)) (bytes_eq q (string_bytes g.name)) (of-pairs q gs)
 
 -- the packages of a name, from pairs
 named-step : (p : Package) (ys : List (List ℕ × List ℕ)) (zs : List Package) (b : Bool)
@@ -95,7 +95,7 @@ of-packages q t [] = refl
 of-packages q t (p ∷ ps) =
     package-step q p (filter t ps) (filter (λ p. bytes_eq q p.name && t p) ps) (t p) (of-packages q t ps)
 
--- two tests of packages that answer alike leave the same ones
+-- two tests that agree on every package filter the same packages
 same-filter : (name : List ℕ) (f g : List ℕ → Bool) → ((q : List ℕ) → f q ≡ g q) → (packages : List Package)
     → map spec_of (filter (λ p. bytes_eq name p.name && not (f (spec_of p))) packages)
     ≡ map spec_of (filter (λ p. bytes_eq name p.name && not (g (spec_of p))) packages)
@@ -104,20 +104,20 @@ same-filter name f g same packages =
     (λ p. bytes_eq name p.name && not (h (spec_of p))) packages))
     (fun_ext same)
 
--- what is found at a name is what the name has gained
+-- the result of a lookup of a name is the new packages of that name
 pub gained-at : (before now : List Package) (had : List ℕ → Bool) → ((q : List ℕ) → had q ≡ locks before q)
-    → (gained : List Gained) (found : List ℕ → Option (Vec Gained Global))
-    → pairs_seen gained ≡ map pair_of (filter (λ p. not (had (spec_of p))) now)
+    → (gained : List NewPackage) (found : List ℕ → Option (Vec NewPackage Global))
+    → new_package_pairs gained ≡ map pair_of (filter (λ p. not (had (spec_of p))) now)
     → ((q : List ℕ) → option_map_or (λ g. g.items) (found q) []
     ≡ filter (λ g. bytes_eq q (string_bytes g.name)) gained)
-    → (name : List ℕ) → option_map_or (λ g. gained_seen g.items) (found name) []
+    → (name : List ℕ) → option_map_or (λ g. new_packages_view g.items) (found name) []
     ≡ map spec_of (filter (λ p. bytes_eq name p.name && not (locks before (spec_of p))) now)
 gained-at before now had same gained found all groups name =
-    found-seen (found name) ∙ ap gained_seen (groups name) ∙ of-pairs name gained
+    found-seen (found name) ∙ ap new_packages_view (groups name) ∙ of-pairs name gained
     ∙ ap (λ (es : List (List ℕ × List ℕ)). map (λ e. e.1) (filter (λ e. bytes_eq name e.0) es)) all
     ∙ of-packages name (λ p. not (had (spec_of p))) now ∙ same-filter name had (locks before) same now
 
--- what an index says, from what it says of each text
+-- the model of an index, from its result for each text
 pub same-changes : (before now : List Package) (had has : List ℕ → Bool) (gained : List ℕ → List (List ℕ))
     → ((q : List ℕ) → had q ≡ locks before q) → ((q : List ℕ) → has q ≡ locks now q)
     → ((name : List ℕ) → gained name

@@ -1,4 +1,4 @@
--- Lists, one element after another.
+-- Facts about lists, one element at a time.
 use Rattle.std.proofs.Common.{◌≡◌, ◌∷◌, ◌++◌, ◌<◌, ◌+◌, length, get_or, take, drop, [], List, ℕ, Bool, map, ap, sym, refl, ◌∙◌}
 use Rattle.std.specs.Prelude.{◌||◌}
 use Rattle.std.specs.List.{list_any}

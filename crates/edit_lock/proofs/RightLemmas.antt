@@ -1,4 +1,4 @@
--- What becomes of a call names packages that are locked, and no other.
+-- An adapted call names only packages that are locked.
 use Rattle.std.proofs.Common.{◌≡◌, ◌∷◌, ◌++◌, [], List, ℕ, Bool, true, false, cond, not, refl, sym, codes, true≢false}
 use Rattle.std.specs.Prelude.{◌||◌, ◌&&◌, All}
 use Rattle.std.specs.List.{filter, flat_map}
@@ -6,9 +6,9 @@ use Rattle.std.specs.Str.{bytes_eq}
 use Rattle.std.proofs.lemmas.List.Elements.{All-cons, All-filter, All-head, All-map, All-nil, All-tail, All-weaker}
 use Rattle.std.proofs.lemmas.Slice.Eq.{bytes_eq-Decides}
 use Rattle.edit_lock.specs.LockFile.{Package, spec_of}
-use Rattle.edit_lock.specs.Right.{IsRight, NamesLocked}
-use Rattle.edit_lock.specs.Right.NamesLocked.{locked, no_arguments, other}
-use Rattle.edit_lock.specs.Standing.{Call, changes, is_left_out, locks, name_in, names_package, package_arguments, standing_argument, standing_arguments, standing_calls, standing_specs}
+use Rattle.edit_lock.specs.ValidCalls.{IsValidCall, NamesLocked}
+use Rattle.edit_lock.specs.ValidCalls.NamesLocked.{locked, no_arguments, other}
+use Rattle.edit_lock.specs.AdaptedCalls.{Call, changes, is_dropped_argument, locks, name_in, names_package, package_arguments, adapted_argument, adapted_arguments, standing_calls, replacement_specs}
 
 -- ---- packages that are locked
 
@@ -30,7 +30,7 @@ all-locked (p ∷ ps) =
     (All-weaker (λ x. locks ps (spec_of x) ≡ true) (λ x. locks (p ∷ ps) (spec_of x) ≡ true)
     (λ x e. later (bytes_eq (spec_of p) (spec_of x)) (locks ps (spec_of x)) e) ps (all-locked ps))
 
--- so what a name has gained is
+-- each new package of a name is locked
 gained-locked : (before now : List Package) (name : List ℕ)
     → All (λ s. locks now s ≡ true) ((changes before now).gained name)
 gained-locked before now name =
@@ -45,16 +45,16 @@ standing-step P spec gained true had here all = All-cons P spec [] (here refl) (
 standing-step P spec gained false true here all = all
 standing-step P spec gained false false here all = All-nil P
 
--- and what stands for a package
+-- each replacement of a package is locked
 specs-locked : (before now : List Package) (spec : List ℕ)
-    → All (λ s. locks now s ≡ true) (standing_specs (changes before now) spec)
+    → All (λ s. locks now s ≡ true) (replacement_specs (changes before now) spec)
 specs-locked before now spec =
     standing-step (λ s. locks now s ≡ true) spec ((changes before now).gained (name_in spec)) (locks now spec)
     (locks before spec) (λ e. e) (gained-locked before now (name_in spec))
 
 -- ---- arguments
 
--- arguments behind others
+-- arguments after others
 named-append : (packages : List Package) (xs ys : Call) → NamesLocked packages xs → NamesLocked packages ys
     → NamesLocked packages (xs ++ ys)
 named-append packages xs ys no_arguments h = h
@@ -71,7 +71,7 @@ packages-named packages (s ∷ ss) all =
     locked s (flat_map package_arguments ss) (All-head (λ s. locks packages s ≡ true) s ss all)
     (packages-named packages ss (All-tail (λ s. locks packages s ≡ true) s ss all))
 
--- an argument that stands by itself
+-- an argument other than `--package`
 other-named : (packages : List Package) (argument : List ℕ) (is offline : Bool)
     → bytes_eq argument (codes "--package") ≡ is
     → NamesLocked packages (cond (is || offline) [] (argument ∷ []))
@@ -85,35 +85,35 @@ argument-step packages xs ys true a b = a
 argument-step packages xs ys false a b = b
 
 argument-named : (before now : List Package) (offline : Bool) (previous argument : List ℕ)
-    → NamesLocked now (standing_argument (changes before now) offline previous argument)
+    → NamesLocked now (adapted_argument (changes before now) offline previous argument)
 argument-named before now offline previous argument =
-    argument-step now (flat_map package_arguments (standing_specs (changes before now) argument))
-    (cond (is_left_out offline argument) [] (argument ∷ [])) (bytes_eq previous (codes "--package"))
-    (packages-named now (standing_specs (changes before now) argument) (specs-locked before now argument))
+    argument-step now (flat_map package_arguments (replacement_specs (changes before now) argument))
+    (cond (is_dropped_argument offline argument) [] (argument ∷ [])) (bytes_eq previous (codes "--package"))
+    (packages-named now (replacement_specs (changes before now) argument) (specs-locked before now argument))
     (other-named now argument (bytes_eq argument (codes "--package"))
     (bytes_eq argument (codes "--offline") && not offline) refl)
 
 arguments-named : (before now : List Package) (offline : Bool) (previous : List ℕ) (call : Call)
-    → NamesLocked now (standing_arguments (changes before now) offline previous call)
+    → NamesLocked now (adapted_arguments (changes before now) offline previous call)
 arguments-named before now offline previous [] = no_arguments
 arguments-named before now offline previous (argument ∷ rest) =
-    named-append now (standing_argument (changes before now) offline previous argument)
-    (standing_arguments (changes before now) offline argument rest)
+    named-append now (adapted_argument (changes before now) offline previous argument)
+    (adapted_arguments (changes before now) offline argument rest)
     (argument-named before now offline previous argument) (arguments-named before now offline argument rest)
 
 -- ---- calls
 
 call-step : (packages : List Package) (call : Call) (calls : List Call) (names : Bool)
-    → names_package call ≡ names → NamesLocked packages call → All (IsRight packages) calls
-    → All (IsRight packages) (cond names (call ∷ calls) calls)
+    → names_package call ≡ names → NamesLocked packages call → All (IsValidCall packages) calls
+    → All (IsValidCall packages) (cond names (call ∷ calls) calls)
 call-step packages call calls true e named all =
-    All-cons (IsRight packages) call calls (record { some = e; locked = named }) all
+    All-cons (IsValidCall packages) call calls (record { some = e; locked = named }) all
 call-step packages call calls false e named all = all
 
 pub calls-right : (before now : List Package) (offline : Bool) (calls : List Call)
-    → All (IsRight now) (standing_calls (changes before now) offline calls)
-calls-right before now offline [] = All-nil (IsRight now)
+    → All (IsValidCall now) (standing_calls (changes before now) offline calls)
+calls-right before now offline [] = All-nil (IsValidCall now)
 calls-right before now offline (call ∷ calls) =
-    let own = standing_arguments (changes before now) offline [] call in
+    let own = adapted_arguments (changes before now) offline [] call in
     call-step now own (standing_calls (changes before now) offline calls) (names_package own) refl
     (arguments-named before now offline [] call) (calls-right before now offline calls)

@@ -1,5 +1,5 @@
 pub mod CallsFile
 pub mod LockFile
-pub mod Right
-pub mod Standing
+pub mod ValidCalls
+pub mod AdaptedCalls
 pub mod Views

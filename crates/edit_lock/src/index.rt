@@ -6,8 +6,8 @@ ghost use Rattle.std.specs.List.{filter};
 ghost use Rattle.std.specs.Option.{option_map_or};
 ghost use Rattle.std.specs.Str.{bytes_eq};
 ghost use Rattle.edit_lock.specs.LockFile.{spec_of};
-ghost use Rattle.edit_lock.specs.Standing.{changes, locks};
-ghost use Rattle.edit_lock.specs.Views.{changes_seen, package_seen, packages_seen, pair_of, pairs_seen};
+ghost use Rattle.edit_lock.specs.AdaptedCalls.{changes, locks};
+ghost use Rattle.edit_lock.specs.Views.{changes_view, locked_package_view, lock_view, pair_of, new_package_pairs};
 
 use crate::lock::{Lock, LockedPackage};
 use std::alloc::{AllocError, Global};
@@ -15,7 +15,7 @@ use std::collections::{BTreeMap, BTreeSet};
 
 /// A package that is locked and was not.
 #[derive(Drop)]
-pub(crate) struct Gained {
+pub(crate) struct NewPackage {
     pub(crate) name: String,
     /// The package as `NAME@VERSION`.
     pub(crate) spec: String,
@@ -29,12 +29,12 @@ pub(crate) struct Index {
     /// The present packages.
     pub(crate) has: BTreeSet<String>,
     /// The packages that only the present file has, by name.
-    pub(crate) gained: BTreeMap<String, Vec<Gained>>,
+    pub(crate) gained: BTreeMap<String, Vec<NewPackage>>,
 }
 
 /// A package as `NAME@VERSION`.
 fn spec_of(alloc: Global, locked: &LockedPackage) -> Result<String, AllocError>
-    ensures { IfOk result (λ s. string_bytes s ≡ spec_of (package_seen locked.now)) }
+    ensures { IfOk result (λ s. string_bytes s ≡ spec_of (locked_package_view locked.now)) }
 {
     let mut spec = String::from_str(alloc, locked.name.as_str())?;
     spec.push_str("@")?;
@@ -54,7 +54,7 @@ fn add_spec(specs: &mut BTreeSet<String>, spec: String) -> Result<(), AllocError
 /// The packages of a lock file.
 fn specs_of(alloc: Global, packages: &[LockedPackage]) -> Result<BTreeSet<String>, AllocError>
     ensures { IfOk result (λ s. (q : List ℕ)
-        → contains_text s q ≡ locks (map package_seen packages.now) q) }
+        → contains_text s q ≡ locks (map locked_package_view packages.now) q) }
 {
     let mut specs = BTreeSet::new(alloc);
     'packages: for package in packages {
@@ -65,22 +65,22 @@ fn specs_of(alloc: Global, packages: &[LockedPackage]) -> Result<BTreeSet<String
 }
 
 /// Adds a package, where it was not locked.
-fn add_gained(
+fn add_new_package(
     alloc: Global,
     had: &BTreeSet<String>,
     locked: &LockedPackage,
-    gained: &mut Vec<Gained>,
+    gained: &mut Vec<NewPackage>,
 ) -> Result<(), AllocError>
-    ensures { OnOk result (pairs_seen gained.new.items ≡ pairs_seen gained.old.items
-        ++ (if contains_text had.now (spec_of (package_seen locked.now)) then []
-        else pair_of (package_seen locked.now) ∷ [])) }
+    ensures { OnOk result (new_package_pairs gained.new.items ≡ new_package_pairs gained.old.items
+        ++ (if contains_text had.now (spec_of (locked_package_view locked.now)) then []
+        else pair_of (locked_package_view locked.now) ∷ [])) }
 {
     let spec = spec_of(alloc, locked)?;
     if had.contains(spec.as_str()) {
         return Ok(());
     }
     let name = String::from_str(alloc, locked.name.as_str())?;
-    gained.push(Gained { name, spec })?;
+    gained.push(NewPackage { name, spec })?;
     Ok(())
 }
 
@@ -89,24 +89,27 @@ fn new_packages(
     alloc: Global,
     had: &BTreeSet<String>,
     packages: &[LockedPackage],
-) -> Result<Vec<Gained>, AllocError>
-    ensures { IfOk result (λ v. pairs_seen v.items
+) -> Result<Vec<NewPackage>, AllocError>
+    ensures { IfOk result (λ v. new_package_pairs v.items
         ≡ map pair_of (filter (λ p. not (contains_text had.now (spec_of p)))
-        (map package_seen packages.now))) }
+        (map locked_package_view packages.now))) }
 {
     let mut gained = Vec::new(alloc);
     'packages: for package in packages {
-        add_gained(alloc, had, package, &mut gained)?;
+        add_new_package(alloc, had, package, &mut gained)?;
     }
     Ok(gained)
 }
 
 /// The packages by name, those of one name in their order.
-fn by_name(alloc: Global, gained: Vec<Gained>) -> Result<BTreeMap<String, Vec<Gained>>, AllocError>
+fn by_name(
+    alloc: Global,
+    gained: Vec<NewPackage>,
+) -> Result<BTreeMap<String, Vec<NewPackage>>, AllocError>
     ensures { IfOk result (λ m. (q : List ℕ) → option_map_or (λ g. g.items) (get_by_text m q) []
         ≡ filter (λ g. bytes_eq q (string_bytes g.name)) gained.items) }
 {
-    let mut groups: BTreeMap<String, Vec<Gained>> = BTreeMap::new(alloc);
+    let mut groups: BTreeMap<String, Vec<NewPackage>> = BTreeMap::new(alloc);
     for package in gained {
         let group = groups.entry(package.name.clone()?)?.or_default();
         group.push(package)?;
@@ -117,8 +120,8 @@ fn by_name(alloc: Global, gained: Vec<Gained>) -> Result<BTreeMap<String, Vec<Ga
 impl Index {
     /// Reads both files into maps.
     pub(crate) fn new(alloc: Global, before: &Lock, now: &Lock) -> Result<Index, AllocError>
-        ensures { IfOk result (λ i. changes_seen i
-            ≡ changes (packages_seen before.now) (packages_seen now.now)) }
+        ensures { IfOk result (λ i. changes_view i
+            ≡ changes (lock_view before.now) (lock_view now.now)) }
     {
         let had = specs_of(alloc, &before.packages)?;
         let has = specs_of(alloc, &now.packages)?;

@@ -6,7 +6,7 @@ ghost use Rattle.toml.specs.Data.{get_member};
 ghost use Rattle.toml.specs.View.{items_view, table_view, view};
 ghost use Rattle.edit_lock.specs.LockFile as said;
 ghost use Rattle.edit_lock.specs.LockFile.{IsNoLock, LocksPackages};
-ghost use Rattle.edit_lock.specs.Views.{package_seen, packages_seen};
+ghost use Rattle.edit_lock.specs.Views.{locked_package_view, lock_view};
 
 use edit_base::{CargoResult, Error};
 use std::alloc::{AllocError, Global};
@@ -43,7 +43,7 @@ fn text_at<'a>(table: &'a Table, key: &str) -> Option<&'a str>
 
 /// The package that an entry of `package` describes, `None` where it is misshapen.
 fn package_of(alloc: Global, value: &Value) -> Result<Option<LockedPackage>, AllocError>
-    ensures { IfOk result (λ found. option_map package_seen found ≡ said.package_of (view value.now)) }
+    ensures { IfOk result (λ found. option_map locked_package_view found ≡ said.package_of (view value.now)) }
 {
     let Some(table) = value.as_table() else {
         return Ok(None);
@@ -62,7 +62,7 @@ fn package_of(alloc: Global, value: &Value) -> Result<Option<LockedPackage>, All
 
 /// The packages that the entries of `package` describe, `None` where one of them is misshapen.
 fn packages_of(alloc: Global, values: &[Value]) -> Result<Option<Vec<LockedPackage>>, AllocError>
-    ensures { IfOk result (λ found. option_map (λ v. map package_seen v.items) found
+    ensures { IfOk result (λ found. option_map (λ v. map locked_package_view v.items) found
         ≡ said.packages_of (items_view values.now)) }
 {
     let mut packages = Vec::new(alloc);
@@ -77,7 +77,7 @@ fn packages_of(alloc: Global, values: &[Value]) -> Result<Option<Vec<LockedPacka
 
 /// The packages of a document, `None` where `package` is misshapen.
 fn packages_in(alloc: Global, table: &Table) -> Result<Option<Vec<LockedPackage>>, AllocError>
-    ensures { IfOk result (λ found. option_map (λ v. map package_seen v.items) found
+    ensures { IfOk result (λ found. option_map (λ v. map locked_package_view v.items) found
         ≡ said.packages_in (table_view table.now)) }
 {
     let Some(value) = value_at(table, "package") else {
@@ -92,7 +92,7 @@ fn packages_in(alloc: Global, table: &Table) -> Result<Option<Vec<LockedPackage>
 impl Lock {
     /// A lock file without packages, as where none stands.
     pub fn empty(alloc: Global) -> Lock
-        ensures { packages_seen result ≡ [] }
+        ensures { lock_view result ≡ [] }
     {
         Lock {
             packages: Vec::new(alloc),
@@ -103,7 +103,7 @@ impl Lock {
     /// all else is ignored. `Metadata` where that is not so, where the bytes are not UTF-8 and where `toml`
     /// does not read the text.
     pub fn read(alloc: Global, bytes: &[u8]) -> CargoResult<Lock>
-        ensures said { IfOk result (λ l. LocksPackages bytes.now (packages_seen l)) }
+        ensures said { IfOk result (λ l. LocksPackages bytes.now (lock_view l)) }
         ensures refused { IfErr result (λ e. IsMemory e ⊎ ((e ≡ Metadata) × IsNoLock bytes.now)) }
     {
         let Ok(text) = std::str::from_utf8(bytes) else {

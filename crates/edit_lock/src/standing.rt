@@ -1,11 +1,11 @@
 //! The calls of `cargo update` that are right against a lock file.
 ghost use Rattle.std.specs.Prelude.{◌≡◌, ◌++◌, ◌∷◌, [], All, IfOk, OnOk, codes, if◌then◌else◌, map, string_bytes};
 ghost use Rattle.std.specs.List.{flat_map};
-ghost use Rattle.edit_lock.specs.Right.{IsRight};
-ghost use Rattle.edit_lock.specs.Standing.{changes, is_left_out, name_in, names_package, package_arguments, standing_argument, standing_arguments, standing_calls, standing_specs};
-ghost use Rattle.edit_lock.specs.Views.{arguments_seen, calls_seen, changes_seen, gained_seen, packages_seen};
+ghost use Rattle.edit_lock.specs.ValidCalls.{IsValidCall};
+ghost use Rattle.edit_lock.specs.AdaptedCalls.{changes, is_dropped_argument, name_in, names_package, package_arguments, adapted_argument, adapted_arguments, standing_calls, replacement_specs};
+ghost use Rattle.edit_lock.specs.Views.{arguments_view, calls_view, changes_view, new_packages_view, lock_view};
 
-use crate::index::{Gained, Index};
+use crate::index::{Index, NewPackage};
 use crate::lock::Lock;
 use std::alloc::{AllocError, Global};
 
@@ -24,8 +24,8 @@ fn name_in(spec: &str) -> &str
 
 /// Adds an argument.
 fn push_argument(alloc: Global, call: &mut Call, argument: &str) -> Result<(), AllocError>
-    ensures { OnOk result (arguments_seen call.new.items
-        ≡ arguments_seen call.old.items ++ argument.now ∷ []) }
+    ensures { OnOk result (arguments_view call.new.items
+        ≡ arguments_view call.old.items ++ argument.now ∷ []) }
 {
     let argument = String::from_str(alloc, argument)?;
     call.push(argument)?;
@@ -34,17 +34,17 @@ fn push_argument(alloc: Global, call: &mut Call, argument: &str) -> Result<(), A
 
 /// Adds the arguments that name a package.
 fn push_package(alloc: Global, call: &mut Call, spec: &str) -> Result<(), AllocError>
-    ensures { OnOk result (arguments_seen call.new.items
-        ≡ arguments_seen call.old.items ++ package_arguments spec.now) }
+    ensures { OnOk result (arguments_view call.new.items
+        ≡ arguments_view call.old.items ++ package_arguments spec.now) }
 {
     push_argument(alloc, call, "--package")?;
     push_argument(alloc, call, spec)
 }
 
 /// Adds the arguments that name packages.
-fn push_packages(alloc: Global, call: &mut Call, packages: &[Gained]) -> Result<(), AllocError>
-    ensures { OnOk result (arguments_seen call.new.items
-        ≡ arguments_seen call.old.items ++ flat_map package_arguments (gained_seen packages.now)) }
+fn push_packages(alloc: Global, call: &mut Call, packages: &[NewPackage]) -> Result<(), AllocError>
+    ensures { OnOk result (arguments_view call.new.items
+        ≡ arguments_view call.old.items ++ flat_map package_arguments (new_packages_view packages.now)) }
 {
     'packages: for package in packages {
         push_package(alloc, call, package.spec.as_str())?;
@@ -53,9 +53,14 @@ fn push_packages(alloc: Global, call: &mut Call, packages: &[Gained]) -> Result<
 }
 
 /// Adds the packages of a name that only the present lock file has.
-fn push_gained(alloc: Global, index: &Index, name: &str, call: &mut Call) -> Result<(), AllocError>
-    ensures { OnOk result (arguments_seen call.new.items ≡ arguments_seen call.old.items
-        ++ flat_map package_arguments ((changes_seen index.now).gained name.now)) }
+fn push_new_packages(
+    alloc: Global,
+    index: &Index,
+    name: &str,
+    call: &mut Call,
+) -> Result<(), AllocError>
+    ensures { OnOk result (arguments_view call.new.items ≡ arguments_view call.old.items
+        ++ flat_map package_arguments ((changes_view index.now).gained name.now)) }
 {
     match index.gained.get(name) {
         Some(packages) => push_packages(alloc, call, packages),
@@ -64,14 +69,14 @@ fn push_gained(alloc: Global, index: &Index, name: &str, call: &mut Call) -> Res
 }
 
 /// Adds the packages that stand for one that a call names.
-fn push_standing(
+fn push_replacements(
     alloc: Global,
     index: &Index,
     spec: &str,
     call: &mut Call,
 ) -> Result<(), AllocError>
-    ensures { OnOk result (arguments_seen call.new.items ≡ arguments_seen call.old.items
-        ++ flat_map package_arguments (standing_specs (changes_seen index.now) spec.now)) }
+    ensures { OnOk result (arguments_view call.new.items ≡ arguments_view call.old.items
+        ++ flat_map package_arguments (replacement_specs (changes_view index.now) spec.now)) }
 {
     if index.has.contains(spec) {
         return push_package(alloc, call, spec);
@@ -79,12 +84,12 @@ fn push_standing(
     if !index.had.contains(spec) {
         return Ok(());
     }
-    push_gained(alloc, index, name_in(spec), call)
+    push_new_packages(alloc, index, name_in(spec), call)
 }
 
 /// Whether an argument does not stand by itself.
-fn is_left_out(offline: bool, argument: &str) -> bool
-    ensures { result ≡ is_left_out offline argument.now }
+fn is_dropped_argument(offline: bool, argument: &str) -> bool
+    ensures { result ≡ is_dropped_argument offline argument.now }
 {
     argument == "--package" || (argument == "--offline" && !offline)
 }
@@ -98,27 +103,27 @@ fn add_argument(
     argument: &str,
     call: &mut Call,
 ) -> Result<(), AllocError>
-    ensures { OnOk result (arguments_seen call.new.items ≡ arguments_seen call.old.items
-        ++ standing_argument (changes_seen index.now) offline previous.now argument.now) }
+    ensures { OnOk result (arguments_view call.new.items ≡ arguments_view call.old.items
+        ++ adapted_argument (changes_view index.now) offline previous.now argument.now) }
 {
     if previous == "--package" {
-        return push_standing(alloc, index, argument, call);
+        return push_replacements(alloc, index, argument, call);
     }
-    if is_left_out(offline, argument) {
+    if is_dropped_argument(offline, argument) {
         return Ok(());
     }
     push_argument(alloc, call, argument)
 }
 
 /// What becomes of a call.
-fn standing_call(
+fn adapt_call(
     alloc: Global,
     index: &Index,
     offline: bool,
     call: &[String],
 ) -> Result<Call, AllocError>
-    ensures { IfOk result (λ v. arguments_seen v.items
-        ≡ standing_arguments (changes_seen index.now) offline [] (arguments_seen call.now)) }
+    ensures { IfOk result (λ v. arguments_view v.items
+        ≡ adapted_arguments (changes_view index.now) offline [] (arguments_view call.now)) }
 {
     let mut standing = Vec::new(alloc);
     let mut previous = "";
@@ -132,7 +137,7 @@ fn standing_call(
 
 /// Whether a call names a package.
 fn names_package(call: &[String]) -> bool
-    ensures { result ≡ names_package (arguments_seen call.now) }
+    ensures { result ≡ names_package (arguments_view call.now) }
 {
     'arguments: for argument in call {
         if argument.as_str() == "--package" {
@@ -144,8 +149,8 @@ fn names_package(call: &[String]) -> bool
 
 /// Adds a call, where it names a package.
 fn push_call(calls: &mut Vec<Call>, call: Call) -> Result<(), AllocError>
-    ensures { OnOk result (calls_seen calls.new.items ≡ calls_seen calls.old.items
-        ++ (if names_package (arguments_seen call.items) then arguments_seen call.items ∷ [] else [])) }
+    ensures { OnOk result (calls_view calls.new.items ≡ calls_view calls.old.items
+        ++ (if names_package (arguments_view call.items) then arguments_view call.items ∷ [] else [])) }
 {
     if names_package(&call) {
         calls.push(call)?;
@@ -169,16 +174,16 @@ pub fn standing_calls(
     now: &Lock,
     offline: bool,
 ) -> Result<Vec<Vec<String>>, AllocError>
-    ensures calls { IfOk result (λ v. calls_seen v.items
-        ≡ standing_calls (changes (packages_seen before.now) (packages_seen now.now)) offline
-        (calls_seen calls.now)) }
+    ensures calls { IfOk result (λ v. calls_view v.items
+        ≡ standing_calls (changes (lock_view before.now) (lock_view now.now)) offline
+        (calls_view calls.now)) }
     // whatever the calls are, each that is left names packages, at least one, and only such that are locked
-    ensures right { IfOk result (λ v. All (IsRight (packages_seen now.now)) (calls_seen v.items)) }
+    ensures right { IfOk result (λ v. All (IsValidCall (lock_view now.now)) (calls_view v.items)) }
 {
     let index = Index::new(alloc, before, now)?;
     let mut standing = Vec::new(alloc);
     'calls: for call in calls {
-        let call = standing_call(alloc, &index, offline, call)?;
+        let call = adapt_call(alloc, &index, offline, call)?;
         push_call(&mut standing, call)?;
     }
     Ok(standing)

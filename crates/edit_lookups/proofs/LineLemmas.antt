@@ -6,7 +6,7 @@ use Rattle.std.proofs.lemmas.Grind.{flat_map-append}
 use Rattle.std.proofs.lemmas.List.{map-append}
 use Rattle.std.proofs.lemmas.List.Elements.{All-head, All-tail, All-push}
 use Rattle.edit_lookups.specs.declared.lookups.Lookup.{Lookup}
-use Rattle.edit_lookups.specs.Lookups.{HasNo, IsLookup, LookupText, SaysLookups, lookup_line, lookup_text}
+use Rattle.edit_lookups.specs.Lookups.{HasNo, IsLookup, LookupText, HasLookupLines, lookup_line, lookup_text}
 use Rattle.edit_lookups.proofs.CutLemmas.{HasNo-at, HasNo-append, HasNo-cons, first-cut}
 
 abbrev pub ended : LookupText → List ℕ
@@ -25,10 +25,10 @@ pub record FirstLine (line after : List ℕ) : Type 0 where
   pub is : IsLookup first
   pub line_is : line ≡ lookup_line first
   pub others : List LookupText
-  pub say : SaysLookups after others
+  pub say : HasLookupLines after others
 
 pub first-line : (rest line after : List ℕ) (ls : List LookupText) → rest ≡ line ++ 10 ∷ after → HasNo 10 line
-    → SaysLookups rest ls → FirstLine line after
+    → HasLookupLines rest ls → FirstLine line after
 first-line rest line after [] cut plain h =
     absurd (omega (arith, ap length (sym cut ∙ h.is), length-append line (10 ∷ after)))
 first-line rest line after (l ∷ ls) cut plain h =
@@ -45,7 +45,7 @@ first-line rest line after (l ∷ ls) cut plain h =
     }
 
 -- a text without a line feed has no lookup
-pub no-line : (rest : List ℕ) (ls : List LookupText) → HasNo 10 rest → SaysLookups rest ls → rest ≡ []
+pub no-line : (rest : List ℕ) (ls : List LookupText) → HasNo 10 rest → HasLookupLines rest ls → rest ≡ []
 no-line rest [] plain h = h.is
 no-line rest (l ∷ ls) plain h =
     absurd (HasNo-at 10 (lookup_line l) (flat_map ended ls)

@@ -4,7 +4,7 @@ use Rattle.std.specs.Prelude.{codes}
 use Rattle.std.specs.List.{before_first, after_first}
 use Rattle.std.proofs.lemmas.Bool.{false_from_ne_true}
 use Rattle.std.proofs.lemmas.Bool.Decides.{nat_tests}
-use Rattle.edit_lookups.specs.Shown.{shown_address, userinfo_len}
+use Rattle.edit_lookups.specs.UserinfoAddresses.{shown_address, userinfo_len}
 
 head-off : (xs : List ℕ) → ((r : List ℕ) → xs ≢ 47 ∷ r) → eqb (get_or xs 0 0) 47 ≡ false
 head-off [] h = refl

@@ -1,6 +1,6 @@
 -- The length of the userinfo, byte by byte.
 use Rattle.std.proofs.Common.{◌≡◌, ℕ, zero, suc, ◌+◌, ◌<◌, Bool, true, false, cond, eqb, List, ◌∷◌, length, get_or, drop, refl, ap, ◌∙◌, sym, arith, drop-cons, add-one}
-use Rattle.edit_lookups.specs.Shown.{ends_authority, one_more, userinfo_len}
+use Rattle.edit_lookups.specs.UserinfoAddresses.{ends_authority, one_more, userinfo_len}
 
 -- the length so far, where the rest of the text has a userinfo of a given length
 abbrev pub more : ℕ → ℕ → ℕ → ℕ

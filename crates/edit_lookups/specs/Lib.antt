@@ -1,5 +1,5 @@
-pub mod Cached
-pub mod Escaped
+pub mod CachePaths
+pub mod ControlEscapes
 pub mod Lookups
-pub mod Shown
+pub mod UserinfoAddresses
 pub mod Validators

@@ -33,6 +33,6 @@ abbrev pub lookup_line : LookupText → List ℕ
 lookup_line l = l.address ++ 9 ∷ (l.name ++ 9 ∷ l.path)
 
 -- the text consists of the lines of these lookups in order, each with a line end
-pub record SaysLookups (text : List ℕ) (lookups : List LookupText) : Type 0 where
+pub record HasLookupLines (text : List ℕ) (lookups : List LookupText) : Type 0 where
   pub is : text ≡ flat_map (λ l. lookup_line l ++ 10 ∷ []) lookups
   pub plain : All IsLookup lookups

@@ -1,9 +1,9 @@
 //! The paths of index entries in the cache.
 ghost use Rattle.std.specs.Prelude.{◌≡◌, IfOk, string_bytes};
 ghost use Rattle.edit_sources.specs.Folders.{registry_folder};
-ghost use Rattle.edit_lookups.specs.Cached.{cached_path, validator_path};
+ghost use Rattle.edit_lookups.specs.CachePaths.{cached_path, validator_path};
 ghost use Rattle.edit_lookups.specs.Lookups.{lookup_text};
-ghost use Rattle.edit_lookups.specs.Shown.{shown_address};
+ghost use Rattle.edit_lookups.specs.UserinfoAddresses.{shown_address};
 
 use crate::lookups::Lookup;
 use crate::shown::shown_address;
@@ -50,7 +50,7 @@ mod tests {
     use std::test::Fail;
 
     #[test]
-    fn in_the_cache(rt: HostRuntime) -> Result<(), Fail> {
+    fn paths_in_cache(rt: HostRuntime) -> Result<(), Fail> {
         let lookup = Lookup {
             address: "sparse+https://user:pw@host.example/a%20b/",
             name: "serde",

@@ -1,6 +1,6 @@
 //! Escapes control characters for messages.
 ghost use Rattle.std.specs.Prelude.{◌≡◌, ◌++◌, OnOk, string_bytes};
-ghost use Rattle.edit_lookups.specs.Escaped.{escaped, escaped_char};
+ghost use Rattle.edit_lookups.specs.ControlEscapes.{escaped, escaped_char};
 
 use std::alloc::AllocError;
 use std::fmt::Write;

@@ -1,6 +1,6 @@
 //! Lookups as lines of a file.
 ghost use Rattle.std.specs.Prelude.{◌≡◌, List, false, true, IfOk, MatchOption, map};
-ghost use Rattle.edit_lookups.specs.Lookups.{HasNo, IsLookup, LookupText, SaysLookups, lookup_line, lookup_text};
+ghost use Rattle.edit_lookups.specs.Lookups.{HasNo, IsLookup, LookupText, HasLookupLines, lookup_line, lookup_text};
 
 use std::alloc::{AllocError, Global};
 
@@ -46,8 +46,8 @@ fn read_line<'a>(line: &'a str) -> Option<Lookup<'a>>
 /// Parses a text of lookups, in order; `None` where a line is not three fields separated by tabs with a line
 /// end.
 pub fn read_lookups<'a>(alloc: Global, text: &'a str) -> Result<Option<Vec<Lookup<'a>>>, AllocError>
-    ensures { IfOk result (λ o. MatchOption o ((ls : List LookupText) → SaysLookups text.now ls → ⊥)
-        (λ v. SaysLookups text.now (map lookup_text v.items))) }
+    ensures { IfOk result (λ o. MatchOption o ((ls : List LookupText) → HasLookupLines text.now ls → ⊥)
+        (λ v. HasLookupLines text.now (map lookup_text v.items))) }
 {
     let mut lookups = Vec::new(alloc);
     let mut rest = text;

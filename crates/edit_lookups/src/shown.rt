@@ -1,6 +1,6 @@
 //! Addresses without user names and passwords.
 ghost use Rattle.std.specs.Prelude.{◌≡◌, ◌++◌, ◌-◌, ◌<◌, ◌≤◌, IfOk, codes, drop, length, slice_index, string_bytes};
-ghost use Rattle.edit_lookups.specs.Shown.{ends_authority, shown_address, userinfo_len};
+ghost use Rattle.edit_lookups.specs.UserinfoAddresses.{ends_authority, shown_address, userinfo_len};
 
 use std::alloc::{AllocError, Global};
 

@@ -85,7 +85,7 @@ mod tests {
     const ABC: &str = "ba7816bf8f01cfea414140de5dae2223b00361a396177a9cb410ff61f20015ad";
 
     #[test]
-    fn of_one_body(rt: HostRuntime) -> Result<(), Fail> {
+    fn validator_of_body(rt: HostRuntime) -> Result<(), Fail> {
         let line = validator_line(rt.alloc(), b"abc", "W/\"x y\"")?;
         let wanted = format!(in rt.alloc(); "{ABC} W/\"x y\"\n")?;
         assert_eq!(rt; line.as_slice(), wanted.as_bytes());

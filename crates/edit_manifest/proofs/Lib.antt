@@ -1,7 +1,7 @@
 pub mod Faults
 pub mod Heights
-pub mod NothingThere
-pub mod PassedWords
+pub mod MissingItems
+pub mod SearchLemmas
 pub mod SetLemmas
 mod Texts
 pub mod RecordVersions

@@ -3,7 +3,7 @@ use Rattle.std.proofs.Common.{◌≡◌, ℕ, false, ◌&&◌, ◌||◌, cond, L
 use Rattle.std.specs.Prelude.{Result, Ok, codes}
 use Rattle.edit_tree.specs.Assertions.{Place, Step, at, key}
 use Rattle.edit_document.specs.Ranges.{one_edit}
-use Rattle.edit_tree.specs.Replaces.{emptied, is_below, written}
+use Rattle.edit_tree.specs.Replaces.{tree_without_below, is_below, written}
 use Rattle.edit_tree.specs.Tree.{View, string, truth, whole, fractional, moment, static_array, table_array, inline_table, table}
 use Rattle.edit_tree.proofs.SamePlace.{not_below, other_place, same_place_self, same_step_self}
 use Rattle.edit_manifest.specs.Tables.{Tree}
@@ -16,17 +16,17 @@ not_above (x ∷ p) s = ap (λ b. b && is_below (at p s) p) (same_step_self x) �
 
 -- the tree with a string at a place
 abbrev pub edited : Place → List ℕ → Tree → Tree
-edited place text t q = written (one_edit place text) (emptied (one_edit place text) t) q
+edited place text t q = written (one_edit place text) (tree_without_below (one_edit place text) t) q
 
 edited_here : (place : Place) (text : List ℕ) (t : Tree) → edited place text t place ≡ Some (string text)
 edited_here place text t =
-    ap (λ b. cond b (Some (string text)) (emptied (one_edit place text) t place)) (same_place_self place)
+    ap (λ b. cond b (Some (string text)) (tree_without_below (one_edit place text) t place)) (same_place_self place)
 
 -- the items above the place are unchanged
 edited_above : (place : Place) (s : Step) (text : List ℕ) (t : Tree)
     → edited (at place s) text t place ≡ t place
 edited_above place s text t =
-    ap (λ b. cond b (Some (string text)) (emptied (one_edit (at place s) text) t place))
+    ap (λ b. cond b (Some (string text)) (tree_without_below (one_edit (at place s) text) t place))
     (other_place (at place s) place (not_below place s))
     ∙ ap (λ b. cond (b || false) None (t place)) (not_above place s)
 

@@ -1,10 +1,10 @@
 -- The models of entries.
 use Rattle.std.specs.Prelude.{◌≡◌, ⊤, ℕ, List, Bool, true, false, Option, Some, None, Result, Err, string_bytes}
 use Rattle.edit_tree.specs.Assertions.{Place}
-use Rattle.edit_document.specs.Items.{place_seen}
+use Rattle.edit_document.specs.Items.{place_view}
 use Rattle.edit_record.specs.EntryRecords.{EntryRecord, Refusal}
 use Rattle.edit_record.specs.ReadEntries.{record_of}
-use Rattle.edit_record.specs.RecordViews.{record_view, Tells}
+use Rattle.edit_record.specs.RecordViews.{record_view, IsErrorOf}
 use Rattle.edit_manifest.specs.Entries as named
 use Rattle.edit_manifest.specs.Entries.{version_place}
 use Rattle.edit_manifest.specs.Tables.{Tree}
@@ -18,25 +18,25 @@ literal_by true place = place
 literal_by false place = version_place place
 
 -- the model of a read entry (own)
-abbrev pub said_view : Said → Option EntryRecord
-said_view (Read d) = Some (record_view d)
-said_view (Unsupported error) = None
+abbrev pub read_entry_view : Said → Option EntryRecord
+read_entry_view (Read d) = Some (record_view d)
+read_entry_view (Unsupported error) = None
 
 -- the model of an entry (own)
 abbrev pub entry_view : Entry → named.Entry
 entry_view e = record {
   name = string_bytes e.key;
-  place = place_seen e.place.items;
-  literal = literal_by e.bare (place_seen e.place.items);
-  said = said_view e.said;
+  place = place_view e.place.items;
+  literal = literal_by e.bare (place_view e.place.items);
+  said = read_entry_view e.said;
 }
 
 -- an unsupported entry has the error of reading the item (own)
 abbrev pub IsReason : Result EntryRecord Refusal → Said → Type 0
 IsReason read (Read d) = ⊤
-IsReason read (Unsupported error) = (r : Refusal) × (read ≡ Err r) × Tells r error
+IsReason read (Unsupported error) = (r : Refusal) × (read ≡ Err r) × IsErrorOf r error
 
 -- an unsupported entry has the error of reading the item at its place under its key, with relative paths
 -- joined to this root (own)
 abbrev pub HasReason : Tree → List ℕ → Entry → Type 0
-HasReason t root e = IsReason (record_of t (place_seen e.place.items) root (string_bytes e.key)) e.said
+HasReason t root e = IsReason (record_of t (place_view e.place.items) root (string_bytes e.key)) e.said

@@ -26,9 +26,9 @@ IsBadManifest bytes e =
     ⊎ (IsMemory e × IsUtf8 bytes))
 
 -- the error of the file at a path: it does not exist, or its bytes are no manifest
-abbrev pub IsUnread : Option (List ℕ) → Error → Type 0
-IsUnread None e = e ≡ NoManifest
-IsUnread (Some bytes) e = IsBadManifest bytes e
+abbrev pub IsBadFile : Option (List ℕ) → Error → Type 0
+IsBadFile None e = e ≡ NoManifest
+IsBadFile (Some bytes) e = IsBadManifest bytes e
 
 -- the errors of reading a file, for any store: it does not exist, or its bytes are no manifest
 abbrev pub IsReadError : Error → Type 0
@@ -45,4 +45,4 @@ abbrev pub IsUnloaded : StoreView → StoreView → List ℕ → Error → Type 
 IsUnloaded old new path e =
     IsFault call.Read old.faults new.faults e
     ⊎ (((is_absolute path ≡ false) × NamesPath path e)
-    ⊎ ((is_absolute path ≡ true) × (old.tells ≡ true → IsUnread (old.file_at path) e)))
+    ⊎ ((is_absolute path ≡ true) × (old.tells ≡ true → IsBadFile (old.file_at path) e)))

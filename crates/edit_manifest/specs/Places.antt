@@ -3,8 +3,8 @@ use Rattle.std.specs.Prelude.{List, map}
 use Rattle.std.specs.Global.{Vec}
 use Rattle.edit_document.specs.declared.place.Step.{Step}
 use Rattle.edit_tree.specs.Assertions.{Place}
-use Rattle.edit_document.specs.Items.{place_seen}
+use Rattle.edit_document.specs.Items.{place_view}
 
 -- the models of the places
-abbrev pub places_seen : List (Vec Step) → List Place
-places_seen ps = map (λ p. place_seen p.items) ps
+abbrev pub places_view : List (Vec Step) → List Place
+places_view ps = map (λ p. place_view p.items) ps

@@ -7,8 +7,8 @@ use Rattle.edit_base.specs.Errors.{IsMemory}
 use Rattle.edit_tree.specs.Assertions.{Place, at, key}
 use Rattle.edit_document.specs.Items.{string_in, truth_in}
 use Rattle.edit_document.specs.Ranges.{one_edit}
-use Rattle.edit_tree.specs.Replaces.{Replaces, emptied, written}
-use Rattle.edit_tree.specs.Shown.{Shown, tree_of}
+use Rattle.edit_tree.specs.Replaces.{Replaces, tree_without_below, written}
+use Rattle.edit_tree.specs.DocumentViews.{DocumentViews, tree_of}
 use Rattle.edit_document.specs.Forms.{IfDocument}
 use Rattle.edit_tree.specs.Tree.{View, string, table, inline_table, is_value_at}
 use Rattle.edit_version.specs.ReadVersion.{version_read}
@@ -79,30 +79,30 @@ version_place t place = version_place_in place (t place) (t (version_member plac
 -- ---- setting versions
 
 -- the value at a place is replaced by this string, and everything else is unchanged
-pub record SetsVersion (place : Place) (text : List ℕ) (old new : Shown) : Type 0 where
+pub record SetsVersion (place : Place) (text : List ℕ) (old new : DocumentViews) : Type 0 where
   pub bytes : Replaces (one_edit place text) old.bytes new.bytes
   pub tree : (q : Place) → tree_of new q
-      ≡ written (one_edit place text) (emptied (one_edit place text) (tree_of old)) q
+      ≡ written (one_edit place text) (tree_without_below (one_edit place text) (tree_of old)) q
 
 -- the item at the place is not written as a value
-abbrev pub IsNoValue : Shown → Place → Type 0
+abbrev pub IsNoValue : DocumentViews → Place → Type 0
 IsNoValue d place = IfDocument d.bytes (λ form. is_value_at form place ≡ false)
 
 -- the errors of setting a version at a place: lack of memory, or it is not written as a value
-abbrev pub IsUnset : Shown → Place → Error → Type 0
+abbrev pub IsUnset : DocumentViews → Place → Error → Type 0
 IsUnset d place e = IsMemory e ⊎ ((e ≡ NoVersionPlace) × IsNoValue d place)
 
 -- the version requirement of the entry at a place was replaced
-pub record SetsDependency (place : Place) (text : List ℕ) (old new : Shown) : Type 0 where
+pub record SetsDependency (place : Place) (text : List ℕ) (old new : DocumentViews) : Type 0 where
   pub literal : Place
   pub stands : version_place (tree_of old) place ≡ Ok literal
   pub sets : SetsVersion literal text old new
 
 -- the error of setting the version requirement of an entry, given its place or the error of finding that
-abbrev pub IsUnsetAt : Shown → Result Place Error → Error → Type 0
+abbrev pub IsUnsetAt : DocumentViews → Result Place Error → Error → Type 0
 IsUnsetAt d (Ok literal) e = (e ≡ NoVersionPlace) × IsNoValue d literal
 IsUnsetAt d (Err why) e = e ≡ why
 
 -- the errors of setting the version requirement of the entry at a place
-abbrev pub IsUnsetDependency : Shown → Place → Error → Type 0
+abbrev pub IsUnsetDependency : DocumentViews → Place → Error → Type 0
 IsUnsetDependency d place e = IsMemory e ⊎ IsUnsetAt d (version_place (tree_of d) place) e

@@ -4,7 +4,7 @@ ghost use Rattle.edit_base.specs.Errors.{IsMemory};
 ghost use Rattle.edit_base.specs.declared.errors.DeviceCall.TheVariants as call;
 ghost use Rattle.edit_store.specs.Store.{HasCause, IsWrittenAtMostOnce, IsWrittenOnce, OnlyReads, SameBut};
 ghost use Rattle.edit_manifest.specs.Finding.{IsFound, IsUnfoundOrUnread};
-ghost use Rattle.edit_manifest.specs.Loaded.{IsReadError, IsUnloaded, IsUnread, NamesPath, is_absolute};
+ghost use Rattle.edit_manifest.specs.Loaded.{IsReadError, IsUnloaded, IsBadFile, NamesPath, is_absolute};
 ghost use Rattle.edit_manifest.specs.Located.{IsFault, NamesStart};
 
 use crate::locate::find;
@@ -40,7 +40,7 @@ fn load<S: Store>(alloc: Global, store: &mut S, path: String) -> CargoResult<Loc
     ensures refused { IfErr result (λ e.
         IsFault call.Read (S.view store.old).faults (S.view store.new).faults e
         ⊎ ((S.view store.old).tells ≡ true
-        → IsUnread ((S.view store.old).file_at (string_bytes path)) e)) }
+        → IsBadFile ((S.view store.old).file_at (string_bytes path)) e)) }
     // for any store
     ensures only { IfErr result (λ e. IsFault call.Read (S.view store.old).faults (S.view store.new).faults e
         ⊎ IsReadError e) }

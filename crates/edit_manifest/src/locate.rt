@@ -4,7 +4,7 @@ ghost use Rattle.edit_base.specs.Errors.{IsMemory};
 ghost use Rattle.edit_base.specs.declared.errors.DeviceCall.TheVariants as call;
 ghost use Rattle.edit_base.specs.declared.errors.Error.TheVariants.{NoPath};
 ghost use Rattle.edit_store.specs.Store.{OnlyReads};
-ghost use Rattle.edit_manifest.specs.Located.{HasNoManifest, IsFault, IsManifestAt, IsManifestPath, IsMissing, IsNearest, IsNotFound, IsThere, IsUnfound, NamesFolder, NamesStart, manifest_in};
+ghost use Rattle.edit_manifest.specs.Located.{HasNoManifest, IsFault, IsManifestAt, IsManifestPath, IsMissing, IsNearest, IsNotFound, IsThere, IsSearchError, NamesFolder, NamesStart, manifest_in};
 
 use edit_base::paths::{folder, join, normal};
 use edit_base::{CargoResult, Error};
@@ -89,7 +89,7 @@ fn find_at<S: Store>(alloc: Global, store: &mut S, path: String) -> CargoResult<
     ensures refused { IfErr result (λ e.
         IsFault call.Kind (S.view store.old).faults (S.view store.new).faults e
         ⊎ ((S.view store.old).tells ≡ true
-        → IsUnfound (S.view store.old).file_at (string_bytes path) e)) }
+        → IsSearchError (S.view store.old).file_at (string_bytes path) e)) }
     // for any store
     ensures only { IfErr result (λ e. IsFault call.Kind (S.view store.old).faults (S.view store.new).faults e
         ⊎ ((e ≡ NoPath) ⊎ NamesFolder (string_bytes path) e)) }

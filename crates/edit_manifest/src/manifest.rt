@@ -3,9 +3,9 @@ ghost use Rattle.edit_document.specs.Forms.{IfDocument};
 ghost use Rattle.std.specs.Prelude.{◌≡◌, Some, IfErr, IfOk, IsUtf8, MatchResult, OnOk, length};
 ghost use Rattle.edit_base.specs.Errors.{IsMemory};
 ghost use Rattle.edit_syntax.specs.Grammar.{Text};
-ghost use Rattle.edit_syntax.specs.Marks.{IsReadRefusal};
+ghost use Rattle.edit_syntax.specs.SyntaxTokens.{IsTokenizeError};
 ghost use Rattle.edit_tree.specs.Assertions.{IsDocument};
-ghost use Rattle.edit_tree.specs.Shown.{ShowsTree};
+ghost use Rattle.edit_tree.specs.DocumentViews.{ShowsTree};
 ghost use Rattle.edit_manifest.specs.Loaded.{IsBadManifest};
 
 use edit_base::errors::{CargoResult, Error};
@@ -27,7 +27,7 @@ impl Manifest {
             (λ m. (form : Text) × IsDocument text.now form × ShowsTree m.document form) }
         ensures only { IfDocument text.now (λ form. MatchResult result (λ m. ShowsTree m.document form)
             IsMemory) }
-        ensures refused { IfErr result (IsReadRefusal (length text.now)) }
+        ensures refused { IfErr result (IsTokenizeError (length text.now)) }
     {
         let document = Document::read(alloc, text)?;
         Ok(Manifest { document })

@@ -2,9 +2,9 @@
 ghost use Rattle.std.specs.Prelude.{◌≡◌, ◌++◌, IfErr, IfOk, OnOk, map, option_map};
 ghost use Rattle.edit_base.specs.Errors.{IsMemory};
 ghost use Rattle.edit_base.specs.Paths.{texts};
-ghost use Rattle.edit_document.specs.Items.{place_seen};
-ghost use Rattle.edit_tree.specs.Shown.{tree_of};
-ghost use Rattle.edit_manifest.specs.Places.{places_seen};
+ghost use Rattle.edit_document.specs.Items.{place_view};
+ghost use Rattle.edit_tree.specs.DocumentViews.{tree_of};
+ghost use Rattle.edit_manifest.specs.Places.{places_view};
 ghost use Rattle.edit_manifest.specs.Tables.{dependency_tables, shared, table_at, tables_at, tables_of_target, tables_under, target_tables};
 
 use crate::dep_table::{NORMAL, is_kind};
@@ -16,7 +16,7 @@ use std::alloc::{AllocError, Global};
 
 /// The place that these keys lead to, if it is a table or an inline table.
 fn table_at(alloc: Global, document: &Document, names: &[&str]) -> Result<Option<Place>, AllocError>
-    ensures ok { IfOk result (λ o. option_map (λ p. place_seen p.items) o
+    ensures ok { IfOk result (λ o. option_map (λ p. place_view p.items) o
         ≡ table_at (tree_of document.now) (texts names.now)) }
 {
     let place = place_of(alloc, names)?;
@@ -36,8 +36,8 @@ fn push_table(
     names: &[&str],
     tables: &mut Vec<Place>,
 ) -> Result<(), AllocError>
-    ensures ok { OnOk result (places_seen tables.new.items
-        ≡ places_seen tables.old.items ++ tables_at (tree_of document.now) (texts names.now)) }
+    ensures ok { OnOk result (places_view tables.new.items
+        ≡ places_view tables.old.items ++ tables_at (tree_of document.now) (texts names.now)) }
 {
     let table = table_at(alloc, document, names)?;
     match table {
@@ -56,8 +56,8 @@ fn push_target(
     target: &str,
     tables: &mut Vec<Place>,
 ) -> Result<(), AllocError>
-    ensures ok { OnOk result (places_seen tables.new.items
-        ≡ places_seen tables.old.items ++ tables_of_target (tree_of document.now) target.now) }
+    ensures ok { OnOk result (places_view tables.new.items
+        ≡ places_view tables.old.items ++ tables_of_target (tree_of document.now) target.now) }
 {
     let place = place_of(alloc, &["target", target])?;
     let Some(item) = document.item(&place) else {
@@ -77,8 +77,8 @@ fn push_targets(
     document: &Document,
     tables: &mut Vec<Place>,
 ) -> Result<(), AllocError>
-    ensures ok { OnOk result (places_seen tables.new.items
-        ≡ places_seen tables.old.items ++ target_tables (tree_of document.now)) }
+    ensures ok { OnOk result (places_view tables.new.items
+        ≡ places_view tables.old.items ++ target_tables (tree_of document.now)) }
 {
     let place = place_of(alloc, &["target"])?;
     let Some(item) = document.item(&place) else {
@@ -96,8 +96,8 @@ fn push_shared(
     document: &Document,
     tables: &mut Vec<Place>,
 ) -> Result<(), AllocError>
-    ensures ok { OnOk result (places_seen tables.new.items
-        ≡ places_seen tables.old.items ++ tables_at (tree_of document.now) shared) }
+    ensures ok { OnOk result (places_view tables.new.items
+        ≡ places_view tables.old.items ++ tables_at (tree_of document.now) shared) }
 {
     let names = ["workspace", NORMAL];
     push_table(alloc, document, &names, tables)
@@ -110,8 +110,8 @@ fn push_under(
     name: &str,
     tables: &mut Vec<Place>,
 ) -> Result<(), AllocError>
-    ensures ok { OnOk result (places_seen tables.new.items
-        ≡ places_seen tables.old.items ++ tables_under (tree_of document.now) name.now) }
+    ensures ok { OnOk result (places_view tables.new.items
+        ≡ places_view tables.old.items ++ tables_under (tree_of document.now) name.now) }
 {
     if is_kind(name) {
         return push_table(alloc, document, &[name], tables);
@@ -128,7 +128,7 @@ fn push_under(
 /// The places of the dependency tables of a document, in the order of its keys from the root down: the
 /// tables of the three kinds, `workspace.dependencies`, and the tables of the three kinds of each target.
 pub fn dependency_tables(alloc: Global, document: &Document) -> CargoResult<Vec<Place>>
-    ensures ok { IfOk result (λ ps. places_seen ps.items ≡ dependency_tables (tree_of document.now)) }
+    ensures ok { IfOk result (λ ps. places_view ps.items ≡ dependency_tables (tree_of document.now)) }
     ensures refused { IfErr result IsMemory }
 {
     let mut tables = Vec::new(alloc);
@@ -147,7 +147,7 @@ impl Manifest {
     /// The places of the dependency tables, in the order of the manifest's keys from the root down.
     pub fn get_dependency_tables_mut(&self, alloc: Global) -> CargoResult<Vec<Place>>
         ensures ok { IfOk result
-            (λ ps. places_seen ps.items ≡ dependency_tables (tree_of self.now.document)) }
+            (λ ps. places_view ps.items ≡ dependency_tables (tree_of self.now.document)) }
         ensures refused { IfErr result IsMemory }
     {
         dependency_tables(alloc, &self.document)
@@ -155,7 +155,7 @@ impl Manifest {
 
     /// The place of `workspace.dependencies`, if it is a table or an inline table.
     pub fn get_workspace_dependency_table_mut(&self, alloc: Global) -> CargoResult<Option<Place>>
-        ensures ok { IfOk result (λ o. option_map (λ p. place_seen p.items) o
+        ensures ok { IfOk result (λ o. option_map (λ p. place_view p.items) o
             ≡ table_at (tree_of self.now.document) shared) }
         ensures refused { IfErr result IsMemory }
     {

@@ -3,14 +3,14 @@ ghost use Rattle.std.specs.Prelude.{◌≡◌, ◌⊎◌, Err, Ok, IfErr, IfOk, 
 ghost use Rattle.edit_base.specs.Errors.{IsMemory};
 ghost use Rattle.edit_base.specs.Paths.{texts};
 ghost use Rattle.edit_document.specs.ItemViews.{document_of, place_of as item_place};
-ghost use Rattle.edit_document.specs.Items.{place_seen};
-ghost use Rattle.edit_tree.specs.Shown.{tree_of};
+ghost use Rattle.edit_document.specs.Items.{place_view};
+ghost use Rattle.edit_tree.specs.DocumentViews.{tree_of};
 ghost use Rattle.edit_manifest.specs.Tables.{keyed};
 ghost use Rattle.edit_manifest.specs.Versions.{IsUnset, IsUnsetDependency, SetsDependency, SetsVersion, dep_version, is_inherited, package_version, shared_version, version_place, workspace_version};
 ghost use Rattle.semver.specs.Identifiers.{parts_of, version_text};
 
 use crate::manifest::Manifest;
-use crate::ways::{place_of, string_at, truth_at};
+use crate::ways::{bool_at_keys, place_of, string_at};
 use edit_base::errors::{CargoResult, Error};
 use edit_document::{Document, Item, Place, Step, copied_place, member_place};
 use edit_version::read_version;
@@ -42,7 +42,7 @@ impl Manifest {
     pub fn version_is_inherited(&self) -> bool
         ensures { result ≡ is_inherited (tree_of self.now.document) }
     {
-        truth_at(&self.document, "package", "version", "workspace").unwrap_or(false)
+        bool_at_keys(&self.document, "package", "version", "workspace").unwrap_or(false)
     }
 
     /// The version at `workspace.package.version`, if that is a string with a valid version.
@@ -108,10 +108,10 @@ pub fn get_dep_version<'a>(item: Item<'a>) -> CargoResult<&'a str>
 
 /// The place of the version requirement of an entry.
 fn version_place(alloc: Global, document: &Document, place: &[Step]) -> CargoResult<Place>
-    ensures ok { IfOk result (λ p. version_place (tree_of document.now) (place_seen place.now)
-        ≡ Ok (place_seen p.items)) }
+    ensures ok { IfOk result (λ p. version_place (tree_of document.now) (place_view place.now)
+        ≡ Ok (place_view p.items)) }
     ensures refused { IfErr result (λ e. IsMemory e
-        ⊎ (version_place (tree_of document.now) (place_seen place.now) ≡ Err e)) }
+        ⊎ (version_place (tree_of document.now) (place_view place.now) ≡ Err e)) }
 {
     let Some(item) = document.item(place) else {
         return Err(Error::InvalidDependency);
@@ -137,11 +137,11 @@ pub fn set_dep_version(
     place: &[Step],
     text: &str,
 ) -> CargoResult<()>
-    ensures set { OnOk result (SetsDependency (place_seen place.now) text.now document.old document.new) }
+    ensures set { OnOk result (SetsDependency (place_view place.now) text.now document.old document.new) }
     ensures answered { OnOk result
-        (dep_version (tree_of document.new) (place_seen place.now) ≡ Ok text.now) }
+        (dep_version (tree_of document.new) (place_view place.now) ≡ Ok text.now) }
     ensures err { IfErr result (λ _. document.new ≡ document.old) }
-    ensures refused { IfErr result (IsUnsetDependency document.old (place_seen place.now)) }
+    ensures refused { IfErr result (IsUnsetDependency document.old (place_view place.now)) }
 {
     let literal = version_place(alloc, document, place)?;
     if !document.is_value(&literal) {

@@ -3,8 +3,8 @@ ghost use Rattle.std.specs.Prelude.{◌≡◌, [], ◌∷◌, IfOk, option_and_t
 ghost use Rattle.edit_base.specs.Paths.{texts};
 ghost use Rattle.edit_tree.specs.Assertions.{Place as PlaceSeen, at, key};
 ghost use Rattle.edit_document.specs.ItemViews.{Finds};
-ghost use Rattle.edit_document.specs.Items.{place_seen, string_in, truth_in};
-ghost use Rattle.edit_tree.specs.Shown.{tree_of};
+ghost use Rattle.edit_document.specs.Items.{place_view, string_in, truth_in};
+ghost use Rattle.edit_tree.specs.DocumentViews.{tree_of};
 ghost use Rattle.edit_manifest.specs.Tables.{keyed};
 
 use edit_document::{Document, Item, Place, Step};
@@ -12,7 +12,7 @@ use std::alloc::{AllocError, Global};
 
 /// The place that these keys lead to from the root.
 pub fn place_of(alloc: Global, names: &[&str]) -> Result<Place, AllocError>
-    ensures ok { IfOk result (λ p. place_seen p.items ≡ keyed (texts names.now)) }
+    ensures ok { IfOk result (λ p. place_view p.items ≡ keyed (texts names.now)) }
 {
     let mut place = Vec::with_capacity(alloc, names.len())?;
     'names: for name in names {
@@ -31,7 +31,7 @@ pub fn item_below<'a>(
     ensures { (place : PlaceSeen) → Finds document.now place item.entry
         → Finds document.now (at place (key name.now)) result }
 {
-    document.has_form();
+    document.lemma_form();
     match item {
         Some(item) => item.get(name),
         None => None,
@@ -49,7 +49,12 @@ fn item_at<'a>(document: &'a Document, first: &str, second: &str, third: &str) -
 }
 
 /// The boolean that three keys lead to, if there is one.
-pub(crate) fn truth_at(document: &Document, first: &str, second: &str, third: &str) -> Option<bool>
+pub(crate) fn bool_at_keys(
+    document: &Document,
+    first: &str,
+    second: &str,
+    third: &str,
+) -> Option<bool>
     ensures { result ≡ option_and_then truth_in
         (tree_of document.now (keyed (first.now ∷ second.now ∷ third.now ∷ []))) }
 {

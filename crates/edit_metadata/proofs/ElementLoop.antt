@@ -28,8 +28,10 @@ module _ {B : Type 0} (depth : ℕ) (Says : Data → B → Type 0) (first : List
   begin = (length first, omega arith, (λ ds. ds), none_before _, omega arith, [], (λ ds. refl), tt)
 
   -- one element more
-  pub element-more : (reader rest : List Token) (ys : List B) (d : Data) (y : B) → HasRead depth Says first reader ys
-      → after_end_array reader ≡ None → ReadsValue depth reader d rest → length rest < length reader → Says d y
+  pub element-more : (reader rest : List Token) (ys : List B) (d : Data) (y : B)
+      → HasRead depth Says first reader ys
+      → after_end_array reader ≡ None → ReadsValue depth reader d rest → length rest < length reader
+      → Says d y
       → HasRead depth Says first rest (ys ++ y ∷ [])
   element-more reader rest ys d y so_far going reads less says =
       let n = so_far.0 in
@@ -47,7 +49,8 @@ module _ {B : Type 0} (depth : ℕ) (Says : Data → B → Type 0) (first : List
 
   -- the closing bracket
   pub over : (reader rest : List Token) (ys : List B) → HasRead depth Says first reader ys
-      → after_end_array reader ≡ Some rest → (ds : Items) × ReadsItems depth first ds rest × AllZip Says (values ds) ys
+      → after_end_array reader ≡ Some rest
+      → (ds : Items) × ReadsItems depth first ds rest × AllZip Says (values ds) ys
   over reader rest ys so_far ended = (
     so_far.2 no_items,
     so_far.3 ∙ ap (parse_map so_far.2) (items_over (value depth) so_far.0 reader rest so_far.1 ended),

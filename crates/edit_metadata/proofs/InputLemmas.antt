@@ -7,11 +7,11 @@ use Rattle.std.proofs.lemmas.List.Elements.{All-append, All-push, Contains-appen
 use Rattle.std.proofs.lemmas.List.Sums.{fold-append}
 use Rattle.edit_base.specs.declared.errors.DeviceCall.TheVariants as call
 use Rattle.edit_base.specs.declared.errors.Error.{Error}
-use Rattle.edit_store.specs.Store.{RefusesCall, StoreView, OnlyReads, raised}
+use Rattle.edit_store.specs.Store.{IsCallError, StoreView, OnlyReads, raised}
 use Rattle.edit_version.specs.RustVersions.{Numbers, numbers_of}
-use Rattle.edit_metadata.specs.Inputs.{IsNoInput, ManifestSaid, input_paths, least, lesser, manifest_of, member_manifests}
-use Rattle.edit_metadata.specs.Metadata.{PackageSaid, members}
-use Rattle.edit_metadata.specs.Workspaces.{package_said, packages_said}
+use Rattle.edit_metadata.specs.Inputs.{IsNoInput, ManifestModel, input_paths, least, min_rust_version, manifest_of, member_manifests}
+use Rattle.edit_metadata.specs.Metadata.{PackageModel, members}
+use Rattle.edit_metadata.specs.Workspaces.{package_view, packages_view}
 use Rattle.edit_metadata.specs.declared.input.Input.{Input}
 use Rattle.edit_metadata.specs.declared.workspace.Package.{Package}
 use Rattle.edit_metadata.proofs.MemberPaths.{members-more}
@@ -19,70 +19,70 @@ use Rattle.edit_metadata.proofs.MemberPaths.{members-more}
 -- ---- Rust versions of members
 
 -- those of the members among packages
-abbrev pub member_versions : List PackageSaid → List (Option Numbers)
-member_versions ps = map (λ (p : PackageSaid). p.rust_version) (members ps)
+abbrev pub member_versions : List PackageModel → List (Option Numbers)
+member_versions ps = map (λ (p : PackageModel). p.rust_version) (members ps)
 
 -- the least one, with a member more
 pub least-more : (ps : List Package) (i : ℕ) (p : Package) → i < length ps → p ≡ get_or ps i p
     → p.member ≡ true
-    → least (member_versions (packages_said (take (i + 1) ps)))
-    ≡ lesser (least (member_versions (packages_said (take i ps)))) (option_map numbers_of p.rust_version)
+    → least (member_versions (packages_view (take (i + 1) ps)))
+    ≡ min_rust_version (least (member_versions (packages_view (take i ps)))) (option_map numbers_of p.rust_version)
 least-more ps i p within is member =
-    ap (λ xs. least (map (λ (x : PackageSaid). x.rust_version) xs))
+    ap (λ xs. least (map (λ (x : PackageModel). x.rust_version) xs))
     (members-more ps i p true within is member)
-    ∙ ap least (map-append (λ (x : PackageSaid). x.rust_version) (members (packages_said (take i ps)))
-    (package_said p ∷ []))
-    ∙ fold-append lesser _ (member_versions (packages_said (take i ps)))
+    ∙ ap least (map-append (λ (x : PackageModel). x.rust_version) (members (packages_view (take i ps)))
+    (package_view p ∷ []))
+    ∙ fold-append min_rust_version _ (member_versions (packages_view (take i ps)))
     (option_map numbers_of p.rust_version ∷ [])
 
 -- with a package more that is no member
 pub least-kept : (ps : List Package) (i : ℕ) (p : Package) → i < length ps → p ≡ get_or ps i p
     → p.member ≡ false
-    → least (member_versions (packages_said (take (i + 1) ps)))
-    ≡ least (member_versions (packages_said (take i ps)))
+    → least (member_versions (packages_view (take (i + 1) ps)))
+    ≡ least (member_versions (packages_view (take i ps)))
 least-kept ps i p within is member =
-    ap (λ xs. least (map (λ (x : PackageSaid). x.rust_version) xs))
-    (members-more ps i p false within is member ∙ append-nil (members (packages_said (take i ps))))
+    ap (λ xs. least (map (λ (x : PackageModel). x.rust_version) xs))
+    (members-more ps i p false within is member ∙ append-nil (members (packages_view (take i ps))))
 
 -- ---- manifests of members
 
 -- with a member more
 pub manifests-more : (ps : List Package) (i : ℕ) (p : Package) → i < length ps → p ≡ get_or ps i p
     → p.member ≡ true
-    → member_manifests (packages_said (take (i + 1) ps))
-    ≡ member_manifests (packages_said (take i ps)) ++ manifest_of (package_said p) ∷ []
+    → member_manifests (packages_view (take (i + 1) ps))
+    ≡ member_manifests (packages_view (take i ps)) ++ manifest_of (package_view p) ∷ []
 manifests-more ps i p within is member =
     ap (map manifest_of) (members-more ps i p true within is member)
-    ∙ map-append manifest_of (members (packages_said (take i ps))) (package_said p ∷ [])
+    ∙ map-append manifest_of (members (packages_view (take i ps))) (package_view p ∷ [])
 
 -- with a package more that is no member
 pub manifests-kept : (ps : List Package) (i : ℕ) (p : Package) → i < length ps → p ≡ get_or ps i p
     → p.member ≡ false
-    → member_manifests (packages_said (take (i + 1) ps)) ≡ member_manifests (packages_said (take i ps))
+    → member_manifests (packages_view (take (i + 1) ps)) ≡ member_manifests (packages_view (take i ps))
 manifests-kept ps i p within is member =
     ap (map manifest_of)
-    (members-more ps i p false within is member ∙ append-nil (members (packages_said (take i ps))))
+    (members-more ps i p false within is member ∙ append-nil (members (packages_view (take i ps))))
 
 -- the manifests of two lists of packages
 manifests-append : (ps qs : List Package)
-    → member_manifests (packages_said (ps ++ qs))
-    ≡ member_manifests (packages_said ps) ++ member_manifests (packages_said qs)
+    → member_manifests (packages_view (ps ++ qs))
+    ≡ member_manifests (packages_view ps) ++ member_manifests (packages_view qs)
 manifests-append ps qs =
-    ap member_manifests (map-append package_said ps qs)
-    ∙ ap (map manifest_of) (filter-append (λ (x : PackageSaid). x.member) (packages_said ps)
-    (packages_said qs))
-    ∙ map-append manifest_of (members (packages_said ps)) (members (packages_said qs))
+    ap member_manifests (map-append package_view ps qs)
+    ∙ ap (map manifest_of) (filter-append (λ (x : PackageModel). x.member) (packages_view ps)
+    (packages_view qs))
+    ∙ map-append manifest_of (members (packages_view ps)) (members (packages_view qs))
 
 -- the manifest of a member is among them
 pub among-members : (ps : List Package) (i : ℕ) (p : Package) → i < length ps → p ≡ get_or ps i p
-    → p.member ≡ true → (m : ManifestSaid) → Contains (manifest_of (package_said p) ∷ []) m
-    → Contains (member_manifests (packages_said ps)) m
+    → p.member ≡ true → (m : ManifestModel) → Contains (manifest_of (package_view p) ∷ []) m
+    → Contains (member_manifests (packages_view ps)) m
 among-members ps i p within is member m here =
-    let front = member_manifests (packages_said (take i ps)) in
-    let back = member_manifests (packages_said (drop (i + 1) ps)) in
-    let one = manifest_of (package_said p) ∷ [] in
+    let front = member_manifests (packages_view (take i ps)) in
+    let back = member_manifests (packages_view (drop (i + 1) ps)) in
+    let one = manifest_of (package_view p) ∷ [] in
     subst (λ xs. Contains xs m)
-    (sym (ap (λ xs. member_manifests (packages_said xs)) (sym (take-append-drop (i + 1) ps))
+    (sym (ap (λ xs. member_manifests (packages_view xs)) (sym (take-append-drop (i + 1) ps))
     ∙ manifests-append (take (i + 1) ps) (drop (i + 1) ps)
     ∙ ap (λ xs. xs ++ back) (manifests-more ps i p within is member)))
     (Contains-append_left (front ++ one) back m (Contains-append_right front one m here))
@@ -127,14 +127,14 @@ raised_later a b c le (inr ends) = ⊎_elim (λ same. inr (same ∙ ends.0, ends
 
 -- an error of a call is one from an earlier count on
 pub refused-later : (first old new : StoreView) (e : Error) → OnlyReads first old
-    → RefusesCall call.Read old new e → RefusesCall call.Read first new e
+    → IsCallError call.Read old new e → IsCallError call.Read first new e
 refused-later first old new e reads (inl memory) = inl memory
 refused-later first old new e reads (inr failed) =
     inr (failed.0, raised_later _ _ _ reads.later failed.1)
 
 -- what is not there among some manifests is not there among more, and was not there earlier on
-pub no-input-later : (first old new : StoreView) (ms ns : List ManifestSaid) (e : Error)
-    → OnlyReads first old → ((m : ManifestSaid) → Contains ms m → Contains ns m)
+pub no-input-later : (first old new : StoreView) (ms ns : List ManifestModel) (e : Error)
+    → OnlyReads first old → ((m : ManifestModel) → Contains ms m → Contains ns m)
     → IsNoInput old new ms e → IsNoInput first new ns e
 no-input-later first old new ms ns e reads within (inl refused) =
     inl (refused-later first old new e reads refused)
@@ -157,8 +157,8 @@ all-before P i is one others =
     All-append P (i ∷ []) is (All-push P [] i (λ k d within. absurd (omega (arith, within))) one) others
 
 -- what is there among some manifests is there among more
-pub no-input-among : (old new : StoreView) (ms ns : List ManifestSaid) (e : Error)
-    → ((m : ManifestSaid) → Contains ms m → Contains ns m) → IsNoInput old new ms e → IsNoInput old new ns e
+pub no-input-among : (old new : StoreView) (ms ns : List ManifestModel) (e : Error)
+    → ((m : ManifestModel) → Contains ms m → Contains ns m) → IsNoInput old new ms e → IsNoInput old new ns e
 no-input-among old new ms ns e =
     no-input-later old old new ms ns e
     (record { tells = refl; files = λ path. refl; writes = refl; later = omega arith })

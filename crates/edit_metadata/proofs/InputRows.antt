@@ -4,14 +4,14 @@ use Rattle.std.specs.Prelude.{codes}
 use Rattle.semver.specs.Parse.{Parts}
 use Rattle.edit_version.specs.RustVersions.{Numbers}
 use Rattle.edit_metadata.specs.Inputs.{least, member_manifests, root_manifest, rust_version_for}
-use Rattle.edit_metadata.specs.Metadata.{PackageSaid, WorkspaceSaid}
+use Rattle.edit_metadata.specs.Metadata.{PackageModel, WorkspaceModel}
 
 -- a version
 abbrev first : Parts
 first = (1, 0, 0, [], [])
 
 -- a package: its name, its manifest, its Rust version, and whether it is a member
-abbrev said : List ℕ → List ℕ → Numbers → Bool → PackageSaid
+abbrev said : List ℕ → List ℕ → Numbers → Bool → PackageModel
 said name manifest_path rust_version member = record {
   name = name;
   id = name;
@@ -23,16 +23,16 @@ said name manifest_path rust_version member = record {
 }
 
 -- members of two Rust versions, and a package of a smaller one that is no member
-abbrev one : PackageSaid
+abbrev one : PackageModel
 one = said (codes "a") (codes "/w/a/Cargo.toml") (1, 71, 0) true
 
-abbrev two : PackageSaid
+abbrev two : PackageModel
 two = said (codes "b") (codes "/w/b/Cargo.toml") (1, 70, 2) true
 
-abbrev other : PackageSaid
+abbrev other : PackageModel
 other = said (codes "c") (codes "/c/Cargo.toml") (1, 1, 0) false
 
-abbrev workspace : WorkspaceSaid
+abbrev workspace : WorkspaceModel
 workspace = record { root = codes "/w"; packages = one ∷ other ∷ two ∷ [] }
 
 -- the root's manifest has the smallest Rust version of the members

@@ -4,6 +4,6 @@ pub mod Ids
 pub mod InputLemmas
 mod InputRows
 pub mod MemberPaths
-pub mod Sayings
+pub mod UniqueWorkspaces
 pub mod Values
 pub mod Zipped

@@ -61,6 +61,7 @@ zipped-last R (x ∷ xs) (z ∷ ys) y all =
     (x ∷ rest.0, rest.1, ap (λ zs. x ∷ zs) rest.2, (all.0, rest.3), rest.4)
 
 -- a list that fits none is empty, and fits none under another relation
-pub zipped-none : {A B C : Type 0} (R : A → B → Type 0) (S : A → C → Type 0) (xs : List A) → AllZip R xs [] → AllZip S xs []
+pub zipped-none : {A B C : Type 0} (R : A → B → Type 0) (S : A → C → Type 0) (xs : List A) → AllZip R xs []
+    → AllZip S xs []
 zipped-none R S [] all = tt
 zipped-none R S (x ∷ xs) all = absurd all

@@ -18,7 +18,7 @@ pub record HaveOwnFolders (paths : List (List ℕ)) : Type 0 where
   pub apart : AllPairs (λ a b. a ≢ b) folders
 
 -- the text occurs twice in the list
-pub record IsTwice (texts : List (List ℕ)) (text : List ℕ) : Type 0 where
+pub record IsDuplicate (texts : List (List ℕ)) (text : List ℕ) : Type 0 where
   pub before : List (List ℕ)
   pub after : List (List ℕ)
   pub later : texts ≡ before ++ text ∷ after
@@ -28,7 +28,7 @@ pub record IsTwice (texts : List (List ℕ)) (text : List ℕ) : Type 0 where
 pub record ShareFolder (paths : List (List ℕ)) (folder : List ℕ) : Type 0 where
   pub folders : List (List ℕ)
   pub stand : AllZip IsManifestFolder paths folders
-  pub twice : IsTwice folders folder
+  pub twice : IsDuplicate folders folder
 
 -- the error is `FolderTwice` with this folder
 abbrev pub NamesFolder : List ℕ → Error → Type 0

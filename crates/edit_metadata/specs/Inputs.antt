@@ -6,50 +6,50 @@ use Rattle.edit_base.specs.Paths.{IsNormalOf, joined}
 use Rattle.edit_base.specs.declared.errors.DeviceCall.TheVariants as call
 use Rattle.edit_base.specs.declared.errors.Error.{Error}
 use Rattle.edit_base.specs.declared.errors.Error.TheVariants.{NoManifest}
-use Rattle.edit_store.specs.Store.{Files, RefusesCall, StoreView}
+use Rattle.edit_store.specs.Store.{Files, IsCallError, StoreView}
 use Rattle.edit_version.specs.RustVersions.{Numbers, is_above, numbers_of}
-use Rattle.edit_metadata.specs.Metadata.{PackageSaid, WorkspaceSaid, members}
+use Rattle.edit_metadata.specs.Metadata.{PackageModel, WorkspaceModel, members}
 use Rattle.edit_metadata.specs.declared.input.Input.{Input}
 
 -- ---- Rust versions
 
 -- the smaller of two Rust versions; if one is absent, the other
-abbrev pub lesser : Option Numbers → Option Numbers → Option Numbers
-lesser None b = b
-lesser (Some a) None = Some a
-lesser (Some a) (Some b) = if is_above a b then Some b else Some a
+abbrev pub min_rust_version : Option Numbers → Option Numbers → Option Numbers
+min_rust_version None b = b
+min_rust_version (Some a) None = Some a
+min_rust_version (Some a) (Some b) = if is_above a b then Some b else Some a
 
 -- the smallest of these Rust versions, none if all are absent
 abbrev pub least : List (Option Numbers) → Option Numbers
-least versions = fold lesser None versions
+least versions = fold min_rust_version None versions
 
 -- the options for Rust versions: the given one, and whether those of the manifests are ignored
-pub record RustAsked : Type 0 where
+pub record RustOptions : Type 0 where
   pub given : Option Numbers
   pub ignored : Bool
 
 -- the Rust version to plan for: the given one, else none if they are ignored, else the manifest's own
-abbrev pub rust_version_for : RustAsked → Option Numbers → Option Numbers
+abbrev pub rust_version_for : RustOptions → Option Numbers → Option Numbers
 rust_version_for asked own = option_or asked.given (if asked.ignored then None else own)
 
 -- ---- manifests
 
 -- the model of a manifest of a workspace: its name in reports, its path as written, and its own Rust version
-pub record ManifestSaid : Type 0 where
+pub record ManifestModel : Type 0 where
   pub name : List ℕ
   pub path : List ℕ
   pub rust_version : Option Numbers
 
 -- the manifest of a package
-abbrev pub manifest_of : PackageSaid → ManifestSaid
+abbrev pub manifest_of : PackageModel → ManifestModel
 manifest_of p = record { name = p.name; path = p.manifest_path; rust_version = p.rust_version }
 
 -- the manifests of the members of these packages, in order
-abbrev pub member_manifests : List PackageSaid → List ManifestSaid
+abbrev pub member_manifests : List PackageModel → List ManifestModel
 member_manifests ps = map manifest_of (members ps)
 
 -- the manifest in the root of the workspace; its Rust version is the smallest of the members'
-abbrev pub root_manifest : WorkspaceSaid → ManifestSaid
+abbrev pub root_manifest : WorkspaceModel → ManifestModel
 root_manifest w = record {
   name = codes "virtual workspace";
   path = joined w.root (codes "Cargo.toml");
@@ -57,13 +57,13 @@ root_manifest w = record {
 }
 
 -- the manifests of a workspace, the root's first
-abbrev pub manifests : WorkspaceSaid → List ManifestSaid
+abbrev pub manifests : WorkspaceModel → List ManifestModel
 manifests w = root_manifest w ∷ member_manifests w.packages
 
 -- ---- inputs
 
 -- the input is that of this manifest, except for its bytes
-pub record IsInputOf (asked : RustAsked) (m : ManifestSaid) (i : Input) : Type 0 where
+pub record IsInputOf (asked : RustOptions) (m : ManifestModel) (i : Input) : Type 0 where
   pub name : string_bytes i.name ≡ m.name
   pub path : IsNormalOf m.path (string_bytes i.path)
   pub rust_version : option_map numbers_of i.rust_version ≡ rust_version_for asked m.rust_version
@@ -82,7 +82,7 @@ HaveOwnPaths is = AllPairs (λ a b. path_of a ≢ path_of b) is
 
 -- the inputs of a workspace: those of the members in order and, if none of them has the root's path, that of
 -- the root before them
-pub data AreInputs (asked : RustAsked) (w : WorkspaceSaid) : List Input → Type 0 where
+pub data AreInputs (asked : RustOptions) (w : WorkspaceModel) : List Input → Type 0 where
   of_members : (root : List ℕ) (is : List Input) → AllZip (IsInputOf asked) (member_manifests w.packages) is
       → IsNormalOf (root_manifest w).path root → Contains (input_paths is) root → AreInputs asked w is
   with_root : (i : Input) (is : List Input) → AllZip (IsInputOf asked) (member_manifests w.packages) is
@@ -96,15 +96,15 @@ IsReadFrom files i = files (string_bytes i.path) ≡ Some i.bytes.items
 -- ---- errors
 
 -- no file exists at the normalised path of one of these manifests
-pub record LackFile (files : Files) (ms : List ManifestSaid) : Type 0 where
-  pub manifest : ManifestSaid
+pub record HaveMissingFile (files : Files) (ms : List ManifestModel) : Type 0 where
+  pub manifest : ManifestModel
   pub among : Contains ms manifest
   pub path : List ℕ
   pub is_normal : IsNormalOf manifest.path path
   pub absent : files path ≡ None
 
 -- the errors of reading manifests: lack of memory, a fault of the device, or a missing file
-abbrev pub IsNoInput : StoreView → StoreView → List ManifestSaid → Error → Type 0
+abbrev pub IsNoInput : StoreView → StoreView → List ManifestModel → Error → Type 0
 IsNoInput old new ms e =
-    RefusesCall call.Read old new e
-    ⊎ ((e ≡ NoManifest) × (old.tells ≡ true → LackFile old.file_at ms))
+    IsCallError call.Read old new e
+    ⊎ ((e ≡ NoManifest) × (old.tells ≡ true → HaveMissingFile old.file_at ms))

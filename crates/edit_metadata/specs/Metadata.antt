@@ -46,7 +46,7 @@ is_absolute path = starts_with nat_eq path (codes "/")
 -- ---- packages
 
 -- the model of a package
-pub record PackageSaid : Type 0 where
+pub record PackageModel : Type 0 where
   pub name : List ℕ
   pub id : List ℕ
   pub manifest_path : List ℕ
@@ -56,12 +56,12 @@ pub record PackageSaid : Type 0 where
   pub member : Bool
 
 -- the version of a package, if it is a string with a valid version (SemVer 2.0.0)
-abbrev pub version_said : Data → Option Parts
-version_said d = option_and_then version_read (text_at (codes "version") d)
+abbrev pub version_in_value : Data → Option Parts
+version_in_value d = option_and_then version_read (text_at (codes "version") d)
 
 -- the Rust version of a package; an invalid one counts as absent (own)
-abbrev pub rust_version_said : Data → Option (Option Numbers)
-rust_version_said d =
+abbrev pub rust_version_in_value : Data → Option (Option Numbers)
+rust_version_in_value d =
     option_map (λ text. option_and_then rust_of text) (maybe_text_at (codes "rust_version") d)
 
 -- whether an id is one of the members'
@@ -70,29 +70,29 @@ is_listed ids id = list_any (λ listed. bytes_eq listed id) ids
 
 -- the package of a JSON object, given a test for the ids of members (The Cargo Book, "cargo metadata",
 -- packages)
-pub record SaysPackage (listed : List ℕ → Bool) (d : Data) (p : PackageSaid) : Type 0 where
+pub record IsPackageValue (listed : List ℕ → Bool) (d : Data) (p : PackageModel) : Type 0 where
   pub name : text_at (codes "name") d ≡ Some p.name
   pub id : text_at (codes "id") d ≡ Some p.id
   pub manifest_path : text_at (codes "manifest_path") d ≡ Some p.manifest_path
   pub absolute : is_absolute p.manifest_path ≡ true
-  pub version : version_said d ≡ Some p.version
+  pub version : version_in_value d ≡ Some p.version
   pub source : maybe_text_at (codes "source") d ≡ Some p.source
-  pub rust_version : rust_version_said d ≡ Some p.rust_version
+  pub rust_version : rust_version_in_value d ≡ Some p.rust_version
   pub member : p.member ≡ listed p.id
 
 -- the packages that are members, in their order
-abbrev pub members : List PackageSaid → List PackageSaid
+abbrev pub members : List PackageModel → List PackageModel
 members ps = filter (λ p. p.member) ps
 
 -- ---- the workspace
 
 -- the model of a workspace: its root, and its packages in their order
-pub record WorkspaceSaid : Type 0 where
+pub record WorkspaceModel : Type 0 where
   pub root : List ℕ
-  pub packages : List PackageSaid
+  pub packages : List PackageModel
 
 -- the workspace of a JSON value (The Cargo Book, "cargo metadata", workspace_root, workspace_members)
-pub record SaysWorkspace (d : Data) (w : WorkspaceSaid) : Type 0 where
+pub record IsWorkspaceValue (d : Data) (w : WorkspaceModel) : Type 0 where
   pub root : text_at (codes "workspace_root") d ≡ Some w.root
   pub absolute : is_absolute w.root ≡ true
   pub listed : List Data
@@ -101,11 +101,11 @@ pub record SaysWorkspace (d : Data) (w : WorkspaceSaid) : Type 0 where
   pub are_ids : AllZip IsText listed ids
   pub said : List Data
   pub has_packages : values_at (codes "packages") d ≡ Some said
-  pub packages : AllZip (SaysPackage (is_listed ids)) said w.packages
+  pub packages : AllZip (IsPackageValue (is_listed ids)) said w.packages
 
 -- the bytes are the JSON of a value with this workspace
-pub record AreMetadata (bytes : List ℕ) (w : WorkspaceSaid) : Type 0 where
+pub record AreMetadata (bytes : List ℕ) (w : WorkspaceModel) : Type 0 where
   pub utf8 : IsUtf8 bytes
   pub value : Data
   pub reads : read bytes ≡ Some value
-  pub says : SaysWorkspace value w
+  pub says : IsWorkspaceValue value w

@@ -13,5 +13,5 @@ abbrev pub holds : BTreeSet (Bor (List ℕ)) → List ℕ → Bool
 holds set text = contains_by (λ k. slice_cmp nat_cmp text k.now) set
 
 -- the errors of reading: lack of memory, or `Metadata` where there is nothing to read
-abbrev pub IsUnsaid : {A : Type 0} → (A → Type 0) → Error → Type 0
-IsUnsaid {A} Says e = IsMemory e ⊎ ((e ≡ Metadata) × ((x : A) → Says x → ⊥))
+abbrev pub IsReadingError : {A : Type 0} → (A → Type 0) → Error → Type 0
+IsReadingError {A} Says e = IsMemory e ⊎ ((e ≡ Metadata) × ((x : A) → Says x → ⊥))

@@ -7,13 +7,13 @@ use Rattle.edit_base.specs.declared.errors.Error.{Error}
 use Rattle.edit_base.specs.declared.errors.Error.TheVariants.{Metadata}
 use Rattle.edit_version.specs.RustVersions.{numbers_of}
 use Rattle.edit_metadata.specs.Folders.{HaveOwnFolders, ShareNamed}
-use Rattle.edit_metadata.specs.Metadata.{AreMetadata, PackageSaid, WorkspaceSaid, members}
+use Rattle.edit_metadata.specs.Metadata.{AreMetadata, PackageModel, WorkspaceModel, members}
 use Rattle.edit_metadata.specs.declared.workspace.Package.{Package}
 use Rattle.edit_metadata.specs.declared.workspace.Workspace.{Workspace}
 
 -- the model of a package
-abbrev pub package_said : Package → PackageSaid
-package_said p = record {
+abbrev pub package_view : Package → PackageModel
+package_view p = record {
   name = string_bytes p.name;
   id = string_bytes p.id;
   manifest_path = string_bytes p.manifest_path;
@@ -24,34 +24,34 @@ package_said p = record {
 }
 
 -- the models of packages, in order
-abbrev pub packages_said : List Package → List PackageSaid
-packages_said ps = map package_said ps
+abbrev pub packages_view : List Package → List PackageModel
+packages_view ps = map package_view ps
 
 -- the model of a workspace
-abbrev pub workspace_said : Workspace → WorkspaceSaid
-workspace_said w = record { root = string_bytes w.root; packages = packages_said w.packages.items }
+abbrev pub workspace_view : Workspace → WorkspaceModel
+workspace_view w = record { root = string_bytes w.root; packages = packages_view w.packages.items }
 
 -- the paths of the members' manifests, in order
-abbrev pub member_paths : List PackageSaid → List (List ℕ)
+abbrev pub member_paths : List PackageModel → List (List ℕ)
 member_paths ps = map (λ p. p.manifest_path) (members ps)
 
 -- the manifests of the members are in folders of their own
-abbrev pub HasOwnFolders : WorkspaceSaid → Type 0
+abbrev pub HasOwnFolders : WorkspaceModel → Type 0
 HasOwnFolders w = HaveOwnFolders (member_paths w.packages)
 
 -- the bytes are not the output of `cargo metadata` for any workspace
-abbrev pub SayNothing : List ℕ → Type 0
-SayNothing bytes = (w : WorkspaceSaid) → AreMetadata bytes w → ⊥
+abbrev pub HaveNoWorkspace : List ℕ → Type 0
+HaveNoWorkspace bytes = (w : WorkspaceModel) → AreMetadata bytes w → ⊥
 
 -- the bytes are the output for a workspace, of which two members share the folder of the error
-pub record SayFolderTwice (bytes : List ℕ) (e : Error) : Type 0 where
-  pub workspace : WorkspaceSaid
+pub record HaveSharedFolder (bytes : List ℕ) (e : Error) : Type 0 where
+  pub workspace : WorkspaceModel
   pub said : AreMetadata bytes workspace
   pub shared : ShareNamed (member_paths workspace.packages) e
 
 -- the errors of reading a workspace: lack of memory, malformed output, or two members that share a folder
 abbrev pub IsNoWorkspace : List ℕ → Error → Type 0
-IsNoWorkspace bytes e = IsMemory e ⊎ (((e ≡ Metadata) × SayNothing bytes) ⊎ SayFolderTwice bytes e)
+IsNoWorkspace bytes e = IsMemory e ⊎ (((e ≡ Metadata) × HaveNoWorkspace bytes) ⊎ HaveSharedFolder bytes e)
 
 -- the package is a member of this name
 abbrev pub is_member_named : List ℕ → Package → Bool

@@ -1,8 +1,8 @@
 //! Reads the members of a package in the output of `cargo metadata`.
 ghost use Rattle.std.specs.Prelude.{◌≡◌, None, Some, true, IfErr, IfOk, MatchResult, option_map, string_bytes};
 ghost use Rattle.edit_base.specs.Errors.{IsMemory};
-ghost use Rattle.edit_metadata.specs.Metadata.{is_absolute, maybe_text_at, rust_version_said, text_at, version_said};
-ghost use Rattle.edit_metadata.specs.Reading.{IsUnsaid};
+ghost use Rattle.edit_metadata.specs.Metadata.{is_absolute, maybe_text_at, rust_version_in_value, text_at, version_in_value};
+ghost use Rattle.edit_metadata.specs.Reading.{IsReadingError};
 ghost use Rattle.edit_version.specs.RustVersions.{numbers_of};
 ghost use Rattle.semver.specs.Identifiers.{parts_of};
 ghost use Rattle.serde_json.specs.View.{view};
@@ -17,7 +17,7 @@ use std::alloc::Global;
 /// The string of a member; `Error::Metadata` where it holds no string.
 pub(crate) fn text(alloc: Global, value: &Value, name: &str) -> CargoResult<String>
     ensures { MatchResult result (λ s. text_at name.now (view value.now) ≡ Some (string_bytes s))
-        (IsUnsaid (λ t. text_at name.now (view value.now) ≡ Some t)) }
+        (IsReadingError (λ t. text_at name.now (view value.now) ≡ Some t)) }
 {
     match text_at(value, name) {
         Some(text) => Ok(String::from_str(alloc, text)?),
@@ -29,7 +29,7 @@ pub(crate) fn text(alloc: Global, value: &Value, name: &str) -> CargoResult<Stri
 pub(crate) fn path(alloc: Global, value: &Value, name: &str) -> CargoResult<String>
     ensures { MatchResult result (λ s. (text_at name.now (view value.now) ≡ Some (string_bytes s))
         × (is_absolute (string_bytes s) ≡ true))
-        (IsUnsaid (λ t. (text_at name.now (view value.now) ≡ Some t) × (is_absolute t ≡ true))) }
+        (IsReadingError (λ t. (text_at name.now (view value.now) ≡ Some t) × (is_absolute t ≡ true))) }
 {
     let path = text(alloc, value, name)?;
     if !is_absolute(path.as_str()) {
@@ -42,7 +42,7 @@ pub(crate) fn path(alloc: Global, value: &Value, name: &str) -> CargoResult<Stri
 pub(crate) fn maybe_text(alloc: Global, value: &Value, name: &str) -> CargoResult<Option<String>>
     ensures { MatchResult result
         (λ s. maybe_text_at name.now (view value.now) ≡ Some (option_map string_bytes s))
-        (IsUnsaid (λ t. maybe_text_at name.now (view value.now) ≡ Some t)) }
+        (IsReadingError (λ t. maybe_text_at name.now (view value.now) ≡ Some t)) }
 {
     match maybe_text_at(value, name) {
         Some(Some(text)) => Ok(Some(String::from_str(alloc, text)?)),
@@ -53,8 +53,8 @@ pub(crate) fn maybe_text(alloc: Global, value: &Value, name: &str) -> CargoResul
 
 /// The version of a package; `Error::Metadata` where it is no version.
 pub(crate) fn version(alloc: Global, value: &Value) -> CargoResult<Version>
-    ensures { MatchResult result (λ v. version_said (view value.now) ≡ Some (parts_of v))
-        (IsUnsaid (λ v. version_said (view value.now) ≡ Some v)) }
+    ensures { MatchResult result (λ v. version_in_value (view value.now) ≡ Some (parts_of v))
+        (IsReadingError (λ v. version_in_value (view value.now) ≡ Some v)) }
 {
     let Some(text) = text_at(value, "version") else {
         return Err(Error::Metadata);
@@ -69,8 +69,8 @@ pub(crate) fn version(alloc: Global, value: &Value) -> CargoResult<Version>
 /// no string.
 pub(crate) fn rust_version(alloc: Global, value: &Value) -> CargoResult<Option<RustVersion>>
     ensures { MatchResult result
-        (λ v. rust_version_said (view value.now) ≡ Some (option_map numbers_of v))
-        (IsUnsaid (λ v. rust_version_said (view value.now) ≡ Some v)) }
+        (λ v. rust_version_in_value (view value.now) ≡ Some (option_map numbers_of v))
+        (IsReadingError (λ v. rust_version_in_value (view value.now) ≡ Some v)) }
 {
     match maybe_text_at(value, "rust_version") {
         Some(Some(text)) => read_rust_version(alloc, text),

@@ -2,8 +2,8 @@
 ghost use Rattle.std.specs.Prelude.{◌≢◌, ◌⊎◌, AllPairs, IfErr, IfOk, MatchOption, OnOk, map, string_bytes};
 ghost use Rattle.std.specs.List.{AllZip};
 ghost use Rattle.edit_base.specs.Errors.{IsMemory};
-ghost use Rattle.edit_metadata.specs.Folders.{HaveOwnFolders, IsManifestFolder, IsTwice, NamesFolder, ShareNamed};
-ghost use Rattle.edit_metadata.specs.Workspaces.{member_paths, packages_said};
+ghost use Rattle.edit_metadata.specs.Folders.{HaveOwnFolders, IsManifestFolder, IsDuplicate, NamesFolder, ShareNamed};
+ghost use Rattle.edit_metadata.specs.Workspaces.{member_paths, packages_view};
 
 use crate::workspace::Package;
 use edit_base::paths::{folder, normal};
@@ -23,7 +23,7 @@ fn manifest_folder(alloc: Global, path: &str) -> CargoResult<String>
 
 /// The folders of the members' manifests, in order.
 fn member_folders(alloc: Global, packages: &[Package]) -> CargoResult<Vec<String>>
-    ensures ok { IfOk result (λ v. AllZip IsManifestFolder (member_paths (packages_said packages.now))
+    ensures ok { IfOk result (λ v. AllZip IsManifestFolder (member_paths (packages_view packages.now))
         (map string_bytes v.items)) }
     ensures refused { IfErr result IsMemory }
 {
@@ -38,9 +38,9 @@ fn member_folders(alloc: Global, packages: &[Package]) -> CargoResult<Vec<String
 }
 
 /// The first text that equals an earlier one.
-fn first_twice<'a>(alloc: Global, texts: &'a [String]) -> Result<Option<&'a str>, AllocError>
+fn first_duplicate<'a>(alloc: Global, texts: &'a [String]) -> Result<Option<&'a str>, AllocError>
     ensures { IfOk result (λ o. MatchOption o (AllPairs (λ a b. a ≢ b) (map string_bytes texts.entry.now))
-        (λ t. IsTwice (map string_bytes texts.entry.now) t.now)) }
+        (λ t. IsDuplicate (map string_bytes texts.entry.now) t.now)) }
 {
     let mut seen = BTreeSet::new(alloc);
     'texts: for text in texts {
@@ -65,12 +65,12 @@ fn shared(alloc: Global, folder: &str) -> Error
 
 /// Returns `Error::FolderTwice` where the manifests of two members are in one folder.
 pub(crate) fn check_folders(alloc: Global, packages: &[Package]) -> CargoResult<()>
-    ensures own { OnOk result (HaveOwnFolders (member_paths (packages_said packages.now))) }
+    ensures own { OnOk result (HaveOwnFolders (member_paths (packages_view packages.now))) }
     ensures refused { IfErr result (λ e. IsMemory e
-        ⊎ ShareNamed (member_paths (packages_said packages.now)) e) }
+        ⊎ ShareNamed (member_paths (packages_view packages.now)) e) }
 {
     let folders = member_folders(alloc, packages)?;
-    match first_twice(alloc, &folders)? {
+    match first_duplicate(alloc, &folders)? {
         Some(folder) => Err(shared(alloc, folder)),
         None => Ok(()),
     }

@@ -2,10 +2,10 @@
 ghost use Rattle.std.specs.Prelude.{◌≡◌, ℕ, List, map, option_and_then, option_map, string_bytes, IfErr, IfOk, IfSome};
 ghost use Rattle.std.specs.List.{AllZip};
 ghost use Rattle.edit_base.specs.Errors.{IsMemory};
-ghost use Rattle.edit_metadata.specs.Metadata.{AreMetadata, SaysPackage, SaysWorkspace, is_listed};
+ghost use Rattle.edit_metadata.specs.Metadata.{AreMetadata, IsPackageValue, IsWorkspaceValue, is_listed};
 ghost use Rattle.edit_metadata.specs.Reading.{holds};
-ghost use Rattle.edit_metadata.specs.Texts.{ShowsPackage, ShowsWorkspace};
-ghost use Rattle.edit_metadata.specs.Workspaces.{package_said, workspace_said};
+ghost use Rattle.edit_metadata.specs.Texts.{HasPackageTexts, HasWorkspaceTexts};
+ghost use Rattle.edit_metadata.specs.Workspaces.{package_view, workspace_view};
 ghost use Rattle.edit_version.specs.RustVersions.{numbers_of, rust_of};
 ghost use Rattle.serde_json.specs.Data.{Data};
 
@@ -58,8 +58,8 @@ fn package_of(
     ids: &BTreeSet<&str>,
     texts: &PackageTexts<'_>,
 ) -> CargoResult<Option<Package>>
-    ensures ok { IfOk result (λ o. IfSome o (λ p. (d : Data) → ShowsPackage d texts.now
-        → SaysPackage (holds ids.now) d (package_said p))) }
+    ensures ok { IfOk result (λ o. IfSome o (λ p. (d : Data) → HasPackageTexts d texts.now
+        → IsPackageValue (holds ids.now) d (package_view p))) }
     ensures refused { IfErr result IsMemory }
 {
     let Some(name) = texts.name else {
@@ -98,8 +98,8 @@ fn packages_of(
     ids: &BTreeSet<&str>,
     texts: &[PackageTexts<'_>],
 ) -> CargoResult<Option<Vec<Package>>>
-    ensures ok { IfOk result (λ o. IfSome o (λ v. (ds : List Data) → AllZip ShowsPackage ds texts.now
-        → AllZip (SaysPackage (holds ids.now)) ds (map package_said v.items))) }
+    ensures ok { IfOk result (λ o. IfSome o (λ v. (ds : List Data) → AllZip HasPackageTexts ds texts.now
+        → AllZip (IsPackageValue (holds ids.now)) ds (map package_view v.items))) }
     ensures refused { IfErr result IsMemory }
 {
     let mut packages = Vec::with_capacity(alloc, texts.len())?;
@@ -114,8 +114,8 @@ fn packages_of(
 
 /// Builds the workspace; `None` where a member is missing or invalid.
 fn workspace_of(alloc: Global, texts: &WorkspaceTexts<'_>) -> CargoResult<Option<Workspace>>
-    ensures ok { IfOk result (λ o. IfSome o (λ w. (d : Data) → ShowsWorkspace d texts.now
-        → SaysWorkspace d (workspace_said w))) }
+    ensures ok { IfOk result (λ o. IfSome o (λ w. (d : Data) → HasWorkspaceTexts d texts.now
+        → IsWorkspaceValue d (workspace_view w))) }
     ensures refused { IfErr result IsMemory }
 {
     let Some(root) = texts.root else {
@@ -143,7 +143,7 @@ fn workspace_of(alloc: Global, texts: &WorkspaceTexts<'_>) -> CargoResult<Option
 /// Parses the output of `cargo metadata` without building a tree; `None` where it has to be parsed by way of
 /// a tree.
 pub(crate) fn read_without_tree(alloc: Global, json: &[u8]) -> CargoResult<Option<Workspace>>
-    ensures ok { IfOk result (λ o. IfSome o (λ w. AreMetadata json.now (workspace_said w))) }
+    ensures ok { IfOk result (λ o. IfSome o (λ w. AreMetadata json.now (workspace_view w))) }
     ensures refused { IfErr result IsMemory }
 {
     let Ok(text) = simdutf8::compat::from_utf8(json) else {

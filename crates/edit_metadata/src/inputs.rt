@@ -5,10 +5,10 @@ ghost use Rattle.edit_base.specs.Errors.{IsMemory};
 ghost use Rattle.edit_base.specs.Paths.{IsNormalOf};
 ghost use Rattle.edit_base.specs.declared.errors.DeviceCall.TheVariants as call;
 ghost use Rattle.edit_base.specs.declared.errors.Error.TheVariants.{NoManifest};
-ghost use Rattle.edit_metadata.specs.Inputs.{AreInputs, IsInputOf, IsNoInput, IsReadFrom, input_paths, least, lesser, manifest_of, manifests, member_manifests, root_manifest, rust_version_for};
+ghost use Rattle.edit_metadata.specs.Inputs.{AreInputs, IsInputOf, IsNoInput, IsReadFrom, input_paths, least, min_rust_version, manifest_of, manifests, member_manifests, root_manifest, rust_version_for};
 ghost use Rattle.edit_metadata.specs.Metadata.{members};
-ghost use Rattle.edit_metadata.specs.Workspaces.{package_said, packages_said, workspace_said};
-ghost use Rattle.edit_store.specs.Store.{OnlyReads, RefusesCall};
+ghost use Rattle.edit_metadata.specs.Workspaces.{package_view, packages_view, workspace_view};
+ghost use Rattle.edit_store.specs.Store.{OnlyReads, IsCallError};
 ghost use Rattle.edit_version.specs.RustVersions.{numbers_of};
 
 use crate::input::Input;
@@ -20,8 +20,8 @@ use edit_version::RustVersion;
 use std::alloc::Global;
 
 /// The smaller of two Rust versions; if one is absent, the other.
-fn lesser(a: Option<RustVersion>, b: Option<RustVersion>) -> Option<RustVersion>
-    ensures { option_map numbers_of result ≡ lesser (option_map numbers_of a) (option_map numbers_of b) }
+fn min_rust_version(a: Option<RustVersion>, b: Option<RustVersion>) -> Option<RustVersion>
+    ensures { option_map numbers_of result ≡ min_rust_version (option_map numbers_of a) (option_map numbers_of b) }
 {
     match (a, b) {
         (None, b) => b,
@@ -33,12 +33,12 @@ fn lesser(a: Option<RustVersion>, b: Option<RustVersion>) -> Option<RustVersion>
 /// The smallest Rust version of the members.
 fn least_rust_version(packages: &[Package]) -> Option<RustVersion>
     ensures { option_map numbers_of result
-        ≡ least (map (λ p. p.rust_version) (members (packages_said packages.now))) }
+        ≡ least (map (λ p. p.rust_version) (members (packages_view packages.now))) }
 {
     let mut found = None;
     'packages: for package in packages {
         if package.member {
-            found = lesser(found, package.rust_version);
+            found = min_rust_version(found, package.rust_version);
         }
     }
     found
@@ -66,7 +66,7 @@ fn read_manifest<S: Store>(alloc: Global, store: &mut S, path: &str) -> CargoRes
     ensures reads { OnlyReads (S.view store.old) (S.view store.new) }
     ensures bytes { IfOk result (λ v. (S.view store.old).tells ≡ true
         → (S.view store.old).file_at path.now ≡ Some v.items) }
-    ensures refused { IfErr result (λ e. RefusesCall call.Read (S.view store.old) (S.view store.new) e
+    ensures refused { IfErr result (λ e. IsCallError call.Read (S.view store.old) (S.view store.new) e
         ⊎ ((e ≡ NoManifest) × ((S.view store.old).tells ≡ true
         → (S.view store.old).file_at path.now ≡ None))) }
 {
@@ -87,11 +87,11 @@ fn member_input<S: Store>(
 ) -> CargoResult<Input>
     ensures reads { OnlyReads (S.view store.old) (S.view store.new) }
     ensures input { IfOk result (IsInputOf (record { given = option_map numbers_of given; ignored = ignore })
-        (manifest_of (package_said member.now))) }
+        (manifest_of (package_view member.now))) }
     ensures bytes { IfOk result (λ i. (S.view store.old).tells ≡ true
         → IsReadFrom (S.view store.old).file_at i) }
     ensures refused { IfErr result (IsNoInput (S.view store.old) (S.view store.new)
-        (manifest_of (package_said member.now) ∷ [])) }
+        (manifest_of (package_view member.now) ∷ [])) }
 {
     let name = String::from_str(alloc, member.name.as_str())?;
     let path = normal(alloc, member.manifest_path.as_str())?;
@@ -116,11 +116,11 @@ fn member_inputs<S: Store>(
     ensures reads { OnlyReads (S.view store.old) (S.view store.new) }
     ensures inputs { IfOk result (λ v.
         AllZip (IsInputOf (record { given = option_map numbers_of given; ignored = ignore }))
-        (member_manifests (packages_said packages.now)) v.items) }
+        (member_manifests (packages_view packages.now)) v.items) }
     ensures bytes { IfOk result (λ v. (S.view store.old).tells ≡ true
         → All (IsReadFrom (S.view store.old).file_at) v.items) }
     ensures refused { IfErr result (IsNoInput (S.view store.old) (S.view store.new)
-        (member_manifests (packages_said packages.now))) }
+        (member_manifests (packages_view packages.now))) }
 {
     let mut inputs = Vec::new(alloc);
     'packages: for package in packages {
@@ -146,7 +146,7 @@ fn has_path(inputs: &[Input], path: &str) -> bool
 
 /// The normalised path of the manifest in the root of the workspace.
 fn root_path(alloc: Global, workspace: &Workspace) -> CargoResult<String>
-    ensures path { IfOk result (λ s. IsNormalOf (root_manifest (workspace_said workspace.now)).path
+    ensures path { IfOk result (λ s. IsNormalOf (root_manifest (workspace_view workspace.now)).path
         (string_bytes s)) }
     ensures refused { IfErr result IsMemory }
 {
@@ -167,7 +167,7 @@ fn root_input<S: Store>(
     ensures rust_version { IfOk result (λ i. i.rust_version ≡ rust_version) }
     ensures bytes { IfOk result (λ i. (S.view store.old).tells ≡ true
         → IsReadFrom (S.view store.old).file_at i) }
-    ensures refused { IfErr result (λ e. RefusesCall call.Read (S.view store.old) (S.view store.new) e
+    ensures refused { IfErr result (λ e. IsCallError call.Read (S.view store.old) (S.view store.new) e
         ⊎ ((e ≡ NoManifest) × ((S.view store.old).tells ≡ true
         → (S.view store.old).file_at (string_bytes path) ≡ None))) }
 {
@@ -197,11 +197,11 @@ pub fn workspace_inputs<S: Store>(
     ensures reads { OnlyReads (S.view store.old) (S.view store.new) }
     ensures inputs { IfOk result (λ v.
         AreInputs (record { given = option_map numbers_of rust_version; ignored = ignore })
-        (workspace_said workspace.now) v.items) }
+        (workspace_view workspace.now) v.items) }
     ensures bytes { IfOk result (λ v. (S.view store.old).tells ≡ true
         → All (IsReadFrom (S.view store.old).file_at) v.items) }
     ensures refused { IfErr result (IsNoInput (S.view store.old) (S.view store.new)
-        (manifests (workspace_said workspace.now))) }
+        (manifests (workspace_view workspace.now))) }
 {
     let mut inputs = member_inputs(alloc, store, &workspace.packages, rust_version, ignore)?;
     let root = root_path(alloc, workspace)?;

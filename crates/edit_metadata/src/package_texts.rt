@@ -3,7 +3,7 @@ ghost use Rattle.std.specs.Prelude.{◌<◌, List, length, map, IfOk, IfSome};
 ghost use Rattle.std.specs.List.{AllZip};
 ghost use Rattle.edit_json.specs.Reads.{ReadsValue};
 ghost use Rattle.edit_metadata.specs.Metadata.{IsText, values};
-ghost use Rattle.edit_metadata.specs.Texts.{ShowsPackage};
+ghost use Rattle.edit_metadata.specs.Texts.{HasPackageTexts};
 ghost use Rattle.serde_json.specs.Data.{Data, Items, Members, array, object, put};
 
 use edit_json::{read_optional_text, read_text, skip_value};
@@ -31,7 +31,7 @@ fn read_member<'a>(
 ) -> Option<PackageTexts<'a>>
     ensures shorter { IfSome result (λ _. length reader.new < length reader.old) }
     ensures value { IfSome result (λ p. (d : Data) × ReadsValue 124 reader.old d reader.new
-        × ((ms : Members) → ShowsPackage (object ms) texts.entry → ShowsPackage (object (put key.now d ms)) p)) }
+        × ((ms : Members) → HasPackageTexts (object ms) texts.entry → HasPackageTexts (object (put key.now d ms)) p)) }
 {
     if key == "name" {
         texts.name = Some(read_text(reader)?);
@@ -65,7 +65,7 @@ fn read_member<'a>(
 fn read_package<'a>(reader: &mut Reader<'a>) -> Option<PackageTexts<'a>>
     ensures shorter { IfSome result (λ _. length reader.new < length reader.old) }
     ensures value { IfSome result
-        (λ p. (d : Data) × ReadsValue 125 reader.old d reader.new × ShowsPackage d p) }
+        (λ p. (d : Data) × ReadsValue 125 reader.old d reader.new × HasPackageTexts d p) }
 {
     let Some(Token::BeginObject) = reader.next() else {
         return None;
@@ -91,7 +91,7 @@ pub(crate) fn read_packages<'a>(
 ) -> Result<Option<Vec<PackageTexts<'a>>>, AllocError>
     ensures shorter { IfOk result (λ o. IfSome o (λ _. length reader.new < length reader.old)) }
     ensures value { IfOk result (λ o. IfSome o (λ v. (ds : Items) × ReadsValue 126 reader.old (array ds) reader.new
-        × AllZip ShowsPackage (values ds) v.items)) }
+        × AllZip HasPackageTexts (values ds) v.items)) }
 {
     let Some(Token::BeginArray) = reader.next() else {
         return Ok(None);

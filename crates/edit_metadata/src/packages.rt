@@ -1,9 +1,9 @@
 //! Reads the packages and the members' ids of the output of `cargo metadata` from a tree.
 ghost use Rattle.std.specs.Prelude.{◌≡◌, ℕ, List, MatchResult, map};
 ghost use Rattle.std.specs.List.{AllZip};
-ghost use Rattle.edit_metadata.specs.Metadata.{IsText, SaysPackage, is_listed};
-ghost use Rattle.edit_metadata.specs.Reading.{IsUnsaid, holds};
-ghost use Rattle.edit_metadata.specs.Workspaces.{package_said};
+ghost use Rattle.edit_metadata.specs.Metadata.{IsText, IsPackageValue, is_listed};
+ghost use Rattle.edit_metadata.specs.Reading.{IsReadingError, holds};
+ghost use Rattle.edit_metadata.specs.Workspaces.{package_view};
 ghost use Rattle.serde_json.specs.View.{view};
 
 use crate::fields::{maybe_text, path, rust_version, text, version};
@@ -17,7 +17,7 @@ use std::collections::BTreeSet;
 pub(crate) fn read_ids<'a>(alloc: Global, values: &'a [Value]) -> CargoResult<BTreeSet<&'a str>>
     ensures { MatchResult result (λ s. (ids : List (List ℕ)) × AllZip IsText (map view values.now) ids
         × ((id : List ℕ) → holds s id ≡ is_listed ids id))
-        (IsUnsaid (AllZip IsText (map view values.now))) }
+        (IsReadingError (AllZip IsText (map view values.now))) }
 {
     let mut ids = BTreeSet::new(alloc);
     'values: for value in values {
@@ -31,8 +31,8 @@ pub(crate) fn read_ids<'a>(alloc: Global, values: &'a [Value]) -> CargoResult<BT
 
 /// Reads a package from a JSON object; `Error::Metadata` where it is malformed.
 fn read_package(alloc: Global, ids: &BTreeSet<&str>, value: &Value) -> CargoResult<Package>
-    ensures { MatchResult result (λ p. SaysPackage (holds ids.now) (view value.now) (package_said p))
-        (IsUnsaid (SaysPackage (holds ids.now) (view value.now))) }
+    ensures { MatchResult result (λ p. IsPackageValue (holds ids.now) (view value.now) (package_view p))
+        (IsReadingError (IsPackageValue (holds ids.now) (view value.now))) }
 {
     let name = text(alloc, value, "name")?;
     let id = text(alloc, value, "id")?;
@@ -59,8 +59,8 @@ pub(crate) fn read_packages(
     values: &[Value],
 ) -> CargoResult<Vec<Package>>
     ensures { MatchResult result
-        (λ v. AllZip (SaysPackage (holds ids.now)) (map view values.now) (map package_said v.items))
-        (IsUnsaid (AllZip (SaysPackage (holds ids.now)) (map view values.now))) }
+        (λ v. AllZip (IsPackageValue (holds ids.now)) (map view values.now) (map package_view v.items))
+        (IsReadingError (AllZip (IsPackageValue (holds ids.now)) (map view values.now))) }
 {
     let mut packages = Vec::with_capacity(alloc, values.len())?;
     'values: for value in values {

@@ -2,9 +2,9 @@
 ghost use Rattle.std.specs.Prelude.{◌≡◌, ◌⊎◌, None, Some, All, IfErr, IfOk, MatchResult, find};
 ghost use Rattle.edit_base.specs.Errors.{IsMemory};
 ghost use Rattle.edit_base.specs.declared.errors.Error.TheVariants.{Metadata, VirtualManifest};
-ghost use Rattle.edit_metadata.specs.Metadata.{AreMetadata, SaysWorkspace};
-ghost use Rattle.edit_metadata.specs.Reading.{IsUnsaid};
-ghost use Rattle.edit_metadata.specs.Workspaces.{HasOwnFolders, IsNoWorkspace, is_member_named, SayNothing, workspace_said};
+ghost use Rattle.edit_metadata.specs.Metadata.{AreMetadata, IsWorkspaceValue};
+ghost use Rattle.edit_metadata.specs.Reading.{IsReadingError};
+ghost use Rattle.edit_metadata.specs.Workspaces.{HasOwnFolders, IsNoWorkspace, is_member_named, HaveNoWorkspace, workspace_view};
 ghost use Rattle.edit_version.specs.Laws.{IsReadable};
 ghost use Rattle.semver.specs.Identifiers.{parts_of};
 ghost use Rattle.serde_json.specs.View.{view};
@@ -45,9 +45,9 @@ pub struct Workspace {
 }
 
 /// Builds the workspace from a JSON value; `Error::Metadata` where it is malformed.
-fn said_by(alloc: Global, value: &Value) -> CargoResult<Workspace>
-    ensures { MatchResult result (λ w. SaysWorkspace (view value.now) (workspace_said w))
-        (IsUnsaid (SaysWorkspace (view value.now))) }
+fn workspace_from_value(alloc: Global, value: &Value) -> CargoResult<Workspace>
+    ensures { MatchResult result (λ w. IsWorkspaceValue (view value.now) (workspace_view w))
+        (IsReadingError (IsWorkspaceValue (view value.now))) }
 {
     let root = path(alloc, value, "workspace_root")?;
     let Some(ids) = values_at(value, "workspace_members") else {
@@ -63,11 +63,11 @@ fn said_by(alloc: Global, value: &Value) -> CargoResult<Workspace>
 
 /// Parses the output of `cargo metadata` by way of a tree.
 fn read_by_tree(alloc: Global, json: &[u8]) -> CargoResult<Workspace>
-    ensures said { IfOk result (λ w. AreMetadata json.now (workspace_said w)) }
-    ensures refused { IfErr result (λ e. IsMemory e ⊎ ((e ≡ Metadata) × SayNothing json.now)) }
+    ensures said { IfOk result (λ w. AreMetadata json.now (workspace_view w)) }
+    ensures refused { IfErr result (λ e. IsMemory e ⊎ ((e ≡ Metadata) × HaveNoWorkspace json.now)) }
 {
     match Value::from_slice(alloc, json) {
-        Ok(value) => said_by(alloc, &value),
+        Ok(value) => workspace_from_value(alloc, &value),
         Err(error) if error.is_memory() => Err(Error::Memory),
         Err(_) => Err(Error::Metadata),
     }
@@ -75,8 +75,8 @@ fn read_by_tree(alloc: Global, json: &[u8]) -> CargoResult<Workspace>
 
 /// Parses the output of `cargo metadata`: token by token, or else by way of a tree.
 fn read_json(alloc: Global, json: &[u8]) -> CargoResult<Workspace>
-    ensures said { IfOk result (λ w. AreMetadata json.now (workspace_said w)) }
-    ensures refused { IfErr result (λ e. IsMemory e ⊎ ((e ≡ Metadata) × SayNothing json.now)) }
+    ensures said { IfOk result (λ w. AreMetadata json.now (workspace_view w)) }
+    ensures refused { IfErr result (λ e. IsMemory e ⊎ ((e ≡ Metadata) × HaveNoWorkspace json.now)) }
 {
     match read_without_tree(alloc, json) {
         Ok(Some(workspace)) => Ok(workspace),
@@ -94,8 +94,8 @@ impl Workspace {
     /// `Error::Metadata` where the output has another form, and `Error::FolderTwice` where the manifests of
     /// two members are in one folder.
     pub fn read(alloc: Global, json: &[u8]) -> CargoResult<Workspace>
-        ensures workspace { IfOk result (λ w. AreMetadata json.now (workspace_said w)) }
-        ensures folders { IfOk result (λ w. HasOwnFolders (workspace_said w)) }
+        ensures workspace { IfOk result (λ w. AreMetadata json.now (workspace_view w)) }
+        ensures folders { IfOk result (λ w. HasOwnFolders (workspace_view w)) }
         ensures readable { IfOk result (λ w. All (λ p. IsReadable (parts_of p.version)) w.packages.items) }
         ensures refused { IfErr result (IsNoWorkspace json.now) }
     {

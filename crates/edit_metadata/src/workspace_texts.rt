@@ -4,7 +4,7 @@
 //! output is malformed.
 ghost use Rattle.std.specs.Prelude.{◌≡◌, ◌<◌, Some, length, IfOk, IfSome};
 ghost use Rattle.edit_json.specs.Reads.{ReadsMembers, ReadsValue};
-ghost use Rattle.edit_metadata.specs.Texts.{ShowsWorkspace};
+ghost use Rattle.edit_metadata.specs.Texts.{HasWorkspaceTexts};
 ghost use Rattle.serde_json.specs.Data.{Data, Members, object, put};
 ghost use Rattle.serde_json.specs.Read.{read};
 
@@ -31,8 +31,8 @@ fn read_member<'a>(
 ) -> Result<Option<WorkspaceTexts<'a>>, AllocError>
     ensures shorter { IfOk result (λ o. IfSome o (λ _. length reader.new < length reader.old)) }
     ensures value { IfOk result (λ o. IfSome o (λ w. (d : Data) × ReadsValue 126 reader.old d reader.new
-        × ((ms : Members) → ShowsWorkspace (object ms) texts.entry
-        → ShowsWorkspace (object (put key.now d ms)) w))) }
+        × ((ms : Members) → HasWorkspaceTexts (object ms) texts.entry
+        → HasWorkspaceTexts (object (put key.now d ms)) w))) }
 {
     if key == "workspace_root" {
         let Some(text) = read_text(reader) else {
@@ -73,7 +73,7 @@ fn read_members<'a>(
     reader: &mut Reader<'a>,
 ) -> Result<Option<WorkspaceTexts<'a>>, AllocError>
     ensures value { IfOk result (λ o. IfSome o (λ w. (ms : Members) × ReadsMembers 126 reader.old ms reader.new
-        × ShowsWorkspace (object ms) w)) }
+        × HasWorkspaceTexts (object ms) w)) }
 {
     let mut texts = WorkspaceTexts {
         root: None,
@@ -99,7 +99,7 @@ pub(crate) fn read_metadata<'a>(
     scratch: &'a mut Scratch,
 ) -> Result<Option<WorkspaceTexts<'a>>, AllocError>
     ensures value { IfOk result (λ o. IfSome o (λ w. (ms : Members)
-        × (read text.now ≡ Some (object ms)) × ShowsWorkspace (object ms) w)) }
+        × (read text.now ≡ Some (object ms)) × HasWorkspaceTexts (object ms) w)) }
 {
     let Ok(mut reader) = Reader::new(text, scratch) else {
         return Ok(None);

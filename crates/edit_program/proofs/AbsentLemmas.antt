@@ -46,7 +46,8 @@ same_absent one other (look ∷ looks) same =
 -- the note on the crates without an index entry
 pub absent_said : (p : UpgradePlan) (o : Options) (offline : Bool) (exclude : List (String Global))
     (looks : List Look) (names slice : List (String Global)) (text message : List ℕ) → offline ≡ false
-    → exclude ≡ o.exclude.items → looks ≡ p.looks.items → map string_bytes names ≡ absent (is_among (map string_bytes exclude)) looks
+    → exclude ≡ o.exclude.items → looks ≡ p.looks.items
+    → map string_bytes names ≡ absent (is_among (map string_bytes exclude)) looks
     → (length names == 0) ≡ false → slice ≡ names → text ≡ absent_text (map string_bytes slice)
     → message ≡ text → message_text false (codes "note") message ≡ absent_note p o offline
 absent_said p o offline exclude looks names slice text message online excluded looked are some is said shown =

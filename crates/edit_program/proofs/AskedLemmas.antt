@@ -4,7 +4,7 @@ use Rattle.std.specs.Prelude.{[], IfErr, IsErrAnd, is_some, option_map, unwrap_o
 use Rattle.clap.specs.Words.{Text, first_value, first_of, found_of, matched_of, raw_values, rows_of}
 use Rattle.clap.specs.declared.parser.ArgMatches.{ArgMatches}
 use Rattle.clap.proofs.WalkLemmas.{first_value-rows, raw_values-rows}
-use Rattle.edit_program.specs.Asked.{value_of, values_of}
+use Rattle.edit_program.specs.ParsedOptions.{value_of, values_of}
 
 or_other : (o : Option (Bor (List ℕ))) (d : Bor (List ℕ))
     → (unwrap_or o d).now ≡ unwrap_or (option_map (λ (s : Bor (List ℕ)). s.now) o) d.now

@@ -1,4 +1,4 @@
--- With `--check` no file changes.
+-- With `--input_report` no file changes.
 use Rattle.std.proofs.Common.{◌≡◌, ◌∙◌, ◌≤◌, ◌&&◌, ◌||◌, ℕ, Bool, List, [], ◌∷◌, true, false, ap, arith, codes, refl, sym}
 use Rattle.std.specs.Prelude.{if◌then◌else◌}
 use Rattle.std.proofs.lemmas.List.Elements.{All-nil}
@@ -11,12 +11,12 @@ use Rattle.edit_store.specs.Store.{SameFiles, StoreView}
 use Rattle.edit_program.specs.Upgrading.{IsUpgraded, delivery_by}
 use Rattle.edit_program.specs.declared.upgrade_run.words.UpgradeWords.{UpgradeWords}
 use Rattle.edit_program.proofs.DryRuns.{dry_keeps}
-use Rattle.edit_program.specs.Asked.{is_dry, is_given}
+use Rattle.edit_program.specs.ParsedOptions.{is_dry, is_given}
 use Rattle.edit_program.specs.Presented.{status_after}
 use Rattle.edit_program.specs.Run.{Run}
 
 -- a status behind a plan is 0 or 1
-small_by : (check due : Bool) (s : ℕ) → s ≡ (if check && due then 1 else 0) → s ≤ 1
+small_by : (input_report due : Bool) (s : ℕ) → s ≡ (if input_report && due then 1 else 0) → s ≤ 1
 small_by true true s is = omega (arith, is)
 small_by true false s is = omega (arith, is)
 small_by false due s is = omega (arith, is)
@@ -25,17 +25,20 @@ pub small_after : (rows : List Row) (due : Bool) (s : ℕ) → s ≡ status_afte
 small_after rows due s is = small_by (is_given (codes "check") rows) due s is
 
 -- at status 1 nothing was to be written
-dry_by : (dry check due : Bool) (s : ℕ) → s ≡ (if check && due then 1 else 0) → s ≡ 1 → (dry || check) ≡ true
-dry_by true check due s is one = refl
+dry_by : (dry input_report due : Bool) (s : ℕ) → s ≡ (if input_report && due then 1 else 0) → s ≡ 1
+    → (dry || input_report) ≡ true
+dry_by true input_report due s is one = refl
 dry_by false true due s is one = refl
 dry_by false false due s is one = let bad : 1 ≡ 0 = sym one ∙ is in absurd (omega (arith, bad))
 
-pub dry_after : (rows : List Row) (due : Bool) (s : ℕ) → s ≡ status_after rows due → s ≡ 1 → is_dry rows ≡ true
+pub dry_after : (rows : List Row) (due : Bool) (s : ℕ) → s ≡ status_after rows due → s ≡ 1
+    → is_dry rows ≡ true
 dry_after rows due s is one =
     dry_by (is_given (codes "dry-run") rows) (is_given (codes "check") rows) due s is one
 
 -- and a check is asked for
-check_by : (check due : Bool) (s : ℕ) → s ≡ (if check && due then 1 else 0) → s ≡ 1 → check ≡ true
+check_by : (input_report due : Bool) (s : ℕ) → s ≡ (if input_report && due then 1 else 0) → s ≡ 1
+    → input_report ≡ true
 check_by true due s is one = refl
 check_by false due s is one = let bad : 1 ≡ 0 = sym one ∙ is in absurd (omega (arith, bad))
 
@@ -44,11 +47,11 @@ pub check_after : (rows : List Row) (due : Bool) (s : ℕ) → s ≡ status_afte
 check_after rows due s is one = check_by (is_given (codes "check") rows) due s is one
 
 -- an upgrade at a dry run leaves each file as it was
-pub dry_upgrade : (due : Bool) (Shows Says : List ℕ → Type 0) (words : UpgradeWords) (run : Run)
-    → words.options.dry_run ≡ true → IsUpgraded due Shows Says words run
+pub dry_upgrade : (due : Bool) (HasFields HasDecodedValue : List ℕ → Type 0) (words : UpgradeWords) (run : Run)
+    → words.options.dry_run ≡ true → IsUpgraded due HasFields HasDecodedValue words run
     → SameFiles run.old.file_at run.new.file_at
-dry_upgrade due Shows Says words run dry h =
-    dry_keeps Shows (delivery_by words run.current h.plan h.sources.target h.path h.lock) run.old run.new dry
+dry_upgrade due HasFields HasDecodedValue words run dry h =
+    dry_keeps HasFields (delivery_by words run.current h.plan h.sources.target h.path h.lock) run.old run.new dry
     h.ends.delivered.told
 
 nothing_written : (outputs : List Output) (old new : StoreView) → outputs ≡ [] → AreWritten outputs old new
@@ -57,9 +60,9 @@ nothing_written [] old new is are path = are.others path (All-nil (λ (o : Outpu
 nothing_written (o ∷ outputs) old new is are path = cc
 
 -- and so does a setting of versions
-pub dry_versions : (Shows Tells : List ℕ → Type 0) (words : SetVersionWords) (current : List ℕ) (due : Bool)
-    (old new : StoreView) → words.dry_run ≡ true → AreVersionsSet Shows Tells words current due old new
+pub dry_versions : (HasFields IsErrorOf : List ℕ → Type 0) (words : SetVersionWords) (current : List ℕ) (due : Bool)
+    (old new : StoreView) → words.dry_run ≡ true → AreVersionsSet HasFields IsErrorOf words current due old new
     → SameFiles old.file_at new.file_at
-dry_versions Shows Tells words current due old new dry set =
+dry_versions HasFields IsErrorOf words current due old new dry set =
     nothing_written (written words set.plan.outputs.items) old new
     (ap (λ (b : Bool). if b then [] else set.plan.outputs.items) dry) set.leaves.0

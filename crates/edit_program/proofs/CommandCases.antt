@@ -9,25 +9,25 @@ use Rattle.edit_program.specs.Upgrading.{IsBroken}
 use Rattle.edit_program.specs.declared.upgrade_run.words.UpgradeWords.{UpgradeWords}
 use Rattle.edit_program.specs.Commands.{HasBroken, HasStoppedSetting}
 use Rattle.edit_program.specs.Run.{Run}
-use Rattle.edit_program.specs.UpgradeAsked.{AskForUpgrade}
-use Rattle.edit_program.specs.VersionWords.{AskForVersions}
+use Rattle.edit_program.specs.UpgradeAsked.{HasUpgradeArgs}
+use Rattle.edit_program.specs.VersionWords.{HasSetVersionArgs}
 
 -- an upgrade that broke off is one for what the matches ask
-pub broken_for : (rows : List Row) (Shows : List ℕ → Type 0) (run : Run) (asked : UpgradeWords)
-    → AskForUpgrade rows asked
-    → SameFiles run.old.file_at run.new.file_at ⊎ IsBroken Shows asked run
-    → SameFiles run.old.file_at run.new.file_at ⊎ HasBroken rows Shows run
-broken_for rows Shows run asked asks (inl same) = inl same
-broken_for rows Shows run asked asks (inr broken) =
+pub broken_for : (rows : List Row) (HasFields : List ℕ → Type 0) (run : Run) (asked : UpgradeWords)
+    → HasUpgradeArgs rows asked
+    → SameFiles run.old.file_at run.new.file_at ⊎ IsBroken HasFields asked run
+    → SameFiles run.old.file_at run.new.file_at ⊎ HasBroken rows HasFields run
+broken_for rows HasFields run asked asks (inl same) = inl same
+broken_for rows HasFields run asked asks (inr broken) =
     inr (record { asked = asked; asks = asks; broken = broken })
 
 -- and so is a setting of versions
-pub stopped_for : (rows : List Row) (Shows Tells : List ℕ → Type 0) (current : List ℕ) (old new : StoreView)
-    (asked : SetVersionWords) → AskForVersions rows asked
-    → SameFiles old.file_at new.file_at ⊎ IsCutShort Shows Tells asked current old new
-    → SameFiles old.file_at new.file_at ⊎ HasStoppedSetting rows Shows Tells current old new
-stopped_for rows Shows Tells current old new asked asks (inl same) = inl same
-stopped_for rows Shows Tells current old new asked asks (inr stopped) =
+pub stopped_for : (rows : List Row) (HasFields IsErrorOf : List ℕ → Type 0) (current : List ℕ) (old new : StoreView)
+    (asked : SetVersionWords) → HasSetVersionArgs rows asked
+    → SameFiles old.file_at new.file_at ⊎ IsCutShort HasFields IsErrorOf asked current old new
+    → SameFiles old.file_at new.file_at ⊎ HasStoppedSetting rows HasFields IsErrorOf current old new
+stopped_for rows HasFields IsErrorOf current old new asked asks (inl same) = inl same
+stopped_for rows HasFields IsErrorOf current old new asked asks (inr stopped) =
     inr (record { asked = asked; asks = asks; stopped = stopped })
 
 -- what holds in the second case

@@ -7,7 +7,7 @@ use Rattle.clap.specs.declared.error.kind.ErrorKind.TheVariants.{OutOfMemory}
 use Rattle.clap.specs.declared.parser.ArgMatches.{ArgMatches}
 use Rattle.clap.specs.declared.parser.matches.ArgMatches.TheViews.{out-ArgMatches}
 use Rattle.edit_words.specs.CommandLine.{edit_app}
-use Rattle.edit_program.specs.Runs.{AreNotTaken, HaveEntered, IsAnswered, NameNone, status_of}
+use Rattle.edit_program.specs.Runs.{IsNotParsed, HasParsedArgs, IsAnswered, HasNoSubcommand, status_of}
 
 -- words that are matched are taken
 taken_by : (app : App) (words : List Text) → app ≡ edit_app → fault_of app words ≡ []
@@ -39,7 +39,7 @@ pub entered_by : (app : App) (words : List Text) (m sub : ArgMatches) (name : Te
     → is_simple app ≡ true → HasMatchesOf app words m → fault_of app words ≡ []
     → Some name ≡ subcommand_name_of m
     → Some (rows_of (found_of sub)) ≡ option_map (λ (p : Text × List Row). p.1) (subcommand_rows_of m)
-    → HaveEntered words name (rows_of (found_of sub))
+    → HasParsedArgs words name (rows_of (found_of sub))
 entered_by app words m sub name is simple matches taken named rows =
     let alike : option_map (λ (p : Text × List Row). p.0) (subcommand_rows_of m) ≡ subcommand_name_of m =
     map_map _ _ (out-ArgMatches m).subcommand in
@@ -57,7 +57,7 @@ no_name (Some p) is = cc
 -- the words name no subcommand, and none was met
 pub none_by : (app : App) (words : List Text) (m : ArgMatches) → app ≡ edit_app → is_simple app ≡ true
     → HasMatchesOf app words m → fault_of app words ≡ [] → None ≡ subcommand_name_of m
-    → NameNone words
+    → HasNoSubcommand words
 none_by app words m is simple matches taken named =
     let alike : option_map (λ (p : Text × List Row). p.0) (subcommand_rows_of m) ≡ subcommand_name_of m =
     map_map _ _ (out-ArgMatches m).subcommand in
@@ -69,7 +69,7 @@ none_by app words m is simple matches taken named =
 -- words that are refused, and not for want of memory, are not taken
 pub not_taken : (app : App) (words : List Text) (e : Error) → app ≡ edit_app
     → (takes app words ≡ true → kind_of e ≡ OutOfMemory)
-    → (kind_of e ≡ OutOfMemory → ⊥) → AreNotTaken words
+    → (kind_of e ≡ OutOfMemory → ⊥) → IsNotParsed words
 not_taken app words e is passes other taken = other (passes (ap (λ (a : App). takes a words) is ∙ taken))
 
 -- and the kind of the refusal is one that they may have

@@ -11,15 +11,15 @@ use Rattle.edit_base.specs.declared.errors.Error.TheVariants as error
 use Rattle.edit_cache.specs.IndexCache.{index_of}
 use Rattle.edit_cache.specs.declared.cache.IndexCache.{IndexCache}
 use Rattle.edit_manifest.specs.Loaded.{IsBadManifest}
-use Rattle.edit_metadata.specs.Metadata.{WorkspaceSaid}
+use Rattle.edit_metadata.specs.Metadata.{WorkspaceModel}
 use Rattle.edit_metadata.specs.declared.input.Input.{Input}
 use Rattle.edit_set_version.specs.BumpCauses.{IsUnbumped}
 use Rattle.edit_set_version.specs.Bumps.{Bumped, Target}
 use Rattle.edit_set_version.specs.Chosen.{Asked, Member}
-use Rattle.edit_set_version.specs.PlanCauses.{IsHeldBack, IsMissing, StandsAgainst}
+use Rattle.edit_set_version.specs.PlanCauses.{IsExcludeError, IsMissing, IsVersionError}
 use Rattle.edit_set_version.specs.PlanCauses.ManifestStandsAgainst.{literal as no_literal, requirement as no_rise}
-use Rattle.edit_set_version.specs.PlanCauses.StandsAgainst.{excluded as is_excluded, version as is_unbumped}
-use Rattle.edit_set_version.specs.PlanRefused.{IsCauseOf, StandsAgainstInput}
+use Rattle.edit_set_version.specs.PlanCauses.IsVersionError.{excluded as is_excluded, version as is_unbumped}
+use Rattle.edit_set_version.specs.PlanRefused.{IsCauseOf, IsInputError}
 use Rattle.edit_set_version.specs.PlanRefused.IsCauseOf.{manifest as of_input, memory as of_memory, no_manifest as of_manifest, no_package as of_package, project as of_project}
 use Rattle.edit_set_version.specs.SetVersioned.{Bump, Project}
 use Rattle.edit_sources.specs.Configured.{HasNoUrl}
@@ -28,25 +28,25 @@ use Rattle.edit_sources.specs.Index.{IndexView, Outcomes}
 use Rattle.edit_sources.specs.declared.config.Config.{Config}
 use Rattle.edit_steps.specs.Faults.{CountsFault}
 use Rattle.edit_steps.specs.Sources.{AreDocuments}
-use Rattle.edit_tree.specs.Shown.{Shown}
+use Rattle.edit_tree.specs.DocumentViews.{DocumentViews}
 use Rattle.std.proofs.lemmas.List.{length-map}
-use Rattle.edit_store.specs.Store.{RefusesCall, StoreView, raised}
+use Rattle.edit_store.specs.Store.{IsCallError, StoreView, raised}
 use Rattle.edit_upgrade.specs.Caches.{StopsDocuments, StopsInputs, cache_view}
 use Rattle.edit_upgrade.specs.Causes.{HasBadEntry, StopsAt}
 use Rattle.edit_upgrade.specs.Causes.StopsAt.{no_address as lacks_address, no_answer as lacks_answer}
-use Rattle.edit_upgrade.specs.Looks.{Kept}
-use Rattle.edit_upgrade.specs.Records.{Seen}
-use Rattle.edit_upgrade.specs.WordCauses.{IsOptionCause, IsRefusedFor}
+use Rattle.edit_upgrade.specs.Looks.{CachedAnswers}
+use Rattle.edit_upgrade.specs.Records.{RowEntry}
+use Rattle.edit_upgrade.specs.WordCauses.{IsOptionCause, IsPlanError}
 use Rattle.edit_upgrade.specs.declared.decision.options.Options.{Options}
 use Rattle.edit_version.specs.Changed as changed
-use Rattle.edit_version.specs.CrateWords.{IsRefusedWord}
+use Rattle.edit_version.specs.CrateSpecs.{IsInvalidSpec}
 use Rattle.edit_version.specs.Increments.{Change}
-use Rattle.edit_version.specs.Refusals.{IsRefusal}
-use Rattle.edit_version.specs.Requirement.{Raised}
+use Rattle.edit_version.specs.RequirementErrors.{IsUpgradeError}
+use Rattle.edit_version.specs.Requirement.{UpgradeResult}
 use Rattle.semver.specs.Parse.{Parts}
 use Rattle.edit_program.specs.Counted.{CountsIndexFault, HasFailedBelow}
 use Rattle.edit_program.specs.Delivery.{Delivery}
-use Rattle.edit_program.specs.TellingCauses.{AreTold, IsDeliveryCause, IsStopped}
+use Rattle.edit_program.specs.TellingCauses.{AreListedIn, IsDeliveryCause, IsStopped}
 
 -- ---- errors that are not the device's
 
@@ -65,7 +65,7 @@ pub shown_counts : {P Q : Type 0} (e : Error) → IsMemory e ⊎ ((e ≡ error.O
 shown_counts e (inl memory) = memory_counts e memory
 shown_counts e (inr output) = error_counts e error.Output output.0 (λ h. cc h)
 
-word_counts : {P : Type 0} (word : List ℕ) (e : Error) → IsRefusedWord word e → number_of e ≡ 3 → P
+word_counts : {P : Type 0} (word : List ℕ) (e : Error) → IsInvalidSpec word e → number_of e ≡ 3 → P
 word_counts word (error.Device _) h device = absurd h
 word_counts word other h device = cc device
 
@@ -88,7 +88,7 @@ options_count : {P : Type 0} (o : Options) (e : Error) → IsOptionCause o e →
 options_count o e (inl word) = word_counts word.word e word.refused
 options_count o e (inr memory) = memory_counts e memory.0
 
-entry_counts : (configs : List Config) (gives : Outcomes) (old : Kept) (before now : ℕ) (entry : Seen)
+entry_counts : (configs : List Config) (gives : Outcomes) (old : CachedAnswers) (before now : ℕ) (entry : RowEntry)
     (e : Error) → StopsAt configs gives old before now entry e → number_of e ≡ 3 → raised before now
 entry_counts configs gives old before now entry e (lacks_address named at none) device =
     url_counts configs named e none device
@@ -99,7 +99,7 @@ entry_counts configs gives old before now entry e (lacks_answer address name nee
 
 documents_count : {I : Type 0} (view : I → IndexView) (o : Options) (inputs : List Input)
     (configs : List (Vec Config)) (old new : IndexCache I) (e : Error)
-    → IsRefusedFor o (StopsDocuments inputs configs (cache_view view old) (cache_view view new)) e
+    → IsPlanError o (StopsDocuments inputs configs (cache_view view old) (cache_view view new)) e
     → number_of e ≡ 3 → raised (view (index_of old)).faults (view (index_of new)).faults
 documents_count view o inputs configs old new e (inl options) = options_count o e options
 documents_count view o inputs configs old new e (inr (words, inl memory)) = memory_counts e memory
@@ -108,7 +108,7 @@ documents_count view o inputs configs old new e (inr (words, inr first)) =
 
 inputs_count : {I : Type 0} (view : I → IndexView) (o : Options) (inputs : List Input)
     (configs : List (Vec Config)) (old new : IndexCache I) (e : Error)
-    → IsRefusedFor o (StopsInputs inputs configs (cache_view view old) (cache_view view new)) e
+    → IsPlanError o (StopsInputs inputs configs (cache_view view old) (cache_view view new)) e
     → number_of e ≡ 3 → raised (view (index_of old)).faults (view (index_of new)).faults
 inputs_count view o inputs configs old new e (inl options) = options_count o e options
 inputs_count {I} view o inputs configs old new e (inr (words, first)) = by first.stops
@@ -131,32 +131,32 @@ below_counts {I} view index old new e is counts device =
 -- a plan over a new cache
 pub bytes_count : {I : Type 0} (view : I → IndexView) (index : I) (o : Options) (inputs : List Input)
     (configs : List (Vec Config)) (old new : IndexCache I) (e : Error) → index_of old ≡ index
-    → IsRefusedFor o (StopsInputs inputs configs (cache_view view old) (cache_view view new)) e
+    → IsPlanError o (StopsInputs inputs configs (cache_view view old) (cache_view view new)) e
     → CountsIndexFault view index e
 bytes_count view index o inputs configs old new e is h =
     below_counts view index old new e is (inputs_count view o inputs configs old new e h)
 
 pub documents_counted : {I : Type 0} (view : I → IndexView) (index : I) (o : Options) (inputs : List Input)
     (configs : List (Vec Config)) (old new : IndexCache I) (e : Error) → index_of old ≡ index
-    → IsRefusedFor o (StopsDocuments inputs configs (cache_view view old) (cache_view view new)) e
+    → IsPlanError o (StopsDocuments inputs configs (cache_view view old) (cache_view view new)) e
     → CountsIndexFault view index e
 documents_counted view index o inputs configs old new e is h =
     below_counts view index old new e is (documents_count view o inputs configs old new e h)
 
 -- a plan of inputs, of their documents where those are given, else of their bytes
 pub shared_count : {I : Type 0} (view : I → IndexView) (index : I) (o : Options) (inputs : List Input)
-    (configs : List (Vec Config)) (documents : List Shown) (old new : IndexCache I) (e : Error)
+    (configs : List (Vec Config)) (documents : List DocumentViews) (old new : IndexCache I) (e : Error)
     → index_of old ≡ index → AreDocuments documents inputs
     → (length documents ≡ length inputs
-    → IsRefusedFor o (StopsDocuments inputs configs (cache_view view old) (cache_view view new)) e)
+    → IsPlanError o (StopsDocuments inputs configs (cache_view view old) (cache_view view new)) e)
     → (documents ≡ []
-    → IsRefusedFor o (StopsInputs inputs configs (cache_view view old) (cache_view view new)) e)
+    → IsPlanError o (StopsInputs inputs configs (cache_view view old) (cache_view view new)) e)
     → CountsIndexFault view index e
 shared_count view index o inputs configs documents old new e is (inl none) given read =
     bytes_count view index o inputs configs old new e is (read none)
 shared_count view index o inputs configs documents old new e is (inr same) given read =
     documents_counted view index o inputs configs old new e is
-    (given (sym (length-map documents (λ (d : Shown). d.bytes)) ∙ ap length same
+    (given (sym (length-map documents (λ (d : DocumentViews). d.bytes)) ∙ ap length same
     ∙ length-map inputs (λ (input : Input). input.bytes.items)))
 
 -- ---- a plan of versions
@@ -171,7 +171,7 @@ unbumped_counts : {P : Type 0} (b : Bumped) (current : Parts) (e : Error) → Is
 unbumped_counts b current (error.Device _) h device = absurd h
 unbumped_counts b current other h device = cc device
 
-raise_counts : {P : Type 0} (r : Raised) (text : List ℕ) (e : Error) → IsRefusal r text e
+raise_counts : {P : Type 0} (r : UpgradeResult) (text : List ℕ) (e : Error) → IsUpgradeError r text e
     → number_of e ≡ 3 → P
 raise_counts r text (error.Device _) h device = absurd h
 raise_counts r text other h device = cc device
@@ -181,17 +181,18 @@ missing_counts : {P : Type 0} (names : List (List ℕ)) (e : Error) → IsMissin
 missing_counts names (error.Device _) h device = absurd h
 missing_counts names other h device = cc device
 
-held_counts : {P : Type 0} (held others : List Member) (e : Error) → IsHeldBack held others e
+held_counts : {P : Type 0} (held others : List Member) (e : Error) → IsExcludeError held others e
     → number_of e ≡ 3 → P
 held_counts held others (error.Device _) h device = absurd h
 held_counts held others other h device = cc device
 
-project_counts : {P : Type 0} (t : Target) (a : Asked) (p : Project) (e : Error) → StandsAgainst t a p e
+project_counts : {P : Type 0} (t : Target) (a : Asked) (p : Project) (e : Error)
+    → IsVersionError t a p e
     → number_of e ≡ 3 → P
 project_counts t a p e (is_excluded held) = held_counts _ _ e held
 project_counts t a p e (is_unbumped none unbumped) = unbumped_counts _ unbumped.current e unbumped.refused
 
-input_counts : {P : Type 0} (bs : List Bump) (input : Input) (e : Error) → StandsAgainstInput bs input e
+input_counts : {P : Type 0} (bs : List Bump) (input : Input) (e : Error) → IsInputError bs input e
     → number_of e ≡ 3 → P
 input_counts bs input e stands = elim stands.against [
   | no_literal none ↦ error_counts e error.NoVersionPlace none.told (λ h. cc h)
@@ -199,7 +200,7 @@ input_counts bs input e stands = elim stands.against [
 ]
 
 -- why a plan of versions is refused is no error of the device
-pub versions_count : {P : Type 0} (t : Target) (a : Asked) (w : WorkspaceSaid) (inputs : List Input)
+pub versions_count : {P : Type 0} (t : Target) (a : Asked) (w : WorkspaceModel) (inputs : List Input)
     (e : Error) → IsCauseOf t a w inputs e → number_of e ≡ 3 → P
 versions_count t a w inputs e (of_memory memory) = memory_counts e memory
 versions_count t a w inputs e (of_package none) = missing_counts _ e none
@@ -211,7 +212,7 @@ versions_count t a w inputs e (of_input known p is versions behind bad) =
 
 -- ---- files
 
-pub call_counts : (of : DeviceCall) (old new : StoreView) (e : Error) → RefusesCall of old new e
+pub call_counts : (of : DeviceCall) (old new : StoreView) (e : Error) → IsCallError of old new e
     → CountsFault old new e
 call_counts of old new e (inl memory) = memory_counts e memory
 call_counts of old new e (inr failed) = λ device. failed.1
@@ -231,20 +232,20 @@ fault_before old mid new e later counts device =
 
 -- ---- what is delivered
 
-told_counts : {P : Type 0} (missing : List (List ℕ)) (e : Error) → AreTold missing e → number_of e ≡ 3 → P
+told_counts : {P : Type 0} (missing : List (List ℕ)) (e : Error) → AreListedIn missing e → number_of e ≡ 3 → P
 told_counts missing (error.Device _) h device = absurd h
 told_counts missing other h device = cc device
 
-stopped_counts : {P : Type 0} (Shows : List ℕ → Type 0) (d : Delivery) (old new : StoreView) (e : Error)
-    → IsStopped Shows d old new e → number_of e ≡ 3 → P
-stopped_counts Shows d old new e (inl (same, inl locked)) =
+stopped_counts : {P : Type 0} (HasFields : List ℕ → Type 0) (d : Delivery) (old new : StoreView) (e : Error)
+    → IsStopped HasFields d old new e → number_of e ≡ 3 → P
+stopped_counts HasFields d old new e (inl (same, inl locked)) =
     error_counts e error.Locked locked.0 (λ h. cc h)
-stopped_counts Shows d old new e (inl (same, inr word)) = word_counts word.1.word e word.1.refused
-stopped_counts Shows d old new e (inr (told, lacks)) = told_counts _ e lacks.1
+stopped_counts HasFields d old new e (inl (same, inr word)) = word_counts word.1.word e word.1.refused
+stopped_counts HasFields d old new e (inr (told, lacks)) = told_counts _ e lacks.1
 
-pub delivery_counts : (Shows : List ℕ → Type 0) (d : Delivery) (old new : StoreView) (e : Error)
-    → IsDeliveryCause Shows d old new e → CountsFault old new e
-delivery_counts Shows d old new e (inl refused) = call_counts call.Write old new e refused
-delivery_counts Shows d old new e (inr (inl unwritten)) =
+pub delivery_counts : (HasFields : List ℕ → Type 0) (d : Delivery) (old new : StoreView) (e : Error)
+    → IsDeliveryCause HasFields d old new e → CountsFault old new e
+delivery_counts HasFields d old new e (inl refused) = call_counts call.Write old new e refused
+delivery_counts HasFields d old new e (inr (inl unwritten)) =
     error_counts e error.Output unwritten (λ h. cc h)
-delivery_counts Shows d old new e (inr (inr stopped)) = stopped_counts Shows d old new e stopped
+delivery_counts HasFields d old new e (inr (inr stopped)) = stopped_counts HasFields d old new e stopped

@@ -16,20 +16,20 @@ use Rattle.edit_metadata.specs.declared.input.Input.{Input}
 use Rattle.edit_report.specs.Applied.{AreWritten, HaveDistinctPaths, path_of}
 use Rattle.edit_report.specs.declared.output.Output.{Output}
 use Rattle.edit_steps.proofs.DistinctPaths.{none_differ}
-use Rattle.edit_store.specs.Store.{RefusesCall, StoreView, raised}
+use Rattle.edit_store.specs.Store.{IsCallError, StoreView, raised}
 use Rattle.edit_upgrade.specs.UpdateCalls.{Call}
 use Rattle.edit_upgrade.specs.Inputs.{below}
 use Rattle.edit_upgrade.specs.declared.decision.options.Options.{Options}
 use Rattle.edit_upgrade.specs.declared.upgrade.Warning.{Warning}
 use Rattle.edit_program.specs.CallsFile.{calls_files, due_path, file_of}
-use Rattle.edit_program.specs.TellingCauses.{HasBadWord, IsDeliveryCause, LacksNames}
-use Rattle.edit_program.specs.Delivered.{AreBothWritten, IsBehind, IsDelivered, IsToldTo, written}
+use Rattle.edit_program.specs.TellingCauses.{HasBadPackageArg, IsDeliveryCause, LacksNames}
+use Rattle.edit_program.specs.Delivered.{AreBothWritten, IsBehind, IsDelivered, IsWrittenAfterPrint, written}
 use Rattle.edit_program.specs.Delivery.{Delivery, calls_against}
-use Rattle.edit_lock.specs.Views.{packages_seen}
-use Rattle.edit_upgrade.specs.Views.{calls_seen}
+use Rattle.edit_lock.specs.Views.{lock_view}
+use Rattle.edit_upgrade.specs.Views.{calls_view}
 use Rattle.edit_lock.specs.declared.lock.Lock.{Lock}
-use Rattle.edit_program.specs.Said.{check, check_at, warning, warning_on, warnings_at}
-use Rattle.edit_program.specs.Shown.{diffs_if, messages_as}
+use Rattle.edit_program.specs.Said.{input_report, input_report_at, warning, warning_on, warnings_at}
+use Rattle.edit_program.specs.PrintedPlan.{diffs_if, messages_as}
 use Rattle.edit_program.specs.Tables.{tables}
 use Rattle.edit_program.proofs.PartLemmas.{made_of_part}
 
@@ -49,9 +49,9 @@ text_more f i a b c before one = subst (Appends a c) (sym (below_more f i)) (App
 -- what is said of the input that stands at a number
 pub check_is : (verbosity : ℤ) (warnings : List Warning) (inputs : List Input) (i : ℕ) (input : Input)
     → slice_get inputs i ≡ Some input
-    → check_at verbosity warnings inputs i ≡ check verbosity warnings i (string_bytes input.name)
+    → input_report_at verbosity warnings inputs i ≡ input_report verbosity warnings i (string_bytes input.name)
 check_is verbosity warnings inputs i input is =
-    ap (λ o. option_map_or (λ (x : Input). check verbosity warnings i (string_bytes x.name)) o []) is
+    ap (λ o. option_map_or (λ (x : Input). input_report verbosity warnings i (string_bytes x.name)) o []) is
 
 -- what is said of the warnings on an input is what is said of it by all warnings
 pub said_of_own : (verbosity : ℤ) (i : ℕ) (warnings : List Warning)
@@ -62,18 +62,18 @@ said_of_own verbosity i warnings =
     (and_right (not w.verbose || int_le (pos 1) verbosity) (w.input == i) other))
 
 -- the calls are not known, and no file has changed
-pub calls_cause : (Shows : List ℕ → Type 0) (d : Delivery) (files : StoreView) (e : Error)
-    → IsMemory e ⊎ HasBadWord d.plan d.options e → IsDeliveryCause Shows d files files e
-calls_cause Shows d files e (inl memory) = inl (inl memory)
-calls_cause Shows d files e (inr word) = inr (inr (inl ((λ path. refl), inr word)))
+pub calls_cause : (HasFields : List ℕ → Type 0) (d : Delivery) (files : StoreView) (e : Error)
+    → IsMemory e ⊎ HasBadPackageArg d.plan d.options e → IsDeliveryCause HasFields d files files e
+calls_cause HasFields d files e (inl memory) = inl (inl memory)
+calls_cause HasFields d files e (inr word) = inr (inr (inl ((λ path. refl), inr word)))
 
 -- the end of the output was not printed, or names are missing, once everything was written
-pub end_cause : (Shows : List ℕ → Type 0) (d : Delivery) (old new : StoreView) (e : Error)
-    → IsToldTo AreBothWritten Shows d old new → IsMemory e ⊎ ((e ≡ Unwritten) ⊎ LacksNames d e)
-    → IsDeliveryCause Shows d old new e
-end_cause Shows d old new e told (inl memory) = inl (inl memory)
-end_cause Shows d old new e told (inr (inl unwritten)) = inr (inl unwritten)
-end_cause Shows d old new e told (inr (inr lacks)) = inr (inr (inr (told, lacks)))
+pub end_cause : (HasFields : List ℕ → Type 0) (d : Delivery) (old new : StoreView) (e : Error)
+    → IsWrittenAfterPrint AreBothWritten HasFields d old new → IsMemory e ⊎ ((e ≡ Unwritten) ⊎ LacksNames d e)
+    → IsDeliveryCause HasFields d old new e
+end_cause HasFields d old new e told (inl memory) = inl (inl memory)
+end_cause HasFields d old new e told (inr (inl unwritten)) = inr (inl unwritten)
+end_cause HasFields d old new e told (inr (inr lacks)) = inr (inr (inr (told, lacks)))
 
 -- what is to be written goes to paths of its own
 pub written_differ : (o : Options) (outputs : List Output) → HaveDistinctPaths outputs
@@ -102,7 +102,7 @@ raised_later a b c le (inr ends) = ⊎_elim (λ same. inr (same ∙ ends.0, ends
 
 -- a refusal of the device is one from an earlier count on
 pub refused_later : (of : DeviceCall) (old mid new : StoreView) (e : Error) → old.faults ≤ mid.faults
-    → RefusesCall of mid new e → RefusesCall of old new e
+    → IsCallError of mid new e → IsCallError of old new e
 refused_later of old mid new e later (inl memory) = inl memory
 refused_later of old mid new e later (inr failed) =
     inr (failed.0, raised_later old.faults mid.faults new.faults later failed.1)
@@ -110,26 +110,26 @@ refused_later of old mid new e later (inr failed) =
 -- calls that are lent are those that are right against the lock file
 pub told_calls : (lock : Option (Bor Lock)) (offline : Bool) (due made calls : List (Vec (String Global) Global))
     (of : List Call) → calls ≡ made
-    → calls_seen made ≡ calls_against (option_map (λ l. packages_seen l.now) lock) offline (calls_seen due)
-    → calls_seen due ≡ of
-    → calls_seen calls ≡ calls_against (option_map (λ l. packages_seen l.now) lock) offline of
+    → calls_view made ≡ calls_against (option_map (λ l. lock_view l.now) lock) offline (calls_view due)
+    → calls_view due ≡ of
+    → calls_view calls ≡ calls_against (option_map (λ l. lock_view l.now) lock) offline of
 told_calls lock offline due made calls of lent right are =
-    ap calls_seen lent ∙ right
-    ∙ ap (calls_against (option_map (λ (l : Bor Lock). packages_seen l.now) lock) offline) are
+    ap calls_view lent ∙ right
+    ∙ ap (calls_against (option_map (λ (l : Bor Lock). lock_view l.now) lock) offline) are
 
 -- what was printed and is not held back, and what is left of the files
-pub told_to : (Leaves : List Output → List Output → StoreView → StoreView → Type 0) (Shows : List ℕ → Type 0)
+pub told_to : (Leaves : List Output → List Output → StoreView → StoreView → Type 0) (HasFields : List ℕ → Type 0)
     (d : Delivery) (old new : StoreView) (calls : List Call) (outputs made file : List Output)
     → calls ≡ d.calls
-    → Shows (tables d.presentation.format d.options.verbosity d.plan.rows.items (length d.inputs)
+    → HasFields (tables d.presentation.format d.options.verbosity d.plan.rows.items (length d.inputs)
     ++ (messages_as d.presentation.format d.plan d.inputs d.options calls
     ++ diffs_if d.presentation.diff d.current d.inputs d.plan.outputs.items))
     → (d.options.locked ≡ true → d.plan.outputs.items ≡ [])
     → outputs ≡ written d.options d.plan.outputs.items → file ≡ made
     → map file_of made ≡ calls_files (due_path d.options d.calls_path) calls
-    → Leaves outputs file old new → IsToldTo Leaves Shows d old new
-told_to Leaves Shows d old new calls outputs made file of shows unlocked is same are leaves = record {
-  shows = subst (λ cs. Shows (tables d.presentation.format d.options.verbosity d.plan.rows.items (length d.inputs)
+    → Leaves outputs file old new → IsWrittenAfterPrint Leaves HasFields d old new
+told_to Leaves HasFields d old new calls outputs made file of shows unlocked is same are leaves = record {
+  shows = subst (λ cs. HasFields (tables d.presentation.format d.options.verbosity d.plan.rows.items (length d.inputs)
       ++ (messages_as d.presentation.format d.plan d.inputs d.options cs
       ++ diffs_if d.presentation.diff d.current d.inputs d.plan.outputs.items))) of shows;
   unlocked = unlocked;
@@ -139,7 +139,7 @@ told_to Leaves Shows d old new calls outputs made file of shows unlocked is same
 }
 
 -- and where no name is missing, the plan was delivered
-pub delivered : (Shows : List ℕ → Type 0) (d : Delivery) (old new : StoreView)
-    → IsToldTo AreBothWritten Shows d old new → map string_bytes d.plan.missing.items ≡ []
-    → IsDelivered Shows d old new
-delivered Shows d old new told complete = record { told = told; complete = complete }
+pub delivered : (HasFields : List ℕ → Type 0) (d : Delivery) (old new : StoreView)
+    → IsWrittenAfterPrint AreBothWritten HasFields d old new → map string_bytes d.plan.missing.items ≡ []
+    → IsDelivered HasFields d old new
+delivered HasFields d old new told complete = record { told = told; complete = complete }

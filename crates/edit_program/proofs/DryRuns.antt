@@ -6,7 +6,7 @@ use Rattle.edit_report.specs.Applied.{AreWritten}
 use Rattle.edit_report.specs.declared.output.Output.{Output}
 use Rattle.edit_store.specs.Store.{SameFiles, StoreView}
 use Rattle.edit_program.specs.CallsFile.{calls_files, due_path, file_of}
-use Rattle.edit_program.specs.Delivered.{AreBothWritten, IsToldTo, written}
+use Rattle.edit_program.specs.Delivered.{AreBothWritten, IsWrittenAfterPrint, written}
 use Rattle.edit_program.specs.Delivery.{Delivery}
 
 -- no output is to be written
@@ -28,9 +28,9 @@ kept [] old new is written path = written.others path (λ k d within. absurd (om
 kept (o ∷ os) old new is written path = cc
 
 -- what is delivered at a dry run
-pub dry_keeps : (Shows : List ℕ → Type 0) (d : Delivery) (old new : StoreView) → d.options.dry_run ≡ true
-    → IsToldTo AreBothWritten Shows d old new → SameFiles old.file_at new.file_at
-dry_keeps Shows d old new dry told path =
+pub dry_keeps : (HasFields : List ℕ → Type 0) (d : Delivery) (old new : StoreView) → d.options.dry_run ≡ true
+    → IsWrittenAfterPrint AreBothWritten HasFields d old new → SameFiles old.file_at new.file_at
+dry_keeps HasFields d old new dry told path =
     kept told.calls told.leaves.mid new
     (no_files told.calls (told.are ∙ ap (λ p. calls_files p d.calls) (none_due d.options d.calls_path dry)))
     told.leaves.behind path

@@ -6,7 +6,7 @@ use Rattle.std.proofs.lemmas.List.Folds.{list_any_none}
 use Rattle.edit_base.specs.Errors.{IsMemory, number_of}
 use Rattle.edit_base.specs.declared.errors.Error.{Error}
 use Rattle.edit_upgrade.specs.declared.decision.options.Options.{Options}
-use Rattle.edit_program.specs.LookLines.{HasBadLook}
+use Rattle.edit_program.specs.LookLines.{HasBadLookup}
 use Rattle.edit_program.specs.Needed.{AreNeeded}
 use Rattle.edit_program.specs.NoIndex.{NoneGives, no_view}
 use Rattle.edit_metadata.specs.declared.input.Input.{Input}
@@ -22,8 +22,8 @@ use Rattle.edit_steps.specs.Causes.{IsReadCause}
 use Rattle.edit_steps.specs.Shared.{lists_for}
 use Rattle.edit_steps.specs.Sources.{AreRead}
 use Rattle.edit_steps.specs.declared.upgrade_read.sources.Sources.{Sources}
-use Rattle.edit_program.specs.UpgradeCauses.{IsLooksCause}
-use Rattle.edit_program.specs.Planned.{IsPlanCause, IsPlanned, asking_for_looks, nothing_kept}
+use Rattle.edit_program.specs.UpgradeCauses.{IsLookupsCause}
+use Rattle.edit_program.specs.Planned.{IsPlanCause, IsPlanned, to_lookup_request, empty_answers}
 use Rattle.edit_program.specs.declared.upgrade_run.words.UpgradeWords.{UpgradeWords}
 
 -- the looks of a plan over an index that has no name are those that are needed
@@ -37,7 +37,7 @@ looks_needed o inputs configs plan planned = record {
 
 -- what such an index gives for a name is for one that an index may have
 named_at : (look : Look) (answer : Answer)
-    → (nothing_kept [] [] ≡ Some answer) ⊎ NoneGives look.registry (string_bytes look.name) (Ok answer)
+    → (empty_answers [] [] ≡ Some answer) ⊎ NoneGives look.registry (string_bytes look.name) (Ok answer)
     → is_crate_name (string_bytes look.name) ≡ true
 named_at look answer (inl kept) = cc
 named_at look None (inr given) = given
@@ -46,7 +46,7 @@ named_at look (Some entries) (inr given) = absurd given
 -- so the lines of these looks are not refused for a name
 pub lines_refused : (o : Options) (inputs : List Input) (configs : List (Vec Config)) (plan : UpgradePlan)
     (e : Error) → IsPlanned o inputs configs no_view plan
-    → IsMemory e ⊎ HasBadLook plan.looks.items (number_of e) → IsMemory e
+    → IsMemory e ⊎ HasBadLookup plan.looks.items (number_of e) → IsMemory e
 lines_refused o inputs configs plan e planned (inl memory) = memory
 lines_refused o inputs configs plan e planned (inr bad) =
     absurd (true≢false (sym bad.1
@@ -58,17 +58,17 @@ lines_refused o inputs configs plan e planned (inr bad) =
 
 -- what the words name is not read
 pub unread_cause : (words : UpgradeWords) (current : List ℕ) (home : Option (List ℕ)) (old new : StoreView)
-    (e : Error) → IsReadCause current home (asking_for_looks words) old new e
-    → IsLooksCause words current home old new e
+    (e : Error) → IsReadCause current home (to_lookup_request words) old new e
+    → IsLookupsCause words current home old new e
 unread_cause words current home old new e (inl failed) = inl failed
 unread_cause words current home old new e (inr wrong) = inr (inr (λ t. inl (wrong t)))
 
 -- there is no plan for it
 pub unplanned_cause : (words : UpgradeWords) (current : List ℕ) (home : Option (List ℕ)) (old new : StoreView)
     (s : Sources) (e : Error)
-    → (old.tells ≡ true → AreRead old.file_at current home (asking_for_looks words) s)
+    → (old.tells ≡ true → AreRead old.file_at current home (to_lookup_request words) s)
     → IsMemory e ⊎ IsPlanCause words.options s.target.inputs.items (lists_for s.configs) no_view e
-    → IsLooksCause words current home old new e
+    → IsLookupsCause words current home old new e
 unplanned_cause words current home old new s e read (inl memory) = inl (inl (inl memory))
 unplanned_cause words current home old new s e read (inr wrong) = inr (inr (λ t. inr (record {
   sources = s;

@@ -12,7 +12,7 @@ use Rattle.std.proofs.lemmas.Bool.{le-leb}
 use Rattle.std.proofs.lemmas.List.{length-map}
 use Rattle.edit_report.specs.Table.{name_text}
 use Rattle.edit_report.specs.declared.row.Row.{Row}
-use Rattle.edit_program.specs.Said.{add_name, names_text, reason_said, with_name}
+use Rattle.edit_program.specs.Said.{add_name, names_text, reason_in_notes, with_name}
 
 -- one name more in a set
 inserted : (names : List (String Global)) (name : String Global)
@@ -31,17 +31,18 @@ inserted (x ∷ xs) name = by_order (string_cmp name x) (inserted xs name)
 
 -- the set with the name of a row of this reason
 pub name_added : (reason : List ℕ) (row : Row) (old new : List (String Global)) (name : String Global)
-    → bytes_eq (reason_said row) reason ≡ true → string_bytes name ≡ name_text (string_bytes row.name) row.rename
+    → bytes_eq (reason_in_notes row) reason ≡ true
+    → string_bytes name ≡ name_text (string_bytes row.name) row.rename
     → new ≡ insert_key string_cmp old name → map string_bytes new ≡ add_name reason (map string_bytes old) row
-name_added reason row old new name same text added =
+name_added reason row old new name same text inserted_values =
     let named = name_text (string_bytes row.name) row.rename in
-    ap (map string_bytes) added ∙ inserted old name
+    ap (map string_bytes) inserted_values ∙ inserted old name
     ∙ ap (with_name (map string_bytes old)) text
     ∙ sym (ap (λ b. if b then with_name (map string_bytes old) named else map string_bytes old) same)
 
 -- the set at a row of another reason
 pub name_kept : (reason : List ℕ) (row : Row) (old new : List (String Global))
-    → bytes_eq (reason_said row) reason ≡ false → new ≡ old
+    → bytes_eq (reason_in_notes row) reason ≡ false → new ≡ old
     → map string_bytes new ≡ add_name reason (map string_bytes old) row
 name_kept reason row old new other kept =
     let named = name_text (string_bytes row.name) row.rename in

@@ -10,7 +10,7 @@ use Rattle.edit_upgrade.specs.declared.decision.options.Options.{Options}
 use Rattle.edit_report.specs.declared.row.Row.{Row}
 use Rattle.edit_upgrade.specs.declared.upgrade.UpgradePlan.{UpgradePlan}
 use Rattle.edit_program.specs.Absent.{absent_note}
-use Rattle.edit_program.specs.Said.{hidden, hidden_note, hidden_text, note, notes, reason_line, warning, when}
+use Rattle.edit_program.specs.Said.{hidden, hidden_note, hidden_text, note, notes, reason_line, warning, message_if}
 
 -- the line of one reason more
 pub line_more : (rows : List Row) (texts : List (List ℕ)) (items : List (Bor (List ℕ))) (i : ℕ)
@@ -18,12 +18,12 @@ pub line_more : (rows : List Row) (texts : List (List ℕ)) (items : List (Bor (
     → old ≡ head ++ flat_map (reason_line rows) (take i texts)
     → new ≡ old ++ reason_line rows (get_or items i d).now
     → new ≡ head ++ flat_map (reason_line rows) (take (i + 1) texts)
-line_more rows texts items i d head old new are within before added =
+line_more rows texts items i d head old new are within before inserted_values =
     let now = λ (x : Bor (List ℕ)). x.now in
     let low : i < length texts = subst (λ n. i < n) (sym (length-map items now) ∙ ap length are) within in
     let one : (get_or items i d).now ≡ get_or texts i d.now =
     sym (get_or-map now items i d d.now within) ∙ ap (λ xs. get_or xs i d.now) are in
-    added ∙ ap (λ xs. xs ++ reason_line rows (get_or items i d).now) before
+    inserted_values ∙ ap (λ xs. xs ++ reason_line rows (get_or items i d).now) before
     ∙ ap (λ t. (head ++ flat_map (reason_line rows) (take i texts)) ++ reason_line rows t) one
     ∙ flat_map_more (reason_line rows) head (take i texts) (get_or texts i d.now)
     ∙ sym (ap (λ xs. head ++ flat_map (reason_line rows) xs) (take_more texts i d.now low))
@@ -48,12 +48,12 @@ hidden_said v w all items slice text message known are some is said shown =
 
 -- all notes on a plan
 pub notes_said : (p : UpgradePlan) (o : Options) (offline : Bool) (a b c d e f : Option (List ℕ))
-    → Appends a b (when p.pinned_present
+    → Appends a b (message_if p.pinned_present
     (note (codes "Re-run with `--pinned` to upgrade pinned version requirements")))
-    → Appends b c (when p.incompatible_present
+    → Appends b c (message_if p.incompatible_present
     (note (codes "Re-run with `--incompatible` to upgrade incompatible version requirements")))
     → Appends c d (hidden_note o.verbosity (hidden o.verbosity p.rows.items))
-    → Appends d e (when o.dry_run (warning (codes "aborting upgrade due to dry run")))
+    → Appends d e (message_if o.dry_run (warning (codes "aborting upgrade due to dry run")))
     → Appends e f (absent_note p o offline)
     → Appends a f (notes p o offline)
 notes_said p o offline a b c d e f first second third fourth fifth =

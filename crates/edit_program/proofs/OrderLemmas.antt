@@ -44,10 +44,10 @@ module _ {A : Type 0} (number : A → ℕ) where
       rest : List A
       rest = filter (λ (one : A). number one == n) all
 
-      Goes : List A → Type 0
-      Goes front = AreSorted (suc n) front → AreSorted (suc n) (front ++ rest)
+      HasNextState : List A → Type 0
+      HasNextState front = AreSorted (suc n) front → AreSorted (suc n) (front ++ rest)
 
-      step : (b : Bool) → (number item == n) ≡ b → Goes (items ++ item ∷ []) → Goes items
+      step : (b : Bool) → (number item == n) ≡ b → HasNextState (items ++ item ∷ []) → HasNextState items
           → AreSorted (suc n) (items ++ cond b (item ∷ rest) rest)
       step true is more same =
           subst (AreSorted (suc n)) (append_assoc items (item ∷ []) rest)

@@ -64,7 +64,7 @@ window {A} number i items rest start end cut le1 le2 first second =
     let up = leb-true (number x) i (second.0 k d low high) in
     let down = ltb-false (number x) i (left k d low (omega (arith, high, le2))) in
     eq-eqb (number x) i (omega (arith, up, down)))
-    (λ k d low high. past (number (slice_index_or rest k d)) i (second.1 k d low high))
+    (λ k d low high. advance_position (number (slice_index_or rest k d)) i (second.1 k d low high))
     ∙ ap (filter (λ x. number x == i)) is
     ∙ sym (dropped (λ x. number x == i) items start
     (λ k d low high.
@@ -79,8 +79,8 @@ window {A} number i items rest start end cut le1 le2 first second =
     left = subst (λ (xs : List A). AllWithin (λ x. ltb (number x) i ≡ false) xs 0 (length xs)) (sym is)
         (left_behind (λ x. ltb (number x) i ≡ false) items start first.1)
 
-    past : (a b : ℕ) → leb a b ≡ false → (a == b) ≡ false
-    past a b above = ne_eqb a b (λ e. let more = leb-false a b above in omega (arith, more, e))
+    advance_position : (a b : ℕ) → leb a b ≡ false → (a == b) ≡ false
+    advance_position a b above = ne_eqb a b (λ e. let more = leb-false a b above in omega (arith, more, e))
 
 -- what is made of each item is made of the part alone, where nothing is made of the others
 pub made_of_part : {A B : Type 0} (p : A → Bool) (f : A → List B) (items : List A)

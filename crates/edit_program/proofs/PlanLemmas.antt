@@ -8,31 +8,32 @@ use Rattle.edit_base.specs.Errors.{IsMemory}
 use Rattle.edit_base.specs.declared.errors.Error.{Error}
 use Rattle.edit_metadata.specs.declared.input.Input.{Input}
 use Rattle.edit_sources.specs.Index.{IndexView, answer_of}
-use Rattle.edit_tree.specs.Shown.{Shown}
+use Rattle.edit_tree.specs.DocumentViews.{DocumentViews}
 use Rattle.edit_steps.specs.Sources.{AreDocuments}
-use Rattle.edit_cache.specs.IndexCache.{index_of, kept_at}
+use Rattle.edit_cache.specs.IndexCache.{index_of, cached_answer_at}
 use Rattle.edit_cache.specs.declared.cache.IndexCache.{IndexCache}
 use Rattle.edit_sources.specs.declared.config.Config.{Config}
 use Rattle.edit_upgrade.specs.Caches.{CacheView, LeavesCache, StopsDocuments, StopsInputs, cache_view}
 use Rattle.edit_upgrade.specs.Causes.{IsCause}
-use Rattle.edit_upgrade.specs.Looks.{AddsNeeded, Kept, kept_by}
+use Rattle.edit_upgrade.specs.Looks.{AddsNeeded, CachedAnswers, cached_by}
 use Rattle.edit_upgrade.specs.Plans.{IsPlan}
 use Rattle.edit_upgrade.specs.Upgraded.{IsNeeded}
-use Rattle.edit_upgrade.specs.WordCauses.{IsRefusedFor}
+use Rattle.edit_upgrade.specs.WordCauses.{IsPlanError}
 use Rattle.edit_upgrade.specs.declared.decision.options.Options.{Options}
 use Rattle.edit_upgrade.specs.declared.upgrade.UpgradePlan.{UpgradePlan}
-use Rattle.edit_program.specs.Planned.{IsPlanCause, IsPlanStopped, IsPlanned, nothing_kept, over}
+use Rattle.edit_program.specs.Planned.{IsPlanCause, IsPlanStopped, IsPlanned, empty_answers, cache_over}
 
 -- nothing is kept in a new cache
-nothing : {I : Type 0} (cache : IndexCache I) → ((address name : List ℕ) → kept_at cache address name ≡ None)
-    → kept_by cache ≡ nothing_kept
+nothing : {I : Type 0} (cache : IndexCache I)
+    → ((address name : List ℕ) → cached_answer_at cache address name ≡ None)
+    → cached_by cache ≡ empty_answers
 nothing cache empty =
     fun_ext (λ address. fun_ext (λ name. ap (option_map answer_of) (empty address name)))
 
 -- of the cache behind a plan only the answers that are kept count
 answers_count : (o : Options) (inputs : List Input) (configs : List (Vec Config)) (old now : CacheView)
     (view : IndexView) (p : UpgradePlan) → IsPlan o inputs configs old now p
-    → IsPlan o inputs configs old (over view now.kept) p
+    → IsPlan o inputs configs old (cache_over view now.kept) p
 answers_count o inputs configs old now view p h = record {
   rows = h.rows;
   rows_in_order = h.rows_in_order;
@@ -55,15 +56,15 @@ answers_count o inputs configs old now view p h = record {
 -- a plan over a new cache
 pub planned : {I : Type 0} (view : I → IndexView) (index : I) (o : Options) (inputs : List Input)
     (configs : List (Vec Config)) (old new : IndexCache I) (p : UpgradePlan) → index_of old ≡ index
-    → ((address name : List ℕ) → kept_at old address name ≡ None)
+    → ((address name : List ℕ) → cached_answer_at old address name ≡ None)
     → IsPlan o inputs configs (cache_view view old) (cache_view view new) p
     → IsPlanned o inputs configs (view index) p
 planned {I} view index o inputs configs old new p is empty h =
-    let now : CacheView = over (view index) (kept_by new) in
+    let now : CacheView = cache_over (view index) (cached_by new) in
     record {
-      kept = kept_by new;
-      is = subst (λ (i : I). IsPlan o inputs configs (over (view i) nothing_kept) now p) is
-          (subst (λ (k : Kept). IsPlan o inputs configs (over (view (index_of old)) k) now p)
+      kept = cached_by new;
+      is = subst (λ (i : I). IsPlan o inputs configs (cache_over (view i) empty_answers) now p) is
+          (subst (λ (k : CachedAnswers). IsPlan o inputs configs (cache_over (view (index_of old)) k) now p)
           (nothing old empty)
           (answers_count o inputs configs (cache_view view old) (cache_view view new) (view index) p h));
     }
@@ -71,28 +72,28 @@ planned {I} view index o inputs configs old new p is empty h =
 -- an input that stops a plan over a new cache
 input_stops : {I : Type 0} (view : I → IndexView) (index : I) (inputs : List Input)
     (configs : List (Vec Config)) (old new : IndexCache I) (e : Error) → index_of old ≡ index
-    → ((address name : List ℕ) → kept_at old address name ≡ None)
+    → ((address name : List ℕ) → cached_answer_at old address name ≡ None)
     → LeavesCache (IsNeeded inputs configs) (cache_view view old) (cache_view view new)
     → StopsInputs inputs configs (cache_view view old) (cache_view view new) e
     → IsPlanStopped inputs configs (view index) e
 input_stops {I} view index inputs configs old new e is empty left h = record {
-  kept = kept_by new;
-  adds = subst (λ (i : I). AddsNeeded (IsNeeded inputs configs) (view i).gives nothing_kept (kept_by new)) is
-      (subst (λ (k : Kept). AddsNeeded (IsNeeded inputs configs) (view (index_of old)).gives k (kept_by new))
+  kept = cached_by new;
+  adds = subst (λ (i : I). AddsNeeded (IsNeeded inputs configs) (view i).gives empty_answers (cached_by new)) is
+      (subst (λ (k : CachedAnswers). AddsNeeded (IsNeeded inputs configs) (view (index_of old)).gives k (cached_by new))
       (nothing old empty) left.adds);
   faults = (view (index_of new)).faults;
-  cause = subst (λ (i : I). IsCause inputs configs (view i).gives nothing_kept (kept_by new) (view i).faults
+  cause = subst (λ (i : I). IsCause inputs configs (view i).gives empty_answers (cached_by new) (view i).faults
       (view (index_of new)).faults e) is
-      (subst (λ (k : Kept). IsCause inputs configs (view (index_of old)).gives k (kept_by new)
+      (subst (λ (k : CachedAnswers). IsCause inputs configs (view (index_of old)).gives k (cached_by new)
       (view (index_of old)).faults (view (index_of new)).faults e) (nothing old empty) h);
 }
 
 -- a plan of bytes that is refused
 bytes_refused : {I : Type 0} (view : I → IndexView) (index : I) (o : Options) (inputs : List Input)
     (configs : List (Vec Config)) (old new : IndexCache I) (e : Error) → index_of old ≡ index
-    → ((address name : List ℕ) → kept_at old address name ≡ None)
+    → ((address name : List ℕ) → cached_answer_at old address name ≡ None)
     → LeavesCache (IsNeeded inputs configs) (cache_view view old) (cache_view view new)
-    → IsRefusedFor o (StopsInputs inputs configs (cache_view view old) (cache_view view new)) e
+    → IsPlanError o (StopsInputs inputs configs (cache_view view old) (cache_view view new)) e
     → IsMemory e ⊎ IsPlanCause o inputs configs (view index) e
 bytes_refused view index o inputs configs old new e is empty left (inl word) = inr (inl word)
 bytes_refused view index o inputs configs old new e is empty left (inr (words, cause)) =
@@ -101,9 +102,9 @@ bytes_refused view index o inputs configs old new e is empty left (inr (words, c
 -- and one of documents
 documents_refused : {I : Type 0} (view : I → IndexView) (index : I) (o : Options) (inputs : List Input)
     (configs : List (Vec Config)) (old new : IndexCache I) (e : Error) → index_of old ≡ index
-    → ((address name : List ℕ) → kept_at old address name ≡ None)
+    → ((address name : List ℕ) → cached_answer_at old address name ≡ None)
     → LeavesCache (IsNeeded inputs configs) (cache_view view old) (cache_view view new)
-    → IsRefusedFor o (StopsDocuments inputs configs (cache_view view old) (cache_view view new)) e
+    → IsPlanError o (StopsDocuments inputs configs (cache_view view old) (cache_view view new)) e
     → IsMemory e ⊎ IsPlanCause o inputs configs (view index) e
 documents_refused view index o inputs configs old new e is empty left (inl word) = inr (inl word)
 documents_refused view index o inputs configs old new e is empty left (inr (words, inl memory)) = inl memory
@@ -127,18 +128,18 @@ both_causes (Err e) P Q R both p q = both e p q
 
 -- a plan of inputs that is refused: of their documents where those are given, else of their bytes
 pub shared_refused : {I : Type 0} (view : I → IndexView) (index : I) (o : Options) (inputs : List Input)
-    (configs : List (Vec Config)) (documents : List Shown) (old new : IndexCache I) (e : Error)
-    → index_of old ≡ index → ((address name : List ℕ) → kept_at old address name ≡ None)
+    (configs : List (Vec Config)) (documents : List DocumentViews) (old new : IndexCache I) (e : Error)
+    → index_of old ≡ index → ((address name : List ℕ) → cached_answer_at old address name ≡ None)
     → LeavesCache (IsNeeded inputs configs) (cache_view view old) (cache_view view new)
     → AreDocuments documents inputs
     → (length documents ≡ length inputs
-    → IsRefusedFor o (StopsDocuments inputs configs (cache_view view old) (cache_view view new)) e)
+    → IsPlanError o (StopsDocuments inputs configs (cache_view view old) (cache_view view new)) e)
     → (documents ≡ []
-    → IsRefusedFor o (StopsInputs inputs configs (cache_view view old) (cache_view view new)) e)
+    → IsPlanError o (StopsInputs inputs configs (cache_view view old) (cache_view view new)) e)
     → IsMemory e ⊎ IsPlanCause o inputs configs (view index) e
 shared_refused view index o inputs configs documents old new e is empty left (inl none) given read =
     bytes_refused view index o inputs configs old new e is empty left (read none)
 shared_refused view index o inputs configs documents old new e is empty left (inr same) given read =
     documents_refused view index o inputs configs old new e is empty left
-    (given (sym (length-map documents (λ (d : Shown). d.bytes)) ∙ ap length same
+    (given (sym (length-map documents (λ (d : DocumentViews). d.bytes)) ∙ ap length same
     ∙ length-map inputs (λ (input : Input). input.bytes.items)))

@@ -3,12 +3,12 @@ use Rattle.std.proofs.Common.{ℕ, List, Option}
 use Rattle.std.specs.Prelude.{codes}
 use Rattle.std.specs.Io.KnownBytes.{Appends}
 use Rattle.std.proofs.KnownBytes.{Appends-trans}
-use Rattle.edit_set_version.specs.PlanLines.{Told}
+use Rattle.edit_set_version.specs.PlanLines.{ReportLine}
 use Rattle.edit_program.specs.Printed.{printed, statuses_in, warning_if}
 use Rattle.edit_program.specs.declared.set_version_run.words.SetVersionWords.{SetVersionWords}
 
 -- all that standard error has
-pub printed_all : (words : SetVersionWords) (lines : List Told) (a b c d : Option (List ℕ))
+pub printed_all : (words : SetVersionWords) (lines : List ReportLine) (a b c d : Option (List ℕ))
     → Appends a b (warning_if words.all
     (codes "The flag `--all` has been deprecated in favor of `--workspace`"))
     → Appends b c (statuses_in words.presentation.format lines)

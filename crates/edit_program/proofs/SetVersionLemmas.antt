@@ -4,14 +4,14 @@ use Rattle.std.specs.Prelude.{◌==◌, ◌⊎◌, not, if◌then◌else◌}
 use Rattle.edit_base.specs.Errors.{IsMemory}
 use Rattle.edit_base.specs.declared.errors.Error.{Error}
 use Rattle.edit_base.specs.declared.errors.Error.TheVariants.{Output as Unwritten}
-use Rattle.edit_metadata.specs.Metadata.{WorkspaceSaid}
+use Rattle.edit_metadata.specs.Metadata.{WorkspaceModel}
 use Rattle.edit_metadata.specs.declared.input.Input.{Input}
 use Rattle.edit_report.specs.Applied.{HaveDistinctPaths, path_of}
 use Rattle.edit_report.specs.declared.output.Output.{Output}
 use Rattle.edit_set_version.specs.Bumps.{target_of}
 use Rattle.edit_set_version.specs.PlanRefused.{IsCauseOf}
-use Rattle.edit_set_version.specs.Planned.{OutputsInOrder, outputs_at, told_lines}
-use Rattle.edit_set_version.specs.Selections.{asked_of}
+use Rattle.edit_set_version.specs.Planned.{OutputsInOrder, outputs_at, plan_lines_view}
+use Rattle.edit_set_version.specs.Selections.{selection_view}
 use Rattle.edit_set_version.specs.declared.plan.SetVersionPlan.{SetVersionPlan}
 use Rattle.edit_metadata.specs.Inputs.{HaveOwnPaths}
 use Rattle.edit_steps.proofs.DistinctPaths.{none_differ, outputs_differ}
@@ -32,14 +32,14 @@ written_differ words is outputs own in_order = go words.dry_run
     go false = outputs_differ (λ path. not (length (outputs_at path outputs) == 0)) is outputs own in_order
 
 -- what was read, planned and printed, and what is left of the files
-pub planned_to : (Leaves : List Output → StoreView → StoreView → Type 0) (Shows Tells : List ℕ → Type 0)
-    (words : SetVersionWords) (current : List ℕ) (old new : StoreView) (w : WorkspaceSaid) (is : List Input)
+pub planned_to : (Leaves : List Output → StoreView → StoreView → Type 0) (HasFields IsErrorOf : List ℕ → Type 0)
+    (words : SetVersionWords) (current : List ℕ) (old new : StoreView) (w : WorkspaceModel) (is : List Input)
     (plan : SetVersionPlan) → (old.tells ≡ true → IsRead words current old.file_at w is)
-    → IsVersionPlan (target_of words.target) (asked_of words.selection) w is plan
-    → Shows (shown words w.root is plan) → Tells (printed words (told_lines plan))
+    → IsVersionPlan (target_of words.target) (selection_view words.selection) w is plan
+    → HasFields (shown words w.root is plan) → IsErrorOf (printed words (plan_lines_view plan))
     → Leaves plan.outputs.items old new → old.tells ≡ true
-    → IsPlannedTo Leaves Shows Tells words current old new
-planned_to Leaves Shows Tells words current old new w is plan read planned shows tells leaves t = record {
+    → IsPlannedTo Leaves HasFields IsErrorOf words current old new
+planned_to Leaves HasFields IsErrorOf words current old new w is plan read planned shows tells leaves t = record {
   workspace = w;
   inputs = is;
   plan = plan;
@@ -58,10 +58,10 @@ stream_cause words current old new e same (inl memory) = inl (inl memory)
 stream_cause words current old new e same (inr unwritten) = inr (same, inr (inl unwritten))
 
 -- a plan that is not made
-pub plan_cause : (words : SetVersionWords) (current : List ℕ) (old new : StoreView) (w : WorkspaceSaid)
+pub plan_cause : (words : SetVersionWords) (current : List ℕ) (old new : StoreView) (w : WorkspaceModel)
     (is : List Input) (e : Error) → SameFiles old.file_at new.file_at
     → (old.tells ≡ true → IsRead words current old.file_at w is)
-    → IsCauseOf (target_of words.target) (asked_of words.selection) w is e
+    → IsCauseOf (target_of words.target) (selection_view words.selection) w is e
     → IsSetVersionCause words current old new e
 plan_cause words current old new w is e same read cause = inr (
   same,

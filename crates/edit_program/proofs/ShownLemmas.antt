@@ -10,7 +10,7 @@ use Rattle.edit_steps.specs.declared.refusal.Refusal.{Refusal}
 use Rattle.edit_store.specs.Store.{StoreView}
 use Rattle.edit_words.specs.CommandLine.{edit_app}
 use Rattle.edit_program.specs.Run.{run_at}
-use Rattle.edit_program.specs.Runs.{AreAtFault, IsAnswered, IsEnded, IsRunCause, status_of}
+use Rattle.edit_program.specs.Runs.{HasUsageError, IsAnswered, IsEnded, IsRunCause, status_of}
 use Rattle.edit_program.proofs.CommandLemmas.{answered}
 
 -- what was printed in place of matches answers the words
@@ -36,7 +36,7 @@ shown_unasked (Ok s) P (inr two) = λ one. absurd (omega (arith, two, one))
 shown_unasked (Err x) P small = tt
 
 fault_in : (words : List Text) (r : Result ℕ Refusal) → IfOk r (IsAnswered words)
-    → IfOk r (λ s. s ≡ 2 → AreAtFault words)
+    → IfOk r (λ s. s ≡ 2 → HasUsageError words)
 fault_in words (Ok s) by = λ two. inl (subst (λ n. IsAnswered words n) two by)
 fault_in words (Err x) by = tt
 
@@ -46,45 +46,45 @@ pub shown_fault : (app : App) (words : List Text) (e : Error) (r : Result ℕ Re
     → HasKind (fault_of app words) e
     → (kind_of e ≡ OutOfMemory → IsErrAnd r (λ x. IsMemory x.error))
     → IfOk r (λ s. s ≡ status_of (kind_of e))
-    → IfOk r (λ s. s ≡ 2 → AreAtFault words)
+    → IfOk r (λ s. s ≡ 2 → HasUsageError words)
 shown_fault app words e r is passes kinds memory same =
     fault_in words r (shown_is app words e r is passes kinds memory same)
 
-ended_in : (words : List Text) (r : Result ℕ Refusal) (Q : Type 0) (Shows Tells : List ℕ → Type 0)
+ended_in : (words : List Text) (r : Result ℕ Refusal) (Q : Type 0) (HasFields IsErrorOf : List ℕ → Type 0)
     (current : List ℕ) (home : Option (List ℕ))
     (local files : StoreView)
     → IfOk r (IsAnswered words) → IfOk r (λ s. (s ≡ 0) ⊎ (s ≡ 2))
-    → IfOk r (λ s. s ≢ 2 → Q → IsEnded words s Shows Tells (run_at current home local files files))
-ended_in words (Ok s) Q Shows Tells current home local files by (inl zero) =
+    → IfOk r (λ s. s ≢ 2 → Q → IsEnded words s HasFields IsErrorOf (run_at current home local files files))
+ended_in words (Ok s) Q HasFields IsErrorOf current home local files by (inl zero) =
     λ other q. inl (zero, inl (subst (λ n. IsAnswered words n) zero by, λ path. refl))
-ended_in words (Ok s) Q Shows Tells current home local files by (inr two) = λ other q. absurd (other two)
-ended_in words (Err x) Q Shows Tells current home local files by small = tt
+ended_in words (Ok s) Q HasFields IsErrorOf current home local files by (inr two) = λ other q. absurd (other two)
+ended_in words (Err x) Q HasFields IsErrorOf current home local files by small = tt
 
 -- and 0 says that help or the version was shown
 pub shown_ended : (app : App) (words : List Text) (e : Error) (r : Result ℕ Refusal) (Q : Type 0)
-    (Shows Tells : List ℕ → Type 0) (current : List ℕ) (home : Option (List ℕ))
+    (HasFields IsErrorOf : List ℕ → Type 0) (current : List ℕ) (home : Option (List ℕ))
     (local files : StoreView)
     → app ≡ edit_app
     → (takes app words ≡ true → kind_of e ≡ OutOfMemory)
     → HasKind (fault_of app words) e
     → (kind_of e ≡ OutOfMemory → IsErrAnd r (λ x. IsMemory x.error)) → IfOk r (λ s. s ≡ status_of (kind_of e))
     → IfOk r (λ s. (s ≡ 0) ⊎ (s ≡ 2))
-    → IfOk r (λ s. s ≢ 2 → Q → IsEnded words s Shows Tells (run_at current home local files files))
-shown_ended app words e r Q Shows Tells current home local files is passes kinds memory same small =
-    ended_in words r Q Shows Tells current home local files
+    → IfOk r (λ s. s ≢ 2 → Q → IsEnded words s HasFields IsErrorOf (run_at current home local files files))
+shown_ended app words e r Q HasFields IsErrorOf current home local files is passes kinds memory same small =
+    ended_in words r Q HasFields IsErrorOf current home local files
     (shown_is app words e r is passes kinds memory same) small
 
 -- what could not be printed, but for want of memory, is help or the version
-pub shown_why : (app : App) (words : List Text) (e : Error) (r : Result ℕ Refusal) (Shows : List ℕ → Type 0)
+pub shown_why : (app : App) (words : List Text) (e : Error) (r : Result ℕ Refusal) (HasFields : List ℕ → Type 0)
     (current : List ℕ) (home : Option (List ℕ))
     (local files : StoreView) → app ≡ edit_app
     → (takes app words ≡ true → kind_of e ≡ OutOfMemory)
     → HasKind (fault_of app words) e
     → IfErr r (λ x. IsMemory x.error ⊎ ((x.error ≡ Output) × (status_of (kind_of e) ≡ 0)))
-    → IfErr r (λ x. IsRunCause words Shows (run_at current home local files files) x.error)
-shown_why app words e (Ok s) Shows current home local files is passes kinds why = tt
-shown_why app words e (Err x) Shows current home local files is passes kinds (inl memory) = inl memory
-shown_why app words e (Err x) Shows current home local files is passes kinds (inr unwritten) = inr (inl (
+    → IfErr r (λ x. IsRunCause words HasFields (run_at current home local files files) x.error)
+shown_why app words e (Ok s) HasFields current home local files is passes kinds why = tt
+shown_why app words e (Err x) HasFields current home local files is passes kinds (inl memory) = inl memory
+shown_why app words e (Err x) HasFields current home local files is passes kinds (inr unwritten) = inr (inl (
   (λ path. refl),
   inl (
     unwritten.0,

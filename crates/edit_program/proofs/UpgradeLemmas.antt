@@ -4,10 +4,10 @@ use Rattle.std.specs.Prelude.{◌⊎◌, ◌==◌, not, option_copied}
 use Rattle.edit_base.specs.Errors.{IsMemory}
 use Rattle.edit_base.specs.declared.errors.Error.{Error}
 use Rattle.edit_lock.specs.LockFile.{Package}
-use Rattle.edit_lock.specs.Views.{packages_seen}
+use Rattle.edit_lock.specs.Views.{lock_view}
 use Rattle.edit_lock.specs.declared.lock.Lock.{Lock}
-use Rattle.edit_metadata.specs.Metadata.{WorkspaceSaid}
-use Rattle.edit_metadata.specs.Workspaces.{workspace_said}
+use Rattle.edit_metadata.specs.Metadata.{WorkspaceModel}
+use Rattle.edit_metadata.specs.Workspaces.{workspace_view}
 use Rattle.edit_metadata.specs.declared.input.Input.{Input}
 use Rattle.edit_metadata.specs.declared.workspace.Workspace.{Workspace}
 use Rattle.edit_report.specs.Applied.{AreWritten, HaveDistinctPaths}
@@ -26,14 +26,14 @@ use Rattle.edit_steps.specs.declared.upgrade_read.sources.Sources.{Sources}
 use Rattle.edit_steps.specs.declared.upgrade_read.target.Target.{Target}
 use Rattle.edit_program.proofs.StagingLemmas.{all_stopped_after, behind_after}
 use Rattle.edit_program.specs.TellingCauses.{IsDeliveryCause, IsStopped}
-use Rattle.edit_program.specs.Delivered.{AreBothWritten, HaveStopped, IsCutShort, IsDelivered, IsToldTo, written}
+use Rattle.edit_program.specs.Delivered.{AreBothWritten, HaveStopped, IsCutShort, IsDelivered, IsWrittenAfterPrint, written}
 use Rattle.edit_program.specs.Delivery.{Delivery, calls_against, calls_of}
 use Rattle.edit_program.specs.LockRead.{HasNoLock, IsLockRead}
 use Rattle.edit_program.specs.UpgradeCauses.{IsUpgradeCause}
-use Rattle.edit_program.specs.Planned.{IsPlanCause, asking, index_view}
+use Rattle.edit_program.specs.Planned.{IsPlanCause, to_request, index_view}
 use Rattle.edit_program.specs.Run.{run_at}
 use Rattle.edit_program.specs.Said.{said}
-use Rattle.edit_program.specs.Upgrading.{IsAnsweredWith, IsBroken, IsPathOf, IsPlannedFor, IsRead, IsUpgraded, delivery_by, diff_root, has_outputs}
+use Rattle.edit_program.specs.Upgrading.{IsUpgradeResult, IsBroken, IsPathOf, IsPlannedFor, IsRead, IsUpgraded, delivery_by, diff_root, has_outputs}
 use Rattle.edit_program.specs.declared.upgrade_run.words.UpgradeWords.{UpgradeWords}
 
 -- the outputs of a plan go to paths of their own
@@ -46,18 +46,18 @@ plan_paths words s local plan own planned =
 
 -- what is said of a workspace that is borrowed
 same_workspace : (r : Option (Bor Workspace)) (w : Option Workspace) → option_copied r ≡ w
-    → option_map (λ x. workspace_said x.now) r ≡ option_map workspace_said w
-same_workspace None w is = ap (option_map workspace_said) is
-same_workspace (Some x) w is = ap (option_map workspace_said) is
+    → option_map (λ x. workspace_view x.now) r ≡ option_map workspace_view w
+same_workspace None w is = ap (option_map workspace_view) is
+same_workspace (Some x) w is = ap (option_map workspace_view) is
 
 -- the packages of a lock file that is borrowed
 pub same_lock : (r : Option (Bor Lock)) (lock : Option Lock) → option_copied r ≡ lock
-    → option_map (λ l. packages_seen l.now) r ≡ option_map packages_seen lock
-same_lock None lock is = ap (option_map packages_seen) is
-same_lock (Some l) lock is = ap (option_map packages_seen) is
+    → option_map (λ l. lock_view l.now) r ≡ option_map lock_view lock
+same_lock None lock is = ap (option_map lock_view) is
+same_lock (Some l) lock is = ap (option_map lock_view) is
 
 -- a plan for these manifests as the arguments ask for it, where diffs name files from this folder
-abbrev delivery_at : UpgradeWords → UpgradePlan → List Input → Option WorkspaceSaid → List ℕ → Option (List ℕ)
+abbrev delivery_at : UpgradeWords → UpgradePlan → List Input → Option WorkspaceModel → List ℕ → Option (List ℕ)
     → Option (List Package) → Delivery
 delivery_at words plan inputs workspace root path lock = record {
   plan = plan;
@@ -73,34 +73,34 @@ delivery_at words plan inputs workspace root path lock = record {
 -- what is delivered is what the arguments ask for
 pub same_delivery : (words : UpgradeWords) (current root : List ℕ) (plan : UpgradePlan) (target : Target)
     (path : Option (List ℕ)) (lock : Option (List Package)) (inputs : List Input) (r : Option (Bor Workspace))
-    → root ≡ diff_root current (option_map (λ x. workspace_said x.now) r)
+    → root ≡ diff_root current (option_map (λ x. workspace_view x.now) r)
     → inputs ≡ target.inputs.items → option_copied r ≡ target.workspace
-    → delivery_at words plan inputs (option_map (λ x. workspace_said x.now) r) root path lock
+    → delivery_at words plan inputs (option_map (λ x. workspace_view x.now) r) root path lock
     ≡ delivery_by words current plan target path lock
 same_delivery words current root plan target path lock inputs r from same is =
-    let workspace = option_map (λ (x : Bor Workspace). workspace_said x.now) r in
+    let workspace = option_map (λ (x : Bor Workspace). workspace_view x.now) r in
     ap (λ (folder : List ℕ). delivery_at words plan inputs workspace folder path lock) from
     ∙ ap (λ (xs : List Input). delivery_at words plan xs workspace (diff_root current workspace) path lock) same
-    ∙ ap (λ (w : Option WorkspaceSaid). delivery_at words plan target.inputs.items w (diff_root current w) path lock)
+    ∙ ap (λ (w : Option WorkspaceModel). delivery_at words plan target.inputs.items w (diff_root current w) path lock)
     (same_workspace r target.workspace is)
 
 -- a plan was delivered, and the answer is whether it changes a manifest
-pub answered : (due : Bool) (Shows Says : List ℕ → Type 0) (old new : StoreView) (task d : Delivery) → task ≡ d
-    → due ≡ has_outputs d.plan → IsDelivered Shows task old new → Says (said task)
-    → IsAnsweredWith due Shows Says old new d
-answered due Shows Says old new task d same is delivered says = record {
+pub answered : (due : Bool) (HasFields HasDecodedValue : List ℕ → Type 0) (old new : StoreView) (task d : Delivery) → task ≡ d
+    → due ≡ has_outputs d.plan → IsDelivered HasFields task old new → HasDecodedValue (said task)
+    → IsUpgradeResult due HasFields HasDecodedValue old new d
+answered due HasFields HasDecodedValue old new task d same is delivered says = record {
   is = is;
-  delivered = subst (λ x. IsDelivered Shows x old new) same delivered;
-  says = subst (λ x. Says (said x)) same says;
+  delivered = subst (λ x. IsDelivered HasFields x old new) same delivered;
+  says = subst (λ x. HasDecodedValue (said x)) same says;
 }
 
 -- ---- behind reads
 
-told_after : (Leaves : List Output → List Output → StoreView → StoreView → Type 0) (Shows : List ℕ → Type 0)
+told_after : (Leaves : List Output → List Output → StoreView → StoreView → Type 0) (HasFields : List ℕ → Type 0)
     (d : Delivery) (old mid new : StoreView)
     → ((first last : List Output) → Leaves first last mid new → Leaves first last old new)
-    → IsToldTo Leaves Shows d mid new → IsToldTo Leaves Shows d old new
-told_after Leaves Shows d old mid new after told = record {
+    → IsWrittenAfterPrint Leaves HasFields d mid new → IsWrittenAfterPrint Leaves HasFields d old new
+told_after Leaves HasFields d old mid new after told = record {
   shows = told.shows;
   unlocked = told.unlocked;
   calls = told.calls;
@@ -109,15 +109,15 @@ told_after Leaves Shows d old mid new after told = record {
 }
 
 -- a plan that was delivered
-pub upgraded : (due : Bool) (Shows Says : List ℕ → Type 0) (words : UpgradeWords) (current : List ℕ)
+pub upgraded : (due : Bool) (HasFields HasDecodedValue : List ℕ → Type 0) (words : UpgradeWords) (current : List ℕ)
     (home : Option (List ℕ)) (local old mid new : StoreView) (s : Sources) (plan : UpgradePlan)
     (path : Option (List ℕ)) (lock : Option (List Package)) → OnlyReads old mid
     → (old.tells ≡ true → IsRead words current home old.file_at s) → IsPlannedFor words s local plan
     → IsPathOf current (given words.update_calls) path
     → (old.tells ≡ true → IsLockRead old.file_at current (given words.lock_file) lock)
-    → IsAnsweredWith due Shows Says mid new (delivery_by words current plan s.target path lock)
-    → old.tells ≡ true → IsUpgraded due Shows Says words (run_at current home local old new)
-upgraded due Shows Says words current home local old mid new s plan path lock reads read planned at locked answered
+    → IsUpgradeResult due HasFields HasDecodedValue mid new (delivery_by words current plan s.target path lock)
+    → old.tells ≡ true → IsUpgraded due HasFields HasDecodedValue words (run_at current home local old new)
+upgraded due HasFields HasDecodedValue words current home local old mid new s plan path lock reads read planned at locked answered
     t =
     let d = delivery_by words current plan s.target path lock in
     record {
@@ -132,7 +132,7 @@ upgraded due Shows Says words current home local old mid new s plan path lock re
       ends = record {
         is = answered.is;
         delivered = record {
-          told = told_after AreBothWritten Shows d old mid new
+          told = told_after AreBothWritten HasFields d old mid new
               (λ first last. behind_after AreWritten first last old mid new reads) answered.delivered.told;
           complete = answered.delivered.complete;
         };
@@ -140,29 +140,29 @@ upgraded due Shows Says words current home local old mid new s plan path lock re
       };
     }
 
-cut_after : (Shows : List ℕ → Type 0) (d : Delivery) (old mid new : StoreView) → OnlyReads old mid
-    → IsCutShort Shows d mid new → IsCutShort Shows d old new
-cut_after Shows d old mid new reads (inl stopped) =
-    inl (told_after HaveStopped Shows d old mid new
+cut_after : (HasFields : List ℕ → Type 0) (d : Delivery) (old mid new : StoreView) → OnlyReads old mid
+    → IsCutShort HasFields d mid new → IsCutShort HasFields d old new
+cut_after HasFields d old mid new reads (inl stopped) =
+    inl (told_after HaveStopped HasFields d old mid new
     (λ first last. all_stopped_after first last old mid new reads) stopped)
-cut_after Shows d old mid new reads (inr whole) =
-    inr (told_after AreBothWritten Shows d old mid new
+cut_after HasFields d old mid new reads (inr whole) =
+    inr (told_after AreBothWritten HasFields d old mid new
     (λ first last. behind_after AreWritten first last old mid new reads) whole)
 
 -- and one whose delivery was refused
-pub broken : (Shows : List ℕ → Type 0) (words : UpgradeWords) (current : List ℕ)
+pub broken : (HasFields : List ℕ → Type 0) (words : UpgradeWords) (current : List ℕ)
     (home : Option (List ℕ)) (local old mid new : StoreView) (s : Sources) (plan : UpgradePlan)
     (path : Option (List ℕ)) (lock : Option (List Package)) → OnlyReads old mid
     → (old.tells ≡ true → IsRead words current home old.file_at s) → IsPlannedFor words s local plan
     → IsPathOf current (given words.update_calls) path
     → (old.tells ≡ true → IsLockRead old.file_at current (given words.lock_file) lock)
     → SameFiles mid.file_at new.file_at
-    ⊎ IsCutShort Shows (delivery_by words current plan s.target path lock) mid new
+    ⊎ IsCutShort HasFields (delivery_by words current plan s.target path lock) mid new
     → old.tells ≡ true
-    → SameFiles old.file_at new.file_at ⊎ IsBroken Shows words (run_at current home local old new)
-broken Shows words current home local old mid new s plan path lock reads read planned at locked (inl kept) t =
+    → SameFiles old.file_at new.file_at ⊎ IsBroken HasFields words (run_at current home local old new)
+broken HasFields words current home local old mid new s plan path lock reads read planned at locked (inl kept) t =
     inl (λ file. kept file ∙ reads.files file)
-broken Shows words current home local old mid new s plan path lock reads read planned at locked (inr cut) t =
+broken HasFields words current home local old mid new s plan path lock reads read planned at locked (inr cut) t =
     inr (record {
       sources = s;
       plan = plan;
@@ -172,40 +172,40 @@ broken Shows words current home local old mid new s plan path lock reads read pl
       planned = planned;
       at = at;
       locked = locked t;
-      ends = cut_after Shows (delivery_by words current plan s.target path lock) old mid new reads cut;
+      ends = cut_after HasFields (delivery_by words current plan s.target path lock) old mid new reads cut;
     })
 
 -- ---- causes
 
 -- what the arguments name is not read
-pub read_cause : (Shows : List ℕ → Type 0) (words : UpgradeWords) (current : List ℕ) (home : Option (List ℕ))
+pub read_cause : (HasFields : List ℕ → Type 0) (words : UpgradeWords) (current : List ℕ) (home : Option (List ℕ))
     (local old new : StoreView) (e : Error) → SameFiles old.file_at new.file_at
-    → IsReadCause current home (asking words) old new e
-    → IsUpgradeCause Shows words (run_at current home local old new) e
-read_cause Shows words current home local old new e same (inl failed) = inr (inl (same, failed))
-read_cause Shows words current home local old new e same (inr wrong) =
+    → IsReadCause current home (to_request words) old new e
+    → IsUpgradeCause HasFields words (run_at current home local old new) e
+read_cause HasFields words current home local old new e same (inl failed) = inr (inl (same, failed))
+read_cause HasFields words current home local old new e same (inr wrong) =
     inr (inr (inr (inr (λ t. inl (same, inr (inl (wrong t)))))))
 
 -- nor its lock file
-pub lock_cause : (Shows : List ℕ → Type 0) (words : UpgradeWords) (current : List ℕ) (home : Option (List ℕ))
+pub lock_cause : (HasFields : List ℕ → Type 0) (words : UpgradeWords) (current : List ℕ) (home : Option (List ℕ))
     (local old new : StoreView) (e : Error) → SameFiles old.file_at new.file_at
-    → IsReadCause current home (asking words) old new e
+    → IsReadCause current home (to_request words) old new e
     ⊎ (old.tells ≡ true → HasNoLock old.file_at current (given words.lock_file) e)
-    → IsUpgradeCause Shows words (run_at current home local old new) e
-lock_cause Shows words current home local old new e same (inl cause) =
-    read_cause Shows words current home local old new e same cause
-lock_cause Shows words current home local old new e same (inr none) =
+    → IsUpgradeCause HasFields words (run_at current home local old new) e
+lock_cause HasFields words current home local old new e same (inl cause) =
+    read_cause HasFields words current home local old new e same cause
+lock_cause HasFields words current home local old new e same (inr none) =
     inr (inr (inr (inr (λ t. inl (same, inl (none t))))))
 
 -- there is no plan for it
-pub plan_cause : (Shows : List ℕ → Type 0) (words : UpgradeWords) (current : List ℕ) (home : Option (List ℕ))
+pub plan_cause : (HasFields : List ℕ → Type 0) (words : UpgradeWords) (current : List ℕ) (home : Option (List ℕ))
     (local old new : StoreView) (s : Sources) (e : Error) → SameFiles old.file_at new.file_at
     → (old.tells ≡ true → IsRead words current home old.file_at s)
     → IsMemory e ⊎ IsPlanCause words.options s.target.inputs.items (lists_for s.configs)
     (index_view s.index local) e
-    → IsUpgradeCause Shows words (run_at current home local old new) e
-plan_cause Shows words current home local old new s e same read (inl memory) = inl memory
-plan_cause Shows words current home local old new s e same read (inr wrong) =
+    → IsUpgradeCause HasFields words (run_at current home local old new) e
+plan_cause HasFields words current home local old new s e same read (inl memory) = inl memory
+plan_cause HasFields words current home local old new s e same read (inr wrong) =
     inr (inr (inr (inr (λ t. inl (
       same,
       inr (inr (record {
@@ -216,33 +216,34 @@ plan_cause Shows words current home local old new s e same read (inr wrong) =
     )))))
 
 -- a plan is not carried out behind reads
-stopped_later : (Shows : List ℕ → Type 0) (d : Delivery) (old mid new : StoreView) (e : Error) → OnlyReads old mid
-    → IsStopped Shows d mid new e → IsStopped Shows d old new e
-stopped_later Shows d old mid new e reads (inl held) =
+stopped_later : (HasFields : List ℕ → Type 0) (d : Delivery) (old mid new : StoreView) (e : Error)
+    → OnlyReads old mid
+    → IsStopped HasFields d mid new e → IsStopped HasFields d old new e
+stopped_later HasFields d old mid new e reads (inl held) =
     inl ((λ path. held.0 path ∙ reads.files path), held.1)
-stopped_later Shows d old mid new e reads (inr lacks) = inr (
-  told_after AreBothWritten Shows d old mid new
+stopped_later HasFields d old mid new e reads (inr lacks) = inr (
+  told_after AreBothWritten HasFields d old mid new
       (λ first last. behind_after AreWritten first last old mid new reads) lacks.0,
   lacks.1,
 )
 
 -- the plan is not delivered
-pub stop_cause : (Shows : List ℕ → Type 0) (words : UpgradeWords) (current : List ℕ) (home : Option (List ℕ))
+pub stop_cause : (HasFields : List ℕ → Type 0) (words : UpgradeWords) (current : List ℕ) (home : Option (List ℕ))
     (local old mid new : StoreView) (s : Sources) (plan : UpgradePlan) (path : Option (List ℕ))
     (lock : Option (List Package)) (e : Error)
     → OnlyReads old mid
     → (old.tells ≡ true → IsRead words current home old.file_at s) → IsPlannedFor words s local plan
     → IsPathOf current (given words.update_calls) path
     → (old.tells ≡ true → IsLockRead old.file_at current (given words.lock_file) lock)
-    → IsDeliveryCause Shows (delivery_by words current plan s.target path lock) mid new e
-    → IsUpgradeCause Shows words (run_at current home local old new) e
-stop_cause Shows words current home local old mid new s plan path lock e reads read planned at locked
+    → IsDeliveryCause HasFields (delivery_by words current plan s.target path lock) mid new e
+    → IsUpgradeCause HasFields words (run_at current home local old new) e
+stop_cause HasFields words current home local old mid new s plan path lock e reads read planned at locked
     (inl refused) =
     inr (inr (inl (refused_on call.Write old mid new e reads refused)))
-stop_cause Shows words current home local old mid new s plan path lock e reads read planned at locked
+stop_cause HasFields words current home local old mid new s plan path lock e reads read planned at locked
     (inr (inl unwritten)) =
     inr (inr (inr (inl unwritten)))
-stop_cause Shows words current home local old mid new s plan path lock e reads read planned at locked
+stop_cause HasFields words current home local old mid new s plan path lock e reads read planned at locked
     (inr (inr stopped)) =
     inr (inr (inr (inr (λ t. inr (record {
       sources = s;
@@ -253,5 +254,5 @@ stop_cause Shows words current home local old mid new s plan path lock e reads r
       planned = planned;
       at = at;
       locked = locked t;
-      ends = stopped_later Shows (delivery_by words current plan s.target path lock) old mid new e reads stopped;
+      ends = stopped_later HasFields (delivery_by words current plan s.target path lock) old mid new e reads stopped;
     })))))

@@ -28,14 +28,14 @@ listed names =
     ++ (codes " and " ++ (decimal (length names - 5) ++ codes " more"))
 
 -- `crate` or `crates`, by their number (own)
-abbrev pub crates_word : ℕ → List ℕ
-crates_word count = if count == 1 then codes "crate" else codes "crates"
+abbrev pub crate_or_crates : ℕ → List ℕ
+crate_or_crates count = if count == 1 then codes "crate" else codes "crates"
 
 -- the note's text (own)
 abbrev pub absent_text : List (List ℕ) → List ℕ
 absent_text names =
     codes "no index entry was found for "
-    ++ (decimal (length names) ++ (codes " " ++ (crates_word (length names) ++ (codes ": " ++ listed names))))
+    ++ (decimal (length names) ++ (codes " " ++ (crate_or_crates (length names) ++ (codes ": " ++ listed names))))
 
 -- the note on crates of these names, where there are any (own)
 abbrev pub names_note : List (List ℕ) → List ℕ

@@ -7,12 +7,12 @@ use Rattle.edit_report.specs.declared.output.Output.{Output}
 use Rattle.edit_upgrade.specs.UpdateCalls.{Call}
 
 -- an argument as a line
-abbrev pub word_line : List ℕ → List ℕ
-word_line word = word ++ 10 ∷ []
+abbrev pub arg_line : List ℕ → List ℕ
+arg_line word = word ++ 10 ∷ []
 
 -- a call: one argument a line, then an empty line
 abbrev pub call_lines : Call → List ℕ
-call_lines call = flat_map word_line call ++ 10 ∷ []
+call_lines call = flat_map arg_line call ++ 10 ∷ []
 
 -- calls, one after another
 abbrev pub calls_text : List Call → List ℕ

@@ -6,75 +6,75 @@ use Rattle.edit_program.specs.SetVersionCauses.{IsSetVersionCause}
 use Rattle.edit_program.specs.SetVersions.{AreVersionsSet, IsCutShort}
 use Rattle.edit_program.specs.declared.set_version_run.words.SetVersionWords.{SetVersionWords}
 use Rattle.edit_store.specs.Store.{SameFiles, StoreView}
-use Rattle.edit_program.specs.UpgradeCauses.{IsLooksCause, IsUpgradeCause}
-use Rattle.edit_program.specs.Looking.{AreLooksShown}
+use Rattle.edit_program.specs.UpgradeCauses.{IsLookupsCause, IsUpgradeCause}
+use Rattle.edit_program.specs.Looking.{AreLookupsPrinted}
 use Rattle.edit_program.specs.Upgrading.{IsBroken, IsUpgraded}
 use Rattle.edit_program.specs.declared.upgrade_run.words.UpgradeWords.{UpgradeWords}
 use Rattle.edit_program.specs.Presented.{status_after}
 use Rattle.edit_program.specs.Run.{Run}
-use Rattle.edit_program.specs.UpgradeAsked.{AskForUpgrade, HaveUpgradeFault}
-use Rattle.edit_program.specs.VersionWords.{AskForVersions, HaveVersionFault}
+use Rattle.edit_program.specs.UpgradeAsked.{HasUpgradeArgs, HaveUpgradeFault}
+use Rattle.edit_program.specs.VersionWords.{HasSetVersionArgs, HaveVersionFault}
 
--- the selected manifests are upgraded, after the plan is printed; the status is 1 where `--check` is given
+-- the selected manifests are upgraded, after the plan is printed; the status is 1 where `--input_report` is given
 -- and the plan has an output
-pub record HasUpgraded (rows : List Row) (status : ℕ) (Shows Says : List ℕ → Type 0) (run : Run)
+pub record HasUpgraded (rows : List Row) (status : ℕ) (HasFields HasDecodedValue : List ℕ → Type 0) (run : Run)
     : Type 0 where
   pub asked : UpgradeWords
-  pub asks : AskForUpgrade rows asked
+  pub asks : HasUpgradeArgs rows asked
   pub due : Bool
-  pub upgraded : IsUpgraded due Shows Says asked run
+  pub upgraded : IsUpgraded due HasFields HasDecodedValue asked run
   pub ends : status ≡ status_after rows due
 
 -- the upgrade of the selected manifests failed, at a write or after all of them
-pub record HasBroken (rows : List Row) (Shows : List ℕ → Type 0) (run : Run) : Type 0 where
+pub record HasBroken (rows : List Row) (HasFields : List ℕ → Type 0) (run : Run) : Type 0 where
   pub asked : UpgradeWords
-  pub asks : AskForUpgrade rows asked
-  pub broken : IsBroken Shows asked run
+  pub asks : HasUpgradeArgs rows asked
+  pub broken : IsBroken HasFields asked run
 
 -- the cause of an error of `upgrade` with these arguments
-pub record HasUpgradeCause (rows : List Row) (Shows : List ℕ → Type 0) (run : Run) (e : Error) : Type 0 where
+pub record HasUpgradeCause (rows : List Row) (HasFields : List ℕ → Type 0) (run : Run) (e : Error) : Type 0 where
   pub asked : UpgradeWords
-  pub asks : AskForUpgrade rows asked
-  pub cause : IsUpgradeCause Shows asked run e
+  pub asks : HasUpgradeArgs rows asked
+  pub cause : IsUpgradeCause HasFields asked run e
 
 -- the lookups that the upgrade needs are printed, and each file is unchanged
-pub record HasLooked (rows : List Row) (Shows : List ℕ → Type 0) (current : List ℕ) (home : Option (List ℕ))
+pub record HasPrintedLookups (rows : List Row) (HasFields : List ℕ → Type 0) (current : List ℕ) (home : Option (List ℕ))
     (old new : StoreView) : Type 0 where
   pub asked : UpgradeWords
-  pub asks : AskForUpgrade rows asked
-  pub looked : AreLooksShown Shows asked current home old.file_at
+  pub asks : HasUpgradeArgs rows asked
+  pub looked : AreLookupsPrinted HasFields asked current home old.file_at
   pub unchanged : SameFiles old.file_at new.file_at
 
 -- the cause of an error of `looks` with these arguments; each file is unchanged
-pub record HasLooksCause (rows : List Row) (current : List ℕ) (home : Option (List ℕ)) (old new : StoreView)
+pub record HasLookupsCause (rows : List Row) (current : List ℕ) (home : Option (List ℕ)) (old new : StoreView)
     (e : Error) : Type 0 where
   pub asked : UpgradeWords
-  pub asks : AskForUpgrade rows asked
-  pub cause : IsLooksCause asked current home old new e
+  pub asks : HasUpgradeArgs rows asked
+  pub cause : IsLookupsCause asked current home old new e
   pub unchanged : SameFiles old.file_at new.file_at
 
--- the requested versions are set, after the plan is printed; the status is 1 where `--check` is given and
+-- the requested versions are set, after the plan is printed; the status is 1 where `--input_report` is given and
 -- the plan has an output
-pub record HasSetVersions (rows : List Row) (status : ℕ) (Shows Tells : List ℕ → Type 0) (current : List ℕ)
+pub record HasSetVersions (rows : List Row) (status : ℕ) (HasFields IsErrorOf : List ℕ → Type 0) (current : List ℕ)
     (old new : StoreView) : Type 0 where
   pub asked : SetVersionWords
-  pub asks : AskForVersions rows asked
+  pub asks : HasSetVersionArgs rows asked
   pub due : Bool
-  pub set : AreVersionsSet Shows Tells asked current due old new
+  pub set : AreVersionsSet HasFields IsErrorOf asked current due old new
   pub ends : status ≡ status_after rows due
 
 -- the requested versions are planned and printed, but writing stopped at an output
-pub record HasStoppedSetting (rows : List Row) (Shows Tells : List ℕ → Type 0) (current : List ℕ)
+pub record HasStoppedSetting (rows : List Row) (HasFields IsErrorOf : List ℕ → Type 0) (current : List ℕ)
     (old new : StoreView) : Type 0 where
   pub asked : SetVersionWords
-  pub asks : AskForVersions rows asked
-  pub stopped : IsCutShort Shows Tells asked current old new
+  pub asks : HasSetVersionArgs rows asked
+  pub stopped : IsCutShort HasFields IsErrorOf asked current old new
 
 -- the cause of an error of `set-version` with these arguments
 pub record HasSetVersionCause (rows : List Row) (current : List ℕ) (old new : StoreView) (e : Error)
     : Type 0 where
   pub asked : SetVersionWords
-  pub asks : AskForVersions rows asked
+  pub asks : HasSetVersionArgs rows asked
   pub cause : IsSetVersionCause asked current old new e
 
 -- a subcommand that the program does not have
@@ -84,8 +84,8 @@ pub record IsAnother (name : Text) : Type 0 where
   pub no_set_version : name ≢ codes "set-version"
 
 -- a subcommand that the program does not have, or arguments that cannot be used
-abbrev pub IsAtFault : Text → List Row → Type 0
-IsAtFault name rows =
+abbrev pub HasSubcommandUsageError : Text → List Row → Type 0
+HasSubcommandUsageError name rows =
     IsAnother name
     ⊎ (((name ≡ codes "upgrade") × HaveUpgradeFault rows)
     ⊎ (((name ≡ codes "looks") × HaveUpgradeFault rows)
@@ -93,20 +93,20 @@ IsAtFault name rows =
 
 -- a subcommand succeeded, with this exit status
 abbrev pub IsDoneBy : Text → List Row → ℕ → (List ℕ → Type 0) → (List ℕ → Type 0) → Run → Type 0
-IsDoneBy name rows status Shows Tells run =
-    ((name ≡ codes "upgrade") × HasUpgraded rows status Shows Tells run)
-    ⊎ (((name ≡ codes "looks") × (status ≡ 0) × HasLooked rows Shows run.current run.home run.old run.new)
-    ⊎ ((name ≡ codes "set-version") × HasSetVersions rows status Shows Tells run.current run.old run.new))
+IsDoneBy name rows status HasFields IsErrorOf run =
+    ((name ≡ codes "upgrade") × HasUpgraded rows status HasFields IsErrorOf run)
+    ⊎ (((name ≡ codes "looks") × (status ≡ 0) × HasPrintedLookups rows HasFields run.current run.home run.old run.new)
+    ⊎ ((name ≡ codes "set-version") × HasSetVersions rows status HasFields IsErrorOf run.current run.old run.new))
 
 -- a subcommand failed at a write, or after all of them
 abbrev pub IsBrokenBy : Text → List Row → (List ℕ → Type 0) → (List ℕ → Type 0) → Run → Type 0
-IsBrokenBy name rows Shows Tells run =
-    ((name ≡ codes "upgrade") × HasBroken rows Shows run)
-    ⊎ ((name ≡ codes "set-version") × HasStoppedSetting rows Shows Tells run.current run.old run.new)
+IsBrokenBy name rows HasFields IsErrorOf run =
+    ((name ≡ codes "upgrade") × HasBroken rows HasFields run)
+    ⊎ ((name ≡ codes "set-version") × HasStoppedSetting rows HasFields IsErrorOf run.current run.old run.new)
 
 -- the cause of an error of a subcommand, other than out of memory, and its effect on the files
 abbrev pub IsCauseBy : Text → List Row → (List ℕ → Type 0) → Run → Error → Type 0
-IsCauseBy name rows Shows run e =
-    ((name ≡ codes "upgrade") × HasUpgradeCause rows Shows run e)
-    ⊎ (((name ≡ codes "looks") × HasLooksCause rows run.current run.home run.old run.new e)
+IsCauseBy name rows HasFields run e =
+    ((name ≡ codes "upgrade") × HasUpgradeCause rows HasFields run e)
+    ⊎ (((name ≡ codes "looks") × HasLookupsCause rows run.current run.home run.old run.new e)
     ⊎ ((name ≡ codes "set-version") × HasSetVersionCause rows run.current run.old run.new e))

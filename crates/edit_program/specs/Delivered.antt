@@ -6,7 +6,7 @@ use Rattle.edit_store.specs.Store.{StoreView}
 use Rattle.edit_upgrade.specs.declared.decision.options.Options.{Options}
 use Rattle.edit_program.specs.CallsFile.{calls_files, due_path, file_of}
 use Rattle.edit_program.specs.Delivery.{Delivery}
-use Rattle.edit_program.specs.Shown.{shown}
+use Rattle.edit_program.specs.PrintedPlan.{shown}
 
 -- the outputs to write: none with `--dry-run` or `--locked`
 abbrev pub written : Options → List Output → List Output
@@ -31,20 +31,20 @@ HaveStopped first last old new =
 
 -- after the plan is printed this holds of the files to write, which are the plan's outputs and then the
 -- file of the calls; a locked plan has no outputs
-pub record IsToldTo (Leaves : List Output → List Output → StoreView → StoreView → Type 0)
-    (Shows : List ℕ → Type 0) (d : Delivery) (old new : StoreView) : Type 0 where
-  pub shows : Shows (shown d)
+pub record IsWrittenAfterPrint (Leaves : List Output → List Output → StoreView → StoreView → Type 0)
+    (HasFields : List ℕ → Type 0) (d : Delivery) (old new : StoreView) : Type 0 where
+  pub shows : HasFields (shown d)
   pub unlocked : d.options.locked ≡ true → d.plan.outputs.items ≡ []
   pub calls : List Output
   pub are : map file_of calls ≡ calls_files (due_path d.options d.calls_path) d.calls
   pub leaves : Leaves (written d.options d.plan.outputs.items) calls old new
 
 -- the plan is printed, its outputs and the file of the calls are written, and no name is missing
-pub record IsDelivered (Shows : List ℕ → Type 0) (d : Delivery) (old new : StoreView) : Type 0 where
-  pub told : IsToldTo AreBothWritten Shows d old new
+pub record IsDelivered (HasFields : List ℕ → Type 0) (d : Delivery) (old new : StoreView) : Type 0 where
+  pub told : IsWrittenAfterPrint AreBothWritten HasFields d old new
   pub complete : map string_bytes d.plan.missing.items ≡ []
 
 -- an error after the plan is printed: writing stopped, or everything is written
 abbrev pub IsCutShort : (List ℕ → Type 0) → Delivery → StoreView → StoreView → Type 0
-IsCutShort Shows d old new =
-    IsToldTo HaveStopped Shows d old new ⊎ IsToldTo AreBothWritten Shows d old new
+IsCutShort HasFields d old new =
+    IsWrittenAfterPrint HaveStopped HasFields d old new ⊎ IsWrittenAfterPrint AreBothWritten HasFields d old new

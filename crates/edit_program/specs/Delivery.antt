@@ -3,20 +3,20 @@ use Rattle.std.specs.Prelude.{ℕ, Bool, List, [], Option, Some, None, option_ma
 use Rattle.std.specs.Option.{option_map_or}
 use Rattle.edit_upgrade.specs.declared.decision.options.Options.{Options}
 use Rattle.edit_lock.specs.LockFile.{Package}
-use Rattle.edit_lock.specs.Standing.{changes, standing_calls}
-use Rattle.edit_lock.specs.Views.{packages_seen}
-use Rattle.edit_metadata.specs.Metadata.{WorkspaceSaid}
+use Rattle.edit_lock.specs.AdaptedCalls.{changes, standing_calls}
+use Rattle.edit_lock.specs.Views.{lock_view}
+use Rattle.edit_metadata.specs.Metadata.{WorkspaceModel}
 use Rattle.edit_metadata.specs.declared.input.Input.{Input}
 use Rattle.edit_shown.specs.declared.presentation.Presentation.{Presentation}
-use Rattle.edit_upgrade.specs.Asked.{asked_by}
+use Rattle.edit_upgrade.specs.ParsedOptions.{call_options}
 use Rattle.edit_upgrade.specs.UpdateCalls.{Call, update_calls}
 use Rattle.edit_upgrade.specs.declared.upgrade.UpgradePlan.{UpgradePlan}
-use Rattle.edit_metadata.specs.Workspaces.{workspace_said}
-use Rattle.edit_program.specs.declared.upgrade_told.task.DeliveryTask.{DeliveryTask}
+use Rattle.edit_metadata.specs.Workspaces.{workspace_view}
+use Rattle.edit_program.specs.declared.upgrade_output.task.DeliveryTask.{DeliveryTask}
 
 -- the calls of `cargo update`, where there is a workspace
-abbrev pub calls_of : UpgradePlan → Options → Option WorkspaceSaid → List Call
-calls_of plan options workspace = option_map_or (update_calls (asked_by plan options)) workspace []
+abbrev pub calls_of : UpgradePlan → Options → Option WorkspaceModel → List Call
+calls_of plan options workspace = option_map_or (update_calls (call_options plan options)) workspace []
 
 -- calls adapted to the lock file with these packages, where there is one; with `offline` calls that are
 -- valid for it fetch nothing
@@ -44,8 +44,8 @@ delivery_of task = record {
   options = task.options.now;
   current = task.root.now;
   presentation = task.presentation;
-  calls = calls_against (option_map (λ lock. packages_seen lock.now) task.lock) task.offline
-      (calls_of task.plan.now task.options.now (option_map (λ w. workspace_said w.now) task.workspace));
+  calls = calls_against (option_map (λ lock. lock_view lock.now) task.lock) task.offline
+      (calls_of task.plan.now task.options.now (option_map (λ w. workspace_view w.now) task.workspace));
   calls_path = option_map (λ path. path.now) task.update_calls;
   offline = task.offline;
 }

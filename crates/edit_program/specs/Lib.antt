@@ -1,5 +1,5 @@
 pub mod Absent
-pub mod Asked
+pub mod ParsedOptions
 pub mod Commands
 pub mod Merged
 pub mod Presented
@@ -21,7 +21,7 @@ pub mod Printed
 pub mod SetVersions
 pub mod Tables
 pub mod Delivery
-pub mod Shown
+pub mod PrintedPlan
 pub mod CallsFile
 pub mod Said
 pub mod Delivered

@@ -1,10 +1,10 @@
 -- The lookups that an upgrade needs, found without an index.
 use Rattle.std.specs.Prelude.{◌≡◌, ℕ, List, Option}
 use Rattle.std.specs.List.{flat_map}
-use Rattle.edit_program.specs.LookLines.{look_line}
+use Rattle.edit_program.specs.LookLines.{look_as_line}
 use Rattle.edit_program.specs.Needed.{AreNeeded}
 use Rattle.edit_store.specs.Store.{Files}
-use Rattle.edit_upgrade.specs.Plans.{LooksInOrder}
+use Rattle.edit_upgrade.specs.Plans.{AreLookupsInOrder}
 use Rattle.edit_upgrade.specs.Upgraded.{IsNeeded}
 use Rattle.edit_upgrade.specs.declared.decision.options.Options.{Options}
 use Rattle.edit_upgrade.specs.declared.upgrade.UpgradePlan.{UpgradePlan}
@@ -15,7 +15,7 @@ use Rattle.edit_program.specs.NoIndex.{no_view}
 use Rattle.edit_steps.specs.Shared.{lists_for}
 use Rattle.edit_steps.specs.Sources.{AreRead}
 use Rattle.edit_steps.specs.declared.upgrade_read.sources.Sources.{Sources}
-use Rattle.edit_program.specs.Planned.{IsPlanned, asking_for_looks}
+use Rattle.edit_program.specs.Planned.{IsPlanned, to_lookup_request}
 use Rattle.edit_program.specs.declared.upgrade_run.words.UpgradeWords.{UpgradeWords}
 
 -- the lines of the lookups that a plan for these inputs makes over an empty index, in the order in which
@@ -25,14 +25,14 @@ pub record AreLinesOf (o : Options) (inputs : List Input) (configs : List (Vec C
   pub plan : UpgradePlan
   pub planned : IsPlanned o inputs configs no_view plan
   pub needed : AreNeeded (IsNeeded inputs configs) plan.looks.items
-  pub in_order : LooksInOrder inputs configs plan
-  pub is : text ≡ flat_map look_line plan.looks.items
+  pub in_order : AreLookupsInOrder inputs configs plan
+  pub is : text ≡ flat_map look_as_line plan.looks.items
 
 -- the given files were read, but no index, and the lines of the lookups are printed
-pub record AreLooksShown (Shows : List ℕ → Type 0) (words : UpgradeWords) (current : List ℕ)
+pub record AreLookupsPrinted (HasFields : List ℕ → Type 0) (words : UpgradeWords) (current : List ℕ)
     (home : Option (List ℕ)) (files : Files) : Type 0 where
   pub sources : Sources
   pub text : List ℕ
-  pub read : AreRead files current home (asking_for_looks words) sources
+  pub read : AreRead files current home (to_lookup_request words) sources
   pub lines : AreLinesOf words.options sources.target.inputs.items (lists_for sources.configs) text
-  pub shows : Shows text
+  pub shows : HasFields text

@@ -6,11 +6,11 @@ use Rattle.edit_base.specs.declared.errors.details.MergedCommand.{MergedCommand}
 use Rattle.edit_base.specs.declared.errors.details.MergedCommand.TheVariants.{Add, Rm}
 
 -- the command of cargo that an argument names
-abbrev pub merged_by : Text → Option MergedCommand
-merged_by word =
+abbrev pub builtin_named : Text → Option MergedCommand
+builtin_named word =
     if bytes_eq word (codes "add") then Some Add
     else (if bytes_eq word (codes "rm") then Some Rm else None)
 
 -- the command of cargo that the first argument names
-abbrev pub merged_of : List Text → Option MergedCommand
-merged_of words = option_and_then merged_by (slice_get words 0)
+abbrev pub first_builtin : List Text → Option MergedCommand
+first_builtin words = option_and_then builtin_named (slice_get words 0)

@@ -12,39 +12,39 @@ use Rattle.edit_sources.specs.declared.config.Config.{Config}
 use Rattle.edit_store.specs.Store.{StoreView}
 use Rattle.edit_upgrade.specs.Caches.{CacheView}
 use Rattle.edit_upgrade.specs.Causes.{IsCause}
-use Rattle.edit_upgrade.specs.Looks.{AddsNeeded, Kept}
+use Rattle.edit_upgrade.specs.Looks.{AddsNeeded, CachedAnswers}
 use Rattle.edit_upgrade.specs.Plans.{IsPlan}
 use Rattle.edit_upgrade.specs.Upgraded.{IsNeeded}
-use Rattle.edit_upgrade.specs.WordCauses.{IsRefusedFor}
+use Rattle.edit_upgrade.specs.WordCauses.{IsPlanError}
 use Rattle.edit_upgrade.specs.declared.decision.options.Options.{Options}
 use Rattle.edit_upgrade.specs.declared.upgrade.UpgradePlan.{UpgradePlan}
-use Rattle.edit_steps.specs.Asking.{Asking, asked_rust}
+use Rattle.edit_steps.specs.RequestView.{RequestView, rust_request}
 use Rattle.edit_steps.specs.declared.upgrade_read.index.IndexSource.{IndexSource}
 use Rattle.edit_steps.specs.declared.upgrade_read.index.IndexSource.TheVariants as source
 use Rattle.edit_program.specs.declared.upgrade_run.words.UpgradeWords.{UpgradeWords}
 
 -- the files to read, from the arguments
-abbrev pub asking : UpgradeWords → Asking
-asking words = record {
+abbrev pub to_request : UpgradeWords → RequestView
+to_request words = record {
   manifest = given words.manifest_path;
   metadata = given words.metadata_json;
   index = given words.index_file;
   index_dir = given words.index_dir;
   config = given words.config;
   default_config = given words.default_config;
-  rust = asked_rust words.rust;
+  rust = rust_request words.rust;
 }
 
 -- the files to read where only the lookups are requested: no index
-abbrev pub asking_for_looks : UpgradeWords → Asking
-asking_for_looks words = record {
+abbrev pub to_lookup_request : UpgradeWords → RequestView
+to_lookup_request words = record {
   manifest = given words.manifest_path;
   metadata = given words.metadata_json;
   index = None;
   index_dir = None;
   config = given words.config;
   default_config = given words.default_config;
-  rust = asked_rust words.rust;
+  rust = rust_request words.rust;
 }
 
 -- the index of an upgrade: the lines of the index file, the index folder, or the index in files; the last
@@ -55,28 +55,28 @@ index_view (source.Lines index) local = file_view index
 index_view (source.Folder folder) local = dir_view (string_bytes folder) local
 
 -- an empty cache
-abbrev pub nothing_kept : Kept
-nothing_kept address name = None
+abbrev pub empty_answers : CachedAnswers
+empty_answers address name = None
 
 -- the view of a cache: an index, and cached answers
-abbrev pub over : IndexView → Kept → CacheView
-over view kept = record { gives = view.gives; faults = view.faults; kept = kept }
+abbrev pub cache_over : IndexView → CachedAnswers → CacheView
+cache_over view kept = record { gives = view.gives; faults = view.faults; kept = kept }
 
 -- the plan for inputs with their configurations over an index, with an empty cache
 pub record IsPlanned (o : Options) (inputs : List Input) (configs : List (Vec Config)) (view : IndexView)
     (plan : UpgradePlan) : Type 0 where
-  pub kept : Kept
-  pub is : IsPlan o inputs configs (over view nothing_kept) (over view kept) plan
+  pub kept : CachedAnswers
+  pub is : IsPlan o inputs configs (cache_over view empty_answers) (cache_over view kept) plan
 
 -- the error of a plan at the first input that is no manifest, or that has an entry whose registry has no
 -- address or whose lookup fails; each answer that is cached by then is needed, and the index gives it
 pub record IsPlanStopped (inputs : List Input) (configs : List (Vec Config)) (view : IndexView) (e : Error)
     : Type 0 where
-  pub kept : Kept
-  pub adds : AddsNeeded (IsNeeded inputs configs) view.gives nothing_kept kept
+  pub kept : CachedAnswers
+  pub adds : AddsNeeded (IsNeeded inputs configs) view.gives empty_answers kept
   pub faults : ℕ
-  pub cause : IsCause inputs configs view.gives nothing_kept kept view.faults faults e
+  pub cause : IsCause inputs configs view.gives empty_answers kept view.faults faults e
 
 -- the cause of an error of a plan: its options, or an input
 abbrev pub IsPlanCause : Options → List Input → List (Vec Config) → IndexView → Error → Type 0
-IsPlanCause o inputs configs view e = IsRefusedFor o (IsPlanStopped inputs configs view) e
+IsPlanCause o inputs configs view e = IsPlanError o (IsPlanStopped inputs configs view) e

@@ -1,6 +1,6 @@
 -- The plan of `set-version`, as `plan_set_version` guarantees it.
 use Rattle.std.specs.Prelude.{List, All}
-use Rattle.edit_metadata.specs.Metadata.{WorkspaceSaid}
+use Rattle.edit_metadata.specs.Metadata.{WorkspaceModel}
 use Rattle.edit_metadata.specs.declared.input.Input.{Input}
 use Rattle.edit_set_version.specs.Bumps.{Target}
 use Rattle.edit_set_version.specs.Chosen.{Asked}
@@ -10,7 +10,7 @@ use Rattle.edit_set_version.specs.declared.plan.SetVersionPlan.{SetVersionPlan}
 use Rattle.edit_version.specs.Laws.{IsReadable}
 
 -- a plan of new versions for a workspace and its inputs
-pub record IsVersionPlan (t : Target) (a : Asked) (w : WorkspaceSaid) (inputs : List Input)
+pub record IsVersionPlan (t : Target) (a : Asked) (w : WorkspaceModel) (inputs : List Input)
     (plan : SetVersionPlan) : Type 0 where
   -- the versions of the packages can be parsed
   pub readable : All (λ p. IsReadable p.version) w.packages

@@ -4,8 +4,8 @@ use Rattle.std.specs.List.{flat_map}
 use Rattle.edit_metadata.specs.declared.input.Input.{Input}
 use Rattle.edit_report.specs.Messages.{message_text}
 use Rattle.edit_report.specs.declared.output.Output.{Output}
-use Rattle.edit_set_version.specs.PlanLines.{Told}
-use Rattle.edit_set_version.specs.Planned.{told_lines}
+use Rattle.edit_set_version.specs.PlanLines.{ReportLine}
+use Rattle.edit_set_version.specs.Planned.{plan_lines_view}
 use Rattle.edit_set_version.specs.declared.plan.SetVersionPlan.{SetVersionPlan}
 use Rattle.edit_shown.specs.Diffs.{diffs}
 use Rattle.edit_shown.specs.Messages.{changes}
@@ -18,23 +18,23 @@ abbrev pub warning_if : Bool → List ℕ → List ℕ
 warning_if due message = if due then message_text false (codes "warning") message else []
 
 -- the lines of a plan, each as a status line
-abbrev pub statuses : List Told → List ℕ
+abbrev pub statuses : List ReportLine → List ℕ
 statuses lines = flat_map (λ line. message_text true line.0 line.1) lines
 
 -- the status lines, unless standard output has the lines as messages
-abbrev pub statuses_in : MessageFormat → List Told → List ℕ
+abbrev pub statuses_in : MessageFormat → List ReportLine → List ℕ
 statuses_in Human lines = statuses lines
 statuses_in Json lines = []
 
 -- on standard error: the warning for `--all`, the lines, and the warning of a dry run
-abbrev pub printed : SetVersionWords → List Told → List ℕ
+abbrev pub printed : SetVersionWords → List ReportLine → List ℕ
 printed words lines =
     warning_if words.all (codes "The flag `--all` has been deprecated in favor of `--workspace`")
     ++ (statuses_in words.presentation.format lines
     ++ warning_if words.dry_run (codes "aborting set-version due to dry run"))
 
 -- the lines as messages
-abbrev pub messages_in : MessageFormat → List Told → List ℕ
+abbrev pub messages_in : MessageFormat → List ReportLine → List ℕ
 messages_in Human lines = []
 messages_in Json lines = changes lines
 
@@ -45,5 +45,5 @@ diffs_if asked root inputs outputs = if asked then diffs root inputs outputs els
 -- on standard output: the lines as messages and the diffs of the manifests, where they are requested
 abbrev pub shown : SetVersionWords → List ℕ → List Input → SetVersionPlan → List ℕ
 shown words root inputs plan =
-    messages_in words.presentation.format (told_lines plan)
+    messages_in words.presentation.format (plan_lines_view plan)
     ++ diffs_if words.presentation.diff root inputs plan.outputs.items

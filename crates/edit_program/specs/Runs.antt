@@ -10,19 +10,19 @@ use Rattle.edit_base.specs.declared.errors.Error.TheVariants.{Merged, Output}
 use Rattle.edit_base.specs.declared.errors.details.MergedCommand.{MergedCommand}
 use Rattle.edit_store.specs.Store.{SameFiles}
 use Rattle.edit_words.specs.CommandLine.{edit_app}
-use Rattle.edit_program.specs.Asked.{is_given}
-use Rattle.edit_program.specs.Merged.{merged_of}
+use Rattle.edit_program.specs.ParsedOptions.{is_given}
+use Rattle.edit_program.specs.Merged.{first_builtin}
 use Rattle.edit_program.specs.Run.{Run}
-use Rattle.edit_program.specs.Commands.{IsAtFault, IsBrokenBy, IsCauseBy, IsDoneBy}
+use Rattle.edit_program.specs.Commands.{HasSubcommandUsageError, IsBrokenBy, IsCauseBy, IsDoneBy}
 
 -- the arguments parse, and these are the subcommand and its parsed arguments
-pub record HaveEntered (words : List Text) (name : Text) (rows : List Row) : Type 0 where
+pub record HasParsedArgs (words : List Text) (name : Text) (rows : List Row) : Type 0 where
   pub taken : fault_of edit_app words ≡ []
   pub entered : subcommand_of edit_app words ≡ Some (name, rows)
 
 -- the arguments do not parse: they are wrong, or request help or the version
-abbrev pub AreNotTaken : List (List ℕ) → Type 0
-AreNotTaken words = takes edit_app words ≡ true → ⊥
+abbrev pub IsNotParsed : List (List ℕ) → Type 0
+IsNotParsed words = takes edit_app words ≡ true → ⊥
 
 -- the exit status for a kind of `clap` error: 0 for help and the version, else 2
 abbrev pub status_of : ErrorKind → ℕ
@@ -32,85 +32,85 @@ status_of other = 2
 
 -- `clap` prints a message instead, of a kind with this exit status
 pub record IsAnswered (words : List (List ℕ)) (status : ℕ) : Type 0 where
-  pub not_taken : AreNotTaken words
+  pub not_taken : IsNotParsed words
   pub kind : ErrorKind
   pub among : IsAmong kind (fault_of edit_app words)
   pub is : status ≡ status_of kind
 
 -- the arguments parse, and this holds of the subcommand and its parsed arguments
-pub record Enter (words : List (List ℕ)) (Holds : Text → List Row → Type 0) : Type 0 where
+pub record IsParsedTo (words : List (List ℕ)) (RepresentsNodes : Text → List Row → Type 0) : Type 0 where
   pub name : Text
   pub rows : List Row
-  pub entered : HaveEntered words name rows
-  pub holds : Holds name rows
+  pub entered : HasParsedArgs words name rows
+  pub holds : RepresentsNodes name rows
 
 -- the arguments parse, and name no subcommand
-pub record NameNone (words : List (List ℕ)) : Type 0 where
+pub record HasNoSubcommand (words : List (List ℕ)) : Type 0 where
   pub taken : fault_of edit_app words ≡ []
   pub none : subcommand_of edit_app words ≡ None
 
 -- a wrong command line: it does not parse, it names no subcommand or one that the program does not have, or
 -- its arguments cannot be used
-abbrev pub AreAtFault : List (List ℕ) → Type 0
-AreAtFault words = IsAnswered words 2 ⊎ (NameNone words ⊎ Enter words IsAtFault)
+abbrev pub HasUsageError : List (List ℕ) → Type 0
+HasUsageError words = IsAnswered words 2 ⊎ (HasNoSubcommand words ⊎ IsParsedTo words HasSubcommandUsageError)
 
 -- a run that succeeds: help or the version is printed, or the subcommand succeeds
 abbrev pub IsDone : List (List ℕ) → (List ℕ → Type 0) → (List ℕ → Type 0) → Run → Type 0
-IsDone words Shows Tells run =
+IsDone words HasFields IsErrorOf run =
     (IsAnswered words 0 × SameFiles run.old.file_at run.new.file_at)
-    ⊎ Enter words (λ name rows. IsDoneBy name rows 0 Shows Tells run)
+    ⊎ IsParsedTo words (λ name rows. IsDoneBy name rows 0 HasFields IsErrorOf run)
 
--- a check found a change to make: no file changes, and the exit status is 1, since `--check` is given and
+-- a check found a change to make: no file changes, and the exit status is 1, since `--input_report` is given and
 -- the plan has an output
-pub record HasFound (words : List (List ℕ)) (Shows Tells : List ℕ → Type 0) (run : Run) : Type 0 where
+pub record HasFound (words : List (List ℕ)) (HasFields IsErrorOf : List ℕ → Type 0) (run : Run) : Type 0 where
   pub kept : SameFiles run.old.file_at run.new.file_at
-  pub found : Enter words (λ name rows. IsDoneBy name rows 1 Shows Tells run)
+  pub found : IsParsedTo words (λ name rows. IsDoneBy name rows 1 HasFields IsErrorOf run)
 
--- the arguments name a subcommand, and have `--check`
-abbrev pub AskToCheck : List (List ℕ) → Type 0
-AskToCheck words = Enter words (λ name rows. is_given (codes "check") rows ≡ true)
+-- the arguments name a subcommand, and have `--input_report`
+abbrev pub HasCheckFlag : List (List ℕ) → Type 0
+HasCheckFlag words = IsParsedTo words (λ name rows. is_given (codes "check") rows ≡ true)
 
--- with `--check`, a change to make was found
+-- with `--input_report`, a change to make was found
 abbrev pub IsChecked : List (List ℕ) → (List ℕ → Type 0) → (List ℕ → Type 0) → Run → Type 0
-IsChecked words Shows Tells run =
-    AskToCheck words × (run.old.tells ≡ true → HasFound words Shows Tells run)
+IsChecked words HasFields IsErrorOf run =
+    HasCheckFlag words × (run.old.tells ≡ true → HasFound words HasFields IsErrorOf run)
 
 -- a run with an exit status of its own: it succeeds, or a check found a change to make
 abbrev pub IsEnded : List (List ℕ) → ℕ → (List ℕ → Type 0) → (List ℕ → Type 0) → Run → Type 0
-IsEnded words status Shows Tells run =
-    ((status ≡ 0) × IsDone words Shows Tells run) ⊎ ((status ≡ 1) × HasFound words Shows Tells run)
+IsEnded words status HasFields IsErrorOf run =
+    ((status ≡ 0) × IsDone words HasFields IsErrorOf run) ⊎ ((status ≡ 1) × HasFound words HasFields IsErrorOf run)
 
 -- a run that fails: each file is unchanged, or the subcommand failed at a write or after all of them
-abbrev pub IsRefused : List (List ℕ) → (List ℕ → Type 0) → (List ℕ → Type 0) → Run → Type 0
-IsRefused words Shows Tells run =
+abbrev pub IsRunFailure : List (List ℕ) → (List ℕ → Type 0) → (List ℕ → Type 0) → Run → Type 0
+IsRunFailure words HasFields IsErrorOf run =
     SameFiles run.old.file_at run.new.file_at
-    ⊎ Enter words (λ name rows. IsBrokenBy name rows Shows Tells run)
+    ⊎ IsParsedTo words (λ name rows. IsBrokenBy name rows HasFields IsErrorOf run)
 
 -- the arguments name a command that cargo provides itself, and the error says so
-pub record HasMergedCause (words : List (List ℕ)) (e : Error) : Type 0 where
+pub record HasBuiltinCause (words : List (List ℕ)) (e : Error) : Type 0 where
   pub command : MergedCommand
-  pub named : merged_of words ≡ Some command
+  pub named : first_builtin words ≡ Some command
   pub is : e ≡ Merged command
 
 -- the cause of an error before a subcommand runs: help or the version could not be printed, or cargo
 -- provides the command itself
 abbrev pub IsCauseAtOnce : List (List ℕ) → Error → Type 0
-IsCauseAtOnce words e = ((e ≡ Output) × IsAnswered words 0) ⊎ HasMergedCause words e
+IsCauseAtOnce words e = ((e ≡ Output) × IsAnswered words 0) ⊎ HasBuiltinCause words e
 
 -- the cause of an error of a run, and its effect on the files: out of memory; no subcommand runs, and each
 -- file is unchanged; or the subcommand has a cause
 abbrev pub IsRunCause : List (List ℕ) → (List ℕ → Type 0) → Run → Error → Type 0
-IsRunCause words Shows run e =
+IsRunCause words HasFields run e =
     IsMemory e
     ⊎ ((SameFiles run.old.file_at run.new.file_at × IsCauseAtOnce words e)
-    ⊎ Enter words (λ name rows. IsCauseBy name rows Shows run e))
+    ⊎ IsParsedTo words (λ name rows. IsCauseBy name rows HasFields run e))
 
 -- a failed run: its cause, whether it is counted, and the contents of standard error and the files before
 -- the error was printed
-pub record HasFailed (words : List (List ℕ)) (Shows : List ℕ → Type 0)
+pub record HasFailed (words : List (List ℕ)) (HasFields : List ℕ → Type 0)
     (Grows : Option (List ℕ) → List ℕ → Type 0) (Counts : Error → Type 0) (run : Run) : Type 0 where
   pub error : Error
-  pub cause : IsRunCause words Shows run error
+  pub cause : IsRunCause words HasFields run error
   pub counted : Counts error
   pub printed : Option (List ℕ)
-  pub left : run.old.tells ≡ true → IsRefused words Shows (Grows printed) run
+  pub left : run.old.tells ≡ true → IsRunFailure words HasFields (Grows printed) run

@@ -10,7 +10,7 @@ use Rattle.std.specs.Ordering.{nat_cmp}
 use Rattle.std.specs.Str.{bytes_eq}
 use Rattle.edit_metadata.specs.declared.input.Input.{Input}
 use Rattle.edit_report.specs.Messages.{message_text}
-use Rattle.edit_report.specs.Shown.{is_shown}
+use Rattle.edit_report.specs.ShownRows.{is_shown}
 use Rattle.edit_report.specs.Table.{name_text, reason_text}
 use Rattle.edit_report.specs.declared.row.Row.{Row}
 use Rattle.edit_upgrade.specs.UpdateCalls.{Call}
@@ -31,12 +31,12 @@ note message = message_text false (codes "note") message
 
 -- a report of this verbosity shows the warning, and it is about this input; verbose warnings are shown from
 -- verbosity 1
-abbrev pub is_heard : ℤ → ℕ → Warning → Bool
-is_heard verbosity i w = (not w.verbose || int_le (pos 1) verbosity) && w.input == i
+abbrev pub is_warning_shown : ℤ → ℕ → Warning → Bool
+is_warning_shown verbosity i w = (not w.verbose || int_le (pos 1) verbosity) && w.input == i
 
 -- the warning, where a report of this verbosity shows it for this input
 abbrev pub warning_on : ℤ → ℕ → Warning → List ℕ
-warning_on verbosity i w = if is_heard verbosity i w then warning (string_bytes w.text) else []
+warning_on verbosity i w = if is_warning_shown verbosity i w then warning (string_bytes w.text) else []
 
 -- the warnings about an input
 abbrev pub warnings_at : ℕ → List Warning → List Warning
@@ -47,31 +47,31 @@ abbrev pub AreWarningsInOrder : List Warning → Type 0
 AreWarningsInOrder warnings = IsNonDecreasingBy (λ w. w.input) warnings
 
 -- the status line with the name of an input, and the warnings about it
-abbrev pub check : ℤ → List Warning → ℕ → List ℕ → List ℕ
-check verbosity warnings i name =
+abbrev pub input_report : ℤ → List Warning → ℕ → List ℕ → List ℕ
+input_report verbosity warnings i name =
     message_text true (codes "Checking") (name ++ codes "'s dependencies")
     ++ flat_map (warning_on verbosity i) warnings
 
 -- the status line and the warnings of the input at this index
-abbrev pub check_at : ℤ → List Warning → List Input → ℕ → List ℕ
-check_at verbosity warnings inputs i =
-    option_map_or (λ input. check verbosity warnings i (string_bytes input.name)) (slice_get inputs i) []
+abbrev pub input_report_at : ℤ → List Warning → List Input → ℕ → List ℕ
+input_report_at verbosity warnings inputs i =
+    option_map_or (λ input. input_report verbosity warnings i (string_bytes input.name)) (slice_get inputs i) []
 
 -- the status lines and the warnings of the first inputs, as many as this number
 abbrev pub checks : ℤ → List Warning → List Input → ℕ → List ℕ
-checks verbosity warnings inputs n = flat_map (check_at verbosity warnings inputs) (below n)
+checks verbosity warnings inputs n = flat_map (input_report_at verbosity warnings inputs) (below n)
 
 -- a call, as a status line with its arguments
 abbrev pub run : Call → List ℕ
 run call = message_text true (codes "Run") (join_by (λ word. word) (codes " ") call)
 
 -- the calls
-abbrev pub runs : List Call → List ℕ
-runs calls = flat_map run calls
+abbrev pub call_statuses : List Call → List ℕ
+call_statuses calls = flat_map run calls
 
 -- a message, where the test holds
-abbrev pub when : Bool → List ℕ → List ℕ
-when due message = if due then message else []
+abbrev pub message_if : Bool → List ℕ → List ℕ
+message_if due message = if due then message else []
 
 -- the reasons' texts, sorted by bytes
 abbrev pub reasons : List (List ℕ)
@@ -84,8 +84,8 @@ or_latest [] = codes "latest"
 or_latest (c ∷ cs) = c ∷ cs
 
 -- the text of a row's reason in notes
-abbrev pub reason_said : Row → List ℕ
-reason_said row = or_latest (reason_text row.reason)
+abbrev pub reason_in_notes : Row → List ℕ
+reason_in_notes row = or_latest (reason_text row.reason)
 
 -- these names with one more, sorted by bytes, without duplicates
 abbrev pub with_name : List (List ℕ) → List ℕ → List (List ℕ)
@@ -94,7 +94,7 @@ with_name names name = insert_key (slice_cmp nat_cmp) names name
 -- these names with that of a row, where the row has this reason
 abbrev pub add_name : List ℕ → List (List ℕ) → Row → List (List ℕ)
 add_name reason names row =
-    if bytes_eq (reason_said row) reason then with_name names (name_text (string_bytes row.name) row.rename)
+    if bytes_eq (reason_in_notes row) reason then with_name names (name_text (string_bytes row.name) row.rename)
     else names
 
 -- the names of the rows with a reason, as tables show them: sorted by bytes, without duplicates
@@ -138,15 +138,15 @@ hidden_note verbosity (row ∷ rows) = note (hidden_text verbosity (row ∷ rows
 -- index
 abbrev pub notes : UpgradePlan → Options → Bool → List ℕ
 notes plan options offline =
-    when plan.pinned_present (note (codes "Re-run with `--pinned` to upgrade pinned version requirements"))
-    ++ (when plan.incompatible_present
+    message_if plan.pinned_present (note (codes "Re-run with `--pinned` to upgrade pinned version requirements"))
+    ++ (message_if plan.incompatible_present
     (note (codes "Re-run with `--incompatible` to upgrade incompatible version requirements"))
     ++ (hidden_note options.verbosity (hidden options.verbosity plan.rows.items)
-    ++ (when options.dry_run (warning (codes "aborting upgrade due to dry run"))
+    ++ (message_if options.dry_run (warning (codes "aborting upgrade due to dry run"))
     ++ absent_note plan options offline)))
 
 -- all that standard error has of a plan: the report on each input, the calls, the notes
 abbrev pub said : Delivery → List ℕ
 said d =
     checks d.options.verbosity d.plan.warnings.items d.inputs (length d.inputs)
-    ++ (runs d.calls ++ notes d.plan d.options d.offline)
+    ++ (call_statuses d.calls ++ notes d.plan d.options d.offline)

@@ -3,37 +3,37 @@ use Rattle.std.specs.Prelude.{◌≡◌, ◌⊎◌, ℕ, List, true}
 use Rattle.edit_base.specs.declared.errors.DeviceCall.TheVariants as call
 use Rattle.edit_base.specs.declared.errors.Error.{Error}
 use Rattle.edit_base.specs.declared.errors.Error.TheVariants.{Output as Unwritten}
-use Rattle.edit_metadata.specs.Metadata.{WorkspaceSaid}
+use Rattle.edit_metadata.specs.Metadata.{WorkspaceModel}
 use Rattle.edit_metadata.specs.declared.input.Input.{Input}
 use Rattle.edit_set_version.specs.Bumps.{target_of}
 use Rattle.edit_set_version.specs.PlanRefused.{IsCauseOf}
-use Rattle.edit_set_version.specs.Selections.{asked_of}
+use Rattle.edit_set_version.specs.Selections.{selection_view}
 use Rattle.edit_steps.specs.Workspaces.{HasNoWorkspace}
-use Rattle.edit_store.specs.Store.{Files, RefusesCall, SameFiles, StoreView}
+use Rattle.edit_store.specs.Store.{Files, IsCallError, SameFiles, StoreView}
 use Rattle.edit_program.specs.SetVersions.{IsRead}
 use Rattle.edit_program.specs.declared.set_version_run.words.SetVersionWords.{SetVersionWords}
 
 -- the workspace was read, and planning fails
 pub record HasNoPlan (words : SetVersionWords) (current : List ℕ) (files : Files) (e : Error) : Type 0 where
-  pub workspace : WorkspaceSaid
+  pub workspace : WorkspaceModel
   pub inputs : List Input
   pub read : IsRead words current files workspace inputs
-  pub cause : IsCauseOf (target_of words.target) (asked_of words.selection) workspace inputs e
+  pub cause : IsCauseOf (target_of words.target) (selection_view words.selection) workspace inputs e
 
 -- the cause in the files: reading the workspace fails, or planning does
-abbrev pub IsWrong : SetVersionWords → List ℕ → Files → Error → Type 0
-IsWrong words current files e =
+abbrev pub FailsAtSources : SetVersionWords → List ℕ → Files → Error → Type 0
+FailsAtSources words current files e =
     HasNoWorkspace files current words.metadata_json.now e ⊎ HasNoPlan words current files e
 
 -- the cause of an error before any write: out of memory, a device error in a read, which is counted, a
 -- failed print, or the files
 abbrev pub IsUnset : SetVersionWords → List ℕ → StoreView → StoreView → Error → Type 0
 IsUnset words current old new e =
-    RefusesCall call.Read old new e
-    ⊎ ((e ≡ Unwritten) ⊎ (old.tells ≡ true → IsWrong words current old.file_at e))
+    IsCallError call.Read old new e
+    ⊎ ((e ≡ Unwritten) ⊎ (old.tells ≡ true → FailsAtSources words current old.file_at e))
 
 -- the cause of an error of `set-version`: out of memory or a device error in a write, or nothing is written
 -- and each file is unchanged
 abbrev pub IsSetVersionCause : SetVersionWords → List ℕ → StoreView → StoreView → Error → Type 0
 IsSetVersionCause words current old new e =
-    RefusesCall call.Write old new e ⊎ (SameFiles old.file_at new.file_at × IsUnset words current old new e)
+    IsCallError call.Write old new e ⊎ (SameFiles old.file_at new.file_at × IsUnset words current old new e)

@@ -1,13 +1,13 @@
 -- What a run of `set-version` reads, plans, prints and writes (own, after cargo-edit).
 use Rattle.std.specs.Prelude.{◌≡◌, ◌==◌, ℕ, List, [], Bool, None, true, length, not, if◌then◌else◌}
-use Rattle.edit_metadata.specs.Inputs.{RustAsked}
-use Rattle.edit_metadata.specs.Metadata.{WorkspaceSaid}
+use Rattle.edit_metadata.specs.Inputs.{RustOptions}
+use Rattle.edit_metadata.specs.Metadata.{WorkspaceModel}
 use Rattle.edit_metadata.specs.declared.input.Input.{Input}
 use Rattle.edit_report.specs.Applied.{AreWritten, HasStopped}
 use Rattle.edit_report.specs.declared.output.Output.{Output}
 use Rattle.edit_set_version.specs.Bumps.{target_of}
-use Rattle.edit_set_version.specs.Planned.{told_lines}
-use Rattle.edit_set_version.specs.Selections.{asked_of}
+use Rattle.edit_set_version.specs.Planned.{plan_lines_view}
+use Rattle.edit_set_version.specs.Selections.{selection_view}
 use Rattle.edit_set_version.specs.declared.plan.SetVersionPlan.{SetVersionPlan}
 use Rattle.edit_steps.specs.Workspaces.{IsWorkspaceRead}
 use Rattle.edit_store.specs.Store.{Files, StoreView}
@@ -16,11 +16,11 @@ use Rattle.edit_program.specs.Printed.{printed, shown}
 use Rattle.edit_program.specs.declared.set_version_run.words.SetVersionWords.{SetVersionWords}
 
 -- no Rust version is requested
-abbrev pub no_rust : RustAsked
+abbrev pub no_rust : RustOptions
 no_rust = record { given = None; ignored = true }
 
 -- the given workspace was read, with its manifests
-abbrev pub IsRead : SetVersionWords → List ℕ → Files → WorkspaceSaid → List Input → Type 0
+abbrev pub IsRead : SetVersionWords → List ℕ → Files → WorkspaceModel → List Input → Type 0
 IsRead words current files w is = IsWorkspaceRead files current words.metadata_json.now no_rust w is
 
 -- the outputs to write: none with a dry run
@@ -32,15 +32,15 @@ abbrev pub has_some : List Output → Bool
 has_some outputs = not (length outputs == 0)
 
 -- the workspace was read, the plan was made and printed, and this holds of its outputs
-pub record IsPlannedTo (Leaves : List Output → StoreView → StoreView → Type 0) (Shows Tells : List ℕ → Type 0)
+pub record IsPlannedTo (Leaves : List Output → StoreView → StoreView → Type 0) (HasFields IsErrorOf : List ℕ → Type 0)
     (words : SetVersionWords) (current : List ℕ) (old new : StoreView) : Type 0 where
-  pub workspace : WorkspaceSaid
+  pub workspace : WorkspaceModel
   pub inputs : List Input
   pub plan : SetVersionPlan
   pub read : IsRead words current old.file_at workspace inputs
-  pub planned : IsVersionPlan (target_of words.target) (asked_of words.selection) workspace inputs plan
-  pub shows : Shows (shown words workspace.root inputs plan)
-  pub tells : Tells (printed words (told_lines plan))
+  pub planned : IsVersionPlan (target_of words.target) (selection_view words.selection) workspace inputs plan
+  pub shows : HasFields (shown words workspace.root inputs plan)
+  pub tells : IsErrorOf (printed words (plan_lines_view plan))
   pub leaves : Leaves plan.outputs.items old new
 
 -- the outputs are written, none with a dry run; the flag is set where there are outputs
@@ -55,11 +55,11 @@ HasStoppedAt words outputs old new = HasStopped (written words outputs) old new
 -- output
 abbrev pub AreVersionsSet : (List ℕ → Type 0) → (List ℕ → Type 0) → SetVersionWords → List ℕ → Bool
     → StoreView → StoreView → Type 0
-AreVersionsSet Shows Tells words current due old new =
-    IsPlannedTo (AreDelivered words due) Shows Tells words current old new
+AreVersionsSet HasFields IsErrorOf words current due old new =
+    IsPlannedTo (AreDelivered words due) HasFields IsErrorOf words current old new
 
 -- writing stopped at an output: the files of those before it are whole, and those after it unchanged
 abbrev pub IsCutShort : (List ℕ → Type 0) → (List ℕ → Type 0) → SetVersionWords → List ℕ
     → StoreView → StoreView → Type 0
-IsCutShort Shows Tells words current old new =
-    IsPlannedTo (HasStoppedAt words) Shows Tells words current old new
+IsCutShort HasFields IsErrorOf words current old new =
+    IsPlannedTo (HasStoppedAt words) HasFields IsErrorOf words current old new

@@ -7,7 +7,7 @@ use Rattle.edit_steps.specs.declared.upgrade_read.asked.RustChoice.TheVariants a
 use Rattle.edit_program.specs.declared.upgrade_run.words.UpgradeWords.{UpgradeWords}
 use Rattle.edit_version.specs.RustVersions.{numbers_of, rust_of}
 use Rattle.edit_version.specs.declared.rust_version.RustVersion.{RustVersion}
-use Rattle.edit_program.specs.Asked.{AskForOptions, HasBadStatus, is_given}
+use Rattle.edit_program.specs.ParsedOptions.{HasOptions, HasBadStatus, is_given}
 use Rattle.edit_program.specs.Presented.{presentation_of}
 
 -- the Rust versions to plan for, from `--rust-version` and `--ignore-rust-version`: those of the manifests,
@@ -26,22 +26,22 @@ HasNoRust (Some text) false = rust_of text ≡ None
 HasNoRust (Some text) true = Unit {0}
 
 -- both an index file and an index folder are given
-abbrev pub name_two_indexes : List Row → Bool
-name_two_indexes rows =
+abbrev pub has_two_indexes : List Row → Bool
+has_two_indexes rows =
     is_some (first_of (codes "index-file") rows) && is_some (first_of (codes "index-dir") rows)
 
 -- the options and paths that parsed arguments of `upgrade` give
-pub record AskForUpgrade (rows : List Row) (w : UpgradeWords) : Type 0 where
+pub record HasUpgradeArgs (rows : List Row) (w : UpgradeWords) : Type 0 where
   pub manifest : given w.manifest_path ≡ first_of (codes "manifest-path") rows
   pub metadata : given w.metadata_json ≡ first_of (codes "metadata-json") rows
   pub index : given w.index_file ≡ first_of (codes "index-file") rows
   pub folder : given w.index_dir ≡ first_of (codes "index-dir") rows
   pub config : given w.config ≡ first_of (codes "config") rows
   pub default_config : given w.default_config ≡ first_of (codes "default-config") rows
-  pub one_index : name_two_indexes rows ≡ false
+  pub one_index : has_two_indexes rows ≡ false
   pub rust : IsRust (first_of (codes "rust-version") rows)
       (is_given (codes "ignore-rust-version") rows) w.rust
-  pub options : AskForOptions rows w.options
+  pub options : HasOptions rows w.options
   pub presentation : presentation_of rows ≡ Some w.presentation
   pub calls : given w.update_calls ≡ first_of (codes "update-calls") rows
   pub lock : given w.lock_file ≡ first_of (codes "lock-file") rows
@@ -51,7 +51,7 @@ pub record AskForUpgrade (rows : List Row) (w : UpgradeWords) : Type 0 where
 -- format are invalid
 abbrev pub HaveUpgradeFault : List Row → Type 0
 HaveUpgradeFault rows =
-    (name_two_indexes rows ≡ true)
+    (has_two_indexes rows ≡ true)
     ⊎ (HasBadStatus rows
     ⊎ (HasNoRust (first_of (codes "rust-version") rows) (is_given (codes "ignore-rust-version") rows)
     ⊎ (presentation_of rows ≡ None)))

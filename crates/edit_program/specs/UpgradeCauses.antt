@@ -8,21 +8,21 @@ use Rattle.edit_program.specs.NoIndex.{no_view}
 use Rattle.edit_program.specs.LockRead.{HasNoLock}
 use Rattle.edit_sources.specs.Configured.{given}
 use Rattle.edit_sources.specs.Index.{IndexView}
-use Rattle.edit_store.specs.Store.{Files, RefusesCall, SameFiles, StoreView}
+use Rattle.edit_store.specs.Store.{Files, IsCallError, SameFiles, StoreView}
 use Rattle.edit_upgrade.specs.declared.decision.options.Options.{Options}
-use Rattle.edit_steps.specs.Asking.{Asking}
-use Rattle.edit_steps.specs.Causes.{IsFailure, IsWrong}
+use Rattle.edit_steps.specs.RequestView.{RequestView}
+use Rattle.edit_steps.specs.Causes.{IsFailure, HasBadSources}
 use Rattle.edit_steps.specs.Shared.{lists_for}
 use Rattle.edit_steps.specs.Sources.{AreRead}
 use Rattle.edit_steps.specs.declared.upgrade_read.sources.Sources.{Sources}
-use Rattle.edit_program.specs.Planned.{IsPlanCause, asking, asking_for_looks, index_view}
+use Rattle.edit_program.specs.Planned.{IsPlanCause, to_request, to_lookup_request, index_view}
 use Rattle.edit_program.specs.Run.{Run}
 use Rattle.edit_program.specs.Upgrading.{IsPlannedTo}
 use Rattle.edit_program.specs.declared.upgrade_run.words.UpgradeWords.{UpgradeWords}
 use Rattle.edit_program.specs.TellingCauses.{IsStopped}
 
 -- the given files were read, and planning over their index fails
-pub record HasNoPlan (options : Options) (view : Sources → IndexView) (asked : Asking) (current : List ℕ)
+pub record HasNoPlan (options : Options) (view : Sources → IndexView) (asked : RequestView) (current : List ℕ)
     (home : Option (List ℕ)) (files : Files) (e : Error) : Type 0 where
   pub sources : Sources
   pub read : AreRead files current home asked sources
@@ -33,36 +33,36 @@ pub record HasNoPlan (options : Options) (view : Sources → IndexView) (asked :
 abbrev pub IsUnplanned : UpgradeWords → List ℕ → Option (List ℕ) → StoreView → Files → Error → Type 0
 IsUnplanned words current home local files e =
     HasNoLock files current (given words.lock_file) e
-    ⊎ (IsWrong files current home (asking words) e
-    ⊎ HasNoPlan words.options (λ s. index_view s.index local) (asking words) current home files e)
+    ⊎ (HasBadSources files current home (to_request words) e
+    ⊎ HasNoPlan words.options (λ s. index_view s.index local) (to_request words) current home files e)
 
 -- the cause in the given files: there is no plan, and each file is unchanged; or the plan is not carried
 -- out
 abbrev pub IsUnfit : (List ℕ → Type 0) → UpgradeWords → Run → Error → Type 0
-IsUnfit Shows words run e =
+IsUnfit HasFields words run e =
     (SameFiles run.old.file_at run.new.file_at
     × IsUnplanned words run.current run.home run.index_files run.old.file_at e)
-    ⊎ IsPlannedTo (λ d. IsStopped Shows d run.old run.new e) words run.current run.home run.index_files
+    ⊎ IsPlannedTo (λ d. IsStopped HasFields d run.old run.new e) words run.current run.home run.index_files
     run.old.file_at
 
 -- the cause of an error of `upgrade`: out of memory; a device error in a read, and each file is unchanged;
 -- one in a write; a failed print; or the given files
 abbrev pub IsUpgradeCause : (List ℕ → Type 0) → UpgradeWords → Run → Error → Type 0
-IsUpgradeCause Shows words run e =
+IsUpgradeCause HasFields words run e =
     IsMemory e
     ⊎ ((SameFiles run.old.file_at run.new.file_at × IsFailure run.old run.new e)
-    ⊎ (RefusesCall call.Write run.old run.new e
-    ⊎ ((e ≡ Unwritten) ⊎ (run.old.tells ≡ true → IsUnfit Shows words run e))))
+    ⊎ (IsCallError call.Write run.old run.new e
+    ⊎ ((e ≡ Unwritten) ⊎ (run.old.tells ≡ true → IsUnfit HasFields words run e))))
 
 -- the cause in the given files where only lookups are requested: reading them fails, or planning over an
 -- empty index does, as for an invalid name
-abbrev pub IsUnfitForLooks : UpgradeWords → List ℕ → Option (List ℕ) → Files → Error → Type 0
-IsUnfitForLooks words current home files e =
-    IsWrong files current home (asking_for_looks words) e
-    ⊎ HasNoPlan words.options (λ s. no_view) (asking_for_looks words) current home files e
+abbrev pub HasBadLookupInput : UpgradeWords → List ℕ → Option (List ℕ) → Files → Error → Type 0
+HasBadLookupInput words current home files e =
+    HasBadSources files current home (to_lookup_request words) e
+    ⊎ HasNoPlan words.options (λ s. no_view) (to_lookup_request words) current home files e
 
 -- the cause of an error of `looks`: out of memory or a device error, a failed print, or the given files
-abbrev pub IsLooksCause : UpgradeWords → List ℕ → Option (List ℕ) → StoreView → StoreView → Error → Type 0
-IsLooksCause words current home old new e =
+abbrev pub IsLookupsCause : UpgradeWords → List ℕ → Option (List ℕ) → StoreView → StoreView → Error → Type 0
+IsLookupsCause words current home old new e =
     IsFailure old new e
-    ⊎ ((e ≡ Unwritten) ⊎ (old.tells ≡ true → IsUnfitForLooks words current home old.file_at e))
+    ⊎ ((e ≡ Unwritten) ⊎ (old.tells ≡ true → HasBadLookupInput words current home old.file_at e))

@@ -2,8 +2,8 @@
 use Rattle.std.specs.Prelude.{◌≡◌, ℕ, List, Bool, not, ◌==◌, Option, Some, None, length, option_map, ⊤}
 use Rattle.edit_lock.specs.LockFile.{Package}
 use Rattle.std.specs.Option.{option_map_or}
-use Rattle.edit_metadata.specs.Metadata.{WorkspaceSaid}
-use Rattle.edit_metadata.specs.Workspaces.{workspace_said}
+use Rattle.edit_metadata.specs.Metadata.{WorkspaceModel}
+use Rattle.edit_metadata.specs.Workspaces.{workspace_view}
 use Rattle.edit_sources.specs.Configured.{given}
 use Rattle.edit_steps.specs.Absolute.{IsAbsoluteOf}
 use Rattle.edit_store.specs.Store.{Files, StoreView}
@@ -12,7 +12,7 @@ use Rattle.edit_steps.specs.Shared.{lists_for}
 use Rattle.edit_steps.specs.Sources.{AreRead}
 use Rattle.edit_steps.specs.declared.upgrade_read.sources.Sources.{Sources}
 use Rattle.edit_steps.specs.declared.upgrade_read.target.Target.{Target}
-use Rattle.edit_program.specs.Planned.{IsPlanned, asking, index_view}
+use Rattle.edit_program.specs.Planned.{IsPlanned, to_request, index_view}
 use Rattle.edit_program.specs.declared.upgrade_run.words.UpgradeWords.{UpgradeWords}
 use Rattle.edit_program.specs.Delivered.{IsCutShort, IsDelivered}
 use Rattle.edit_program.specs.Delivery.{Delivery, calls_against, calls_of}
@@ -22,7 +22,7 @@ use Rattle.edit_program.specs.Said.{said}
 
 -- the given files were read
 abbrev pub IsRead : UpgradeWords → List ℕ → Option (List ℕ) → Files → Sources → Type 0
-IsRead words current home files s = AreRead files current home (asking words) s
+IsRead words current home files s = AreRead files current home (to_request words) s
 
 -- the plan for the files that were read, over their index
 abbrev pub IsPlannedFor : UpgradeWords → Sources → StoreView → UpgradePlan → Type 0
@@ -37,7 +37,7 @@ IsPathOf current _ _ = ⊥
 
 -- the folder that paths in diffs are relative to: the workspace's root, where there is one, else the
 -- current folder
-abbrev pub diff_root : List ℕ → Option WorkspaceSaid → List ℕ
+abbrev pub diff_root : List ℕ → Option WorkspaceModel → List ℕ
 diff_root current workspace = option_map_or (λ w. w.root) workspace current
 
 -- a plan for these manifests, as the arguments request it to be printed, with this path for the file of the
@@ -48,10 +48,10 @@ delivery_by words current plan target path lock = record {
   plan = plan;
   inputs = target.inputs.items;
   options = words.options;
-  current = diff_root current (option_map workspace_said target.workspace);
+  current = diff_root current (option_map workspace_view target.workspace);
   presentation = words.presentation;
   calls = calls_against lock words.offline
-      (calls_of plan words.options (option_map workspace_said target.workspace));
+      (calls_of plan words.options (option_map workspace_view target.workspace));
   calls_path = path;
   offline = words.offline;
 }
@@ -74,22 +74,22 @@ abbrev pub has_outputs : UpgradePlan → Bool
 has_outputs plan = not (length plan.outputs.items == 0)
 
 -- a plan is printed and written, and the flag is set where it changes a manifest
-pub record IsAnsweredWith (due : Bool) (Shows Says : List ℕ → Type 0) (old new : StoreView) (d : Delivery)
+pub record IsUpgradeResult (due : Bool) (HasFields HasDecodedValue : List ℕ → Type 0) (old new : StoreView) (d : Delivery)
     : Type 0 where
   pub is : due ≡ has_outputs d.plan
-  pub delivered : IsDelivered Shows d old new
-  pub says : Says (said d)
+  pub delivered : IsDelivered HasFields d old new
+  pub says : HasDecodedValue (said d)
 
 -- the given manifests are upgraded: each output of the plan is in its file, then the calls are in theirs,
 -- and no other file changed; the plan and the report on it are printed; the flag is set where the plan
 -- changes a manifest
 abbrev pub IsUpgraded : Bool → (List ℕ → Type 0) → (List ℕ → Type 0) → UpgradeWords → Run → Type 0
-IsUpgraded due Shows Says words run =
-    IsPlannedTo (IsAnsweredWith due Shows Says run.old run.new) words run.current run.home run.index_files
+IsUpgraded due HasFields HasDecodedValue words run =
+    IsPlannedTo (IsUpgradeResult due HasFields HasDecodedValue run.old run.new) words run.current run.home run.index_files
     run.old.file_at
 
 -- an upgrade failed at a write, or after one
 abbrev pub IsBroken : (List ℕ → Type 0) → UpgradeWords → Run → Type 0
-IsBroken Shows words run =
-    IsPlannedTo (λ d. IsCutShort Shows d run.old run.new) words run.current run.home run.index_files
+IsBroken HasFields words run =
+    IsPlannedTo (λ d. IsCutShort HasFields d run.old run.new) words run.current run.home run.index_files
     run.old.file_at

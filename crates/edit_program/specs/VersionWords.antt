@@ -4,11 +4,11 @@ use Rattle.clap.specs.Words.{Row, Text, first_of}
 use Rattle.semver.specs.Parse.{Parts, version_parts}
 use Rattle.semver.specs.declared.error.Error.{Error}
 use Rattle.edit_set_version.specs.Bumps.{Target, by_level, exactly, target_of}
-use Rattle.edit_set_version.specs.Levels.{level_word}
+use Rattle.edit_set_version.specs.Levels.{level_name}
 use Rattle.edit_set_version.specs.declared.set_version.BumpLevel.{BumpLevel}
 use Rattle.edit_set_version.specs.declared.set_version.BumpLevel.TheVariants.{Release}
 use Rattle.edit_program.specs.declared.set_version_run.words.SetVersionWords.{SetVersionWords}
-use Rattle.edit_program.specs.Asked.{is_dry, is_given, value_of, values_of}
+use Rattle.edit_program.specs.ParsedOptions.{is_dry, is_given, value_of, values_of}
 use Rattle.edit_program.specs.Presented.{presentation_of}
 
 -- the target, from the arguments for a version and a level: one of the two alone, or with neither the level
@@ -16,7 +16,7 @@ use Rattle.edit_program.specs.Presented.{presentation_of}
 abbrev pub IsTarget : Option Text → Option Text → Target → Type 0
 IsTarget None None target = target ≡ by_level Release
 IsTarget None (Some word) target =
-    (level : BumpLevel) × (word ≡ level_word level) × (target ≡ by_level level)
+    (level : BumpLevel) × (word ≡ level_name level) × (target ≡ by_level level)
 IsTarget (Some text) None target =
     (parts : Parts) × (version_parts text ≡ Ok parts) × (target ≡ exactly parts)
 IsTarget (Some text) (Some word) target = ⊥
@@ -24,19 +24,19 @@ IsTarget (Some text) (Some word) target = ⊥
 -- the arguments for a version and a level are wrong: the given one is invalid, or both are given
 abbrev pub HaveNoTarget : Option Text → Option Text → Type 0
 HaveNoTarget None None = ⊥
-HaveNoTarget None (Some word) = (level : BumpLevel) → word ≢ level_word level
+HaveNoTarget None (Some word) = (level : BumpLevel) → word ≢ level_name level
 HaveNoTarget (Some text) None = (e : Error) × (version_parts text ≡ Err e)
 HaveNoTarget (Some text) (Some word) = Unit {0}
 
 -- two of `--package`, `--all` and `--workspace` are given
-abbrev pub names_twice : List Row → Bool
-names_twice rows =
+abbrev pub has_conflicting_selections : List Row → Bool
+has_conflicting_selections rows =
     (is_given (codes "all") rows && is_given (codes "workspace") rows)
     || (is_some (first_of (codes "package") rows)
     && (is_given (codes "all") rows || is_given (codes "workspace") rows))
 
 -- the options and paths that parsed arguments of `set-version` give
-pub record AskForVersions (rows : List Row) (w : SetVersionWords) : Type 0 where
+pub record HasSetVersionArgs (rows : List Row) (w : SetVersionWords) : Type 0 where
   pub metadata_json : w.metadata_json.now
       ≡ value_of (codes "metadata-json") (codes "metadata.json") rows
   pub target : IsTarget (first_of (codes "target") rows) (first_of (codes "bump") rows) (target_of w.target)
@@ -48,11 +48,11 @@ pub record AskForVersions (rows : List Row) (w : SetVersionWords) : Type 0 where
   pub all : w.all ≡ is_given (codes "all") rows
   pub dry_run : w.dry_run ≡ is_dry rows
   pub presentation : presentation_of rows ≡ Some w.presentation
-  pub named_once : names_twice rows ≡ false
+  pub named_once : has_conflicting_selections rows ≡ false
 
 -- the arguments select members in two ways, give no target, or no valid output format
 abbrev pub HaveVersionFault : List Row → Type 0
 HaveVersionFault rows =
-    (names_twice rows ≡ true)
+    (has_conflicting_selections rows ≡ true)
     ⊎ (HaveNoTarget (first_of (codes "target") rows) (first_of (codes "bump") rows)
     ⊎ (presentation_of rows ≡ None))

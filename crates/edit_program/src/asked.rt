@@ -2,14 +2,14 @@
 ghost use Rattle.std.specs.Prelude.{◌≡◌, ◌≢◌, IfErr, IfOk, None, Some, codes, false, map, option_map, string_bytes};
 ghost use Rattle.std.specs.Str.{bytes_eq};
 ghost use Rattle.clap.specs.Words.{first_of, found_of, rows_of};
-ghost use Rattle.edit_program.specs.declared.words_fault.WordsError.TheVariants as words;
-ghost use Rattle.edit_program.specs.Asked.{AskForOptions, HasBadStatus, status_of, status_of_value, verbosity_of};
-ghost use Rattle.edit_program.specs.UpgradeAsked.{AskForUpgrade, HasNoRust, HaveUpgradeFault, IsRust, name_two_indexes};
+ghost use Rattle.edit_program.specs.declared.args_error.ArgsError.TheVariants as words;
+ghost use Rattle.edit_program.specs.ParsedOptions.{HasOptions, HasBadStatus, status_of, status_of_value, verbosity_of};
+ghost use Rattle.edit_program.specs.UpgradeAsked.{HasUpgradeArgs, HasNoRust, HaveUpgradeFault, IsRust, has_two_indexes};
 
+use crate::args_error::{ArgsError, ArgsFault};
 use crate::lookups::{is_given, values_of};
-use crate::presented::{is_dry, presentation};
+use crate::output_format::{is_dry, presentation};
 use crate::upgrade_run::UpgradeWords;
-use crate::words_fault::{WordsError, WordsFault};
 use clap::ArgMatches;
 use edit_base::Error;
 use edit_steps::upgrade_read::RustChoice;
@@ -29,14 +29,14 @@ fn status_of_value(value: &str) -> Option<bool>
 }
 
 /// Whether the value of an option allows or ignores a kind of upgrade; any other value is an error.
-fn status_of<'a>(matches: &ArgMatches<'a>, option: &'static str) -> Result<bool, WordsError<'a>>
+fn status_of<'a>(matches: &ArgMatches<'a>, option: &'static str) -> Result<bool, ArgsError<'a>>
     ensures ok { IfOk result (λ s. status_of option.now (rows_of (found_of matches.now)) ≡ Some s) }
     ensures refused { IfErr result (λ _. status_of option.now (rows_of (found_of matches.now)) ≡ None) }
 {
     let value = matches.get_str(option).unwrap_or("");
     match status_of_value(value) {
         Some(status) => Ok(status),
-        None => Err(WordsError::Fault(WordsFault::Value(option, "allow|ignore", value))),
+        None => Err(ArgsError::Fault(ArgsFault::Value(option, "allow|ignore", value))),
     }
 }
 
@@ -63,14 +63,14 @@ fn verbosity(more: u8, less: u8) -> i8
 }
 
 /// Parses a version of Rust.
-fn named_rust<'a>(alloc: Global, text: &'a str) -> Result<RustChoice, WordsError<'a>>
+fn named_rust<'a>(alloc: Global, text: &'a str) -> Result<RustChoice, ArgsError<'a>>
     ensures ok { IfOk result (IsRust (Some text.now) false) }
     ensures refused { IfErr result (λ e. e ≢ words.Memory → HasNoRust (Some text.now) false) }
 {
     match RustVersion::from_str(alloc, text) {
         Ok(version) => Ok(RustChoice::Given(version)),
-        Err(Error::Memory) => Err(WordsError::Memory),
-        Err(error) => Err(WordsError::Fault(WordsFault::Rust(text, error))),
+        Err(Error::Memory) => Err(ArgsError::Memory),
+        Err(error) => Err(ArgsError::Fault(ArgsFault::Rust(text, error))),
     }
 }
 
@@ -79,7 +79,7 @@ fn rust_choice<'a>(
     alloc: Global,
     named: Option<&'a str>,
     ignored: bool,
-) -> Result<RustChoice, WordsError<'a>>
+) -> Result<RustChoice, ArgsError<'a>>
     ensures ok { IfOk result (IsRust (option_map (λ s. s.now) named.entry) ignored) }
     ensures refused { IfErr result (λ e. e ≢ words.Memory
         → HasNoRust (option_map (λ s. s.now) named.entry) ignored) }
@@ -88,7 +88,7 @@ fn rust_choice<'a>(
         (None, false) => Ok(RustChoice::Own),
         (None, true) => Ok(RustChoice::Ignored),
         (Some(text), false) => named_rust(alloc, text),
-        (Some(_), true) => Err(WordsError::Fault(WordsFault::Together(
+        (Some(_), true) => Err(ArgsError::Fault(ArgsFault::Together(
             "--rust-version <VER>",
             "--ignore-rust-version",
         ))),
@@ -96,8 +96,8 @@ fn rust_choice<'a>(
 }
 
 /// The options of an upgrade, from parsed arguments of `upgrade`.
-fn options_of<'a>(alloc: Global, matches: &ArgMatches<'a>) -> Result<Options, WordsError<'a>>
-    ensures options { IfOk result (AskForOptions (rows_of (found_of matches.now))) }
+fn options_of<'a>(alloc: Global, matches: &ArgMatches<'a>) -> Result<Options, ArgsError<'a>>
+    ensures options { IfOk result (HasOptions (rows_of (found_of matches.now))) }
     ensures refused { IfErr result (λ e. e ≢ words.Memory → HasBadStatus (rows_of (found_of matches.now))) }
 {
     Ok(Options {
@@ -115,8 +115,8 @@ fn options_of<'a>(alloc: Global, matches: &ArgMatches<'a>) -> Result<Options, Wo
 }
 
 /// Whether both an index file and an index folder are given.
-fn names_two_indexes(matches: &ArgMatches<'_>) -> bool
-    ensures { result ≡ name_two_indexes (rows_of (found_of matches.now)) }
+fn has_two_indexes(matches: &ArgMatches<'_>) -> bool
+    ensures { result ≡ has_two_indexes (rows_of (found_of matches.now)) }
 {
     let file = matches.get_str("index-file").is_some();
     let folder = matches.get_str("index-dir").is_some();
@@ -124,16 +124,16 @@ fn names_two_indexes(matches: &ArgMatches<'_>) -> bool
 }
 
 /// The options and paths that parsed arguments of `upgrade` give.
-pub(crate) fn upgrade_words<'a>(
+pub(crate) fn parse_upgrade_args<'a>(
     alloc: Global,
     matches: &ArgMatches<'a>,
-) -> Result<UpgradeWords<'a>, WordsError<'a>>
-    ensures asks { IfOk result (AskForUpgrade (rows_of (found_of matches.now))) }
+) -> Result<UpgradeWords<'a>, ArgsError<'a>>
+    ensures asks { IfOk result (HasUpgradeArgs (rows_of (found_of matches.now))) }
     ensures refused { IfErr result (λ e. e ≢ words.Memory
         → HaveUpgradeFault (rows_of (found_of matches.now))) }
 {
-    if names_two_indexes(matches) {
-        return Err(WordsError::Fault(WordsFault::Together(
+    if has_two_indexes(matches) {
+        return Err(ArgsError::Fault(ArgsFault::Together(
             "--index-file <FILE>",
             "--index-dir <DIR>",
         )));

@@ -6,21 +6,21 @@ ghost use Rattle.edit_base.specs.Errors.{IsMemory};
 ghost use Rattle.edit_sources.specs.Configured.{given};
 ghost use Rattle.edit_steps.specs.Faults.{CountsFault};
 ghost use Rattle.edit_store.specs.Store.{SameFiles};
-ghost use Rattle.edit_program.specs.Asked.{is_given};
-ghost use Rattle.edit_program.specs.Commands.{HasBroken, HasLooked, HasLooksCause, HasSetVersionCause, HasSetVersions, HasStoppedSetting, HasUpgradeCause, HasUpgraded, IsAtFault, IsBrokenBy, IsCauseBy, IsDoneBy};
+ghost use Rattle.edit_program.specs.ParsedOptions.{is_given};
+ghost use Rattle.edit_program.specs.Commands.{HasBroken, HasPrintedLookups, HasLookupsCause, HasSetVersionCause, HasSetVersions, HasStoppedSetting, HasUpgradeCause, HasUpgraded, HasSubcommandUsageError, IsBrokenBy, IsCauseBy, IsDoneBy};
 ghost use Rattle.edit_program.specs.Counted.{CountsEitherFault};
 ghost use Rattle.edit_program.specs.Run.{run_at};
 ghost use Rattle.edit_program.specs.UpgradeAsked.{HaveUpgradeFault};
 ghost use Rattle.edit_program.specs.VersionWords.{HaveVersionFault};
 
-use crate::asked::upgrade_words;
-use crate::faults::refuse_words;
+use crate::args_error::ArgsError;
+use crate::asked::parse_upgrade_args;
+use crate::faults::print_args_error;
+use crate::output_format::status_after;
 use crate::place::Place;
-use crate::presented::status_after;
 use crate::set_version_run::set_version;
 use crate::upgrade_run::{looks, upgrade};
 use crate::version_words::version_words;
-use crate::words_fault::WordsError;
 use clap::ArgMatches;
 use edit_base::Error;
 use edit_steps::{Refusal, RunResult};
@@ -29,7 +29,7 @@ use std::alloc::Global;
 use std::io;
 
 /// Runs `upgrade`, and returns its exit status.
-fn upgrade_asked<S: Store, T: Store + Drop, O: io::Write, E: io::Write>(
+fn run_upgrade<S: Store, T: Store + Drop, O: io::Write, E: io::Write>(
     alloc: Global,
     matches: &ArgMatches<'_>,
     place: &Place<'_>,
@@ -62,17 +62,17 @@ fn upgrade_asked<S: Store, T: Store + Drop, O: io::Write, E: io::Write>(
     ensures asked { IfOk result (λ s. s ≡ 1
         → is_given (codes "check") (rows_of (found_of matches.now)) ≡ true) }
 {
-    let words = match upgrade_words(alloc, matches) {
+    let words = match parse_upgrade_args(alloc, matches) {
         Ok(words) => words,
-        Err(WordsError::Memory) => return Err(Refusal::from(Error::Memory)),
-        Err(WordsError::Fault(fault)) => return Ok(refuse_words(&fault, err)),
+        Err(ArgsError::Memory) => return Err(Refusal::from(Error::Memory)),
+        Err(ArgsError::Fault(fault)) => return Ok(print_args_error(&fault, err)),
     };
     let due = upgrade(alloc, &words, place, files, index_files, out, err)?;
     Ok(status_after(matches, due))
 }
 
 /// Runs `looks`, which prints the lookups that an upgrade needs, and returns its exit status.
-fn looks_asked<S: Store, O: io::Write, E: io::Write>(
+fn run_looks<S: Store, O: io::Write, E: io::Write>(
     alloc: Global,
     matches: &ArgMatches<'_>,
     current: &str,
@@ -86,25 +86,25 @@ fn looks_asked<S: Store, O: io::Write, E: io::Write>(
     ensures kept { SameFiles (S.view files.old).file_at (S.view files.new).file_at }
     ensures fault { IfOk result (λ s. s ≡ 2 → HaveUpgradeFault (rows_of (found_of matches.now))) }
     ensures done { IfOk result (λ s. s ≢ 2 → (S.view files.old).tells ≡ true
-        → (s ≡ 0) × HasLooked (rows_of (found_of matches.now))
+        → (s ≡ 0) × HasPrintedLookups (rows_of (found_of matches.now))
         (Appends (O.contents out.old) (O.contents out.new)) current.now (given cargo_home.entry)
         (S.view files.old) (S.view files.new)) }
-    ensures why { IfErr result (λ r. IsMemory r.error ⊎ HasLooksCause (rows_of (found_of matches.now))
+    ensures why { IfErr result (λ r. IsMemory r.error ⊎ HasLookupsCause (rows_of (found_of matches.now))
         current.now (given cargo_home.entry) (S.view files.old) (S.view files.new) r.error) }
     ensures counted { IfErr result (λ r. CountsFault (S.view files.old) (S.view files.new) r.error) }
     ensures asked { IfOk result (λ s. s ≢ 1) }
 {
-    let words = match upgrade_words(alloc, matches) {
+    let words = match parse_upgrade_args(alloc, matches) {
         Ok(words) => words,
-        Err(WordsError::Memory) => return Err(Refusal::from(Error::Memory)),
-        Err(WordsError::Fault(fault)) => return Ok(refuse_words(&fault, err)),
+        Err(ArgsError::Memory) => return Err(Refusal::from(Error::Memory)),
+        Err(ArgsError::Fault(fault)) => return Ok(print_args_error(&fault, err)),
     };
     looks(alloc, &words, current, cargo_home, files, out)?;
     Ok(0)
 }
 
 /// Runs `set-version`, and returns its exit status.
-fn versions_asked<S: Store, O: io::Write, E: io::Write>(
+fn run_set_version<S: Store, O: io::Write, E: io::Write>(
     alloc: Global,
     matches: &ArgMatches<'_>,
     current: &str,
@@ -136,15 +136,15 @@ fn versions_asked<S: Store, O: io::Write, E: io::Write>(
 {
     let words = match version_words(alloc, matches) {
         Ok(words) => words,
-        Err(WordsError::Memory) => return Err(Refusal::from(Error::Memory)),
-        Err(WordsError::Fault(fault)) => return Ok(refuse_words(&fault, err)),
+        Err(ArgsError::Memory) => return Err(Refusal::from(Error::Memory)),
+        Err(ArgsError::Fault(fault)) => return Ok(print_args_error(&fault, err)),
     };
     let due = set_version(alloc, &words, current, files, out, err)?;
     Ok(status_after(matches, due))
 }
 
 /// Runs a subcommand, and returns its exit status.
-pub(crate) fn subcommand_asked<S: Store, T: Store + Drop, O: io::Write, E: io::Write>(
+pub(crate) fn run_subcommand<S: Store, T: Store + Drop, O: io::Write, E: io::Write>(
     alloc: Global,
     subcommand: (&str, &ArgMatches<'_>),
     place: &Place<'_>,
@@ -158,7 +158,7 @@ pub(crate) fn subcommand_asked<S: Store, T: Store + Drop, O: io::Write, E: io::W
     ensures checked { IfOk result (λ s. s ≡ 1 → (S.view files.old).tells ≡ true
         → SameFiles (S.view files.old).file_at (S.view files.new).file_at) }
     ensures fault { IfOk result (λ s. s ≡ 2
-        → IsAtFault subcommand.entry.0.now (rows_of (found_of subcommand.entry.1.now))) }
+        → HasSubcommandUsageError subcommand.entry.0.now (rows_of (found_of subcommand.entry.1.now))) }
     ensures done { IfOk result (λ s. s ≢ 2 → (S.view files.old).tells ≡ true
         → IsDoneBy subcommand.entry.0.now (rows_of (found_of subcommand.entry.1.now)) s
         (Appends (O.contents out.old) (O.contents out.new))
@@ -184,12 +184,12 @@ pub(crate) fn subcommand_asked<S: Store, T: Store + Drop, O: io::Write, E: io::W
 {
     let (name, matches) = subcommand;
     match name {
-        "upgrade" => upgrade_asked(alloc, matches, place, files, index_files, out, err),
+        "upgrade" => run_upgrade(alloc, matches, place, files, index_files, out, err),
         "looks" => {
             let (current, home) = (place.current, place.cargo_home);
-            looks_asked(alloc, matches, current, home, files, out, err)
+            run_looks(alloc, matches, current, home, files, out, err)
         }
-        "set-version" => versions_asked(alloc, matches, place.current, files, out, err),
+        "set-version" => run_set_version(alloc, matches, place.current, files, out, err),
         _ => Ok(2),
     }
 }

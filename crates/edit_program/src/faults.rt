@@ -5,7 +5,7 @@ ghost use Rattle.edit_base.specs.Errors.{IsMemory};
 ghost use Rattle.edit_base.specs.declared.errors.Error.TheVariants.{Output};
 ghost use Rattle.edit_program.specs.Runs.{status_of};
 
-use crate::words_fault::WordsFault;
+use crate::args_error::ArgsFault;
 use clap::error::ErrorKind;
 use edit_base::Error;
 use edit_steps::{Refusal, RunResult, print_error};
@@ -26,7 +26,7 @@ fn at_stream(alloc: Global, refusal: Refusal) -> Refusal
 
 /// Prints an error with its place, cause and help, where they are known, and returns the exit status, even
 /// where printing fails.
-pub(crate) fn refuse<E: io::Write>(alloc: Global, refusal: Refusal, err: &mut E) -> u8
+pub(crate) fn print_failure<E: io::Write>(alloc: Global, refusal: Refusal, err: &mut E) -> u8
     ensures { result ≡ 1 }
 {
     let _ = print_error(&at_stream(alloc, refusal), err);
@@ -60,7 +60,7 @@ pub(crate) fn shown<O: io::Write, E: io::Write>(
 }
 
 /// Prints the error of an argument, and returns the exit status 2.
-pub(crate) fn refuse_words<E: io::Write>(fault: &WordsFault<'_>, err: &mut E) -> u8
+pub(crate) fn print_args_error<E: io::Write>(fault: &ArgsFault<'_>, err: &mut E) -> u8
     ensures { result ≡ 2 }
 {
     let _ = writeln!(err, "error: {fault}\n\nFor more information, try '--help'.");

@@ -1,19 +1,19 @@
 //! The program `cargo-edit`, over any files and any writers.
 #![tactic(auto)]
 
+mod args_error;
 mod asked;
+mod cargo_builtin;
 mod commands;
 mod faults;
 mod looks;
 mod lookups;
-mod merged;
+mod output_format;
 mod place;
-mod presented;
 mod program;
 mod set_version_run;
+mod upgrade_output;
 mod upgrade_run;
-mod upgrade_told;
 mod version_words;
-mod words_fault;
 
 pub use program::run;

@@ -1,7 +1,7 @@
 //! Values of options in parsed arguments.
 ghost use Rattle.std.specs.Prelude.{◌≡◌, IfOk, map, string_bytes};
 ghost use Rattle.clap.specs.Words.{found_of, rows_of};
-ghost use Rattle.edit_program.specs.Asked.{is_given, values_of};
+ghost use Rattle.edit_program.specs.ParsedOptions.{is_given, values_of};
 
 use clap::ArgMatches;
 use std::alloc::{AllocError, Global};

@@ -5,13 +5,13 @@ ghost use Rattle.edit_sources.specs.Configured.{given};
 ghost use Rattle.edit_base.specs.declared.errors.details.MergedCommand.{MergedCommand};
 ghost use Rattle.edit_words.specs.Filled.{filled};
 ghost use Rattle.edit_program.specs.Counted.{CountsEitherFault};
-ghost use Rattle.edit_program.specs.Merged.{merged_of};
+ghost use Rattle.edit_program.specs.Merged.{first_builtin};
 ghost use Rattle.edit_program.specs.Run.{run_at};
-ghost use Rattle.edit_program.specs.Runs.{AreAtFault, AskToCheck, HasFailed, IsChecked, IsDone, IsEnded, IsRefused, IsRunCause};
+ghost use Rattle.edit_program.specs.Runs.{HasUsageError, HasCheckFlag, HasFailed, IsChecked, IsDone, IsEnded, IsRunFailure, IsRunCause};
 
-use crate::commands::subcommand_asked;
-use crate::faults::{refuse, shown};
-use crate::merged::merged_of;
+use crate::cargo_builtin::first_builtin;
+use crate::commands::run_subcommand;
+use crate::faults::{print_failure, shown};
 use crate::place::Place;
 use edit_base::Error;
 use edit_steps::{Refusal, RunResult};
@@ -32,16 +32,16 @@ fn answer<S: Store, T: Store + Drop, O: io::Write, E: io::Write>(
 ) -> RunResult<u8>
     ensures status { IfOk result (λ s. s ≤ 2) }
     ensures answered { IfOk result (λ s. s ≡ 2 → files.new ≡ files.old) }
-    ensures merged { (command : MergedCommand) → merged_of (map (λ w. w.now) words.now) ≡ Some command
+    ensures builtin { (command : MergedCommand) → first_builtin (map (λ w. w.now) words.now) ≡ Some command
         → IsErr result × (files.new ≡ files.old) }
-    ensures fault { IfOk result (λ s. s ≡ 2 → AreAtFault (map (λ w. w.now) words.now)) }
+    ensures fault { IfOk result (λ s. s ≡ 2 → HasUsageError (map (λ w. w.now) words.now)) }
     ensures ended { IfOk result (λ s. s ≢ 2 → (S.view files.old).tells ≡ true
         → IsEnded (map (λ w. w.now) words.now) s (Appends (O.contents out.old) (O.contents out.new))
         (Appends (E.contents err.old) (E.contents err.new))
         (run_at place.now.current.now (given place.now.cargo_home)
         (T.view index_files) (S.view files.old) (S.view files.new))) }
     ensures refused { OnErr result ((S.view files.old).tells ≡ true
-        → IsRefused (map (λ w. w.now) words.now) (Appends (O.contents out.old) (O.contents out.new))
+        → IsRunFailure (map (λ w. w.now) words.now) (Appends (O.contents out.old) (O.contents out.new))
         (Appends (E.contents err.old) (E.contents err.new))
         (run_at place.now.current.now (given place.now.cargo_home)
         (T.view index_files) (S.view files.old) (S.view files.new))) }
@@ -51,9 +51,9 @@ fn answer<S: Store, T: Store + Drop, O: io::Write, E: io::Write>(
         (T.view index_files) (S.view files.old) (S.view files.new)) r.error) }
     ensures counted { IfErr result (λ r. CountsEitherFault T.view index_files
         (S.view files.old) (S.view files.new) r.error) }
-    ensures asked { IfOk result (λ s. s ≡ 1 → AskToCheck (map (λ w. w.now) words.now)) }
+    ensures asked { IfOk result (λ s. s ≡ 1 → HasCheckFlag (map (λ w. w.now) words.now)) }
 {
-    if let Some(command) = merged_of(words) {
+    if let Some(command) = first_builtin(words) {
         return Err(Refusal::from(Error::Merged(command)));
     }
     let command = command(alloc)?;
@@ -63,14 +63,14 @@ fn answer<S: Store, T: Store + Drop, O: io::Write, E: io::Write>(
     };
     match matches.subcommand() {
         Some((name, matches)) => {
-            subcommand_asked(alloc, (name, matches), place, files, index_files, out, err)
+            run_subcommand(alloc, (name, matches), place, files, index_files, out, err)
         }
         None => Ok(2),
     }
 }
 
 /// Runs arguments in which options may lack their values, for which defaults are inserted.
-fn answer_given<S: Store, T: Store + Drop, O: io::Write, E: io::Write>(
+fn insert_defaults_and_run<S: Store, T: Store + Drop, O: io::Write, E: io::Write>(
     alloc: Global,
     words: &[&str],
     place: &Place<'_>,
@@ -81,17 +81,17 @@ fn answer_given<S: Store, T: Store + Drop, O: io::Write, E: io::Write>(
 ) -> RunResult<u8>
     ensures status { IfOk result (λ s. s ≤ 2) }
     ensures answered { IfOk result (λ s. s ≡ 2 → files.new ≡ files.old) }
-    ensures merged { (command : MergedCommand)
-        → merged_of (filled (map (λ w. w.now) words.now)) ≡ Some command
+    ensures builtin { (command : MergedCommand)
+        → first_builtin (filled (map (λ w. w.now) words.now)) ≡ Some command
         → IsErr result × (files.new ≡ files.old) }
-    ensures fault { IfOk result (λ s. s ≡ 2 → AreAtFault (filled (map (λ w. w.now) words.now))) }
+    ensures fault { IfOk result (λ s. s ≡ 2 → HasUsageError (filled (map (λ w. w.now) words.now))) }
     ensures ended { IfOk result (λ s. s ≢ 2 → (S.view files.old).tells ≡ true
         → IsEnded (filled (map (λ w. w.now) words.now)) s (Appends (O.contents out.old) (O.contents out.new))
         (Appends (E.contents err.old) (E.contents err.new))
         (run_at place.now.current.now (given place.now.cargo_home)
         (T.view index_files) (S.view files.old) (S.view files.new))) }
     ensures refused { OnErr result ((S.view files.old).tells ≡ true
-        → IsRefused (filled (map (λ w. w.now) words.now)) (Appends (O.contents out.old) (O.contents out.new))
+        → IsRunFailure (filled (map (λ w. w.now) words.now)) (Appends (O.contents out.old) (O.contents out.new))
         (Appends (E.contents err.old) (E.contents err.new))
         (run_at place.now.current.now (given place.now.cargo_home)
         (T.view index_files) (S.view files.old) (S.view files.new))) }
@@ -101,7 +101,7 @@ fn answer_given<S: Store, T: Store + Drop, O: io::Write, E: io::Write>(
         (T.view index_files) (S.view files.old) (S.view files.new)) r.error) }
     ensures counted { IfErr result (λ r. CountsEitherFault T.view index_files
         (S.view files.old) (S.view files.new) r.error) }
-    ensures asked { IfOk result (λ s. s ≡ 1 → AskToCheck (filled (map (λ w. w.now) words.now))) }
+    ensures asked { IfOk result (λ s. s ≡ 1 → HasCheckFlag (filled (map (λ w. w.now) words.now))) }
 {
     let words = filled_words(alloc, words)?;
     answer(alloc, words.as_slice(), place, files, index_files, out, err)
@@ -111,7 +111,7 @@ fn answer_given<S: Store, T: Store + Drop, O: io::Write, E: io::Write>(
 /// status:
 /// - 0: done.
 /// - 1: an error, printed on `err` after `Error: `, with its place on the next line where it is known; or,
-///   with `--check`, something would change. `add` and `rm` are errors, since cargo provides them itself.
+///   with `--input_report`, something would change. `add` and `rm` are errors, since cargo provides them itself.
 /// - 2: a wrong command line, such as an empty path.
 ///
 /// An option that may be given without a value then has its default, which allows. `current` is the
@@ -130,11 +130,11 @@ pub fn run<S: Store, T: Store + Drop, O: io::Write, E: io::Write>(
     err: &mut E,
 ) -> u8
     ensures status { result ≤ 2 }
-    ensures merged { (command : MergedCommand)
-        → merged_of (filled (map (λ w. w.now) words.now)) ≡ Some command
+    ensures builtin { (command : MergedCommand)
+        → first_builtin (filled (map (λ w. w.now) words.now)) ≡ Some command
         → (result ≡ 1) × (files.new ≡ files.old) }
     ensures faulty { result ≡ 2 → files.new ≡ files.old }
-    ensures fault { result ≡ 2 → AreAtFault (filled (map (λ w. w.now) words.now)) }
+    ensures fault { result ≡ 2 → HasUsageError (filled (map (λ w. w.now) words.now)) }
     ensures done { result ≡ 0 → (S.view files.old).tells ≡ true
         → IsDone (filled (map (λ w. w.now) words.now)) (Appends (O.contents out.old) (O.contents out.new))
         (Appends (E.contents err.old) (E.contents err.new))
@@ -157,8 +157,8 @@ pub fn run<S: Store, T: Store + Drop, O: io::Write, E: io::Write>(
         current,
         cargo_home,
     };
-    match answer_given(alloc, words, &place, files, index_files, out, err) {
+    match insert_defaults_and_run(alloc, words, &place, files, index_files, out, err) {
         Ok(status) => status,
-        Err(refusal) => refuse(alloc, refusal, err),
+        Err(refusal) => print_failure(alloc, refusal, err),
     }
 }

@@ -2,14 +2,14 @@
 ghost use Rattle.std.specs.Prelude.{◌≡◌, ◌≢◌, ◌||◌, IfErr, IfOk, Some, None, codes, is_some, map, option_map, string_bytes, true};
 ghost use Rattle.clap.specs.Words.{first_of, found_of, rows_of};
 ghost use Rattle.edit_set_version.specs.Bumps.{target_of};
-ghost use Rattle.edit_program.specs.declared.words_fault.WordsError.TheVariants as words;
-ghost use Rattle.edit_program.specs.Asked.{is_given, values_of};
-ghost use Rattle.edit_program.specs.VersionWords.{AskForVersions, HaveNoTarget, HaveVersionFault, IsTarget, names_twice};
+ghost use Rattle.edit_program.specs.declared.args_error.ArgsError.TheVariants as words;
+ghost use Rattle.edit_program.specs.ParsedOptions.{is_given, values_of};
+ghost use Rattle.edit_program.specs.VersionWords.{HasSetVersionArgs, HaveNoTarget, HaveVersionFault, IsTarget, has_conflicting_selections};
 
+use crate::args_error::{ArgsError, ArgsFault};
 use crate::lookups::{is_given, values_of};
-use crate::presented::{is_dry, presentation};
+use crate::output_format::{is_dry, presentation};
 use crate::set_version_run::SetVersionWords;
-use crate::words_fault::{WordsError, WordsFault};
 use clap::ArgMatches;
 use edit_set_version::{BumpLevel, Selection, TargetVersion};
 use semver::Version;
@@ -17,8 +17,8 @@ use std::alloc::{AllocError, Global};
 use std::str::FromStr;
 
 /// Two of `--package`, `--all` and `--workspace` that are both given.
-fn twice_named(matches: &ArgMatches<'_>) -> Option<(&'static str, &'static str)>
-    ensures { is_some result ≡ names_twice (rows_of (found_of matches.now)) }
+fn conflicting_selections(matches: &ArgMatches<'_>) -> Option<(&'static str, &'static str)>
+    ensures { is_some result ≡ has_conflicting_selections (rows_of (found_of matches.now)) }
 {
     let all = is_given(matches, "all");
     let workspace = is_given(matches, "workspace");
@@ -35,18 +35,18 @@ fn twice_named(matches: &ArgMatches<'_>) -> Option<(&'static str, &'static str)>
 }
 
 /// The target for a level.
-fn target_by_level<'a>(word: &'a str) -> Result<TargetVersion, WordsError<'a>>
+fn target_by_level<'a>(word: &'a str) -> Result<TargetVersion, ArgsError<'a>>
     ensures ok { IfOk result (λ t. IsTarget None (Some word.now) (target_of t)) }
     ensures refused { IfErr result (λ _. HaveNoTarget None (Some word.now)) }
 {
     match BumpLevel::from_str(word) {
         Ok(level) => Ok(TargetVersion::Relative(level)),
-        Err(levels) => Err(WordsError::Fault(WordsFault::Level(word, levels))),
+        Err(levels) => Err(ArgsError::Fault(ArgsFault::Level(word, levels))),
     }
 }
 
 /// The target for a version.
-fn target_by_version<'a>(alloc: Global, text: &'a str) -> Result<TargetVersion, WordsError<'a>>
+fn target_by_version<'a>(alloc: Global, text: &'a str) -> Result<TargetVersion, ArgsError<'a>>
     ensures ok { IfOk result (λ t. IsTarget (Some text.now) None (target_of t)) }
     ensures refused { IfErr result (λ e. e ≢ words.Memory → HaveNoTarget (Some text.now) None) }
 {
@@ -54,9 +54,9 @@ fn target_by_version<'a>(alloc: Global, text: &'a str) -> Result<TargetVersion, 
         Ok(version) => Ok(TargetVersion::Absolute(version)),
         Err(error) => {
             if error == semver::Error::from(AllocError) {
-                return Err(WordsError::Memory);
+                return Err(ArgsError::Memory);
             }
-            Err(WordsError::Fault(WordsFault::Version(text, error)))
+            Err(ArgsError::Fault(ArgsFault::Version(text, error)))
         }
     }
 }
@@ -66,7 +66,7 @@ fn target<'a>(
     alloc: Global,
     version: Option<&'a str>,
     level: Option<&'a str>,
-) -> Result<TargetVersion, WordsError<'a>>
+) -> Result<TargetVersion, ArgsError<'a>>
     ensures ok { IfOk result (λ t. IsTarget (option_map (λ s. s.now) version.entry)
         (option_map (λ s. s.now) level.entry) (target_of t)) }
     ensures refused { IfErr result (λ e. e ≢ words.Memory
@@ -76,7 +76,7 @@ fn target<'a>(
         (None, None) => Ok(TargetVersion::default()),
         (None, Some(word)) => target_by_level(word),
         (Some(text), None) => target_by_version(alloc, text),
-        (Some(_), Some(_)) => Err(WordsError::Fault(WordsFault::Together(
+        (Some(_), Some(_)) => Err(ArgsError::Fault(ArgsFault::Together(
             "[TARGET]",
             "--bump <LEVEL>",
         ))),
@@ -122,13 +122,13 @@ fn selection(alloc: Global, matches: &ArgMatches<'_>) -> Result<Selection, Alloc
 pub(crate) fn version_words<'a>(
     alloc: Global,
     matches: &ArgMatches<'a>,
-) -> Result<SetVersionWords<'a>, WordsError<'a>>
-    ensures asks { IfOk result (AskForVersions (rows_of (found_of matches.now))) }
+) -> Result<SetVersionWords<'a>, ArgsError<'a>>
+    ensures asks { IfOk result (HasSetVersionArgs (rows_of (found_of matches.now))) }
     ensures refused { IfErr result (λ e. e ≢ words.Memory
         → HaveVersionFault (rows_of (found_of matches.now))) }
 {
-    if let Some((one, other)) = twice_named(matches) {
-        return Err(WordsError::Fault(WordsFault::Together(one, other)));
+    if let Some((one, other)) = conflicting_selections(matches) {
+        return Err(ArgsError::Fault(ArgsFault::Together(one, other)));
     }
     let target = target(alloc, matches.get_str("target"), matches.get_str("bump"))?;
     let presentation = presentation(matches)?;

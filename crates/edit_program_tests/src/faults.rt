@@ -1,6 +1,6 @@
 //! Runs the examples where each call of the files fails in turn, or where the streams accept only some
 //! bytes.
-use crate::rows::{Outcome, ROOM, faultless, field, kept, must, ran};
+use crate::rows::{Outcome, ROOM, faultless, field, run_args_in, unwrap_alloc, unwrap_ok};
 use edit_store::{FaultStore, MemoryStore, Store};
 use std::alloc::Global;
 use std::process::Abort;
@@ -26,7 +26,7 @@ fn stored(rt: &impl Abort, alloc: Global, table: &str) -> MemoryStore {
 /// Adds the files of a table.
 fn add(rt: &impl Abort, alloc: Global, table: &str, files: &mut MemoryStore) {
     for row in table.split('§') {
-        must(
+        unwrap_ok(
             rt,
             files.write(alloc, field(row, 0), field(row, 1).as_bytes()),
         );
@@ -63,7 +63,7 @@ fn letter_of(bytes: &[u8], old: &str, new: &str) -> char {
 fn letters(rt: &impl Abort, alloc: Global, files: &mut MemoryStore, table: &str) -> String {
     let mut seen = String::new(alloc);
     for row in table.split('§') {
-        kept(rt, seen.push(letter(alloc, files, row)));
+        unwrap_alloc(rt, seen.push(letter(alloc, files, row)));
     }
     seen
 }
@@ -91,7 +91,7 @@ fn ways(example: Example, err: &str) -> &'static str {
 }
 
 /// Whether the exit status and standard error report a device error, or none.
-fn tells(status: u8, err: &str, failed: bool) -> bool {
+fn is_fault_reported(status: u8, err: &str, failed: bool) -> bool {
     let told = FAULTS.iter().any(|fault| err.contains(fault));
     told == failed && status == u8::from(failed)
 }
@@ -106,13 +106,16 @@ fn has_failed(
     index: FaultStore,
     of_index: bool,
 ) -> bool {
-    let done = ran(rt, alloc, example.words, files, index, (ROOM, ROOM));
+    let done = run_args_in(rt, alloc, example.words, files, index, (ROOM, ROOM));
     let (status, err) = (done.status, done.err.as_str());
     // (the run consumed the index)
     let failed = files.faults() > 0 || of_index && status != 0;
     let stands = stand(rt, alloc, &mut files.inner, example, ways(example, err));
     assert!(rt; stands, "manifests behind {err:?}");
-    assert!(rt; tells(status, err, failed), "status {status} and {err:?}");
+    assert!(rt;
+        is_fault_reported(status, err, failed),
+        "status {status} and {err:?}"
+    );
     failed
 }
 
@@ -155,7 +158,7 @@ fn each_call_of_the_index_fails(rt: HostRuntime) {
 }
 
 /// Runs an example whose streams accept this number of bytes: the result, and the states of the manifests.
-fn in_room(
+fn run_in_room(
     rt: &impl Abort,
     alloc: Global,
     example: Example,
@@ -163,21 +166,21 @@ fn in_room(
 ) -> (Outcome, String) {
     let mut files = faultless(laid_out(rt, alloc, example));
     let index = faultless(stored(rt, alloc, example.index));
-    let done = ran(rt, alloc, example.words, &mut files, index, room);
+    let done = run_args_in(rt, alloc, example.words, &mut files, index, room);
     let manifests = letters(rt, alloc, &mut files.inner, example.manifests);
     (done, manifests)
 }
 
 /// Ends the test where a run whose streams accept this number of bytes has another exit status, or leaves
 /// the manifests in none of these states.
-fn stands_in_room(
+fn check_in_room(
     rt: &impl Abort,
     alloc: Global,
     example: Example,
     room: (usize, usize),
     (status, ways): (u8, &str),
 ) {
-    let (done, manifests) = in_room(rt, alloc, example, room);
+    let (done, manifests) = run_in_room(rt, alloc, example, room);
     let seen = done.status;
     assert!(rt; seen == status, "status {seen} in place of {status}");
     assert!(rt;
@@ -188,7 +191,7 @@ fn stands_in_room(
 
 /// The numbers of bytes that an example prints on both streams.
 fn lengths(rt: &impl Abort, alloc: Global, example: Example) -> (usize, usize) {
-    let (done, _) = in_room(rt, alloc, example, (ROOM, ROOM));
+    let (done, _) = run_in_room(rt, alloc, example, (ROOM, ROOM));
     (done.out.len(), done.err.len())
 }
 
@@ -197,9 +200,9 @@ fn standard_output_fails_at_each_byte(rt: HostRuntime) {
     let (length, _) = lengths(&rt, rt.alloc(), WORKSPACE);
     for room in 0..length {
         // tables are printed before a manifest is written
-        stands_in_room(&rt, rt.alloc(), WORKSPACE, (room, ROOM), (1, "oooo"));
+        check_in_room(&rt, rt.alloc(), WORKSPACE, (room, ROOM), (1, "oooo"));
     }
-    stands_in_room(&rt, rt.alloc(), WORKSPACE, (length, ROOM), (0, "nnnn"));
+    check_in_room(&rt, rt.alloc(), WORKSPACE, (length, ROOM), (0, "nnnn"));
 }
 
 #[test]
@@ -207,9 +210,9 @@ fn standard_error_fails_at_each_byte(rt: HostRuntime) {
     let (_, length) = lengths(&rt, rt.alloc(), WORKSPACE);
     for room in 0..length {
         // notes are printed after the manifests are written
-        stands_in_room(&rt, rt.alloc(), WORKSPACE, (ROOM, room), (1, "oooo nnnn"));
+        check_in_room(&rt, rt.alloc(), WORKSPACE, (ROOM, room), (1, "oooo nnnn"));
     }
-    stands_in_room(&rt, rt.alloc(), WORKSPACE, (ROOM, length), (0, "nnnn"));
+    check_in_room(&rt, rt.alloc(), WORKSPACE, (ROOM, length), (0, "nnnn"));
 }
 
 #[test]
@@ -217,7 +220,7 @@ fn standard_error_fails_at_new_versions(rt: HostRuntime) {
     let (_, length) = lengths(&rt, rt.alloc(), VERSIONS);
     for room in 0..length {
         // everything is printed before a manifest is written
-        stands_in_room(&rt, rt.alloc(), VERSIONS, (0, room), (1, "ooo"));
+        check_in_room(&rt, rt.alloc(), VERSIONS, (0, room), (1, "ooo"));
     }
-    stands_in_room(&rt, rt.alloc(), VERSIONS, (0, length), (0, "nnn"));
+    check_in_room(&rt, rt.alloc(), VERSIONS, (0, length), (0, "nnn"));
 }

@@ -1,6 +1,6 @@
 //! Tests of the program where a call of the files fails, or where standard output is full. Other tests are
 //! in tests/cases.
-use crate::rows::{ROOM, faultless, field, kept, must, ran, same};
+use crate::rows::{ROOM, check_result, faultless, field, run_args_in, unwrap_alloc, unwrap_ok};
 use edit_store::{FaultStore, MemoryStore, Store};
 use std::alloc::Global;
 use std::process::Abort;
@@ -95,7 +95,7 @@ fn stored(rt: &impl Abort, alloc: Global, letters: &str) -> MemoryStore {
     let mut files = MemoryStore::new(alloc);
     for letter in letters.chars() {
         let (path, text) = file(letter);
-        must(rt, files.write(alloc, path, text.as_bytes()));
+        unwrap_ok(rt, files.write(alloc, path, text.as_bytes()));
     }
     files
 }
@@ -112,37 +112,37 @@ fn stands<S: Store>(alloc: Global, letter: char, files: &mut S) -> bool {
 /// The output of a run with these arguments, after the exit status.
 fn outcome(rt: &impl Abort, alloc: Global, words: &str, files: &mut FaultStore) -> String {
     let index = faultless(MemoryStore::new(alloc));
-    let done = ran(rt, alloc, words, files, index, (ROOM, ROOM));
-    kept(
+    let done = run_args_in(rt, alloc, words, files, index, (ROOM, ROOM));
+    unwrap_alloc(
         rt,
         format!(in alloc; "{} {}{}", done.status, done.out, done.err),
     )
 }
 
 /// Runs a row: the output, and which of its last files have other contents.
-fn seen_of(rt: &impl Abort, alloc: Global, row: &str) -> String {
+fn run_row(rt: &impl Abort, alloc: Global, row: &str) -> String {
     let at = field(row, 2).parse().expect(rt, "a number");
     let mut files = FaultStore::new(stored(rt, alloc, field(row, 1)), at, 4);
     let mut seen = outcome(rt, alloc, field(row, 3), &mut files);
     for letter in field(row, 4).chars() {
         if !stands(alloc, letter, &mut files) {
-            kept(rt, seen.push(letter));
+            unwrap_alloc(rt, seen.push(letter));
         }
     }
     seen
 }
 
 /// Runs an upgrade whose standard output accepts five bytes.
-fn seen_without_room(rt: &impl Abort, alloc: Global) -> String {
+fn run_without_room(rt: &impl Abort, alloc: Global) -> String {
     let mut files = faultless(stored(rt, alloc, "mi"));
     let index = faultless(MemoryStore::new(alloc));
-    let done = ran(rt, alloc, WORDS, &mut files, index, (5, ROOM));
+    let done = run_args_in(rt, alloc, WORDS, &mut files, index, (5, ROOM));
     let after = if stands(alloc, 'm', &mut files) {
         "manifest"
     } else {
         "other"
     };
-    kept(
+    unwrap_alloc(
         rt,
         format!(in alloc; "{} {after} {}", done.status, done.err),
     )
@@ -151,13 +151,13 @@ fn seen_without_room(rt: &impl Abort, alloc: Global) -> String {
 #[test]
 fn calls_that_fail(rt: HostRuntime) {
     for row in ROWS.split('§') {
-        let seen = seen_of(&rt, rt.alloc(), row);
-        same(&rt, row, seen.as_str(), field(row, 5));
+        let seen = run_row(&rt, rt.alloc(), row);
+        check_result(&rt, row, seen.as_str(), field(row, 5));
     }
 }
 
 #[test]
 fn no_room(rt: HostRuntime) {
-    let seen = seen_without_room(&rt, rt.alloc());
-    same(&rt, "no room", seen.as_str(), UNWRITTEN);
+    let seen = run_without_room(&rt, rt.alloc());
+    check_result(&rt, "no room", seen.as_str(), UNWRITTEN);
 }

@@ -21,14 +21,14 @@ pub(crate) struct Outcome {
 }
 
 /// Unwraps the result of a call that must succeed; ends the test where it failed.
-pub(crate) fn must<T: Drop>(rt: &impl Abort, answer: CargoResult<T>) -> T
+pub(crate) fn unwrap_ok<T: Drop>(rt: &impl Abort, answer: CargoResult<T>) -> T
     ensures { answer ≡ Ok result }
 {
     answer.expect(rt, "an answer")
 }
 
 /// Unwraps the result of a call that fails only where memory runs out; ends the test where it failed.
-pub(crate) fn kept<T: Drop>(rt: &impl Abort, answer: Result<T, AllocError>) -> T
+pub(crate) fn unwrap_alloc<T: Drop>(rt: &impl Abort, answer: Result<T, AllocError>) -> T
     ensures { answer ≡ Ok result }
 {
     answer.expect(rt, "memory")
@@ -40,7 +40,7 @@ pub(crate) fn field(row: &str, n: usize) -> &str {
 }
 
 /// Ends a test where a row has another result than expected.
-pub(crate) fn same(rt: &impl Abort, row: &str, seen: &str, want: &str) {
+pub(crate) fn check_result(rt: &impl Abort, row: &str, seen: &str, want: &str) {
     assert!(rt; seen == want, "{row}: {seen:?} in place of {want:?}");
 }
 
@@ -53,12 +53,12 @@ pub(crate) fn faultless(files: MemoryStore) -> FaultStore {
 fn text_in(rt: &impl Abort, alloc: Global, room: &[u8; ROOM], length: usize) -> String {
     let bytes = room.get(..length).expect(rt, "room");
     let text = str::from_utf8(bytes).expect(rt, "UTF-8");
-    kept(rt, String::from_str(alloc, text))
+    unwrap_alloc(rt, String::from_str(alloc, text))
 }
 
 /// Runs words in `/w` over files and an index, with streams that take so many bytes. (All tests run it at
 /// these types, since each further choice of types is compiled anew.)
-pub(crate) fn ran(
+pub(crate) fn run_args_in(
     rt: &impl Abort,
     alloc: Global,
     words: &str,
@@ -66,7 +66,7 @@ pub(crate) fn ran(
     index: FaultStore,
     (out_length, err_length): (usize, usize),
 ) -> Outcome {
-    let words: Vec<&str> = kept(rt, words.split_ascii_whitespace().collect(alloc));
+    let words: Vec<&str> = unwrap_alloc(rt, words.split_ascii_whitespace().collect(alloc));
     let mut out_room = [0u8; ROOM];
     let mut err_room = [0u8; ROOM];
     let mut out = out_room.get_mut(..out_length).expect(rt, "room");

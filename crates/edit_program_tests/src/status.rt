@@ -1,5 +1,5 @@
 //! Tests of the exit status of a run, of the manifest after it, and of the end of standard error.
-use crate::rows::{ROOM, faultless, field, must, ran, same};
+use crate::rows::{ROOM, check_result, faultless, field, run_args_in, unwrap_ok};
 use edit_store::{FaultStore, MemoryStore, Store};
 use std::alloc::Global;
 use std::process::Abort;
@@ -33,8 +33,8 @@ Error: dependency other doesn't exist
 /// A folder with a manifest and an index file.
 fn laid_out(rt: &impl Abort, alloc: Global) -> FaultStore {
     let mut files = MemoryStore::new(alloc);
-    must(rt, files.write(alloc, "/w/Cargo.toml", MANIFEST.as_bytes()));
-    must(rt, files.write(alloc, "/w/index.json", INDEX.as_bytes()));
+    unwrap_ok(rt, files.write(alloc, "/w/Cargo.toml", MANIFEST.as_bytes()));
+    unwrap_ok(rt, files.write(alloc, "/w/index.json", INDEX.as_bytes()));
     faultless(files)
 }
 
@@ -61,10 +61,10 @@ fn manifest_state(alloc: Global, files: &mut FaultStore) -> &'static str {
 fn check_row(rt: &impl Abort, alloc: Global, row: &str) {
     let mut files = laid_out(rt, alloc);
     let index = faultless(MemoryStore::new(alloc));
-    let done = ran(rt, alloc, field(row, 1), &mut files, index, (ROOM, ROOM));
+    let done = run_args_in(rt, alloc, field(row, 1), &mut files, index, (ROOM, ROOM));
     let status = field(row, 2).parse().expect(rt, "a number");
     assert!(rt; done.status == status, "{row}: status {}", done.status);
-    same(rt, row, manifest_state(alloc, &mut files), field(row, 3));
+    check_result(rt, row, manifest_state(alloc, &mut files), field(row, 3));
     let err = done.err.as_str().trim_end();
     assert!(rt; err.ends_with(field(row, 4).trim_end()), "{row}: {err:?}");
 }

@@ -5,38 +5,38 @@ use Rattle.edit_tree.specs.Assertions.{Step, Place, at, index}
 use Rattle.edit_document.specs.ItemViews.{document_of, place_of}
 use Rattle.edit_document.specs.Items.{is_static_array, is_tabular, string_in, truth_in, type_name_of}
 use Rattle.edit_document.specs.declared.item.Item.{Item}
-use Rattle.edit_tree.specs.Shown.{Shown, tree_of}
+use Rattle.edit_tree.specs.DocumentViews.{DocumentViews, tree_of}
 use Rattle.edit_tree.specs.Tree.{View, string, truth, static_array, inline_table, table}
 use Rattle.edit_record.specs.EntryRecords.{Refusal, wrong_type, workspace_false, unknown_entry}
 use Rattle.edit_record.specs.ReadEntries.{Tree, below, and_then, entry_record, feature_texts, first_texts, table_record, text_of, true_workspace}
-use Rattle.edit_record.specs.RecordViews.{IsRefused, Tells, shown_at}
+use Rattle.edit_record.specs.RecordViews.{IsErrorOfResult, IsErrorOf, item_tree}
 
 -- an error of a result
 pub told_refusal : {A : Type 0} (r : Refusal) (told : Result A Refusal) (e : Error) →
-    told ≡ Err r → Tells r e → IsRefused told e
+    told ≡ Err r → IsErrorOf r e → IsErrorOfResult told e
 told_refusal r told e is tells = inr (r, is, tells)
 
 -- an error is not changed by what follows
 pub refusal_stays : {A B : Type 0} (told : Result A Refusal) (f : A → Result B Refusal) (e : Error) →
-    IsRefused told e → IsRefused (and_then told f) e
+    IsErrorOfResult told e → IsErrorOfResult (and_then told f) e
 refusal_stays told f e (inl memory) = inl memory
 refusal_stays told f e (inr h) = inr (h.0, ap (λ x. and_then x f) h.1, h.2)
 
 -- an error of what follows a value
 pub refusal_past : {A B : Type 0} (told : Result A Refusal) (f : A → Result B Refusal) (x : A) (e : Error) →
-    told ≡ Ok x → IsRefused (f x) e → IsRefused (and_then told f) e
+    told ≡ Ok x → IsErrorOfResult (f x) e → IsErrorOfResult (and_then told f) e
 refusal_past told f x e is refused = rw is refused
 
 -- ---- members
 
 -- a member that is no string
 pub no_text : (dep name : List ℕ) (v : View) (e : Error) → None ≡ string_in v →
-    Tells (wrong_type (type_name_of v) name (codes "string") dep) e → IsRefused (text_of dep name v) e
+    IsErrorOf (wrong_type (type_name_of v) name (codes "string") dep) e → IsErrorOfResult (text_of dep name v) e
 no_text dep name v e none tells =
     rw (← none) (inr (wrong_type (type_name_of v) name (codes "string") dep, refl, tells))
 
 -- the tree below a key, as part of the entry's own tree
-pub shown_below : (d : Shown) (p : Place) (s : Step) →
+pub shown_below : (d : DocumentViews) (p : Place) (s : Step) →
     below (tree_of d) (at p s) ≡ below (below (tree_of d) p) (s ∷ [])
 shown_below d [] s = refl
 shown_below d (x ∷ p) s = λ i rest. tree_of d (x ∷ (long p rest i))
@@ -67,7 +67,7 @@ refused_later t dep k (suc j) r e = rw (add-suc k j) (rw (refused_later t dep k 
 -- an element that is no string
 pub wrong_element : (t : Tree) (dep : List ℕ) (n m : ℕ) (ss : List (List ℕ)) (v : View) (e : Error) →
     first_texts t dep n ≡ Ok ss → t (index n ∷ []) ≡ Some v →
-    IsRefused (text_of dep (codes "features") v) e → n < m → IsRefused (first_texts t dep m) e
+    IsErrorOfResult (text_of dep (codes "features") v) e → n < m → IsErrorOfResult (first_texts t dep m) e
 wrong_element t dep n m ss v e first there (inl memory) lt = inl memory
 wrong_element t dep n m ss v e first there (inr h) lt =
     let more : m ≡ suc n + (m - suc n) = omega arith in
@@ -78,30 +78,30 @@ wrong_element t dep n m ss v e first there (inr h) lt =
 
 -- no array
 pub no_array : (t : Tree) (dep : List ℕ) (v : View) (e : Error) → is_static_array v ≡ false →
-    Tells (wrong_type (type_name_of v) (codes "features") (codes "array") dep) e →
-    IsRefused (feature_texts t dep v) e
+    IsErrorOf (wrong_type (type_name_of v) (codes "features") (codes "array") dep) e →
+    IsErrorOfResult (feature_texts t dep v) e
 no_array t dep (static_array n) e is tells = absurd (cc)
 no_array t dep v e is tells =
     inr (wrong_type (type_name_of v) (codes "features") (codes "array") dep, refl, tells)
 
 -- not true
 pub false_workspace : (dep : List ℕ) (v : View) (e : Error) → Some false ≡ truth_in v →
-    Tells (workspace_false dep) e → IsRefused (true_workspace dep v) e
+    IsErrorOf (workspace_false dep) e → IsErrorOfResult (true_workspace dep v) e
 false_workspace dep (truth true) e is tells = absurd (cc)
 false_workspace dep (truth false) e is tells = inr (workspace_false dep, refl, tells)
 false_workspace dep v e is tells = absurd (cc)
 
 -- no boolean
 pub no_truth : (dep : List ℕ) (v : View) (e : Error) → None ≡ truth_in v →
-    Tells (wrong_type (type_name_of v) (codes "workspace") (codes "bool") dep) e →
-    IsRefused (true_workspace dep v) e
+    IsErrorOf (wrong_type (type_name_of v) (codes "workspace") (codes "bool") dep) e →
+    IsErrorOfResult (true_workspace dep v) e
 no_truth dep (truth b) e is tells = absurd (cc)
 no_truth dep v e is tells =
     inr (wrong_type (type_name_of v) (codes "workspace") (codes "bool") dep, refl, tells)
 
 -- neither a string nor a table
 pub no_entry : (t : Tree) (root dep : List ℕ) (v : View) (e : Error) → None ≡ string_in v →
-    is_tabular v ≡ false → Tells (unknown_entry dep) e → IsRefused (entry_record t root dep (Some v)) e
+    is_tabular v ≡ false → IsErrorOf (unknown_entry dep) e → IsErrorOfResult (entry_record t root dep (Some v)) e
 no_entry t root dep (string s) e none flat tells = absurd (cc)
 no_entry t root dep (table members) e none flat tells = absurd (cc)
 no_entry t root dep (inline_table members) e none flat tells = absurd (cc)
@@ -117,6 +117,7 @@ table_entry t root dep v is = absurd cc
 -- ---- trees
 
 -- the tree of a key's value is the part of the entry's tree below that key
-pub member_tree : (i : Item) (d : Shown) (p : Place) (s : Step) → document_of i ≡ d → place_of i ≡ at p s →
-    shown_at i ≡ below (below (tree_of d) p) (s ∷ [])
+pub member_tree : (i : Item) (d : DocumentViews) (p : Place) (s : Step) → document_of i ≡ d
+    → place_of i ≡ at p s →
+    item_tree i ≡ below (below (tree_of d) p) (s ∷ [])
 member_tree i d p s same there = (λ j. below (tree_of (same j)) (there j)) ∙ shown_below d p s

@@ -8,7 +8,7 @@ use Rattle.edit_tree.specs.Assertions.{same_bytes}
 use Rattle.edit_record.specs.EntryRecords.{Repository, Origin, from_registry, from_path, from_git, from_workspace, EntryRecord, Refusal, key_of}
 use Rattle.edit_record.specs.NewEntries.{Member, origin_members, option_members, repository_members, path_members, written_registry, written_name}
 use Rattle.edit_record.specs.ReadEntries.{names_by, origin_at, table_record}
-use Rattle.edit_record.specs.ReadsAgain.{IsPlainSource}
+use Rattle.edit_record.specs.HasRoundTrip.{IsPlainSource}
 use Rattle.edit_record.specs.RelativePaths.{path_field}
 use Rattle.edit_record.proofs.NewMembers.{held, held-past, past-where, other-where, options-lack, held-registry, held-package, held-default, held-features, held-optional, shown, text-held, truth-held, list-held}
 

@@ -9,7 +9,7 @@ use Rattle.std.proofs.lemmas.Option.{slice_get-get_or}
 use Rattle.edit_tree.specs.Assertions.{same_bytes, key, index}
 use Rattle.edit_tree.proofs.SamePlace.{same_bytes_self}
 use Rattle.edit_tree.specs.Tree.{string}
-use Rattle.edit_tree.specs.Meant.{item_view}
+use Rattle.edit_tree.specs.IntendedTrees.{item_view}
 use Rattle.edit_tree.specs.NewItems.{NewValue, a_string, a_truth, a_list, a_table}
 use Rattle.edit_record.specs.EntryRecords.{EntryRecord}
 use Rattle.edit_record.specs.NewEntries.{Member, where_there, written_registry, written_name, option_members}

@@ -2,12 +2,12 @@
 use Rattle.std.proofs.Common.{◌≡◌, [], refl}
 use Rattle.std.specs.Prelude.{ℕ, true, false, List, ◌∷◌, Some, None, Result, Ok, Err, codes}
 use Rattle.edit_tree.specs.Assertions.{key}
-use Rattle.edit_tree.specs.Shown.{node_at}
+use Rattle.edit_tree.specs.DocumentViews.{node_at}
 use Rattle.edit_tree.specs.Tree.{string, truth, whole, table_array, table}
 use Rattle.edit_record.specs.EntryRecords.{EntryRecord, from_registry, from_path, from_git, from_workspace, Refusal, wrong_type, workspace_false, unknown_source, old_default_features, unknown_entry, bare_record}
 use Rattle.edit_record.specs.EntryTexts.{origin_text, record_text}
 use Rattle.edit_record.specs.ReadEntries.{repository, record_of}
-use Rattle.edit_record.specs.RecordViews.{refusal_text}
+use Rattle.edit_record.specs.RecordViews.{entry_error_text}
 use Rattle.edit_record.proofs.SampleEntries.{x, foo, one_string, entry, reads, says, flag, number, with_features}
 
 -- ---- entries that can be read
@@ -92,7 +92,7 @@ no_text name = Err (wrong_type (codes "integer") name (codes "string") x)
 pub version_number : reads (entry (number (codes "version") ∷ [])) ≡ no_text (codes "version")
 version_number = refl
 
-pub version_number_told : refusal_text (wrong_type (codes "integer") (codes "version") (codes "string") x)
+pub version_number_told : entry_error_text (wrong_type (codes "integer") (codes "version") (codes "string") x)
     ≡ codes "Found integer for version when string was expected for x"
 version_number_told = refl
 
@@ -100,7 +100,7 @@ version_number_told = refl
 pub workspace_is_false : reads (entry ((codes "workspace", truth false) ∷ [])) ≡ Err (workspace_false x)
 workspace_is_false = refl
 
-pub workspace_false_told : refusal_text (workspace_false x) ≡ codes "`x.workspace = false` is unsupported"
+pub workspace_false_told : entry_error_text (workspace_false x) ≡ codes "`x.workspace = false` is unsupported"
 workspace_false_told = refl
 
 -- `x = 1`, `[[dependencies.x]]`, and nothing at all

@@ -9,9 +9,9 @@ use Rattle.std.proofs.lemmas.List.Elements.{All-head, All-tail, All-nil, All-con
 use Rattle.std.proofs.lemmas.List.Splits.{slice_split-cons_yes, slice_split-cons_no, slice_split_none, slice_split_at}
 use Rattle.edit_base.specs.Paths.{joined, parts_of}
 use Rattle.edit_tree.proofs.SamePlace.{same_bytes_self}
-use Rattle.edit_record.proofs.RelativeTexts.{slashed-none}
+use Rattle.edit_record.proofs.RelativeTexts.{replace_backslashes-none}
 use Rattle.edit_tree.specs.Assertions.{same_bytes}
-use Rattle.edit_record.specs.RelativePaths.{is_kept, names_of, steps_between, relative_of, slashed, path_field}
+use Rattle.edit_record.specs.RelativePaths.{is_kept, names_of, steps_between, relative_of, replace_backslashes, path_field}
 
 -- ---- segments
 
@@ -234,5 +234,5 @@ pub path-again : (path root : List ℕ) → All (λ b. b ≢ 92) path
     → path_field root (joined root (path_field root path)) ≡ path_field root path
 path-again path root h =
     ap (λ f. path_field root (joined root f))
-    (slashed-none (relative_of path root) (relative-whole path root h))
-    ∙ ap slashed (relative-again path root)
+    (replace_backslashes-none (relative_of path root) (relative-whole path root h))
+    ∙ ap replace_backslashes (relative-again path root)

@@ -12,18 +12,18 @@ use Rattle.std.proofs.lemmas.List.Elements.{All-head, All-tail, filter-append}
 use Rattle.std.proofs.lemmas.Str.Pattern.{NoCharPasses-char, drop_at_char}
 use Rattle.edit_tree.specs.Assertions.{same_bytes}
 use Rattle.edit_tree.proofs.SamePlace.{same_bytes_self, same_bytes_is}
-use Rattle.edit_base.specs.Paths.{parts_of, IsIdle, Named, none, drop as named_drop, take as named_take, BeginApart, IsRelative}
-use Rattle.edit_record.specs.RelativePaths.{is_kept, names_of, steps_between, relative_of, slash_for, slashed}
+use Rattle.edit_base.specs.Paths.{parts_of, IsEmptyOrDot, Named, none, drop as named_drop, take as named_take, BeginApart, IsRelative}
+use Rattle.edit_record.specs.RelativePaths.{is_kept, names_of, steps_between, relative_of, slash_for, replace_backslashes}
 
 -- ---- relative paths
 
 -- a segment that is empty or `.` is left out
-idle-lost : (part : List ℕ) → IsIdle part → is_kept part ≡ false
+idle-lost : (part : List ℕ) → IsEmptyOrDot part → is_kept part ≡ false
 idle-lost part (inl e) = rw e refl
 idle-lost part (inr e) = rw e refl
 
 -- a segment that is neither empty nor `.` stays
-other-kept : (part : List ℕ) → (IsIdle part → ⊥) → is_kept part ≡ true
+other-kept : (part : List ℕ) → (IsEmptyOrDot part → ⊥) → is_kept part ≡ true
 other-kept part h = elim (cases_Bool (same_bytes part [])) [
   | inl e ↦ absurd (h (inl (same_bytes_is part [] e)))
   | inr e ↦ elim (cases_Bool (same_bytes part (codes "."))) [
@@ -65,11 +65,11 @@ relative-is to from text r =
 -- ---- slashes
 
 -- a text without a backslash is unchanged
-pub slashed-none : (text : List ℕ) → All (λ b. b ≢ 92) text → slashed text ≡ text
-slashed-none [] h = refl
-slashed-none (b ∷ bs) h = elim (cases_Bool (b == 92)) [
+pub replace_backslashes-none : (text : List ℕ) → All (λ b. b ≢ 92) text → replace_backslashes text ≡ text
+replace_backslashes-none [] h = refl
+replace_backslashes-none (b ∷ bs) h = elim (cases_Bool (b == 92)) [
   | inl e ↦ absurd (All-head (λ x. x ≢ 92) b bs h (eqb-true b 92 e))
-  | inr e ↦ rw e (ap (λ l. b ∷ l) (slashed-none bs (All-tail (λ x. x ≢ 92) b bs h)))
+  | inr e ↦ rw e (ap (λ l. b ∷ l) (replace_backslashes-none bs (All-tail (λ x. x ≢ 92) b bs h)))
 ]
 
 -- the text before the first backslash has none
@@ -78,22 +78,22 @@ no-backslash p text is h = λ k d l e.
     NoCharPasses-char p text k h (omega arith) l (get_or_default text k 0 d l ∙ e ∙ sym is)
 
 -- a text around its first backslash
-slashed-at : (p a b : ℕ) (text : List ℕ) → p ≡ 92 → NoCharPasses (λ d. d == p) (take a text)
-    → HasCharAt p text a b → slashed text ≡ take a text ++ 47 ∷ slashed (drop b text)
-slashed-at p a b text is lacks at =
+replace_backslashes-at : (p a b : ℕ) (text : List ℕ) → p ≡ 92 → NoCharPasses (λ d. d == p) (take a text)
+    → HasCharAt p text a b → replace_backslashes text ≡ take a text ++ 47 ∷ replace_backslashes (drop b text)
+replace_backslashes-at p a b text is lacks at =
     let split : text ≡ take a text ++ 92 ∷ drop b text =
     sym (take-append-drop a text)
     ∙ ap (λ t. take a text ++ t) (drop_at_char p text a b at (omega arith) ∙ ap (λ c. c ∷ drop b text) is) in
-    ap slashed split ∙ map-append slash_for (take a text) (92 ∷ drop b text)
-    ∙ ap (λ t. t ++ 47 ∷ slashed (drop b text))
-    (slashed-none (take a text) (no-backslash p (take a text) is lacks))
+    ap replace_backslashes split ∙ map-append slash_for (take a text) (92 ∷ drop b text)
+    ∙ ap (λ t. t ++ 47 ∷ replace_backslashes (drop b text))
+    (replace_backslashes-none (take a text) (no-backslash p (take a text) is lacks))
 
 -- after each backslash is replaced, the text has only slashes
-pub replaced-slashed : (n p : ℕ) (text out : List ℕ) → p ≡ 92
-    → ReplacesMatches FindsChar (λ a b. b ≡ a) (codes "/") n p text out → out ≡ slashed text
-replaced-slashed zero p text out is h = h.1 ∙ sym (slashed-none text (no-backslash p text is h.0))
-replaced-slashed (suc n) p text out is (a, b, q, rest, finds, same, inl more, made) =
-    made ∙ ap (λ t. take a text ++ 47 ∷ t) (replaced-slashed n q (drop b text) rest (same ∙ is) more.1)
-    ∙ sym (slashed-at p a b text is finds.0 finds.1)
-replaced-slashed (suc n) p text out is (a, b, q, rest, finds, same, inr more, made) =
+pub replaced-replace_backslashes : (n p : ℕ) (text out : List ℕ) → p ≡ 92
+    → ReplacesMatches FindsChar (λ a b. b ≡ a) (codes "/") n p text out → out ≡ replace_backslashes text
+replaced-replace_backslashes zero p text out is h = h.1 ∙ sym (replace_backslashes-none text (no-backslash p text is h.0))
+replaced-replace_backslashes (suc n) p text out is (a, b, q, rest, finds, same, inl more, made) =
+    made ∙ ap (λ t. take a text ++ 47 ∷ t) (replaced-replace_backslashes n q (drop b text) rest (same ∙ is) more.1)
+    ∙ sym (replace_backslashes-at p a b text is finds.0 finds.1)
+replaced-replace_backslashes (suc n) p text out is (a, b, q, rest, finds, same, inr more, made) =
     absurd (omega (arith, more.0, finds.1.ends, len_utf8_ascii p (omega (arith, is))))

@@ -2,13 +2,13 @@
 use Rattle.std.proofs.Common.{◌≡◌, ℕ, Bool, true, false, List, [], ◌∷◌, ◌++◌, refl, ap, sym, subst, ◌∙◌, Option, Some, None, append-nil}
 use Rattle.std.specs.Prelude.{Result, Ok, option_map, is_some, if◌then◌else◌, option_and_then, unwrap_or, IsSome, IfSome, IsOkAnd, codes}
 use Rattle.edit_tree.specs.NewItems.{NewItem, a_string, a_value}
-use Rattle.edit_tree.specs.Meant.{item_view}
+use Rattle.edit_tree.specs.IntendedTrees.{item_view}
 use Rattle.edit_version.specs.Requirement.{cut}
 use Rattle.edit_tree.specs.Assertions.{Place}
 use Rattle.edit_record.specs.EntryRecords.{Origin, from_registry, from_path, from_git, from_workspace, EntryRecord, Refusal, origin_version, key_of}
 use Rattle.edit_record.specs.NewEntries.{origin_members, option_members, written_registry, is_short, full_item, item_by, item_of}
 use Rattle.edit_record.specs.ReadEntries.{Tree, below, entry_record, names_by, table_record, record_of}
-use Rattle.edit_record.specs.ReadsAgain.{IsPlainSource, IsPlain, ReadsAgain}
+use Rattle.edit_record.specs.HasRoundTrip.{IsPlainSource, IsPlain, HasRoundTrip}
 use Rattle.edit_record.proofs.RelativeAgain.{path-again}
 use Rattle.edit_version.specs.Laws.{holds_plus}
 use Rattle.edit_version.proofs.NoPlus.{cut-none}
@@ -95,7 +95,7 @@ table-reads : (root : List ℕ) (r : EntryRecord) (origin : Origin) → r.origin
     → IsPlainSource r.registry origin → IfSome (origin_version origin) (λ v. holds_plus v ≡ false)
     → item_of root (read_again r (origin_again root origin))
     ≡ full_item root (read_again r (origin_again root origin))
-    → ReadsAgain root (key_of r) (full_item root r)
+    → HasRoundTrip root (key_of r) (full_item root r)
 table-reads root r origin is plain whole full =
     known (λ again. item_of root again ≡ full_item root r) _ (read_again r (origin_again root origin))
     (table-read root r origin is plain) (full ∙ full-again root r origin is plain whole)
@@ -121,7 +121,7 @@ short-again r origin kept = rw (kept, names-again r.name r.rename) refl
 registry-reads : (root version : List ℕ) (r : EntryRecord) (short : Bool)
     → r.origin ≡ Some (from_registry version)
     → holds_plus version ≡ false → is_short r ≡ short
-    → ReadsAgain root (key_of r) (item_by root r (Some (from_registry version)) short)
+    → HasRoundTrip root (key_of r) (item_by root r (Some (from_registry version)) short)
 registry-reads root version r true is whole e = ap (λ v. a_value (a_string v)) (cut-none version whole)
 registry-reads root version r false is whole e =
     let kept = registry-kept r (from_registry version) is refl in
@@ -131,7 +131,7 @@ registry-reads root version r false is whole e =
 -- a dependency with a workspace source
 workspace-reads : (root : List ℕ) (r : EntryRecord) (short : Bool) → r.origin ≡ Some from_workspace
     → r.registry ≡ None → is_short r ≡ short
-    → ReadsAgain root (key_of r) (item_by root r (Some from_workspace) short)
+    → HasRoundTrip root (key_of r) (item_by root r (Some from_workspace) short)
 workspace-reads root r true is none e = refl
 workspace-reads root r false is none e =
     let short = short-again r from_workspace (no-registry r none) in
@@ -140,7 +140,7 @@ workspace-reads root r false is none e =
 -- a dependency with any source
 source-reads : (root : List ℕ) (r : EntryRecord) (origin : Origin) → r.origin ≡ Some origin
     → IsPlainSource r.registry origin → IfSome (origin_version origin) (λ v. holds_plus v ≡ false)
-    → ReadsAgain root (key_of r) (item_by root r (Some origin) (is_short r))
+    → HasRoundTrip root (key_of r) (item_by root r (Some origin) (is_short r))
 source-reads root r (from_registry version) is plain whole =
     registry-reads root version r (is_short r) is whole refl
 source-reads root r (from_path path version) is plain whole =
@@ -149,18 +149,19 @@ source-reads root r (from_git g) is plain whole = table-reads root r (from_git g
 source-reads root r from_workspace is plain whole = workspace-reads root r (is_short r) is plain refl
 
 -- the law
-pub reads-again : (root : List ℕ) (r : EntryRecord) → IsPlain r → ReadsAgain root (key_of r) (item_of root r)
+pub reads-again : (root : List ℕ) (r : EntryRecord) → IsPlain r
+    → HasRoundTrip root (key_of r) (item_of root r)
 reads-again root r plain = by r.origin refl plain.sourced plain.plain plain.no_plus
   where
     by : (o : Option Origin) → r.origin ≡ o → IsSome o → IfSome o (IsPlainSource r.registry)
         → IfSome (option_and_then origin_version o) (λ version. holds_plus version ≡ false)
-        → ReadsAgain root (key_of r) (item_by root r o (is_short r))
+        → HasRoundTrip root (key_of r) (item_by root r o (is_short r))
     by None is some plain whole = absurd cc
     by (Some origin) is some plain whole = source-reads root r origin is plain whole
 
 -- an entry is read back wherever it is in a tree
 pub reads-there : (t : Tree) (place : Place) (root dep : List ℕ) (item : NewItem)
-    → ((q : Place) → t (place ++ q) ≡ item_view false item q) → ReadsAgain root dep item
+    → ((q : Place) → t (place ++ q) ≡ item_view false item q) → HasRoundTrip root dep item
     → IsOkAnd (record_of t place root dep) (λ again. item_of root again ≡ item)
 reads-there t place root dep item there again =
     let whole : below t place ≡ item_view false item = λ i q. there q i in

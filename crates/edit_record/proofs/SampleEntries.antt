@@ -2,7 +2,7 @@
 use Rattle.std.proofs.Common.{[]}
 use Rattle.std.specs.Prelude.{ℕ, true, List, ◌∷◌, ◌++◌, map, Result, codes}
 use Rattle.edit_tree.specs.Assertions.{key, index, Place}
-use Rattle.edit_tree.specs.Shown.{node_at}
+use Rattle.edit_tree.specs.DocumentViews.{node_at}
 use Rattle.edit_tree.specs.Tree.{View, string, truth, whole, static_array, inline_table}
 use Rattle.edit_record.specs.EntryRecords.{EntryRecord, Refusal}
 use Rattle.edit_record.specs.ReadEntries.{Tree, record_of}

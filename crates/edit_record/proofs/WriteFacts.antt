@@ -1,7 +1,7 @@
 -- Examples of new entries, and of the results of reading them back.
 use Rattle.std.proofs.Common.{◌≡◌, [], refl}
 use Rattle.std.specs.Prelude.{ℕ, true, false, List, ◌∷◌, ◌++◌, Some, None, Result, Ok, codes}
-use Rattle.edit_tree.specs.Meant.{item_view}
+use Rattle.edit_tree.specs.IntendedTrees.{item_view}
 use Rattle.edit_tree.specs.NewItems.{NewValue, a_string, a_truth, a_list, NewItem, a_value, a_table}
 use Rattle.edit_record.specs.EntryRecords.{Repository, EntryRecord, from_registry, from_path, from_git, from_workspace, Refusal, bare_record, key_of}
 use Rattle.edit_record.specs.NewEntries.{item_of}

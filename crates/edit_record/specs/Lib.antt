@@ -6,5 +6,5 @@ pub mod RecordViews
 pub mod Finding
 pub mod RelativePaths
 pub mod NewEntries
-pub mod ReadsAgain
+pub mod HasRoundTrip
 pub mod EachOnce

@@ -5,7 +5,7 @@ use Rattle.edit_base.specs.Errors.{IsMemory}
 use Rattle.edit_base.specs.declared.errors.Error.{Error}
 use Rattle.edit_base.specs.declared.errors.Error.TheVariants as error
 use Rattle.edit_document.specs.ItemViews.{document_of, place_of}
-use Rattle.edit_tree.specs.Shown.{tree_of}
+use Rattle.edit_tree.specs.DocumentViews.{tree_of}
 use Rattle.edit_document.specs.declared.item.Item.{Item}
 use Rattle.edit_record.specs.ReadEntries.{Tree, below}
 use Rattle.edit_record.specs.EntryRecords.{EntryRecord, Repository, Origin, from_registry, from_path, from_git, from_workspace, Refusal, wrong_type, workspace_false, unknown_source, old_default_features, unknown_entry}
@@ -86,33 +86,33 @@ available_view d = map (λ e. (string_bytes e.0, texts_view e.1)) d.available_fe
 -- ---- entries
 
 -- the tree at and below an item (own)
-abbrev pub shown_at : Item → Tree
-shown_at i = below (tree_of (document_of i)) (place_of i)
+abbrev pub item_tree : Item → Tree
+item_tree i = below (tree_of (document_of i)) (place_of i)
 
 -- ---- errors
 
 -- the error has the variant and the texts of this model (own)
-abbrev pub Tells : Refusal → Error → Type 0
-Tells (wrong_type found name expected dep) (error.InvalidType a k x d) =
+abbrev pub IsErrorOf : Refusal → Error → Type 0
+IsErrorOf (wrong_type found name expected dep) (error.InvalidType a k x d) =
     (string_bytes a ≡ found) × (string_bytes k ≡ name) × (string_bytes x ≡ expected) × (string_bytes d ≡ dep)
-Tells (workspace_false dep) (error.WorkspaceFalse k) = string_bytes k ≡ dep
-Tells (unknown_source dep) (error.UnknownSource k) = string_bytes k ≡ dep
-Tells (old_default_features dep) (error.OldDefaultFeatures k) = string_bytes k ≡ dep
-Tells (unknown_entry dep) (error.UnknownEntry k) = string_bytes k ≡ dep
-Tells r e = ⊥
+IsErrorOf (workspace_false dep) (error.WorkspaceFalse k) = string_bytes k ≡ dep
+IsErrorOf (unknown_source dep) (error.UnknownSource k) = string_bytes k ≡ dep
+IsErrorOf (old_default_features dep) (error.OldDefaultFeatures k) = string_bytes k ≡ dep
+IsErrorOf (unknown_entry dep) (error.UnknownEntry k) = string_bytes k ≡ dep
+IsErrorOf r e = ⊥
 
 -- the error is that of this result, or lack of memory (own)
-abbrev pub IsRefused : {A : Type 0} → Result A Refusal → Error → Type 0
-IsRefused told e = IsMemory e ⊎ ((r : Refusal) × (told ≡ Err r) × Tells r e)
+abbrev pub IsErrorOfResult : {A : Type 0} → Result A Refusal → Error → Type 0
+IsErrorOfResult told e = IsMemory e ⊎ ((r : Refusal) × (told ≡ Err r) × IsErrorOf r e)
 
 -- the message of an error (own)
-abbrev pub refusal_text : Refusal → List ℕ
-refusal_text (wrong_type found name expected dep) =
+abbrev pub entry_error_text : Refusal → List ℕ
+entry_error_text (wrong_type found name expected dep) =
     codes "Found " ++ (found ++ (codes " for " ++ (name ++ (codes " when " ++ (expected
     ++ (codes " was expected for " ++ dep))))))
-refusal_text (workspace_false dep) = codes "`" ++ (dep ++ codes ".workspace = false` is unsupported")
-refusal_text (unknown_source dep) = codes "Unrecognized dependency source for `" ++ (dep ++ codes "`")
-refusal_text (old_default_features dep) =
+entry_error_text (workspace_false dep) = codes "`" ++ (dep ++ codes ".workspace = false` is unsupported")
+entry_error_text (unknown_source dep) = codes "Unrecognized dependency source for `" ++ (dep ++ codes "`")
+entry_error_text (old_default_features dep) =
     codes "Use of `default_features` in `" ++ (dep
     ++ codes "` is unsupported, please switch to `default-features`")
-refusal_text (unknown_entry dep) = codes "Unrecognized dependency entry format for `" ++ (dep ++ codes "`")
+entry_error_text (unknown_entry dep) = codes "Unrecognized dependency entry format for `" ++ (dep ++ codes "`")

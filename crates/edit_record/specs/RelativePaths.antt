@@ -28,9 +28,9 @@ abbrev pub slash_for : ℕ → ℕ
 slash_for b = if b == 92 then 47 else b
 
 -- a text with each backslash replaced by a slash (own)
-abbrev pub slashed : List ℕ → List ℕ
-slashed text = map slash_for text
+abbrev pub replace_backslashes : List ℕ → List ℕ
+replace_backslashes text = map slash_for text
 
 -- the value of `path`: relative to the root, with slashes only (own)
 abbrev pub path_field : List ℕ → List ℕ → List ℕ
-path_field root path = slashed (relative_of path root)
+path_field root path = replace_backslashes (relative_of path root)

@@ -3,8 +3,8 @@ use Rattle.std.proofs.Common.{◌≡◌, ℕ, List, [], ◌∷◌, ◌++◌, Boo
 use Rattle.std.specs.Prelude.{codes}
 use Rattle.std.specs.List.{flat_map, join_by, list_any}
 use Rattle.std.proofs.lemmas.List.Folds.{flat_map-map}
-use Rattle.edit_report.specs.Table.{Cells, columns, greatest, headings, is_noted, lines_text, line_text, padded, row_cells, table_of, underlines, width}
-use Rattle.edit_report.specs.Widths.{cells_of, column_of, line_width, wide, wide_line}
+use Rattle.edit_report.specs.Table.{Cells, columns, greatest, headings, has_note_text, lines_text, line_text, padded, row_cells, table_of, underlines, width}
+use Rattle.edit_report.specs.Widths.{cells_of, column_of, line_width, wide, sized_line}
 use Rattle.edit_report.specs.declared.lines.Column.{Column}
 use Rattle.edit_report.specs.declared.lines.Line.{Line}
 use Rattle.edit_report.specs.declared.row.Row.{Row}
@@ -36,14 +36,14 @@ join_by-map f g sep (x ∷ xs) = ap (λ ys. f (g x) ++ ys) (flat_map-map (λ y. 
 
 -- the table of rows that are seen through what has them
 pub table_from : {X : Type 0} (view : X → Row) (xs : List X) → 0 < length xs
-    → lines_text (columns (list_any (λ r. is_noted (view r)) xs))
+    → lines_text (columns (list_any (λ r. has_note_text (view r)) xs))
     (headings ∷ underlines ∷ map (λ r. row_cells (view r)) xs)
     ≡ table_of (map view xs)
 table_from view [] some = absurd (omega arith)
 table_from view (x ∷ xs) some =
     ap (λ noted. lines_text (columns noted) (headings ∷ underlines ∷ map (λ r. row_cells (view r)) (x ∷ xs)))
-    (sym (list_any-map is_noted view (x ∷ xs)))
-    ∙ ap (λ cells. lines_text (columns (list_any is_noted (map view (x ∷ xs))))
+    (sym (list_any-map has_note_text view (x ∷ xs)))
+    ∙ ap (λ cells. lines_text (columns (list_any has_note_text (map view (x ∷ xs))))
     (headings ∷ underlines ∷ cells))
     (sym (map-map row_cells view (x ∷ xs)))
 
@@ -61,7 +61,7 @@ join_by-same f g sep e (x ∷ xs) = ap (λ y. y ++ flat_map (λ z. sep ++ f z) x
 
 -- a line in columns with the widths that these lines give
 line_from : (lines : List Line) (cs : List Column) (cells : Cells)
-    → wide_line (map (wide lines) cs) cells ≡ line_text (map cells_of lines) (map column_of cs) cells
+    → sized_line (map (wide lines) cs) cells ≡ line_text (map cells_of lines) (map column_of cs) cells
 line_from lines cs cells = ap (λ t. t ++ 10 ∷ []) (
     join_by-map (λ w. padded w.width (column_of w.column cells)) (wide lines) (codes " ") cs
     ∙ join_by-same _ _ (codes " ") (λ c. ap (λ n. padded n (column_of c cells)) (width_from lines c)) cs
@@ -70,7 +70,7 @@ line_from lines cs cells = ap (λ t. t ++ 10 ∷ []) (
 
 -- the lines in columns with their widths are the text of the table with these lines
 pub lines_from : (lines : List Line) (cs : List Column)
-    → flat_map (λ l. wide_line (map (wide lines) cs) (cells_of l)) lines
+    → flat_map (λ l. sized_line (map (wide lines) cs) (cells_of l)) lines
     ≡ lines_text (map column_of cs) (map cells_of lines)
 lines_from lines cs =
     flat_map-same _ _ (λ l. line_from lines cs (cells_of l)) lines

@@ -1,4 +1,4 @@
-pub mod Shown
+pub mod ShownRows
 pub mod Table
 pub mod Widths
 pub mod Applied

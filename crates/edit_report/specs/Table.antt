@@ -1,7 +1,7 @@
 -- The table of a report, as text: lines of cells, each cell as wide as the widest of its column.
 use Rattle.std.specs.Prelude.{ℕ, ◌-◌, max, List, [], ◌∷◌, ◌++◌, length, map, fold, filter, nat_lt, replicate, Bool, true, false, Option, Some, None, ℤ, codes, string_bytes}
 use Rattle.std.specs.List.{flat_map, join_by, list_any}
-use Rattle.edit_report.specs.Shown.{is_shown}
+use Rattle.edit_report.specs.ShownRows.{is_shown}
 use Rattle.edit_report.specs.declared.row.Reason.{Reason}
 use Rattle.edit_report.specs.declared.row.Reason.TheVariants as reason
 use Rattle.edit_report.specs.declared.row.Row.{Row}
@@ -107,14 +107,14 @@ abbrev pub lines_text : List Column → List Cells → List ℕ
 lines_text columns lines = flat_map (line_text lines columns) lines
 
 -- the row has a text for its reason
-abbrev pub is_noted : Row → Bool
-is_noted r = nat_lt 0 (length (reason_text r.reason))
+abbrev pub has_note_text : Row → Bool
+has_note_text r = nat_lt 0 (length (reason_text r.reason))
 
 -- the table of these rows; empty where there are none (own)
 abbrev pub table_of : List Row → List ℕ
 table_of [] = []
 table_of (r ∷ rs) =
-    lines_text (columns (list_any is_noted (r ∷ rs))) (headings ∷ underlines ∷ map row_cells (r ∷ rs))
+    lines_text (columns (list_any has_note_text (r ∷ rs))) (headings ∷ underlines ∷ map row_cells (r ∷ rs))
 
 -- the table of a report of this verbosity (own)
 abbrev pub report_text : ℤ → List Row → List ℕ

@@ -2,11 +2,11 @@
 use Rattle.std.specs.Prelude.{ℕ, List, [], ◌∷◌, ◌++◌, codes, length, map, string_bytes}
 use Rattle.std.specs.List.{join_by}
 use Rattle.edit_report.specs.Table.{Cells, greatest, padded}
-use Rattle.edit_report.specs.Table.{Column as Taking}
+use Rattle.edit_report.specs.Table.{Column as Redefinition}
 use Rattle.edit_report.specs.declared.lines.Column.{Column}
 use Rattle.edit_report.specs.declared.lines.Column.TheVariants as column
 use Rattle.edit_report.specs.declared.lines.Line.{Line}
-use Rattle.edit_report.specs.declared.lines.Wide.{Wide}
+use Rattle.edit_report.specs.declared.lines.SizedColumn.{SizedColumn}
 
 -- the cells of a line
 abbrev pub cells_of : Line → Cells
@@ -20,7 +20,7 @@ cells_of l = record {
 }
 
 -- the function that takes the cell of a column out of a line
-abbrev pub column_of : Column → Taking
+abbrev pub column_of : Column → Redefinition
 column_of column.Name = λ line. line.name
 column_of column.Old = λ line. line.old
 column_of column.Compatible = λ line. line.compatible
@@ -29,17 +29,17 @@ column_of column.New = λ line. line.new
 column_of column.Note = λ line. line.note
 
 -- the padded cells of a line, joined by a space
-abbrev pub joined_cells : List Wide → Cells → List ℕ
+abbrev pub joined_cells : List SizedColumn → Cells → List ℕ
 joined_cells ws line = join_by (λ w. padded w.width (column_of w.column line)) (codes " ") ws
 
 -- a line of padded cells with its line end
-abbrev pub wide_line : List Wide → Cells → List ℕ
-wide_line ws line = joined_cells ws line ++ 10 ∷ []
+abbrev pub sized_line : List SizedColumn → Cells → List ℕ
+sized_line ws line = joined_cells ws line ++ 10 ∷ []
 
 -- the width of a column in these lines, in bytes
 abbrev pub line_width : List Line → Column → ℕ
 line_width lines c = greatest (map (λ l. length (column_of c (cells_of l))) lines)
 
 -- a column paired with its width in these lines
-abbrev pub wide : List Line → Column → Wide
+abbrev pub wide : List Line → Column → SizedColumn
 wide lines c = record { column = c; width = line_width lines c }

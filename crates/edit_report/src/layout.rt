@@ -5,9 +5,9 @@ ghost use Rattle.std.specs.List.{flat_map};
 ghost use Rattle.edit_base.specs.Errors.{IsMemory};
 ghost use Rattle.edit_base.specs.declared.errors.Error.TheVariants.{Output};
 ghost use Rattle.edit_report.specs.Table.{columns, lines_text, padded};
-ghost use Rattle.edit_report.specs.Widths.{cells_of, column_of, joined_cells, line_width, wide, wide_line};
+ghost use Rattle.edit_report.specs.Widths.{cells_of, column_of, joined_cells, line_width, wide, sized_line};
 
-use crate::lines::{Column, Line, Wide};
+use crate::lines::{Column, Line, SizedColumn};
 use crate::shell::shell_write_stdout;
 use edit_base::CargoResult;
 use std::alloc::{AllocError, Global};
@@ -51,10 +51,14 @@ fn width(lines: &[Line<'_>], column: Column) -> usize
 }
 
 /// Pairs each column with its width.
-fn measured(alloc: Global, columns: &[Column], lines: &[Line<'_>]) -> Result<Vec<Wide>, AllocError>
+fn measure_columns(
+    alloc: Global,
+    columns: &[Column],
+    lines: &[Line<'_>],
+) -> Result<Vec<SizedColumn>, AllocError>
     ensures ok { IfOk result (λ v. v.items ≡ map (wide lines.now) columns.now) }
 {
-    let columns = columns.iter().map(|column| Wide {
+    let columns = columns.iter().map(|column| SizedColumn {
         column: *column,
         width: width(lines, *column),
     });
@@ -84,7 +88,7 @@ fn push_cell(text: &mut String, cell: &str, width: usize) -> Result<(), AllocErr
 }
 
 /// Appends the padded cells of a line, joined by a space.
-fn push_cells(text: &mut String, columns: &[Wide], line: &Line<'_>) -> Result<(), AllocError>
+fn push_cells(text: &mut String, columns: &[SizedColumn], line: &Line<'_>) -> Result<(), AllocError>
     ensures ok { OnOk result (string_bytes text.new
         ≡ string_bytes text.old ++ joined_cells columns.now (cells_of line.now)) }
 {
@@ -100,9 +104,9 @@ fn push_cells(text: &mut String, columns: &[Wide], line: &Line<'_>) -> Result<()
 }
 
 /// Appends a line: its padded cells, joined by a space, and a line end.
-fn push_line(text: &mut String, columns: &[Wide], line: &Line<'_>) -> Result<(), AllocError>
+fn push_line(text: &mut String, columns: &[SizedColumn], line: &Line<'_>) -> Result<(), AllocError>
     ensures ok { OnOk result (string_bytes text.new
-        ≡ string_bytes text.old ++ wide_line columns.now (cells_of line.now)) }
+        ≡ string_bytes text.old ++ sized_line columns.now (cells_of line.now)) }
 {
     push_cells(text, columns, line)?;
     text.push('\n')?;
@@ -110,9 +114,13 @@ fn push_line(text: &mut String, columns: &[Wide], line: &Line<'_>) -> Result<(),
 }
 
 /// The text of lines, for columns with these widths.
-fn wide_text(alloc: Global, columns: &[Wide], lines: &[Line<'_>]) -> Result<String, AllocError>
+fn sized_text(
+    alloc: Global,
+    columns: &[SizedColumn],
+    lines: &[Line<'_>],
+) -> Result<String, AllocError>
     ensures ok { IfOk result (λ s. string_bytes s
-        ≡ flat_map (λ line. wide_line columns.now (cells_of line)) lines.now) }
+        ≡ flat_map (λ line. sized_line columns.now (cells_of line)) lines.now) }
 {
     let mut text = String::new(alloc);
     for line in lines {
@@ -129,19 +137,19 @@ pub(crate) fn lines_text(
 ) -> Result<String, AllocError>
     ensures ok { IfOk result (λ s. string_bytes s ≡ lines_text (columns noted) (map cells_of lines.now)) }
 {
-    let columns = measured(alloc, columns(noted), lines)?;
-    wide_text(alloc, columns.as_slice(), lines)
+    let columns = measure_columns(alloc, columns(noted), lines)?;
+    sized_text(alloc, columns.as_slice(), lines)
 }
 
 /// Writes lines one by one, for columns with these widths.
-fn write_wide<W: io::Write>(
+fn write_sized<W: io::Write>(
     alloc: Global,
-    columns: &[Wide],
+    columns: &[SizedColumn],
     lines: &[Line<'_>],
     out: &mut W,
 ) -> CargoResult<()>
     ensures bytes { OnOk result (Appends (W.contents out.old) (W.contents out.new)
-        (flat_map (λ line. wide_line columns.now (cells_of line)) lines.now)) }
+        (flat_map (λ line. sized_line columns.now (cells_of line)) lines.now)) }
     ensures refused { IfErr result (λ e. IsMemory e ⊎ (e ≡ Output)) }
 {
     let mut text = String::new(alloc);
@@ -164,6 +172,6 @@ pub(crate) fn write_lines<W: io::Write>(
         (lines_text (columns noted) (map cells_of lines.now))) }
     ensures refused { IfErr result (λ e. IsMemory e ⊎ (e ≡ Output)) }
 {
-    let columns = measured(alloc, columns(noted), lines)?;
-    write_wide(alloc, columns.as_slice(), lines, out)
+    let columns = measure_columns(alloc, columns(noted), lines)?;
+    write_sized(alloc, columns.as_slice(), lines, out)
 }

@@ -24,7 +24,7 @@ pub(crate) enum Column {
 
 /// A column and its width in bytes.
 #[derive(Clone, Copy)]
-pub(crate) struct Wide {
+pub(crate) struct SizedColumn {
     pub(crate) column: Column,
     pub(crate) width: usize,
 }

@@ -3,7 +3,7 @@ ghost use Rattle.std.specs.Prelude.{◌≡◌, IfErr, IfOk, not, option_map, str
 ghost use Rattle.std.specs.Result.{result_ok};
 ghost use Rattle.semver.specs.Parse.{version_parts};
 ghost use Rattle.edit_base.specs.Errors.{IsMemory};
-ghost use Rattle.edit_report.specs.Shown.{is_held_back, is_outgrown, is_shown, misses};
+ghost use Rattle.edit_report.specs.ShownRows.{is_held_back, is_outgrown, is_shown, misses};
 ghost use Rattle.edit_version.specs.Requirement.{requirement_read};
 
 use crate::row::{Reason, Row};

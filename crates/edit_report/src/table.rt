@@ -4,8 +4,8 @@ ghost use Rattle.std.specs.Io.KnownBytes.{Appends};
 ghost use Rattle.std.specs.List.{list_any};
 ghost use Rattle.edit_base.specs.Errors.{IsMemory};
 ghost use Rattle.edit_base.specs.declared.errors.Error.TheVariants.{Output};
-ghost use Rattle.edit_report.specs.Shown.{is_shown};
-ghost use Rattle.edit_report.specs.Table.{headings, is_noted, name_text, or_dash, reason_text, report_text, row_cells, underlines};
+ghost use Rattle.edit_report.specs.ShownRows.{is_shown};
+ghost use Rattle.edit_report.specs.Table.{headings, has_note_text, name_text, or_dash, reason_text, report_text, row_cells, underlines};
 ghost use Rattle.edit_report.specs.Widths.{cells_of};
 
 use crate::layout::{lines_text, write_lines};
@@ -126,8 +126,8 @@ fn table_lines<'a>(alloc: Global, rows: &[&'a Row]) -> Result<Vec<Line<'a>>, All
 }
 
 /// Whether a row has a note, the text of its reason.
-fn are_noted(rows: &[&Row]) -> bool
-    ensures { result ≡ list_any (λ r. is_noted r.now) rows.now }
+fn has_any_note(rows: &[&Row]) -> bool
+    ensures { result ≡ list_any (λ r. has_note_text r.now) rows.now }
 {
     rows.iter().any(|row| reason_text(row.reason).len() > 0)
 }
@@ -142,7 +142,7 @@ pub fn table_text(alloc: Global, rows: &[Row], verbosity: i8) -> CargoResult<Str
         return Ok(String::new(alloc));
     }
     let lines = table_lines(alloc, rows.as_slice())?;
-    let text = lines_text(alloc, lines.as_slice(), are_noted(rows.as_slice()))?;
+    let text = lines_text(alloc, lines.as_slice(), has_any_note(rows.as_slice()))?;
     Ok(text)
 }
 
@@ -165,5 +165,5 @@ pub fn write_table<W: io::Write>(
         return Ok(());
     }
     let lines = table_lines(alloc, rows.as_slice())?;
-    write_lines(alloc, lines.as_slice(), are_noted(rows.as_slice()), out)
+    write_lines(alloc, lines.as_slice(), has_any_note(rows.as_slice()), out)
 }

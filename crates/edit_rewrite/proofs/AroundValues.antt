@@ -22,14 +22,14 @@ use Rattle.edit_rewrite.specs.declared.remove_text.Around.{Around}
 use Rattle.edit_document.specs.declared.place.Step.{Step as WrittenStep}
 use Rattle.edit_tree.specs.Assertions.{IsDocument, Place, Step, at}
 use Rattle.edit_tree.specs.EditBytes.{before, with_splice}
-use Rattle.edit_document.specs.Items.{step_seen, place_seen}
+use Rattle.edit_document.specs.Items.{step_view, place_view}
 use Rattle.edit_tree.specs.RemovedBytes.{innermost, removed_text, lines_left, value_left}
 use Rattle.edit_rewrite.specs.RemoveText.{IsFoundAt, IsAround, HasAround, StandsBetween}
 use Rattle.edit_tree.specs.Slots.{IsContainer}
-use Rattle.edit_rewrite.specs.Spots.{IsSpot}
-use Rattle.edit_tree.specs.Statements.{stated}
+use Rattle.edit_rewrite.specs.StatementOffsets.{IsSpot}
+use Rattle.edit_tree.specs.Statements.{placed_statements}
 use Rattle.edit_tree.specs.Tree.{is_value_at}
-use Rattle.edit_tree.specs.Written.{Valued, values, IsWrittenAt}
+use Rattle.edit_tree.specs.Written.{PlacedValue, values, IsWrittenAt}
 use Rattle.edit_tree.proofs.Ends.{Ends, text_behind}
 use Rattle.edit_tree.proofs.FineValues.{values_fine}
 use Rattle.edit_tree.proofs.Innermost.{none_around, same_around, value_around}
@@ -61,7 +61,7 @@ behind_value bytes v after u valid ends =
       fits = rw at (IsCharBoundary-at_seam bytes (front ++ (e.last ∷ [])) after whole text);
     }
 
-pub stands_between : (bytes : List ℕ) (form : Text) (w : Valued) (a : Around) → IsDocument bytes form
+pub stands_between : (bytes : List ℕ) (form : Text) (w : PlacedValue) (a : Around) → IsDocument bytes form
     → IsUtf8 bytes → IsFoundAt form w a → StandsBetween bytes w a.from a.to
 stands_between bytes form w a m u f =
     let among = contained_among w (values form) f.told in
@@ -80,9 +80,9 @@ stands_between bytes form w a m u f =
 -- the code tells it by what follows
 pub found_at : (bytes : List ℕ) (form : Text) (p : Place) (start end : ℕ) (a : Around) → IsDocument bytes form
     → IsUtf8 bytes → (r : IsWrittenAt form p start end) → a.steps ≡ length p → a.from ≡ length bytes - start
-    → a.to ≡ length bytes - end → IsFoundAt form r.valued a
+    → a.to ≡ length bytes - end → IsFoundAt form r.placed_value a
 found_at bytes form p start end a m u r steps from to =
-    let w = r.valued in
+    let w = r.placed_value in
     let ends = (values_stand bytes form m u w (contained_among w (values form) r.told)).ends in
     let size = ap length m.grammar.spelled in
     let long = ap length ends.1 ∙ length-append ends.0 (value w.value w.after) in
@@ -99,7 +99,7 @@ found_at bytes form p start end a m u r steps from to =
 -- ---- other bytes there
 
 -- what stands between the spots of a value is the value
-pub value_between : (bytes : List ℕ) (w : Valued) (from to : ℕ) → StandsBetween bytes w from to
+pub value_between : (bytes : List ℕ) (w : PlacedValue) (from to : ℕ) → StandsBetween bytes w from to
     → cut_from bytes (length bytes - from) (length bytes - to) ≡ value w.value []
 value_between bytes w from to s =
     cut_spots bytes (value w.value w.after) w.after from to s.start s.end
@@ -107,7 +107,7 @@ value_between bytes w from to s =
     ∙ before_is (value w.value w.after) (value w.value []) w.after (value_rest w.value w.after)
 
 -- the text around it, with other bytes between
-pub part_put : (bytes now one two three front back : List ℕ) (w : Valued) (from to : ℕ) → IsUtf8 bytes
+pub part_put : (bytes now one two three front back : List ℕ) (w : PlacedValue) (from to : ℕ) → IsUtf8 bytes
     → StandsBetween bytes w from to
     → front ≡ cut_from bytes (length bytes - length bytes) (length bytes - from)
     → back ≡ cut_from bytes (length bytes - to) (length bytes - 0) → one ≡ front → two ≡ one ++ now
@@ -167,7 +167,7 @@ plain_left gone place (datetime d) plain = refl
 -- ---- the whole text
 
 -- where a value is around the place
-pub removed_inside : (form : Text) (gone : Place) (w : Valued) → innermost gone form ≡ Some w
+pub removed_inside : (form : Text) (gone : Place) (w : PlacedValue) → innermost gone form ≡ Some w
     → removed_text gone form
     ≡ with_splice (text form)
     (record { from = value w.value w.after; to = w.after; now = value_left gone w.place w.value [] })
@@ -175,85 +175,85 @@ removed_inside form gone w e = rw e refl
 
 -- and where none is
 pub removed_lines : (form : Text) (gone : Place) → innermost gone form ≡ None
-    → removed_text gone form ≡ byte_order_mark form.marked (lines_left gone (lines form.lines) (stated form))
+    → removed_text gone form ≡ byte_order_mark form.marked (lines_left gone (lines form.lines) (placed_statements form))
 removed_lines form gone e = rw e refl
 
 -- ---- the innermost value, step by step
 
 -- a place that has steps ends with one
 ends_so : (steps : List WrittenStep) (n : ℕ) → length steps ≡ suc n
-    → (s : Step) × (place_seen steps ≡ at (place_seen (take n steps)) s)
+    → (s : Step) × (place_view steps ≡ at (place_view (take n steps)) s)
 ends_so [] n e = absurd cc
-ends_so (x ∷ []) zero e = (step_seen x, refl)
+ends_so (x ∷ []) zero e = (step_view x, refl)
 ends_so (x ∷ []) (suc n) e = absurd cc
 ends_so (x ∷ y ∷ ys) zero e = absurd cc
 ends_so (x ∷ y ∷ ys) (suc n) e =
     let shorter : length (y ∷ ys) ≡ suc n = cc in
     let r = ends_so (y ∷ ys) n shorter in
-    (r.0, ap (λ (p : Place). step_seen x ∷ p) r.1)
+    (r.0, ap (λ (p : Place). step_view x ∷ p) r.1)
 
 last_step : (steps : List WrittenStep) → 1 ≤ length steps
-    → (s : Step) × (place_seen steps ≡ at (place_seen (take (length steps - 1) steps)) s)
+    → (s : Step) × (place_view steps ≡ at (place_view (take (length steps - 1) steps)) s)
 last_step steps some = ends_so steps (length steps - 1) (omega arith)
 
 -- nothing is around the root
 pub none_around_root : (form : Text) (steps : List WrittenStep) → length steps < 1
-    → innermost (place_seen steps) form ≡ None
+    → innermost (place_view steps) form ≡ None
 none_around_root form [] none = none_around form
 none_around_root form (x ∷ xs) none = absurd (omega arith)
 
 -- the value that stands one step above the place is the innermost one
 pub some_around : (bytes : List ℕ) (form : Text) (steps : List WrittenStep) (start end : ℕ) (a : Around)
     → IsDocument bytes form → IsUtf8 bytes → 1 ≤ length steps
-    → IsWrittenAt form (place_seen (take (length steps - 1) steps)) start end
+    → IsWrittenAt form (place_view (take (length steps - 1) steps)) start end
     → a.steps ≡ length (take (length steps - 1) steps) → a.from ≡ length bytes - start
-    → a.to ≡ length bytes - end → IsAround form (place_seen steps) a
+    → a.to ≡ length bytes - end → IsAround form (place_view steps) a
 some_around bytes form steps start end a m u some r count from to =
     let above = take (length steps - 1) steps in
     let last = last_step steps some in
-    let among = contained_among r.valued (values form) r.told in
+    let among = contained_among r.placed_value (values form) r.told in
     record {
-      valued = r.valued;
-      found = found_at bytes form (place_seen above) start end a m u r
-          (count ∙ sym (length-map above step_seen)) from to;
+      placed_value = r.placed_value;
+      found = found_at bytes form (place_view above) start end a m u r
+          (count ∙ sym (length-map above step_view)) from to;
       innermost_is = ap (λ (p : Place). innermost p form) last.1
-          ∙ value_around form (place_seen above) last.0 r.valued m.no_clash among r.there;
+          ∙ value_around form (place_view above) last.0 r.placed_value m.no_clash among r.there;
       below = last.0 ∷ [];
       parted = last.1 ∙ ap (λ (p : Place). at p last.0) (sym r.there);
     }
 
 -- where none stands there, the innermost one around the place above is the innermost one
 pub around_above : (form : Text) (steps : List WrittenStep) (r : Option Around) → 1 ≤ length steps
-    → is_value_at form (place_seen (take (length steps - 1) steps)) ≡ false
-    → HasAround form (place_seen (take (length steps - 1) steps)) r → HasAround form (place_seen steps) r
+    → is_value_at form (place_view (take (length steps - 1) steps)) ≡ false
+    → HasAround form (place_view (take (length steps - 1) steps)) r → HasAround form (place_view steps) r
 around_above form steps r some none h = go r h
   where
     p : Place
-    p = place_seen (take (length steps - 1) steps)
+    p = place_view (take (length steps - 1) steps)
 
-    last : (s : Step) × (place_seen steps ≡ at p s)
+    last : (s : Step) × (place_view steps ≡ at p s)
     last = last_step steps some
 
-    same : innermost (place_seen steps) form ≡ innermost p form
+    same : innermost (place_view steps) form ≡ innermost p form
     same = ap (λ (q : Place). innermost q form) last.1 ∙ same_around form p last.0 none
 
-    go : (r : Option Around) → HasAround form p r → HasAround form (place_seen steps) r
+    go : (r : Option Around) → HasAround form p r → HasAround form (place_view steps) r
     go None e = same ∙ e
     go (Some a) i = record {
-      valued = i.valued;
+      placed_value = i.placed_value;
       found = i.found;
       innermost_is = same ∙ i.innermost_is;
       below = at i.below last.0;
       parted = last.1 ∙ ap (λ (q : Place). at q last.0) i.parted
-          ∙ append_assoc i.valued.place i.below (last.0 ∷ []);
+          ∙ append_assoc i.placed_value.place i.below (last.0 ∷ []);
     }
 
 -- the steps behind those of the value lead to the place
-pub steps_below : (steps : List WrittenStep) (n : ℕ) (place below : Place) → place_seen steps ≡ place ++ below
-    → n ≡ length place → place ++ place_seen (take (length steps - n) (drop n steps)) ≡ place_seen steps
+pub steps_below : (steps : List WrittenStep) (n : ℕ) (place below : Place) → place_view steps ≡ place ++ below
+    → n ≡ length place → place ++ place_view (take (length steps - n) (drop n steps)) ≡ place_view steps
 steps_below steps n place below e is =
-    ap (λ (l : List WrittenStep). place ++ place_seen l) (take_rest steps n)
-    ∙ ap (λ (p : Place). place ++ p) (sym (drop-map step_seen n steps)
+    ap (λ (l : List WrittenStep). place ++ place_view l) (take_rest steps n)
+    ∙ ap (λ (p : Place). place ++ p) (sym (drop-map step_view n steps)
     ∙ ap₂ (λ (k : ℕ) (p : Place). drop k p) is e ∙ drop-append_seam place below)
     ∙ sym e
 

@@ -8,12 +8,12 @@ use Rattle.edit_syntax.specs.Grammar.{gap, Value, basic, literal, multi_basic, m
 use Rattle.edit_syntax.proofs.Cases.{by_test}
 use Rattle.edit_syntax.proofs.Members.{Among, among_contained, contained_among}
 use Rattle.edit_rewrite.specs.declared.inner.Inner.{Inner}
-use Rattle.edit_tree.specs.Assertions.{Step, Place, key, at, same_place, dotted, leaf, Assertion, asserts, names, named, of_key, of_value, of_members, assertions, NoClash}
-use Rattle.edit_tree.specs.EditBytes.{as_it_is, last_made, front_to}
+use Rattle.edit_tree.specs.Assertions.{Step, Place, key, at, same_place, dotted, leaf, Assertion, asserts, names, named, of_key, of_value, of_members, assertions, AreCompatible}
+use Rattle.edit_tree.specs.EditBytes.{unresolved, last_result, front_to}
 use Rattle.edit_rewrite.specs.Inner.{inner_of, NoneAbove}
 use Rattle.edit_document.specs.Ranges.{is_table_value, StartsTable}
-use Rattle.edit_tree.specs.Statements.{Named, dotted_parts, front_parts, behind_part, Paired, paired, paired_members, paired_value, inner_pairs}
-use Rattle.edit_tree.specs.Written.{Valued, values}
+use Rattle.edit_tree.specs.Statements.{Named, dotted_parts, front_parts, behind_part, PlacedPair, paired, paired_members, paired_value, inner_pairs}
+use Rattle.edit_tree.specs.Written.{PlacedValue, values}
 use Rattle.edit_tree.proofs.Choices.{last_nothing, last_flat, last_only}
 use Rattle.edit_tree.proofs.TablePairs.{among_flat, value_table}
 use Rattle.edit_tree.proofs.SamePlace.{same_place_is, same_place_self}
@@ -24,15 +24,15 @@ use Rattle.edit_rewrite.proofs.ValueAssertions.{among_left, among_right, value_t
 
 -- it begins above the place
 pub part_within : (place table : Place) (ns : List Named) (spot : List ℕ)
-    → behind_part as_it_is place table ns ≡ Some spot → (s : Step) × (below : Place)
+    → behind_part unresolved place table ns ≡ Some spot → (s : Step) × (below : Place)
     × (place ≡ table ++ (s ∷ below))
 part_within place table [] spot e = absurd cc
 part_within place table (n ∷ ns) spot e =
     go (same_place (at table (key n.0)) place) refl e (part_within place (at table (key n.0)) ns spot)
   where
     go : (b : Bool) → same_place (at table (key n.0)) place ≡ b
-        → cond b (Some n.1) (behind_part as_it_is place (at table (key n.0)) ns) ≡ Some spot
-        → (behind_part as_it_is place (at table (key n.0)) ns ≡ Some spot
+        → cond b (Some n.1) (behind_part unresolved place (at table (key n.0)) ns) ≡ Some spot
+        → (behind_part unresolved place (at table (key n.0)) ns ≡ Some spot
         → (s : Step) × (below : Place) × (place ≡ at table (key n.0) ++ (s ∷ below)))
         → (s : Step) × (below : Place) × (place ≡ table ++ (s ∷ below))
     go true h k ih = (key n.0, [], sym (same_place_is (at table (key n.0)) place h))
@@ -41,7 +41,7 @@ part_within place table (n ∷ ns) spot e =
         (key n.0, r.0 ∷ r.1, r.2 ∙ append_assoc table (key n.0 ∷ []) (r.0 ∷ r.1))
 
 pub part_above : (place table : Place) (ns : List Named) (spot : List ℕ)
-    → behind_part as_it_is place table ns ≡ Some spot → (length table < length place)
+    → behind_part unresolved place table ns ≡ Some spot → (length table < length place)
     × (take (length table) place ≡ table)
 part_above place table ns spot e =
     let r = part_within place table ns spot e in
@@ -51,7 +51,7 @@ part_above place table ns spot e =
 -- and asserts each place on the way
 key_dotted : (place : Place) (j : ℕ) (by q : Place) (n x : List ℕ) (ds : List Dotted) (rest : List ℕ)
     (v : Value)
-    (spot : List ℕ) → behind_part as_it_is place q (front_parts ((n, x) ∷ dotted_parts ds rest)) ≡ Some spot
+    (spot : List ℕ) → behind_part unresolved place q (front_parts ((n, x) ∷ dotted_parts ds rest)) ≡ Some spot
     → length q + suc j < length place
     → Among (asserts by (take (length q + suc j) place) (dotted true))
     (of_key true by q (n ∷ map (λ d. name d.part) ds) v)
@@ -71,8 +71,8 @@ key_dotted place j by q n x (d ∷ ds) rest v spot e lt =
     made : List Assertion
     made = of_key true by here (name d.part ∷ map (λ z. name z.part) ds) v
 
-    deeper : (i : ℕ) → behind_part as_it_is place here others ≡ Some spot
-        → ((m : ℕ) → behind_part as_it_is place here others ≡ Some spot → length here + suc m < length place
+    deeper : (i : ℕ) → behind_part unresolved place here others ≡ Some spot
+        → ((m : ℕ) → behind_part unresolved place here others ≡ Some spot → length here + suc m < length place
         → Among (asserts by (take (length here + suc m) place) (dotted true)) made)
         → length q + suc i < length place
         → Among (asserts by (take (length q + suc i) place) (dotted true))
@@ -87,8 +87,8 @@ key_dotted place j by q n x (d ∷ ds) rest v spot e lt =
         (ih i k (omega (arith, size))))
 
     go : (b : Bool) → same_place here place ≡ b
-        → cond b (Some x) (behind_part as_it_is place here others) ≡ Some spot
-        → ((m : ℕ) → behind_part as_it_is place here others ≡ Some spot → length here + suc m < length place
+        → cond b (Some x) (behind_part unresolved place here others) ≡ Some spot
+        → ((m : ℕ) → behind_part unresolved place here others ≡ Some spot → length here + suc m < length place
         → Among (asserts by (take (length here + suc m) place) (dotted true)) made)
         → Among (asserts by (take (length q + suc j) place) (dotted true))
         (asserts by here (dotted true) ∷ made)
@@ -122,7 +122,7 @@ wider xs ys zs there r = record {
   kind = r.kind;
 }
 
-members_dotted : (place table : Place) (j : ℕ) (p : Paired) (ms : Members) (rest spot : List ℕ)
+members_dotted : (place table : Place) (j : ℕ) (p : PlacedPair) (ms : Members) (rest spot : List ℕ)
     → Among p (paired_members table ms rest) → front_to place p ≡ Some spot
     → length table + suc j < length place
     → OnTheWay (of_members table ms) (take (length table + suc j) place)
@@ -151,7 +151,7 @@ members_dotted place table j p (member k a b v c d ms) rest spot (inr m) e lt =
 -- ---- the tables of such pairs
 
 -- only inline tables have pairs
-value_pairs : (p : Paired) (w : Valued) → Among p (paired_value w) → is_table_value w.value ≡ true
+value_pairs : (p : PlacedPair) (w : PlacedValue) → Among p (paired_value w) → is_table_value w.value ≡ true
 value_pairs p w = go w.value
   where
     go : (v : Value) → Among p (paired_value (record w { value = v })) → is_table_value v ≡ true
@@ -166,7 +166,8 @@ value_pairs p w = go w.value
     go (array g es) m = absurd m
     go (inline g ms) m = refl
 
-value_dotted : (place : Place) (j : ℕ) (p : Paired) (w : Valued) (spot : List ℕ) → Among p (paired_value w)
+value_dotted : (place : Place) (j : ℕ) (p : PlacedPair) (w : PlacedValue) (spot : List ℕ)
+    → Among p (paired_value w)
     → front_to place p ≡ Some spot → length w.place + suc j < length place
     → OnTheWay (of_value w.place w.value) (take (length w.place + suc j) place)
 value_dotted place j p w spot = go w.value
@@ -186,13 +187,13 @@ value_dotted place j p w spot = go w.value
     go (inline g ms) m e lt = members_dotted place w.place j p ms (right_brace ∷ w.after) spot m e lt
 
 -- an inline table whose pair goes on behind the place stands above it
-stands_above : (place : Place) (p : Paired) (w : Valued) (spot : List ℕ) → Among p (paired_value w)
+stands_above : (place : Place) (p : PlacedPair) (w : PlacedValue) (spot : List ℕ) → Among p (paired_value w)
     → front_to place p ≡ Some spot → (length w.place < length place) × (take (length w.place) place ≡ w.place)
 stands_above place p w spot m e =
     subst (λ (t : Place). (length t < length place) × (take (length t) place ≡ t)) (value_table p w m)
     (part_above place p.table (front_parts p.parts) spot e)
 
-no_front : (place : Place) (p : Paired) → ((spot : List ℕ) → front_to place p ≡ Some spot → ⊥)
+no_front : (place : Place) (p : PlacedPair) → ((spot : List ℕ) → front_to place p ≡ Some spot → ⊥)
     → inner_of place p ≡ None
 no_front place p never = go (front_to place p) refl
   where
@@ -203,53 +204,55 @@ no_front place p never = go (front_to place p) refl
         made spot = record { from = length p.from; front = length spot; behind = length p.behind }
     go (Some spot) e = absurd (never spot e)
 
-module _ (form : Text) (place : Place) (clash : NoClash (assertions form)) where
+module _ (form : Text) (place : Place) (clash : AreCompatible (assertions form)) where
   -- none stands so far from the root, or further
-  too_far : (from : ℕ) → NoneAbove form place from → (w : Valued) → Among w (values form)
+  too_far : (from : ℕ) → NoneAbove form place from → (w : PlacedValue) → Among w (values form)
       → from ≤ length w.place
-      → (p : Paired) → Among p (paired_value w) → (spot : List ℕ) → front_to place p ≡ Some spot → ⊥
+      → (p : PlacedPair) → Among p (paired_value w) → (spot : List ℕ) → front_to place p ≡ Some spot → ⊥
   too_far from none w among le p m spot e =
       let r = stands_above place p w spot m e in
       true≢false (sym (value_pairs p w m)
       ∙ none (length w.place) le r.0 w (among_contained w (values form) among) (sym r.1))
 
   -- where no inline table stands above the place, no pair goes on behind it
-  pub none_inner : NoneAbove form place 0 → last_made (inner_of place) (inner_pairs form) ≡ None
+  pub none_inner : NoneAbove form place 0 → last_result (inner_of place) (inner_pairs form) ≡ None
   none_inner none =
       last_nothing (inner_of place) (inner_pairs form)
       (λ p among. let w = among_flat paired_value p (values form) among in
       no_front place p (too_far 0 none w.0 w.1 (omega arith) p w.2))
 
   -- an inline table that stands above another one has no pair that goes on behind it
-  too_near : (k start : ℕ) → k < length place → StartsTable form (take k place) start → (w : Valued)
-      → Among w (values form) → length w.place < k → (p : Paired) → Among p (paired_value w) → (spot : List ℕ)
+  too_near : (k start : ℕ) → k < length place → StartsTable form (take k place) start → (w : PlacedValue)
+      → Among w (values form) → length w.place < k → (p : PlacedPair) → Among p (paired_value w)
+      → (spot : List ℕ)
       → front_to place p ≡ Some spot → ⊥
   too_near k start lt t w among near p m spot e =
       let j = k - suc (length w.place) in
       let same : length w.place + suc j ≡ k = omega arith in
       let r = value_dotted place j p w spot m e (omega arith) in
       let told = value_told form w r.one among (inr r.among) in
-      let kind = value_alone form t.valued r.one clash (contained_among t.valued (values form) t.told) told
+      let kind = value_alone form t.placed_value r.one clash (contained_among t.placed_value (values form) t.told) told
       (r.place ∙ ap (λ (n : ℕ). take n place) same ∙ sym t.there) in
-      let clashes : dotted true ≡ leaf t.valued.value = sym r.kind ∙ kind in
+      let clashes : dotted true ≡ leaf t.placed_value.value = sym r.kind ∙ kind in
       absurd cc
 
   -- else all such pairs stand in the closest one
   pub closest_inner : (k start : ℕ) → k < length place → (t : StartsTable form (take k place) start)
       → NoneAbove form place (suc k)
-      → last_made (inner_of place) (inner_pairs form)
-      ≡ last_made (inner_of place) (paired_members (take k place) t.all (right_brace ∷ t.valued.after))
+      → last_result (inner_of place) (inner_pairs form)
+      ≡ last_result (inner_of place) (paired_members (take k place) t.all (right_brace ∷ t.placed_value.after))
   closest_inner k start lt t none =
       last_flat (inner_of place) paired_value (values form)
-      ∙ last_only made t.valued (values form) (contained_among t.valued (values form) t.told) each
-      ∙ ap₂ (λ (v : Value) (q : Place). last_made (inner_of place)
-      (paired_value (record t.valued { value = v; place = q })))
+      ∙ last_only made t.placed_value (values form) (contained_among t.placed_value (values form) t.told) each
+      ∙ ap₂ (λ (v : Value) (q : Place). last_result (inner_of place)
+      (paired_value (record t.placed_value { value = v; place = q })))
       t.is t.there
     where
-      made : Valued → Option Inner
-      made w = last_made (inner_of place) (paired_value w)
+      made : PlacedValue → Option Inner
+      made w = last_result (inner_of place) (paired_value w)
 
-      other : (w : Valued) → Among w (values form) → same_place w.place t.valued.place ≡ false → (p : Paired)
+      other : (w : PlacedValue) → Among w (values form) → same_place w.place t.placed_value.place ≡ false
+          → (p : PlacedPair)
           → Among p (paired_value w) → (spot : List ℕ) → front_to place p ≡ Some spot → ⊥
       other w among apart p m spot e =
           let r = stands_above place p w spot m e in
@@ -264,10 +267,10 @@ module _ (form : Text) (place : Place) (clash : NoClash (assertions form)) where
           (t.there ∙ ap (λ (n : ℕ). take n place) (sym same) ∙ r.1)
           ∙ same_place_self w.place) ∙ apart)))
 
-      each : (w : Valued) → Among w (values form) → (made w ≡ None) ⊎ (w ≡ t.valued)
+      each : (w : PlacedValue) → Among w (values form) → (made w ≡ None) ⊎ (w ≡ t.placed_value)
       each w among =
-          by_test (same_place w.place t.valued.place)
-          (λ h. inr (values_unique form w t.valued clash among (contained_among t.valued (values form) t.told)
-          (same_place_is w.place t.valued.place h)))
+          by_test (same_place w.place t.placed_value.place)
+          (λ h. inr (values_unique form w t.placed_value clash among (contained_among t.placed_value (values form) t.told)
+          (same_place_is w.place t.placed_value.place h)))
           (λ h. inl (last_nothing (inner_of place) (paired_value w)
           (λ p m. no_front place p (other w among h p m))))

@@ -6,16 +6,16 @@ use Rattle.std.specs.List.{AllByRecursion}
 use Rattle.edit_syntax.specs.Characters.{comma, equals, right_brace, is_blank, All}
 use Rattle.edit_syntax.specs.Strings.{lf, crlf, line_end, name, Dotted, dotted, Key, key, IsKey}
 use Rattle.edit_syntax.specs.Depth.{lines_depth}
-use Rattle.edit_syntax.specs.FirstLine.{first_marks}
+use Rattle.edit_syntax.specs.FirstLine.{tokens_of_first_line}
 use Rattle.edit_syntax.specs.Grammar.{Between, blank, break, remark, gap, IsGap, Value, basic, literal, multi_basic, multi_literal, boolean, integer, float, datetime, array, inline, value, Members, no_members, last_member, member, members, AreMembers, Statement, pair, header, element_header, statement, IsStatement, comment, empty_line, full_line, Lines, one_line, more_lines, lines, AreLines, Text}
-use Rattle.edit_syntax.specs.Marks.{statement_marks}
+use Rattle.edit_syntax.specs.SyntaxTokens.{tokens_of_statement}
 use Rattle.edit_syntax.proofs.Members.{Among, among_append}
 use Rattle.edit_tree.specs.Assertions.{Place, key as name_step, at, same_place, Assertion, of_statement, prefix_after, IsDocument}
-use Rattle.edit_tree.specs.EditBytes.{as_it_is, part_to}
+use Rattle.edit_tree.specs.EditBytes.{unresolved, part_to}
 use Rattle.edit_rewrite.specs.EntrySpots.{StandsIn}
-use Rattle.edit_rewrite.specs.Spots.{IsSpot}
-use Rattle.edit_tree.specs.Statements.{Stated, stated_in, stated, dotted_parts, behind_part, Paired, paired, paired_members, paired_value, paired_statement, line_pairs, inner_pairs}
-use Rattle.edit_tree.specs.Written.{Valued, values}
+use Rattle.edit_rewrite.specs.StatementOffsets.{IsSpot}
+use Rattle.edit_tree.specs.Statements.{PlacedStatement, stated_in, placed_statements, dotted_parts, behind_part, PlacedPair, paired, paired_members, paired_value, paired_statement, line_pairs, inner_pairs}
+use Rattle.edit_tree.specs.Written.{PlacedValue, values}
 use Rattle.edit_document.proofs.Documents.{read_of, ends_all}
 use Rattle.edit_tree.proofs.Shallow.{shallow}
 use Rattle.edit_tree.proofs.Ends.{Ends, ends_past, ends_one, ends_part, ends_pair, ends_gap, ends_value, ends_line, ends_line_end}
@@ -30,7 +30,7 @@ some_same a b k = cc
 
 parts_start : (place table : Place) (n : List ℕ) (ds : List Dotted) (rest whole part : List ℕ)
     → AllByRecursion IsDotted ds → Starts rest → Ends whole (dotted ds rest)
-    → behind_part as_it_is place table ((n, dotted ds rest) ∷ dotted_parts ds rest) ≡ Some part
+    → behind_part unresolved place table ((n, dotted ds rest) ∷ dotted_parts ds rest) ≡ Some part
     → Ends whole part × Starts part
 parts_start place table n [] rest whole part h st ends e = go (same_place (at table (name_step n)) place) e
   where
@@ -45,7 +45,7 @@ parts_start place table n (d ∷ ds) rest whole part h st ends e =
   where
     others : Option (List ℕ)
     others =
-        behind_part as_it_is place (at table (name_step n)) ((name d.part, dotted ds rest) ∷ dotted_parts ds
+        behind_part unresolved place (at table (name_step n)) ((name d.part, dotted ds rest) ∷ dotted_parts ds
         rest)
 
     go : (b : Bool) → cond b (Some (dotted (d ∷ ds) rest)) others ≡ Some part
@@ -55,7 +55,7 @@ parts_start place table n (d ∷ ds) rest whole part h st ends e =
     go false k ih = ih k
 
 -- the text may be cut behind the part of the key that names a place, and behind the value
-pub record Fits (bytes : List ℕ) (p : Paired) : Type 0 where
+pub record Fits (bytes : List ℕ) (p : PlacedPair) : Type 0 where
   pub part : (place : Place) (part : List ℕ) → part_to place p ≡ Some part → IsSpot bytes part
   pub behind : IsSpot bytes p.behind
 
@@ -84,7 +84,7 @@ gap_starts (break crlf ∷ g) rest h st = omega arith
 gap_starts (remark t e ∷ g) rest h st = omega arith
 
 members_fit : (bytes : List ℕ) (table : Place) (ms : Members) (rest : List ℕ) → AreMembers ms → Starts rest
-    → Ends bytes (members ms rest) → (p : Paired) → Among p (paired_members table ms rest) → Fits bytes p
+    → Ends bytes (members ms rest) → (p : PlacedPair) → Among p (paired_members table ms rest) → Fits bytes p
 members_fit bytes table no_members rest h st ends p m = absurd m
 members_fit bytes table (last_member k a b v c) rest h st ends p (inl e) =
     subst (Fits bytes) (sym e)
@@ -100,7 +100,8 @@ members_fit bytes table (member k a b v c d ms) rest h st ends p (inr m) =
     (ends_gap bytes d _ (ends_one bytes comma _ (ends_gap bytes c _ (ends_value bytes v behind
     (ends_pair bytes k a b (value v behind) ends))))) p m
 
-value_fits : (bytes : List ℕ) (w : Valued) → StandsIn bytes w → (p : Paired) → Among p (paired_value w)
+value_fits : (bytes : List ℕ) (w : PlacedValue) → StandsIn bytes w → (p : PlacedPair)
+    → Among p (paired_value w)
     → Fits bytes p
 value_fits bytes w stands p m = go w.value stands m
   where
@@ -125,7 +126,7 @@ value_fits bytes w stands p m = go w.value stands m
 -- ---- the pairs that are statements
 
 -- a statement where it stands: at the front of lines that are read from it on
-pub record StatedStands (bytes : List ℕ) (s : Stated) : Type 0 where
+pub record StatedStands (bytes : List ℕ) (s : PlacedStatement) : Type 0 where
   pub valid : IsStatement s.statement
   pub ends : Ends bytes (statement s.statement s.behind)
   pub starts : Starts s.behind
@@ -133,14 +134,15 @@ pub record StatedStands (bytes : List ℕ) (s : Stated) : Type 0 where
   pub spelled : s.line ≡ lines left
   pub well : AreLines left
   pub shallow : lines_depth left ≤ 80
-  pub marked : first_marks left ≡ statement_marks s.statement s.behind
+  pub marked : tokens_of_first_line left ≡ tokens_of_statement s.statement s.behind
 
 comment_starts : (c : Option (List ℕ)) (rest : List ℕ) → Starts rest → Starts (comment c rest)
 comment_starts None rest st = st
 comment_starts (Some t) rest st = omega arith
 
 stand_in : (bytes : List ℕ) (earlier : List Assertion) (prefix : Place) (ls : Lines) → AreLines ls
-    → lines_depth ls ≤ 80 → Ends bytes (lines ls) → (s : Stated) → Among s (stated_in earlier prefix ls)
+    → lines_depth ls ≤ 80 → Ends bytes (lines ls) → (s : PlacedStatement)
+    → Among s (stated_in earlier prefix ls)
     → StatedStands bytes s
 stand_in bytes earlier prefix (one_line (empty_line a c)) valid deep ends s m = absurd m
 stand_in bytes earlier prefix (one_line (full_line a st b c)) valid deep ends s (inl e) =
@@ -175,13 +177,14 @@ stand_in bytes earlier prefix (more_lines (full_line a st b c) e ls) valid deep 
     (ends_line_end bytes e (lines ls) (ends_line bytes (full_line a st b c) (line_end e (lines ls)) ends)) s m
 
 -- each statement of a document stands so
-pub statements_stand : (bytes : List ℕ) (form : Text) → IsDocument bytes form → IsUtf8 bytes → (s : Stated)
-    → Among s (stated form) → StatedStands bytes s
+pub statements_stand : (bytes : List ℕ) (form : Text) → IsDocument bytes form → IsUtf8 bytes
+    → (s : PlacedStatement)
+    → Among s (placed_statements form) → StatedStands bytes s
 statements_stand bytes form m u =
     let r = read_of bytes form m u in
     stand_in bytes [] [] form.lines r.spells.well_formed (shallow bytes form m) (ends_all bytes form r)
 
-statement_fits : (bytes : List ℕ) (s : Stated) → StatedStands bytes s → (p : Paired)
+statement_fits : (bytes : List ℕ) (s : PlacedStatement) → StatedStands bytes s → (p : PlacedPair)
     → Among p (paired_statement s) → Fits bytes p
 statement_fits bytes s stands p m = go s.statement stands.valid stands.ends m
   where
@@ -195,11 +198,11 @@ statement_fits bytes s stands p m = go s.statement stands.valid stands.ends m
 
 -- ---- all pairs
 
-pub pairs_fit : (bytes : List ℕ) (form : Text) → IsDocument bytes form → IsUtf8 bytes → (p : Paired)
+pub pairs_fit : (bytes : List ℕ) (form : Text) → IsDocument bytes form → IsUtf8 bytes → (p : PlacedPair)
     → Among p (line_pairs form ++ inner_pairs form) → Fits bytes p
 pairs_fit bytes form m u p among =
     ⊎_elim
-    (λ l. let s = among_flat paired_statement p (stated form) l in
+    (λ l. let s = among_flat paired_statement p (placed_statements form) l in
     statement_fits bytes s.0 (statements_stand bytes form m u s.0 s.1) p s.2)
     (λ r. let w = among_flat paired_value p (values form) r in
     value_fits bytes w.0 (values_stand bytes form m u w.0 w.1) p w.2)

@@ -4,11 +4,11 @@ use Rattle.std.specs.Prelude.{unwrap_or}
 use Rattle.std.proofs.lemmas.Bool.{and_parts, and_from}
 use Rattle.edit_syntax.specs.declared.read.marks.Mark.{Mark}
 use Rattle.edit_syntax.proofs.Cases.{by_test}
-use Rattle.edit_rewrite.specs.declared.way.Way.{Way}
+use Rattle.edit_rewrite.specs.declared.way.PathMatch.{PathMatch}
 use Rattle.edit_tree.specs.Assertions.{Place, Step, key, at, same_step, same_place}
-use Rattle.edit_tree.specs.EditBytes.{as_it_is, is_within, first_of}
-use Rattle.edit_rewrite.specs.Entries.{is_at, begins_part, AreParts, led, GoesAlong}
-use Rattle.edit_rewrite.specs.EntrySpots.{key_end, part_seen}
+use Rattle.edit_tree.specs.EditBytes.{unresolved, is_within, first_of}
+use Rattle.edit_rewrite.specs.Entries.{is_at, begins_part, AreParts, key_target, FollowsKey}
+use Rattle.edit_rewrite.specs.EntrySpots.{key_end, part_offset}
 use Rattle.edit_tree.specs.Statements.{Named, front_parts, behind_part}
 use Rattle.edit_tree.proofs.SamePlace.{same_step_is, same_step_self}
 use Rattle.edit_rewrite.proofs.Ways.{same_is}
@@ -21,9 +21,9 @@ last_part n [] = n.1
 last_part n (m ∷ ns) = last_part m ns
 
 pub part_or : (place table : Place) (n : Named) (ns : List Named)
-    → behind_part as_it_is place table (n ∷ ns)
-    ≡ first_of (behind_part as_it_is place table (front_parts (n ∷ ns))
-    ∷ cond (same_place (led as_it_is table (n ∷ ns)) place) (Some (last_part n ns)) None ∷ [])
+    → behind_part unresolved place table (n ∷ ns)
+    ≡ first_of (behind_part unresolved place table (front_parts (n ∷ ns))
+    ∷ cond (same_place (key_target unresolved table (n ∷ ns)) place) (Some (last_part n ns)) None ∷ [])
 part_or place table n [] = only (cond (same_place (at table (key n.0)) place) (Some n.1) None)
   where
     only : (o : Option (List ℕ)) → o ≡ first_of (None ∷ o ∷ [])
@@ -36,12 +36,12 @@ part_or place table n (m ∷ ns) =
     here = at table (key n.0)
 
     go : (b : Bool)
-        → behind_part as_it_is place here (m ∷ ns)
-        ≡ first_of (behind_part as_it_is place here (front_parts (m ∷ ns))
-        ∷ cond (same_place (led as_it_is here (m ∷ ns)) place) (Some (last_part m ns)) None ∷ [])
-        → cond b (Some n.1) (behind_part as_it_is place here (m ∷ ns))
-        ≡ first_of (cond b (Some n.1) (behind_part as_it_is place here (front_parts (m ∷ ns)))
-        ∷ cond (same_place (led as_it_is here (m ∷ ns)) place) (Some (last_part m ns)) None ∷ [])
+        → behind_part unresolved place here (m ∷ ns)
+        ≡ first_of (behind_part unresolved place here (front_parts (m ∷ ns))
+        ∷ cond (same_place (key_target unresolved here (m ∷ ns)) place) (Some (last_part m ns)) None ∷ [])
+        → cond b (Some n.1) (behind_part unresolved place here (m ∷ ns))
+        ≡ first_of (cond b (Some n.1) (behind_part unresolved place here (front_parts (m ∷ ns)))
+        ∷ cond (same_place (key_target unresolved here (m ∷ ns)) place) (Some (last_part m ns)) None ∷ [])
     go true ih = refl
     go false ih = ih
 
@@ -62,14 +62,14 @@ key_ends bytes e n (n2 ∷ ns) (m ∷ ms) h =
 
 -- what is seen along a key is the part that names the place
 pub part_told : (bytes : List ℕ) (place table : Place) (n : Named) (ns : List Named) (ms : List Mark)
-    (r : Way × Option ℕ) → AreParts bytes (n ∷ ns) ms → GoesAlong place as_it_is table (n ∷ ns) r
-    → part_seen (length place) r.0 r.1 ms ≡ option_map length (behind_part as_it_is place table (n ∷ ns))
+    (r : PathMatch × Option ℕ) → AreParts bytes (n ∷ ns) ms → FollowsKey place unresolved table (n ∷ ns) r
+    → part_offset (length place) r.0 r.1 ms ≡ option_map length (behind_part unresolved place table (n ∷ ns))
 part_told bytes place table n ns ms r h g =
-    let q = led as_it_is table (n ∷ ns) in
-    let fronts = behind_part as_it_is place table (front_parts (n ∷ ns)) in
+    let q = key_target unresolved table (n ∷ ns) in
+    let fronts = behind_part unresolved place table (front_parts (n ∷ ns)) in
     let there : is_at (length place) r.0 ≡ same_place q place =
     ap (is_at (length place)) g.0 ∙ sym (same_is place q) in
-    ap (λ (o : Option ℕ). part_seen (length place) r.0 o ms) g.1
+    ap (λ (o : Option ℕ). part_offset (length place) r.0 o ms) g.1
     ∙ ap (λ (b : Bool). first_of (option_map length fronts ∷ cond b (Some (key_end 0 ms)) None ∷ [])) there
     ∙ ap (λ (e : ℕ). first_of (option_map length fronts ∷ cond (same_place q place) (Some e) None ∷ []))
     (key_ends bytes 0 n ns ms h)
@@ -103,9 +103,9 @@ come (u ∷ us) (t ∷ ts) s out reach =
 
 -- it names the place by the part that is found before the last one, or by the last one
 pub within_part : (place table : Place) (n : Named) (ns : List Named) → is_within place table ≡ false
-    → is_within place (led as_it_is table (n ∷ ns)) ≡ true
-    → behind_part as_it_is place table (n ∷ ns)
-    ≡ Some (unwrap_or (behind_part as_it_is place table (front_parts (n ∷ ns))) (last_part n ns))
+    → is_within place (key_target unresolved table (n ∷ ns)) ≡ true
+    → behind_part unresolved place table (n ∷ ns)
+    ≡ Some (unwrap_or (behind_part unresolved place table (front_parts (n ∷ ns))) (last_part n ns))
 within_part place table n [] out reach =
     ap (λ (b : Bool). cond b (Some n.1) None) (come place table (key n.0) out reach)
 within_part place table n (m ∷ ns) out reach =
@@ -119,11 +119,11 @@ within_part place table n (m ∷ ns) out reach =
         (λ e. absurd (true≢false (sym (come place table (key n.0) out e) ∙ other))) (λ e. e)
 
     go : (b : Bool) → same_place here place ≡ b
-        → (is_within place here ≡ false → is_within place (led as_it_is here (m ∷ ns)) ≡ true
-        → behind_part as_it_is place here (m ∷ ns)
-        ≡ Some (unwrap_or (behind_part as_it_is place here (front_parts (m ∷ ns))) (last_part m ns)))
-        → cond b (Some n.1) (behind_part as_it_is place here (m ∷ ns))
-        ≡ Some (unwrap_or (cond b (Some n.1) (behind_part as_it_is place here (front_parts (m ∷ ns))))
+        → (is_within place here ≡ false → is_within place (key_target unresolved here (m ∷ ns)) ≡ true
+        → behind_part unresolved place here (m ∷ ns)
+        ≡ Some (unwrap_or (behind_part unresolved place here (front_parts (m ∷ ns))) (last_part m ns)))
+        → cond b (Some n.1) (behind_part unresolved place here (m ∷ ns))
+        ≡ Some (unwrap_or (cond b (Some n.1) (behind_part unresolved place here (front_parts (m ∷ ns))))
         (last_part m ns))
     go true e ih = refl
     go false e ih = ih (not_yet e) reach
@@ -147,25 +147,26 @@ within_at (u ∷ us) (t ∷ ts) s e =
     and_from (same_step u t) (is_within us (at ts s)) h.0 (within_at us ts s h.1)
 
 within_led : (p table : Place) (ns : List Named) → is_within p table ≡ true
-    → is_within p (led as_it_is table ns) ≡ true
+    → is_within p (key_target unresolved table ns) ≡ true
 within_led p table [] e = e
 within_led p table (n ∷ []) e = within_at p table (key n.0) e
 within_led p table (n ∷ m ∷ ns) e =
     within_led p (at table (key n.0)) (m ∷ ns) (within_at p table (key n.0) e)
 
-elsewhere : (place here : Place) (ns : List Named) → is_within place (led as_it_is here ns) ≡ false
+elsewhere : (place here : Place) (ns : List Named) → is_within place (key_target unresolved here ns) ≡ false
     → same_place here place ≡ false
 elsewhere place here ns out = by_test (same_place here place)
     (λ e. absurd (true≢false (sym (within_led place here ns (same_within place here e)) ∙ out))) (λ e. e)
 
 -- it names the place by none of its parts
-pub within_none : (place table : Place) (ns : List Named) → is_within place (led as_it_is table ns) ≡ false
-    → behind_part as_it_is place table ns ≡ None
+pub within_none : (place table : Place) (ns : List Named)
+    → is_within place (key_target unresolved table ns) ≡ false
+    → behind_part unresolved place table ns ≡ None
 within_none place table [] out = refl
 within_none place table (n ∷ []) out =
     ap (λ (b : Bool). cond b (Some n.1) None) (elsewhere place (at table (key n.0)) [] out)
 within_none place table (n ∷ m ∷ ns) out =
     let here = at table (key n.0) in
-    ap (λ (b : Bool). cond b (Some n.1) (behind_part as_it_is place here (m ∷ ns)))
+    ap (λ (b : Bool). cond b (Some n.1) (behind_part unresolved place here (m ∷ ns)))
     (elsewhere place here (m ∷ ns) out)
     ∙ within_none place here (m ∷ ns) out

@@ -5,14 +5,14 @@ use Rattle.edit_syntax.specs.Characters.{right_brace}
 use Rattle.edit_syntax.specs.Grammar.{Between, gap, Value, basic, literal, multi_basic, multi_literal, boolean, integer, float, datetime, array, inline, value, Members, no_members, last_member, member, Text, text}
 use Rattle.edit_syntax.proofs.Members.{Among, among_contained, contained_among}
 use Rattle.edit_rewrite.specs.EntrySpots.{StandsIn}
-use Rattle.edit_tree.specs.Assertions.{Place, same_place, NoClash, assertions, IsDocument}
+use Rattle.edit_tree.specs.Assertions.{Place, same_place, AreCompatible, assertions, IsDocument}
 use Rattle.edit_tree.specs.EditBytes.{Splice, put_before, first_of, behind_last, is_blank_gap, inline_grown, in_inline, in_section, in_dotted, in_inner_dotted, in_super, at_start, inserted}
 use Rattle.edit_document.specs.Items.{is_inline}
 use Rattle.edit_tree.specs.NewItems.{NewValue, new_pair}
 use Rattle.edit_document.specs.Ranges.{is_table_value, StartsTable, HasTable}
 use Rattle.edit_tree.specs.SlotTexts.{TableAt}
 use Rattle.edit_tree.specs.Tree.{view_at, is_value_at}
-use Rattle.edit_tree.specs.Written.{Valued, values, start_of, IsWrittenAt}
+use Rattle.edit_tree.specs.Written.{PlacedValue, values, start_of, IsWrittenAt}
 use Rattle.edit_tree.proofs.Choices.{first_nothing}
 use Rattle.edit_rewrite.proofs.InlineSpots.{inline_row}
 use Rattle.edit_tree.proofs.SamePlace.{same_place_is}
@@ -30,7 +30,7 @@ no_table form place none w told there =
     ∙ listed_value form w (contained_among w (values form) told)) ∙ none))
 
 -- nor where nothing stands
-pub no_view : (form : Text) (place : Place) → NoClash (assertions form) → view_at form place ≡ None
+pub no_view : (form : Text) (place : Place) → AreCompatible (assertions form) → view_at form place ≡ None
     → HasTable form place None
 no_view form place clash none w told there =
     absurd (never (is_table_value w.value) (sym (ap (option_map is_inline) none)
@@ -41,7 +41,7 @@ no_view form place clash none w told there =
     never b e = cc
 
 -- what is written elsewhere is no table, where the place shows none
-pub other_value : (form : Text) (place : Place) → NoClash (assertions form)
+pub other_value : (form : Text) (place : Place) → AreCompatible (assertions form)
     → option_map is_inline (view_at form place) ≡ Some false → HasTable form place None
 other_value form place clash none w told there =
     some_same _ _ (sym (value_shows form w clash (contained_among w (values form) told))
@@ -63,16 +63,16 @@ table_parts (datetime d) e = absurd (true≢false (sym e))
 table_parts (array g es) e = absurd (true≢false (sym e))
 
 -- what is written there is one, where the place shows one
-pub own_table : (form : Text) (place : Place) (start end : ℕ) → NoClash (assertions form)
+pub own_table : (form : Text) (place : Place) (start end : ℕ) → AreCompatible (assertions form)
     → IsWrittenAt form place start end → option_map is_inline (view_at form place) ≡ Some true
     → StartsTable form place start
 own_table form place start end clash written shows =
-    let w = written.valued in
+    let w = written.placed_value in
     let is = some_same _ _ (sym (value_shows form w clash (contained_among w (values form) written.told))
     ∙ ap (λ (p : Place). option_map is_inline (view_at form p)) written.there ∙ shows) in
     let parts = table_parts w.value is in
     record {
-      valued = w;
+      placed_value = w;
       told = written.told;
       there = written.there;
       between = parts.0;
@@ -87,7 +87,7 @@ own_table form place start end clash written shows =
 -- ---- the row
 
 -- a value stands where it is told to begin
-stands_from : (bytes : List ℕ) (form : Text) (w : Valued) (start : ℕ) → IsDocument bytes form
+stands_from : (bytes : List ℕ) (form : Text) (w : PlacedValue) (start : ℕ) → IsDocument bytes form
     → StandsIn bytes w → start ≡ start_of (length (text form)) w → drop start bytes ≡ value w.value w.after
 stands_from bytes form w start m stands e =
     ap (λ (n : ℕ). drop n bytes) e
@@ -97,9 +97,9 @@ stands_from bytes form w start m stands e =
 -- a table stands where it is told to begin
 pub table_from : (bytes : List ℕ) (form : Text) (place : Place) (start : ℕ) → IsDocument bytes form
     → IsUtf8 bytes → (t : StartsTable form place start)
-    → TableAt bytes (drop start bytes) t.between t.all t.valued.after
+    → TableAt bytes (drop start bytes) t.between t.all t.placed_value.after
 table_from bytes form place start m u t =
-    let w = t.valued in
+    let w = t.placed_value in
     let stands = values_stand bytes form m u w (contained_among w (values form) t.told) in
     let from = stands_from bytes form w start m stands t.starts in
     record {
@@ -131,12 +131,12 @@ grown_some m g (member k a b v c d ms) after =
 
 -- what is written there
 pub table_inserted : (form : Text) (place : Place) (name : List ℕ) (v : NewValue) (start : ℕ)
-    → NoClash (assertions form) → (t : StartsTable form place start)
-    → (s : Splice) × (inline_grown (new_pair name v []) (inline t.between t.all) t.valued.after ≡ Some s)
+    → AreCompatible (assertions form) → (t : StartsTable form place start)
+    → (s : Splice) × (inline_grown (new_pair name v []) (inline t.between t.all) t.placed_value.after ≡ Some s)
     × (inserted place name v form ≡ s)
 table_inserted form place name v start clash t =
     let m = new_pair name v [] in
-    let w = t.valued in
+    let w = t.placed_value in
     let s = grown_some m t.between t.all w.after in
     let row = inline_row form place m w s.0 clash (contained_among w (values form) t.told) t.there
     (ap (λ (x : Value). inline_grown m x w.after) t.is ∙ s.1) in (
@@ -165,7 +165,7 @@ pub no_inline : (form : Text) (place : Place) (m : List ℕ) → HasTable form p
 no_inline form place m none =
     first_nothing _ (values form) (λ w among. go w (same_place w.place place) refl among)
   where
-    go : (w : Valued) (b : Bool) → same_place w.place place ≡ b → Among w (values form)
+    go : (w : PlacedValue) (b : Bool) → same_place w.place place ≡ b → Among w (values form)
         → cond (same_place w.place place) (inline_grown m w.value w.after) None ≡ None
     go w true e among =
         ap (λ (b : Bool). cond b (inline_grown m w.value w.after) None) e

@@ -9,12 +9,12 @@ use Rattle.edit_syntax.specs.Grammar.{Between, blank, break, remark, gap, IsGap,
 use Rattle.edit_syntax.specs.Reading.{past_gap}
 use Rattle.edit_syntax.proofs.ListElements.{get_seam}
 use Rattle.edit_syntax.proofs.Members.{Among}
-use Rattle.edit_tree.specs.Assertions.{Place, same_place, NoClash, assertions}
-use Rattle.edit_tree.specs.EditBytes.{Splice, first_of, first_made, behind_last, inline_grown, in_inline}
+use Rattle.edit_tree.specs.Assertions.{Place, same_place, AreCompatible, assertions}
+use Rattle.edit_tree.specs.EditBytes.{Splice, first_of, first_result, behind_last, inline_grown, in_inline}
 use Rattle.edit_tree.specs.Slots.{Slot, slots, of_members}
 use Rattle.edit_tree.specs.SlotTexts.{TableAt}
-use Rattle.edit_rewrite.specs.Spots.{IsSpot}
-use Rattle.edit_tree.specs.Written.{Valued, values}
+use Rattle.edit_rewrite.specs.StatementOffsets.{IsSpot}
+use Rattle.edit_tree.specs.Written.{PlacedValue, values}
 use Rattle.edit_tree.proofs.Ends.{Ends, ends_one, ends_pair, ends_gap, ends_value}
 use Rattle.edit_rewrite.proofs.MemberTurns.{folded, members_come}
 use Rattle.edit_tree.proofs.SamePlace.{same_place_self, same_place_is}
@@ -143,15 +143,15 @@ same_twice (Some x) = refl
 
 -- what is made of one, where nothing else is made of any other
 first_same : {A B : Type 0} (f : A → Option B) (c : Option B) (xs : List A)
-    → ((x : A) → Among x xs → (f x ≡ None) ⊎ (f x ≡ c)) → (first_made f xs ≡ None) ⊎ (first_made f xs ≡ c)
+    → ((x : A) → Among x xs → (f x ≡ None) ⊎ (f x ≡ c)) → (first_result f xs ≡ None) ⊎ (first_result f xs ≡ c)
 first_same f c [] all = inl refl
 first_same {A} {B} f c (x ∷ xs) all = go (all x (inl refl)) (first_same f c xs (λ y m. all y (inr m)))
   where
-    go : (f x ≡ None) ⊎ (f x ≡ c) → (first_made f xs ≡ None) ⊎ (first_made f xs ≡ c)
-        → (first_made f (x ∷ xs) ≡ None) ⊎ (first_made f (x ∷ xs) ≡ c)
+    go : (f x ≡ None) ⊎ (f x ≡ c) → (first_result f xs ≡ None) ⊎ (first_result f xs ≡ c)
+        → (first_result f (x ∷ xs) ≡ None) ⊎ (first_result f (x ∷ xs) ≡ c)
     go (inl e) (inl h) = inl (ap₂ (λ (a b : Option B). first_of (a ∷ b ∷ [])) e h)
     go (inl e) (inr h) =
-        inr (ap (λ (a : Option B). first_of (a ∷ first_made f xs ∷ [])) e ∙ only_one (first_made f xs) ∙ h)
+        inr (ap (λ (a : Option B). first_of (a ∷ first_result f xs ∷ [])) e ∙ only_one (first_result f xs) ∙ h)
     go (inr e) (inl h) = inr (ap₂ (λ (a b : Option B). first_of (a ∷ b ∷ [])) e h ∙ none_behind c)
       where
         none_behind : (o : Option B) → first_of (o ∷ None ∷ []) ≡ o
@@ -160,28 +160,28 @@ first_same {A} {B} f c (x ∷ xs) all = go (all x (inl refl)) (first_same f c xs
     go (inr e) (inr h) = inr (ap₂ (λ (a b : Option B). first_of (a ∷ b ∷ [])) e h ∙ same_twice c)
 
 first_found : {A B : Type 0} (f : A → Option B) (xs : List A) (x : A) (y : B) → Among x xs → f x ≡ Some y
-    → first_made f xs ≡ None → ⊥
+    → first_result f xs ≡ None → ⊥
 first_found f [] x y m e none = m
 first_found {A} {B} f (z ∷ zs) x y (inl h) e none =
     let some : f z ≡ Some y = ap f (sym h) ∙ e in
-    let clash : Some y ≡ None = sym (ap (λ (o : Option B). first_of (o ∷ first_made f zs ∷ [])) some) ∙
+    let clash : Some y ≡ None = sym (ap (λ (o : Option B). first_of (o ∷ first_result f zs ∷ [])) some) ∙
     none in
     absurd cc
 first_found {A} {B} f (z ∷ zs) x y (inr m) e none =
     first_found f zs x y m e (rest (f z) none)
   where
-    rest : (o : Option B) → first_of (o ∷ first_made f zs ∷ []) ≡ None → first_made f zs ≡ None
-    rest None h = sym (only_one (first_made f zs)) ∙ h
+    rest : (o : Option B) → first_of (o ∷ first_result f zs ∷ []) ≡ None → first_result f zs ≡ None
+    rest None h = sym (only_one (first_result f zs)) ∙ h
     rest (Some b) h = absurd cc
 
 -- into the inline table at the place
-pub inline_row : (form : Text) (place : Place) (m : List ℕ) (w : Valued) (s : Splice)
-    → NoClash (assertions form)
+pub inline_row : (form : Text) (place : Place) (m : List ℕ) (w : PlacedValue) (s : Splice)
+    → AreCompatible (assertions form)
     → Among w (values form) → w.place ≡ place → inline_grown m w.value w.after ≡ Some s
     → in_inline place m form ≡ Some s
 inline_row form place m w s clash among there grown = pick (first_same grow (Some s) (values form) each)
   where
-    grow : Valued → Option Splice
+    grow : PlacedValue → Option Splice
     grow v = cond (same_place v.place place) (inline_grown m v.value v.after) None
 
     at_w : grow w ≡ Some s
@@ -189,7 +189,7 @@ inline_row form place m w s clash among there grown = pick (first_same grow (Som
         ap (λ (b : Bool). cond b (inline_grown m w.value w.after) None)
         (ap (λ (p : Place). same_place p place) there ∙ same_place_self place) ∙ grown
 
-    each : (v : Valued) → Among v (values form) → (grow v ≡ None) ⊎ (grow v ≡ Some s)
+    each : (v : PlacedValue) → Among v (values form) → (grow v ≡ None) ⊎ (grow v ≡ Some s)
     each v listed = go (same_place v.place place) refl
       where
         go : (b : Bool) → same_place v.place place ≡ b → (grow v ≡ None) ⊎ (grow v ≡ Some s)
@@ -199,7 +199,7 @@ inline_row form place m w s clash among there grown = pick (first_same grow (Som
             inr (ap grow same ∙ at_w)
         go false e = inl (ap (λ (b : Bool). cond b (inline_grown m v.value v.after) None) e)
 
-    pick : (first_made grow (values form) ≡ None) ⊎ (first_made grow (values form) ≡ Some s)
+    pick : (first_result grow (values form) ≡ None) ⊎ (first_result grow (values form) ≡ Some s)
         → in_inline place m form ≡ Some s
     pick (inl none) = absurd (first_found grow (values form) w s among at_w none)
     pick (inr e) = e

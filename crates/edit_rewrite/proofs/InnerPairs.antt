@@ -4,14 +4,14 @@ use Rattle.std.specs.List.{Contains}
 use Rattle.std.proofs.Math.Seq.{take-append_seam}
 use Rattle.edit_syntax.specs.Grammar.{Text}
 use Rattle.edit_syntax.proofs.Members.{Among, among_contained, contained_among}
-use Rattle.edit_rewrite.specs.declared.way.Way.TheVariants.{On, Off}
-use Rattle.edit_tree.specs.Assertions.{Place, key, at, same_place, NoClash, assertions}
-use Rattle.edit_tree.specs.EditBytes.{as_it_is, part_to}
-use Rattle.edit_rewrite.specs.Entries.{way_on, way}
-use Rattle.edit_rewrite.specs.EntrySpots.{Tells, TellsIn}
-use Rattle.edit_tree.specs.Statements.{Named, behind_part, Paired, paired_value, inner_pairs}
+use Rattle.edit_rewrite.specs.declared.way.PathMatch.TheVariants.{On, Off}
+use Rattle.edit_tree.specs.Assertions.{Place, key, at, same_place, AreCompatible, assertions}
+use Rattle.edit_tree.specs.EditBytes.{unresolved, part_to}
+use Rattle.edit_rewrite.specs.Entries.{path_match_on, way}
+use Rattle.edit_rewrite.specs.EntrySpots.{HasPairOffsets, HasPairOffsetsIn}
+use Rattle.edit_tree.specs.Statements.{Named, behind_part, PlacedPair, paired_value, inner_pairs}
 use Rattle.edit_tree.specs.Tree.{is_value_at}
-use Rattle.edit_tree.specs.Written.{Valued, values}
+use Rattle.edit_tree.specs.Written.{PlacedValue, values}
 use Rattle.edit_rewrite.proofs.LineEntries.{flat_among}
 use Rattle.edit_rewrite.proofs.ToldPairs.{one_told}
 use Rattle.edit_tree.proofs.TablePairs.{among_flat, value_table}
@@ -20,12 +20,13 @@ use Rattle.edit_tree.proofs.UniqueValues.{values_unique, listed_value}
 
 -- ---- the way of a front of the place
 
-way_front : (d n : ℕ) (target : Place) → n ≤ length target → way_on d target (take n target) ≡ On (d + n)
+way_front : (d n : ℕ) (target : Place) → n ≤ length target
+    → path_match_on d target (take n target) ≡ On (d + n)
 way_front d zero [] le = ap On (let k : d ≡ d + 0 = omega arith in k)
 way_front d zero (s ∷ ss) le = ap On (let k : d ≡ d + 0 = omega arith in k)
 way_front d (suc n) [] le = absurd (omega (arith, le))
 way_front d (suc n) (s ∷ ss) le =
-    ap (λ (b : Bool). cond b (way_on (d + 1) ss (take n ss)) Off) (same_step_self s)
+    ap (λ (b : Bool). cond b (path_match_on (d + 1) ss (take n ss)) Off) (same_step_self s)
     ∙ way_front (d + 1) n ss (omega (arith, le)) ∙ ap On (let k : (d + 1) + n ≡ d + suc n = omega arith in k)
 
 pub front_way : (n : ℕ) (target : Place) → n ≤ length target → On n ≡ way target (take n target)
@@ -34,14 +35,15 @@ front_way n target le = sym (way_front 0 n target le ∙ ap On (let k : 0 + n �
 -- ---- one table
 
 -- what is told of the pairs of the value at a front of the place
-pub inner_told : (form : Text) (place : Place) (n : ℕ) (w : Valued) (o : Option (ℕ × ℕ))
-    → NoClash (assertions form)
-    → Among w (values form) → w.place ≡ take n place → Tells place (paired_value w) o → TellsIn form place n o
+pub inner_told : (form : Text) (place : Place) (n : ℕ) (w : PlacedValue) (o : Option (ℕ × ℕ))
+    → AreCompatible (assertions form)
+    → Among w (values form) → w.place ≡ take n place → HasPairOffsets place (paired_value w) o
+    → HasPairOffsetsIn form place n o
 inner_told form place n w None clash among there told = λ p listed table.
     let f = among_flat paired_value p (values form) (contained_among p (inner_pairs form) listed) in
     let same : f.0 ≡ w =
     values_unique form f.0 w clash f.1 among (sym (value_table p f.0 f.2) ∙ table ∙ sym there) in
-    told p (among_contained p (paired_value w) (subst (λ (x : Valued). Among p (paired_value x)) same f.2))
+    told p (among_contained p (paired_value w) (subst (λ (x : PlacedValue). Among p (paired_value x)) same f.2))
 inner_told form place n w (Some r) clash among there told =
     one_told place told.pair (inner_pairs form) told.part r
     (flat_among paired_value w told.pair (values form) among
@@ -50,7 +52,7 @@ inner_told form place n w (Some r) clash among there told =
 
 -- where no value stands, no pair does in it
 pub no_inner_told : (form : Text) (place : Place) (n : ℕ) → is_value_at form (take n place) ≡ false
-    → TellsIn form place n None
+    → HasPairOffsetsIn form place n None
 no_inner_told form place n none = λ p listed table.
     let f = among_flat paired_value p (values form) (contained_among p (inner_pairs form) listed) in
     absurd (true≢false (sym (listed_value form f.0 f.1)
@@ -60,13 +62,13 @@ no_inner_told form place n none = λ p listed table.
 
 -- a pair that names the place begins in a table above it
 part_below : (place table : Place) (ns : List Named) (part : List ℕ)
-    → behind_part as_it_is place table ns ≡ Some part → (below : Place) × (place ≡ table ++ below)
+    → behind_part unresolved place table ns ≡ Some part → (below : Place) × (place ≡ table ++ below)
 part_below place table [] part e = absurd cc
 part_below place table (n ∷ ns) part e =
     go (same_place (at table (key n.0)) place) refl e (part_below place (at table (key n.0)) ns part)
   where
     others : Option (List ℕ)
-    others = behind_part as_it_is place (at table (key n.0)) ns
+    others = behind_part unresolved place (at table (key n.0)) ns
 
     go : (b : Bool) → same_place (at table (key n.0)) place ≡ b → cond b (Some n.1) others ≡ Some part
         → (others ≡ Some part → (below : Place) × (place ≡ at table (key n.0) ++ below))
@@ -78,9 +80,9 @@ part_below place table (n ∷ ns) part e =
 
 -- where no pair names it that begins at a front of the place, none in an inline table does
 pub inner_none : (form : Text) (place : Place) (end : ℕ)
-    → ((p : Paired) → Contains (inner_pairs form) p → (n : ℕ) → n < end → p.table ≡ take n place
+    → ((p : PlacedPair) → Contains (inner_pairs form) p → (n : ℕ) → n < end → p.table ≡ take n place
     → part_to place p ≡ None)
-    → length place < end → (p : Paired) → Contains (inner_pairs form) p → part_to place p ≡ None
+    → length place < end → (p : PlacedPair) → Contains (inner_pairs form) p → part_to place p ≡ None
 inner_none form place end none le p listed = go (part_to place p) refl
   where
     go : (o : Option (List ℕ)) → part_to place p ≡ o → part_to place p ≡ None

@@ -7,10 +7,10 @@ use Rattle.edit_syntax.specs.Strings.{key}
 use Rattle.edit_syntax.proofs.Members.{Among}
 use Rattle.edit_rewrite.specs.declared.inner.Inner.{Inner}
 use Rattle.edit_tree.specs.Assertions.{IsDocument, Place}
-use Rattle.edit_tree.specs.EditBytes.{Splice, put_before, as_it_is, last_made, front_to, dotted_pair, in_inner_dotted}
+use Rattle.edit_tree.specs.EditBytes.{Splice, put_before, unresolved, last_result, front_to, dotted_pair, in_inner_dotted}
 use Rattle.edit_rewrite.specs.Inner.{inner_of, HasInner}
-use Rattle.edit_tree.specs.Statements.{Paired, paired_members, paired_value, inner_pairs}
-use Rattle.edit_tree.specs.Written.{Valued, values}
+use Rattle.edit_tree.specs.Statements.{PlacedPair, paired_members, paired_value, inner_pairs}
+use Rattle.edit_tree.specs.Written.{PlacedValue, values}
 use Rattle.edit_tree.proofs.Choices.{Alike, last_none, last_chosen}
 use Rattle.edit_tree.proofs.Ends.{Ends, ends_one, ends_pair, ends_gap, ends_value}
 use Rattle.edit_rewrite.proofs.InlineSpots.{gap_starts}
@@ -21,10 +21,10 @@ use Rattle.edit_rewrite.proofs.ValueSpots.{values_stand}
 -- ---- the pair that is chosen
 
 -- a member behind this one
-abbrev pub inner_splice : Paired → List ℕ → List ℕ → Splice
+abbrev pub inner_splice : PlacedPair → List ℕ → List ℕ → Splice
 inner_splice p spot m = put_before p.behind (codes ", " ++ dotted_pair p spot m)
 
-abbrev inner_grown : Place → List ℕ → Paired → Option Splice
+abbrev inner_grown : Place → List ℕ → PlacedPair → Option Splice
 inner_grown place m p = option_map (λ spot. inner_splice p spot m) (front_to place p)
 
 map_none : {A B C : Type 0} (f : A → B) (g : A → C) (o : Option A) → option_map f o ≡ None
@@ -37,7 +37,7 @@ map_some : {A B : Type 0} (f : A → B) (o : Option A) (y : B) → option_map f 
 map_some f None y e = absurd cc
 map_some f (Some x) y e = (x, refl)
 
-abbrev itself : Paired → Paired
+abbrev itself : PlacedPair → PlacedPair
 itself p = p
 
 inner_alike : (place : Place) (m : List ℕ) → Alike (inner_of place) (inner_grown place m) itself
@@ -47,13 +47,13 @@ inner_alike place m = record {
       (inner_splice p r.0 m, ap (option_map (λ spot. inner_splice p spot m)) r.1);
 }
 
-all_themselves : (ps : List Paired) → map itself ps ≡ ps
+all_themselves : (ps : List PlacedPair) → map itself ps ≡ ps
 all_themselves [] = refl
-all_themselves (p ∷ ps) = ap (λ (l : List Paired). p ∷ l) (all_themselves ps)
+all_themselves (p ∷ ps) = ap (λ (l : List PlacedPair). p ∷ l) (all_themselves ps)
 
 -- the last pair that goes on behind the place
 pub record InnerRow (place : Place) (form : Text) (m : List ℕ) (e : Inner) : Type 0 where
-  pub pair : Paired
+  pub pair : PlacedPair
   pub among : Among pair (inner_pairs form)
   pub spot : List ℕ
   pub front : front_to place pair ≡ Some spot
@@ -61,11 +61,11 @@ pub record InnerRow (place : Place) (form : Text) (m : List ℕ) (e : Inner) : T
   pub row : in_inner_dotted place m form ≡ Some (inner_splice pair spot m)
 
 pub inner_chosen : (form : Text) (place : Place) (m : List ℕ) (e : Inner)
-    → last_made (inner_of place) (inner_pairs form) ≡ Some e → InnerRow place form m e
+    → last_result (inner_of place) (inner_pairs form) ≡ Some e → InnerRow place form m e
 inner_chosen form place m e h =
     let ch = last_chosen (inner_of place) (inner_grown place m) itself (inner_alike place m)
     (inner_pairs form) e
-    (ap (last_made (inner_of place)) (all_themselves (inner_pairs form)) ∙ h) in
+    (ap (last_result (inner_of place)) (all_themselves (inner_pairs form)) ∙ h) in
     let r = map_some _ (front_to place ch.one) e ch.made in
     record {
       pair = ch.one;
@@ -77,22 +77,22 @@ inner_chosen form place m e h =
     }
 
 pub inner_nothing : (form : Text) (place : Place) (m : List ℕ)
-    → last_made (inner_of place) (inner_pairs form) ≡ None → in_inner_dotted place m form ≡ None
+    → last_result (inner_of place) (inner_pairs form) ≡ None → in_inner_dotted place m form ≡ None
 inner_nothing form place m h =
     last_none (inner_of place) (inner_grown place m) itself (inner_alike place m) (inner_pairs form)
-    (ap (last_made (inner_of place)) (all_themselves (inner_pairs form)) ∙ h)
+    (ap (last_result (inner_of place)) (all_themselves (inner_pairs form)) ∙ h)
 
 -- ---- where it stands
 
-members_inner : (bytes : List ℕ) (place table : Place) (p : Paired) (ms : Members) (rest spot : List ℕ)
+members_inner : (bytes : List ℕ) (place table : Place) (p : PlacedPair) (ms : Members) (rest spot : List ℕ)
     → AreMembers ms → Ends bytes (members ms rest) → Starts rest → Among p (paired_members table ms rest)
     → front_to place p ≡ Some spot → HasInner bytes p spot
 members_inner bytes place table p no_members rest spot h ends st m f = absurd m
 members_inner bytes place table p (last_member k a b v c) rest spot h ends st (inl is) f =
     let more = a ++ (equals ∷ (b ++ value v (gap c rest))) in
-    subst (λ (x : Paired). HasInner bytes x spot) (sym is) (record {
+    subst (λ (x : PlacedPair). HasInner bytes x spot) (sym is) (record {
       from = spot_of bytes (key k more) ends (part_start k more h.0);
-      front = key_fronts bytes k more as_it_is place table spot h.0 ends (ap (front_to place) (sym is) ∙ f);
+      front = key_fronts bytes k more unresolved place table spot h.0 ends (ap (front_to place) (sym is) ∙ f);
       behind = spot_of bytes (gap c rest)
           (ends_value bytes v _ (ends_pair bytes k a b (value v (gap c rest)) ends))
           (gap_starts c rest h.4 st);
@@ -101,9 +101,9 @@ members_inner bytes place table p (last_member k a b v c) rest spot h ends st (i
 members_inner bytes place table p (member k a b v c d ms) rest spot h ends st (inl is) f =
     let behind = gap c (comma ∷ gap d (members ms rest)) in
     let more = a ++ (equals ∷ (b ++ value v behind)) in
-    subst (λ (x : Paired). HasInner bytes x spot) (sym is) (record {
+    subst (λ (x : PlacedPair). HasInner bytes x spot) (sym is) (record {
       from = spot_of bytes (key k more) ends (part_start k more h.0);
-      front = key_fronts bytes k more as_it_is place table spot h.0 ends (ap (front_to place) (sym is) ∙ f);
+      front = key_fronts bytes k more unresolved place table spot h.0 ends (ap (front_to place) (sym is) ∙ f);
       behind = spot_of bytes behind (ends_value bytes v _ (ends_pair bytes k a b (value v behind) ends))
           (gap_starts c _ h.4 (omega arith));
     })
@@ -113,7 +113,8 @@ members_inner bytes place table p (member k a b v c d ms) rest spot h ends st (i
     (ends_gap bytes d _ (ends_one bytes comma _ (ends_gap bytes c _ (ends_value bytes v _
     (ends_pair bytes k a b (value v behind) ends))))) st m f
 
-value_inner : (bytes : List ℕ) (place : Place) (p : Paired) (w : Valued) (spot : List ℕ) → IsValue w.value
+value_inner : (bytes : List ℕ) (place : Place) (p : PlacedPair) (w : PlacedValue) (spot : List ℕ)
+    → IsValue w.value
     → Ends bytes (value w.value w.after) → Among p (paired_value w) → front_to place p ≡ Some spot
     → HasInner bytes p spot
 value_inner bytes place p w spot = go w.value
@@ -135,7 +136,7 @@ value_inner bytes place p w spot = go w.value
         (ends_gap bytes g _ (ends_one bytes left_brace _ ends)) (omega arith) m f
 
 -- the pairs of a document's inline tables stand where it may be cut
-pub inner_stands : (bytes : List ℕ) (form : Text) (place : Place) (p : Paired) (spot : List ℕ)
+pub inner_stands : (bytes : List ℕ) (form : Text) (place : Place) (p : PlacedPair) (spot : List ℕ)
     → IsDocument bytes form → IsUtf8 bytes → Among p (inner_pairs form) → front_to place p ≡ Some spot
     → HasInner bytes p spot
 inner_stands bytes form place p spot m u among f =
@@ -144,7 +145,7 @@ inner_stands bytes form place p spot m u among f =
     value_inner bytes place p w.0 spot stands.valid stands.ends w.2 f
 
 -- by how many bytes follow
-pub inner_is : (place : Place) (p : Paired) (spot : List ℕ) (e : Inner) → front_to place p ≡ Some spot
+pub inner_is : (place : Place) (p : PlacedPair) (spot : List ℕ) (e : Inner) → front_to place p ≡ Some spot
     → inner_of place p ≡ Some e
     → e ≡ record { from = length p.from; front = length spot; behind = length p.behind }
 inner_is place p spot e f h = some_same _ e (sym (ap (option_map made) f) ∙ h)

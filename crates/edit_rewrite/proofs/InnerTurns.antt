@@ -5,7 +5,7 @@ use Rattle.edit_syntax.specs.Characters.{comma}
 use Rattle.edit_syntax.specs.Grammar.{gap, Members, no_members, last_member, member, members}
 use Rattle.edit_rewrite.specs.declared.inner.Inner.{Inner}
 use Rattle.edit_tree.specs.Assertions.{Place}
-use Rattle.edit_tree.specs.EditBytes.{first_of, last_made}
+use Rattle.edit_tree.specs.EditBytes.{first_of, last_result}
 use Rattle.edit_rewrite.specs.Inner.{inner_of, inner_in}
 use Rattle.edit_tree.specs.Slots.{Slot, of_members}
 use Rattle.edit_tree.specs.Statements.{paired, paired_members}
@@ -27,7 +27,7 @@ or_more (Some y) o p = refl
 
 pub last_folded : (place above : Place) (ms : Members) (rest : List ℕ) (made : Option Inner)
     → folded (inner_turn place above) made (of_members ms) rest
-    ≡ option_or (last_made (inner_of place) (paired_members above ms rest)) made
+    ≡ option_or (last_result (inner_of place) (paired_members above ms rest)) made
 last_folded place above no_members rest made = refl
 last_folded place above (last_member k a b v c) rest made =
     or_last (inner_of place (paired above k a b v (gap c rest))) made
@@ -38,7 +38,7 @@ last_folded place above (member k a b v c d ms) rest made =
     (option_or (inner_of place (paired above k a b v (gap c (comma ∷ gap d x)))) made) (of_members ms) rest)
     (members_text ms rest)
     ∙ last_folded place above ms rest (option_or here made)
-    ∙ or_more (last_made (inner_of place) (paired_members above ms rest)) here made
+    ∙ or_more (last_result (inner_of place) (paired_members above ms rest)) here made
 
 pub or_none : {A : Type 0} (o : Option A) → option_or o None ≡ o
 or_none None = refl

@@ -7,11 +7,11 @@ use Rattle.edit_rewrite.specs.declared.locate.Entry.{Entry}
 use Rattle.edit_rewrite.specs.declared.inner.Inner.{Inner}
 use Rattle.edit_rewrite.specs.Inner.{inner_of}
 use Rattle.edit_tree.specs.Assertions.{Place, resolved}
-use Rattle.edit_tree.specs.EditBytes.{Splice, put_before, before, first_of, first_made, last_made, new_line, is_pair, is_own, in_inline, in_section, in_inner_dotted, front_to, dotted_pair, in_dotted, in_super, at_start, inserted}
+use Rattle.edit_tree.specs.EditBytes.{Splice, put_before, before, first_of, first_result, last_result, new_line, is_pair, is_own, in_inline, in_section, in_inner_dotted, front_to, dotted_pair, in_dotted, in_super, at_start, inserted}
 use Rattle.edit_rewrite.specs.Entries.{front_of, entry_of}
 use Rattle.edit_tree.specs.NewItems.{NewValue, new_pair}
-use Rattle.edit_rewrite.specs.Spots.{key_to, section_text, own_entry, dotted_entry, through_entry}
-use Rattle.edit_tree.specs.Statements.{Stated, stated, behind_part, front_parts, Paired, paired_statement, inner_pairs, Headed, headed_statement}
+use Rattle.edit_rewrite.specs.StatementOffsets.{key_to, section_text, own_entry, dotted_entry, through_entry}
+use Rattle.edit_tree.specs.Statements.{PlacedStatement, placed_statements, behind_part, front_parts, PlacedPair, paired_statement, inner_pairs, PlacedHeader, headed_statement}
 use Rattle.edit_tree.proofs.Choices.{Alike, before_none, first_flat, first_none, last_none, first_chosen, last_chosen}
 use Rattle.edit_rewrite.proofs.InnerRows.{InnerRow, inner_splice, inner_chosen, inner_nothing}
 
@@ -27,7 +27,7 @@ cond_some true x z e = (refl, cc)
 cond_some false x z e = absurd cc
 
 -- of a statement of the table's own
-abbrev own_splice : Place → List ℕ → Stated → Option Splice
+abbrev own_splice : Place → List ℕ → PlacedStatement → Option Splice
 own_splice place m s = cond (is_own place s) (Some (new_line s.after m)) None
 
 own_alike : (place : Place) (m : List ℕ) → Alike own_entry (own_splice place m) (entry_of place)
@@ -38,16 +38,16 @@ own_alike place m = record {
 }
 
 -- of a pair
-abbrev dotted_splice : Place → List ℕ → Stated → Option Splice
-dotted_splice place m s = first_made (line_of s) (paired_statement s)
+abbrev dotted_splice : Place → List ℕ → PlacedStatement → Option Splice
+dotted_splice place m s = first_result (line_of s) (paired_statement s)
   where
-    line_of : Stated → Paired → Option Splice
+    line_of : PlacedStatement → PlacedPair → Option Splice
     line_of s p = option_map (λ spot. new_line s.after (dotted_pair p spot m)) (front_to place p)
 
-abbrev dotted_line : Stated → List ℕ → List ℕ → Splice
+abbrev dotted_line : PlacedStatement → List ℕ → List ℕ → Splice
 dotted_line s m spot = new_line s.after (key_to s spot ++ (codes "." ++ m))
 
-dotted_is : (place : Place) (m : List ℕ) (s : Stated) → dotted_splice place m s
+dotted_is : (place : Place) (m : List ℕ) (s : PlacedStatement) → dotted_splice place m s
     ≡ cond (is_pair s.statement) (option_map (dotted_line s m) (front_of place s)) None
 dotted_is place m s = go s.statement
   where
@@ -86,18 +86,18 @@ dotted_alike place m = record {
 }
 
 -- of a header
-abbrev through_splice : Place → List ℕ → Stated → Option Splice
-through_splice place m s = first_made grow (headed_statement s)
+abbrev through_splice : Place → List ℕ → PlacedStatement → Option Splice
+through_splice place m s = first_result grow (headed_statement s)
   where
-    grow : Headed → Option Splice
+    grow : PlacedHeader → Option Splice
     grow h =
         option_map (λ spot. put_before h.line (section_text (before h.from spot) m))
         (behind_part (resolved h.earlier) place [] (front_parts h.parts))
 
-abbrev through_section : Stated → List ℕ → List ℕ → Splice
+abbrev through_section : PlacedStatement → List ℕ → List ℕ → Splice
 through_section s m spot = put_before s.line (section_text (key_to s spot) m)
 
-through_is : (place : Place) (m : List ℕ) (s : Stated) → through_splice place m s
+through_is : (place : Place) (m : List ℕ) (s : PlacedStatement) → through_splice place m s
     ≡ cond (is_pair s.statement) None (option_map (through_section s m) (front_of place s))
 through_is place m s = go s.statement
   where
@@ -146,8 +146,8 @@ row_of form place name v m none is = ap (λ (x : List ℕ). in_inline place x fo
 
 module _ (form : Text) (place : Place) (name : List ℕ) (v : NewValue)
     (no_table : in_inline place (new_pair name v []) form ≡ None)
-    (inner : Option Inner) (found : inner ≡ last_made (inner_of place) (inner_pairs form)) (es : List Entry)
-    (all : es ≡ map (entry_of place) (stated form)) where
+    (inner : Option Inner) (found : inner ≡ last_result (inner_of place) (inner_pairs form)) (es : List Entry)
+    (all : es ≡ map (entry_of place) (placed_statements form)) where
   abbrev rows : Option Splice → Option Splice → Option Splice → Option Splice → Option Splice → Splice
   rows a b c d e = unwrap_or (first_of (a ∷ b ∷ c ∷ d ∷ e ∷ [])) (at_start (new_pair name v []) form)
 
@@ -160,13 +160,13 @@ module _ (form : Text) (place : Place) (name : List ℕ) (v : NewValue)
       (in_super place (new_pair name v []) form)) no_table
 
   -- behind the last statement of the table's own
-  pub own_row : (e : Entry) → last_made own_entry es ≡ Some e
-      → (s : Stated) × Among s (stated form) × (e ≡ entry_of place s)
+  pub own_row : (e : Entry) → last_result own_entry es ≡ Some e
+      → (s : PlacedStatement) × Among s (placed_statements form) × (e ≡ entry_of place s)
       × (inserted place name v form ≡ new_line s.after (new_pair name v []))
   own_row e h =
       let m = new_pair name v [] in
-      let ch = last_chosen own_entry (own_splice place m) (entry_of place) (own_alike place m) (stated form) e
-      (ap (last_made own_entry) (sym all) ∙ h) in
+      let ch = last_chosen own_entry (own_splice place m) (entry_of place) (own_alike place m) (placed_statements form) e
+      (ap (last_result own_entry) (sym all) ∙ h) in
       let r = cond_some (is_own place ch.one) (entry_of place ch.one) e ch.made in
       let made : in_section place m form ≡ Some (new_line ch.one.after m) =
       ch.is ∙ ap (λ (t : Bool). cond t (Some (new_line ch.one.after m)) None) r.0 in (
@@ -178,22 +178,22 @@ module _ (form : Text) (place : Place) (name : List ℕ) (v : NewValue)
             (in_inner_dotted place m form) (in_super place m form)) made,
       )
 
-  no_section : last_made own_entry es ≡ None → in_section place (new_pair name v []) form ≡ None
+  no_section : last_result own_entry es ≡ None → in_section place (new_pair name v []) form ≡ None
   no_section h =
       let m = new_pair name v [] in
-      last_none own_entry (own_splice place m) (entry_of place) (own_alike place m) (stated form)
-      (ap (last_made own_entry) (sym all) ∙ h)
+      last_none own_entry (own_splice place m) (entry_of place) (own_alike place m) (placed_statements form)
+      (ap (last_result own_entry) (sym all) ∙ h)
 
   -- behind the last pair whose key goes on behind the table
-  pub dotted_row : (e : Entry) → last_made own_entry es ≡ None → last_made dotted_entry es ≡ Some e
-      → (s : Stated) × Among s (stated form) × (e ≡ entry_of place s)
+  pub dotted_row : (e : Entry) → last_result own_entry es ≡ None → last_result dotted_entry es ≡ Some e
+      → (s : PlacedStatement) × Among s (placed_statements form) × (e ≡ entry_of place s)
       × (spot : List ℕ) × (front_of place s ≡ Some spot)
       × (inserted place name v form ≡ dotted_line s (new_pair name v []) spot)
   dotted_row e none h =
       let m = new_pair name v [] in
       let ch = last_chosen dotted_entry (dotted_splice place m) (entry_of place) (dotted_alike place m)
-      (stated form) e
-      (ap (last_made dotted_entry) (sym all) ∙ h) in
+      (placed_statements form) e
+      (ap (last_result dotted_entry) (sym all) ∙ h) in
       let r = pair_some (is_pair ch.one.statement) (front_of place ch.one)
       (entry_of place ch.one) e ch.made in
       let made : in_dotted place m form ≡ Some (dotted_line ch.one m r.0) =
@@ -211,14 +211,14 @@ module _ (form : Text) (place : Place) (name : List ℕ) (v : NewValue)
             (no_section none) made,
       )
 
-  no_dotted : last_made dotted_entry es ≡ None → in_dotted place (new_pair name v []) form ≡ None
+  no_dotted : last_result dotted_entry es ≡ None → in_dotted place (new_pair name v []) form ≡ None
   no_dotted h =
       let m = new_pair name v [] in
-      last_none dotted_entry (dotted_splice place m) (entry_of place) (dotted_alike place m) (stated form)
-      (ap (last_made dotted_entry) (sym all) ∙ h)
+      last_none dotted_entry (dotted_splice place m) (entry_of place) (dotted_alike place m) (placed_statements form)
+      (ap (last_result dotted_entry) (sym all) ∙ h)
 
   -- behind the last pair, of an inline table, whose key goes on behind the table
-  pub inner_row : (e : Inner) → last_made own_entry es ≡ None → last_made dotted_entry es ≡ None
+  pub inner_row : (e : Inner) → last_result own_entry es ≡ None → last_result dotted_entry es ≡ None
       → inner ≡ Some e → (r : InnerRow place form (new_pair name v []) e)
       × (inserted place name v form ≡ inner_splice r.pair r.spot (new_pair name v []))
   inner_row e none no_pair h =
@@ -232,7 +232,7 @@ module _ (form : Text) (place : Place) (name : List ℕ) (v : NewValue)
             ∙ ap (λ (d : Option Splice). rows None None None d (in_super place m form)) r.row,
       )
 
-  no_lines : last_made own_entry es ≡ None → last_made dotted_entry es ≡ None → inner ≡ None
+  no_lines : last_result own_entry es ≡ None → last_result dotted_entry es ≡ None → inner ≡ None
       → inserted place name v form ≡ rows None None None None (in_super place (new_pair name v []) form)
   no_lines none no_pair no_inner =
       let m = new_pair name v [] in
@@ -242,19 +242,19 @@ module _ (form : Text) (place : Place) (name : List ℕ) (v : NewValue)
       ∙ ap (λ (d : Option Splice). rows None None None d (in_super place m form))
       (inner_nothing form place m (sym found ∙ no_inner))
 
-  flat : (m : List ℕ) → in_super place m form ≡ first_made (through_splice place m) (stated form)
-  flat m = first_flat _ headed_statement (stated form)
+  flat : (m : List ℕ) → in_super place m form ≡ first_result (through_splice place m) (placed_statements form)
+  flat m = first_flat _ headed_statement (placed_statements form)
 
   -- before the first header whose key goes on behind the table
-  pub through_row : (e : Entry) → last_made own_entry es ≡ None → last_made dotted_entry es ≡ None
-      → inner ≡ None → first_made through_entry es ≡ Some e
-      → (s : Stated) × Among s (stated form) × (e ≡ entry_of place s)
+  pub through_row : (e : Entry) → last_result own_entry es ≡ None → last_result dotted_entry es ≡ None
+      → inner ≡ None → first_result through_entry es ≡ Some e
+      → (s : PlacedStatement) × Among s (placed_statements form) × (e ≡ entry_of place s)
       × (spot : List ℕ) × (front_of place s ≡ Some spot)
       × (inserted place name v form ≡ through_section s (new_pair name v []) spot)
   through_row e none no_pair no_inner h =
       let m = new_pair name v [] in
       let ch = first_chosen through_entry (through_splice place m) (entry_of place) (through_alike place m)
-      (stated form) e (ap (first_made through_entry) (sym all) ∙ h) in
+      (placed_statements form) e (ap (first_result through_entry) (sym all) ∙ h) in
       let r = header_some (is_pair ch.one.statement) (front_of place ch.one)
       (entry_of place ch.one) e ch.made in
       let made : in_super place m form ≡ Some (through_section ch.one m r.0) =
@@ -270,16 +270,16 @@ module _ (form : Text) (place : Place) (name : List ℕ) (v : NewValue)
       )
 
   -- at the start of the text
-  pub start_row : last_made own_entry es ≡ None → last_made dotted_entry es ≡ None → inner ≡ None
-      → first_made through_entry es ≡ None
+  pub start_row : last_result own_entry es ≡ None → last_result dotted_entry es ≡ None → inner ≡ None
+      → first_result through_entry es ≡ None
       → inserted place name v form ≡ at_start (new_pair name v []) form
   start_row none no_pair no_inner h =
       let m = new_pair name v [] in
       let made : in_super place m form ≡ None =
       flat m
       ∙ first_none through_entry (through_splice place m) (entry_of place) (through_alike place m)
-      (stated form)
-      (ap (first_made through_entry) (sym all) ∙ h) in
+      (placed_statements form)
+      (ap (first_result through_entry) (sym all) ∙ h) in
       no_lines none no_pair no_inner ∙ ap (λ (d : Option Splice). rows None None None None d) made
 
 -- ---- what the code promises

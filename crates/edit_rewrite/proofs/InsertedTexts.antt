@@ -7,11 +7,11 @@ use Rattle.edit_rewrite.specs.declared.locate.Entry.{Entry}
 use Rattle.edit_rewrite.specs.declared.inner.Inner.{Inner}
 use Rattle.edit_rewrite.specs.Inner.{inner_of, HasInner}
 use Rattle.edit_tree.specs.Assertions.{IsDocument, Place}
-use Rattle.edit_tree.specs.EditBytes.{Splice, put_before, with_splice, first_made, last_made, new_line, in_inline, front_to, dotted_pair, at_start, inserted, inserted_text}
+use Rattle.edit_tree.specs.EditBytes.{Splice, put_before, with_splice, first_result, last_result, new_line, in_inline, front_to, dotted_pair, at_start, inserted, inserted_text}
 use Rattle.edit_tree.specs.NewItems.{NewValue, new_pair}
 use Rattle.edit_rewrite.specs.Entries.{front_of, entry_of}
-use Rattle.edit_rewrite.specs.Spots.{IsSpot, HasSpots, key_to, section_text, own_entry, dotted_entry, through_entry}
-use Rattle.edit_tree.specs.Statements.{Stated, stated, Paired, inner_pairs}
+use Rattle.edit_rewrite.specs.StatementOffsets.{IsSpot, HasOffsets, key_to, section_text, own_entry, dotted_entry, through_entry}
+use Rattle.edit_tree.specs.Statements.{PlacedStatement, placed_statements, PlacedPair, inner_pairs}
 use Rattle.edit_rewrite.proofs.InnerRows.{InnerRow, inner_splice, inner_stands}
 use Rattle.edit_rewrite.proofs.InsertedLines.{row_of, own_row, dotted_row, inner_row, through_row, start_row}
 use Rattle.edit_rewrite.proofs.StatementSpots.{stated_spots}
@@ -26,8 +26,8 @@ spliced (Err x) bytes spelled was is b s e = tt
 module _ {E : Type 0} (r : Result (String Global) E) (bytes pair : List ℕ) (utf8 : IsUtf8 bytes)
     (form : Text) (place : Place) (name : List ℕ) (v : NewValue) (m : IsDocument bytes form)
     (none : in_inline place pair form ≡ None) (inner : Option Inner)
-    (found : inner ≡ last_made (inner_of place) (inner_pairs form)) (is : pair ≡ new_pair name v [])
-    (es : List Entry) (all : es ≡ map (entry_of place) (stated form)) where
+    (found : inner ≡ last_result (inner_of place) (inner_pairs form)) (is : pair ≡ new_pair name v [])
+    (es : List Entry) (all : es ≡ map (entry_of place) (placed_statements form)) where
   -- it is the text with what a row makes of the pair
   written : (make : List ℕ → Splice) → inserted place name v form ≡ make (new_pair name v [])
       → IfOk r (λ t. string_bytes t ≡ with_splice bytes (make pair))
@@ -36,7 +36,7 @@ module _ {E : Type 0} (r : Result (String Global) E) (bytes pair : List ℕ) (ut
       m.grammar.spelled (row ∙ ap make (sym is))
 
   -- behind the last statement of the table's own
-  pub own_text : (e : Entry) → last_made own_entry es ≡ Some e
+  pub own_text : (e : Entry) → last_result own_entry es ≡ Some e
       → ((rest : List ℕ) → IsSpot bytes rest → e.after ≡ length rest
       → IfOk r (λ t. string_bytes t ≡ with_splice bytes (new_line rest pair)))
       → IfOk r (λ t. string_bytes t ≡ inserted_text place name v form)
@@ -44,15 +44,15 @@ module _ {E : Type 0} (r : Result (String Global) E) (bytes pair : List ℕ) (ut
       let row = own_row form place name v (row_of form place name v pair none is) inner found es all e h in
       go row.0 row.1 row.2 row.3
     where
-      go : (s : Stated) → Among s (stated form) → e ≡ entry_of place s
+      go : (s : PlacedStatement) → Among s (placed_statements form) → e ≡ entry_of place s
           → inserted place name v form ≡ new_line s.after (new_pair name v [])
           → IfOk r (λ t. string_bytes t ≡ inserted_text place name v form)
       go s among at row = written (new_line s.after) row
           (call s.after (stated_spots bytes form m utf8 s among).after (ap (λ (x : Entry). x.after) at))
 
   -- behind the last pair whose key goes on behind the table
-  pub dotted_text : (e : Entry) → last_made own_entry es ≡ None → last_made dotted_entry es ≡ Some e
-      → ((p : Place) (s : Stated) (spot : List ℕ) → HasSpots bytes s → e ≡ entry_of p s
+  pub dotted_text : (e : Entry) → last_result own_entry es ≡ None → last_result dotted_entry es ≡ Some e
+      → ((p : Place) (s : PlacedStatement) (spot : List ℕ) → HasOffsets bytes s → e ≡ entry_of p s
       → front_of p s ≡ Some spot → IfOk r (λ t. string_bytes t
       ≡ with_splice bytes (new_line s.after (key_to s spot ++ (codes "." ++ pair)))))
       → IfOk r (λ t. string_bytes t ≡ inserted_text place name v form)
@@ -61,7 +61,7 @@ module _ {E : Type 0} (r : Result (String Global) E) (bytes pair : List ℕ) (ut
       no_own h in
       go row.0 row.1 row.2 row.3 row.4 row.5
     where
-      go : (s : Stated) → Among s (stated form) → e ≡ entry_of place s → (spot : List ℕ)
+      go : (s : PlacedStatement) → Among s (placed_statements form) → e ≡ entry_of place s → (spot : List ℕ)
           → front_of place s ≡ Some spot
           → inserted place name v form
           ≡ new_line s.after (key_to s spot ++ (codes "." ++ new_pair name v []))
@@ -71,9 +71,9 @@ module _ {E : Type 0} (r : Result (String Global) E) (bytes pair : List ℕ) (ut
           (call place s spot (stated_spots bytes form m utf8 s among) at front)
 
   -- behind the last pair, of an inline table, whose key goes on behind the table
-  pub inner_text : (e : Inner) → last_made own_entry es ≡ None → last_made dotted_entry es ≡ None
+  pub inner_text : (e : Inner) → last_result own_entry es ≡ None → last_result dotted_entry es ≡ None
       → inner ≡ Some e
-      → ((p : Place) (q : Paired) (spot : List ℕ) → HasInner bytes q spot → front_to p q ≡ Some spot
+      → ((p : Place) (q : PlacedPair) (spot : List ℕ) → HasInner bytes q spot → front_to p q ≡ Some spot
       → inner_of p q ≡ Some e → IfOk r (λ t. string_bytes t
       ≡ with_splice bytes (put_before q.behind (codes ", " ++ dotted_pair q spot pair))))
       → IfOk r (λ t. string_bytes t ≡ inserted_text place name v form)
@@ -91,9 +91,9 @@ module _ {E : Type 0} (r : Result (String Global) E) (bytes pair : List ℕ) (ut
           w.front w.is)
 
   -- before the first header whose key goes on behind the table
-  pub through_text : (e : Entry) → last_made own_entry es ≡ None → last_made dotted_entry es ≡ None
-      → inner ≡ None → first_made through_entry es ≡ Some e
-      → ((p : Place) (s : Stated) (spot : List ℕ) → HasSpots bytes s → e ≡ entry_of p s
+  pub through_text : (e : Entry) → last_result own_entry es ≡ None → last_result dotted_entry es ≡ None
+      → inner ≡ None → first_result through_entry es ≡ Some e
+      → ((p : Place) (s : PlacedStatement) (spot : List ℕ) → HasOffsets bytes s → e ≡ entry_of p s
       → front_of p s ≡ Some spot → IfOk r (λ t. string_bytes t
       ≡ with_splice bytes (put_before s.line (section_text (key_to s spot) pair))))
       → IfOk r (λ t. string_bytes t ≡ inserted_text place name v form)
@@ -102,7 +102,7 @@ module _ {E : Type 0} (r : Result (String Global) E) (bytes pair : List ℕ) (ut
       no_own no_pair no_inner h in
       go row.0 row.1 row.2 row.3 row.4 row.5
     where
-      go : (s : Stated) → Among s (stated form) → e ≡ entry_of place s → (spot : List ℕ)
+      go : (s : PlacedStatement) → Among s (placed_statements form) → e ≡ entry_of place s → (spot : List ℕ)
           → front_of place s ≡ Some spot
           → inserted place name v form ≡ put_before s.line (section_text (key_to s spot) (new_pair name v []))
           → IfOk r (λ t. string_bytes t ≡ inserted_text place name v form)
@@ -111,8 +111,8 @@ module _ {E : Type 0} (r : Result (String Global) E) (bytes pair : List ℕ) (ut
           (call place s spot (stated_spots bytes form m utf8 s among) at front)
 
   -- at the start of the text
-  pub start_text : last_made own_entry es ≡ None → last_made dotted_entry es ≡ None → inner ≡ None
-      → first_made through_entry es ≡ None
+  pub start_text : last_result own_entry es ≡ None → last_result dotted_entry es ≡ None → inner ≡ None
+      → first_result through_entry es ≡ None
       → IfOk r (λ t. string_bytes t ≡ with_splice bytes (at_start pair form))
       → IfOk r (λ t. string_bytes t ≡ inserted_text place name v form)
   start_text no_own no_pair no_inner h call =

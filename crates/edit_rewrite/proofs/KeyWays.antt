@@ -9,14 +9,14 @@ use Rattle.edit_syntax.specs.declared.read.marks.Mark.{Mark}
 use Rattle.edit_syntax.specs.Characters.{is_blank, All}
 use Rattle.edit_syntax.specs.Strings.{Part, bare, basic_part, literal_part, part, IsPart, name, Dotted, dotted, Key, IsKey}
 use Rattle.edit_syntax.specs.Strings as strings
-use Rattle.edit_syntax.specs.Marks.{part_kind, part_mark, dotted_marks, key_marks}
-use Rattle.edit_rewrite.specs.declared.way.Way.{Way}
+use Rattle.edit_syntax.specs.SyntaxTokens.{part_kind, token_of_part, tokens_of_dotted, tokens_of_key}
+use Rattle.edit_rewrite.specs.declared.way.PathMatch.{PathMatch}
 use Rattle.edit_tree.specs.Assertions.{key, Place, at, same_place, Assertion, names, named, resolved, header_place}
-use Rattle.edit_tree.specs.EditBytes.{as_it_is}
+use Rattle.edit_tree.specs.EditBytes.{unresolved}
 use Rattle.edit_tree.specs.Statements.{Named, dotted_parts, parts, front_parts, behind_part}
 use Rattle.edit_tree.specs.Walk.{said}
-use Rattle.edit_tree.specs.WalkState.{SaysAt, is_said}
-use Rattle.edit_rewrite.specs.Entries.{way, next_way, is_at, resolved_way, is_part, begins_part, head_of, AreParts, Follows, led, GoesAlong}
+use Rattle.edit_tree.specs.WalkState.{IsDecodedAt, has_token_value}
+use Rattle.edit_rewrite.specs.Entries.{way, next_way, is_at, resolved_way, is_part, begins_part, kind_after_key, AreParts, Follows, key_target, FollowsKey}
 use Rattle.edit_tree.proofs.Ends.{Ends, ends_past, ends_one, ends_part}
 use Rattle.edit_tree.proofs.WalkedTokens.{said_part}
 use Rattle.edit_document.proofs.TextTokens.{part_token}
@@ -25,17 +25,17 @@ use Rattle.edit_rewrite.proofs.Ways.{way_at, same_is}
 -- ---- the marks of a key
 
 part_says : (bytes : List ℕ) (p : Part) (rest : List ℕ) → IsPart p → IsUtf8 bytes → Ends bytes (part p rest)
-    → SaysAt bytes (part_mark p rest) (name p)
+    → IsDecodedAt bytes (token_of_part p rest) (name p)
 part_says bytes p rest h u ends = go (part_token bytes p rest h u ends (kind_said p))
   where
-    kind_said : (p : Part) → is_said (part_kind p) ≡ true
+    kind_said : (p : Part) → has_token_value (part_kind p) ≡ true
     kind_said (bare text) = refl
     kind_said (basic_part ps) = refl
     kind_said (literal_part text) = refl
 
-    go : (n : List ℕ) × (said bytes (part_mark p rest) ≡ Some n) × SaysAt bytes (part_mark p rest) n
-        → SaysAt bytes (part_mark p rest) (name p)
-    go t = subst (SaysAt bytes (part_mark p rest))
+    go : (n : List ℕ) × (said bytes (token_of_part p rest) ≡ Some n) × IsDecodedAt bytes (token_of_part p rest) n
+        → IsDecodedAt bytes (token_of_part p rest) (name p)
+    go t = subst (IsDecodedAt bytes (token_of_part p rest))
         (same_Some _ _ (sym t.1 ∙ said_part bytes p rest h u ends)) t.2
 
 pub kind_part : (p : Part) → is_part (part_kind p) ≡ true
@@ -48,7 +48,7 @@ IsDotted d = All is_blank d.before × All is_blank d.behind × IsPart d.part
 
 dotted_are : (bytes : List ℕ) (ds : List Dotted) (rest : List ℕ) (others : List Mark)
     → AllByRecursion IsDotted ds → IsUtf8 bytes → Ends bytes (dotted ds rest) → begins_part others ≡ false
-    → AreParts bytes (dotted_parts ds rest) (dotted_marks ds rest ++ others)
+    → AreParts bytes (dotted_parts ds rest) (tokens_of_dotted ds rest ++ others)
 dotted_are bytes [] rest others h u ends over = over
 dotted_are bytes (d ∷ ds) rest others h u ends over =
     let here : Ends bytes (part d.part (dotted ds rest)) =
@@ -63,7 +63,7 @@ dotted_are bytes (d ∷ ds) rest others h u ends over =
 
 pub key_are : (bytes : List ℕ) (k : Key) (rest : List ℕ) (others : List Mark) → IsKey k → IsUtf8 bytes
     → Ends bytes (strings.key k rest) → begins_part others ≡ false
-    → AreParts bytes (parts k rest) (key_marks k rest ++ others)
+    → AreParts bytes (parts k rest) (tokens_of_key k rest ++ others)
 key_are bytes k rest others h u ends over = (
   kind_part k.first,
   part_says bytes k.first (dotted k.others rest) h.0 u ends,
@@ -78,17 +78,18 @@ pub no_parts : {A : Type 0} (bytes : List ℕ) (n : Named) (ns : List Named) (ms
 no_parts bytes n ns [] e h = absurd h
 no_parts bytes n ns (m ∷ ms) e h = absurd cc
 
-step_is : (target table : Place) (n : List ℕ) (start here : Way) (said : List ℕ) → start ≡ way target table
+step_is : (target table : Place) (n : List ℕ) (start here : PathMatch) (said : List ℕ)
+    → start ≡ way target table
     → said ≡ n → here ≡ next_way target start (key said) → here ≡ way target (at table (key n))
 step_is target table n start here said begins same is =
-    is ∙ ap (λ (w : Way). next_way target w (key said)) begins ∙
+    is ∙ ap (λ (w : PathMatch). next_way target w (key said)) begins ∙
     ap (λ (x : List ℕ). next_way target (way target table) (key x)) same ∙ sym (way_at target table (key n))
 
 -- the last part of a key
 pub last_along : (bytes : List ℕ) (target : Place) (resolve : Place → Place) (table : Place) (n : Named)
-    (ns : List Named) (m : Mark) (ms : List Mark) (start here : Way) (said : List ℕ)
+    (ns : List Named) (m : Mark) (ms : List Mark) (start here : PathMatch) (said : List ℕ)
     → AreParts bytes (n ∷ ns) (m ∷ ms) → begins_part ms ≡ false → start ≡ way target table → said ≡ n.0
-    → here ≡ next_way target start (key said) → GoesAlong target resolve table (n ∷ ns) (here, None)
+    → here ≡ next_way target start (key said) → FollowsKey target resolve table (n ∷ ns) (here, None)
 last_along bytes target resolve table n [] m ms start here said h over begins same is =
     (step_is target table n.0 start here said begins same is, refl)
 last_along bytes target resolve table n (n2 ∷ ns) m [] start here said h over begins same is = absurd h.3
@@ -96,20 +97,20 @@ last_along bytes target resolve table n (n2 ∷ ns) m (m2 ∷ ms) start here sai
     absurd (true≢false (sym h.3.0 ∙ over))
 
 -- what is promised of the parts behind the first
-abbrev pub Promises : List ℕ → Place → List ℕ → List Mark → Way → Way × Option ℕ → Type 0
+abbrev pub Promises : List ℕ → Place → List ℕ → List Mark → PathMatch → PathMatch × Option ℕ → Type 0
 Promises bytes target counts ms next r =
     (table : Place) (resolve : Place → Place) (n : Named) (ns : List Named) → AreParts bytes (n ∷ ns) ms
-    → Follows target counts resolve → next ≡ way target table → GoesAlong target resolve table (n ∷ ns) r
+    → Follows target counts resolve → next ≡ way target table → FollowsKey target resolve table (n ∷ ns) r
 
 -- a part before others
 pub more_along : (bytes : List ℕ) (target : Place) (counts : List ℕ) (resolve : Place → Place) (table : Place)
-    (n : Named) (ns : List Named) (m : Mark) (ms : List Mark) (start here next : Way) (said : List ℕ)
-    (r : Way × Option ℕ)
+    (n : Named) (ns : List Named) (m : Mark) (ms : List Mark) (start here next : PathMatch) (said : List ℕ)
+    (r : PathMatch × Option ℕ)
     → Promises bytes target counts ms next r → AreParts bytes (n ∷ ns) (m ∷ ms) → begins_part ms ≡ true
     → Follows target counts resolve → start ≡ way target table → said ≡ n.0
     → here ≡ next_way target start (key said) → next ≡ resolved_way target counts here
     → (c : Bool) → c ≡ is_at (length target) next
-    → GoesAlong target resolve table (n ∷ ns) (r.0, cond c (Some m.to) r.1)
+    → FollowsKey target resolve table (n ∷ ns) (r.0, cond c (Some m.to) r.1)
 more_along bytes target counts resolve table n [] m ms start here next said r rec h more follows begins same
     is goes c at_it = absurd (true≢false (sym more ∙ h.3))
 more_along bytes target counts resolve table n (n2 ∷ ns) m ms start here next said r rec h more follows begins
@@ -120,7 +121,7 @@ more_along bytes target counts resolve table n (n2 ∷ ns) m ms start here next 
     next_is = goes ∙ ap (resolved_way target counts)
         (step_is target table n.0 start here said begins same is) ∙ sym (follows (at table (key n.0)))
 
-    ways : GoesAlong target resolve (resolve (at table (key n.0))) (n2 ∷ ns) r
+    ways : FollowsKey target resolve (resolve (at table (key n.0))) (n2 ∷ ns) r
     ways = rec (resolve (at table (key n.0))) resolve n2 ns h.3 follows next_is
 
     test : c ≡ same_place (resolve (at table (key n.0))) target
@@ -135,7 +136,7 @@ more_along bytes target counts resolve table n (n2 ∷ ns) m ms start here next 
 -- ---- the same of marks that are not taken apart
 
 pub says_first : (bytes : List ℕ) (n : Named) (ns : List Named) (marks : List Mark) (x : Mark)
-    → AreParts bytes (n ∷ ns) marks → SaysAt bytes (get_or marks 0 x) n.0
+    → AreParts bytes (n ∷ ns) marks → IsDecodedAt bytes (get_or marks 0 x) n.0
 says_first bytes n ns [] x h = absurd h
 says_first bytes n ns (m ∷ ms) x h = h.1
 
@@ -148,24 +149,24 @@ others_are m ms = let k : suc (length ms) - 1 ≡ length ms = omega arith in
     ap (λ (n : ℕ). take n ms) k ∙ take-length ms
 
 pub last_way : (bytes : List ℕ) (target : Place) (resolve : Place → Place) (table : Place) (n : Named)
-    (ns : List Named) (marks : List Mark) (start here : Way) (said : List ℕ)
+    (ns : List Named) (marks : List Mark) (start here : PathMatch) (said : List ℕ)
     → AreParts bytes (n ∷ ns) marks → begins_part (others marks) ≡ false → start ≡ way target table
     → said ≡ n.0 → here ≡ next_way target start (key said)
-    → GoesAlong target resolve table (n ∷ ns) (here, None)
+    → FollowsKey target resolve table (n ∷ ns) (here, None)
 last_way bytes target resolve table n ns [] start here said h over begins same is = absurd h
 last_way bytes target resolve table n ns (x ∷ ms) start here said h over begins same is =
     last_along bytes target resolve table n ns x ms start here said h
     (ap begins_part (sym (others_are x ms)) ∙ over) begins same is
 
 pub more_way : (bytes : List ℕ) (target : Place) (counts : List ℕ) (resolve : Place → Place) (table : Place)
-    (n : Named) (ns : List Named) (marks : List Mark) (x : Mark) (start here next : Way) (said : List ℕ)
-    (r : Way × Option ℕ)
+    (n : Named) (ns : List Named) (marks : List Mark) (x : Mark) (start here next : PathMatch) (said : List ℕ)
+    (r : PathMatch × Option ℕ)
     → Promises bytes target counts (others marks) next r → AreParts bytes (n ∷ ns) marks
     → begins_part (others marks) ≡ true → Follows target counts resolve → start ≡ way target table
     → said ≡ n.0
     → here ≡ next_way target start (key said) → next ≡ resolved_way target counts here
     → (c : Bool) → c ≡ is_at (length target) next
-    → GoesAlong target resolve table (n ∷ ns) (r.0, cond c (Some (get_or marks 0 x).to) r.1)
+    → FollowsKey target resolve table (n ∷ ns) (r.0, cond c (Some (get_or marks 0 x).to) r.1)
 more_way bytes target counts resolve table n ns [] x start here next said r rec h more follows begins same is
     goes c at_it = absurd h
 more_way bytes target counts resolve table n ns
@@ -187,7 +188,7 @@ dotted_names (d ∷ ds) rest = ap (λ (ns : List (List ℕ)). name d.part ∷ ns
 names_are : (k : Key) (rest : List ℕ) → part_names (parts k rest) ≡ names k
 names_are k rest = ap (λ (ns : List (List ℕ)). name k.first ∷ ns) (dotted_names k.others rest)
 
-led_pair : (table : Place) (ns : List Named) → led as_it_is table ns ≡ named table (part_names ns)
+led_pair : (table : Place) (ns : List Named) → key_target unresolved table ns ≡ named table (part_names ns)
 led_pair table [] = nil table
   where
     nil : (xs : Place) → xs ≡ xs ++ []
@@ -199,29 +200,29 @@ led_pair table (n ∷ m ∷ ns) = led_pair (at table (key n.0)) (m ∷ ns) ∙
 
 -- the key of a pair leads to the place that it names
 pub pair_led : (table : Place) (k : Key) (rest : List ℕ)
-    → led as_it_is table (parts k rest) ≡ named table (names k)
+    → key_target unresolved table (parts k rest) ≡ named table (names k)
 pair_led table k rest = led_pair table (parts k rest) ∙ ap (named table) (names_are k rest)
 
 led_header : (earlier : List Assertion) (table : Place) (ns : List Named)
-    → led (resolved earlier) table ns ≡ header_place earlier table (part_names ns)
+    → key_target (resolved earlier) table ns ≡ header_place earlier table (part_names ns)
 led_header earlier table [] = refl
 led_header earlier table (n ∷ []) = refl
 led_header earlier table (n ∷ m ∷ ns) = led_header earlier (resolved earlier (at table (key n.0))) (m ∷ ns)
 
 -- and that of a header
 pub header_led : (earlier : List Assertion) (k : Key) (rest : List ℕ)
-    → led (resolved earlier) [] (parts k rest) ≡ header_place earlier [] (names k)
+    → key_target (resolved earlier) [] (parts k rest) ≡ header_place earlier [] (names k)
 header_led earlier k rest = led_header earlier [] (parts k rest) ∙
     ap (header_place earlier []) (names_are k rest)
 
 -- ---- the mark behind a key
 
 pub head_turn : (marks : List Mark) (i : ℕ) (m : Mark) → slice_get marks i ≡ Some m → is_part m.kind ≡ true
-    → head_of (drop i marks) ≡ head_of (drop (i + 1) marks)
-head_turn marks i m e p = ap head_of (drop_from marks i m e) ∙
-    ap (λ b. cond b (head_of (drop (i + 1) marks)) (Some m.kind)) p
+    → kind_after_key (drop i marks) ≡ kind_after_key (drop (i + 1) marks)
+head_turn marks i m e p = ap kind_after_key (drop_from marks i m e) ∙
+    ap (λ b. cond b (kind_after_key (drop (i + 1) marks)) (Some m.kind)) p
 
 pub head_found : (marks : List Mark) (i : ℕ) (m : Mark) → slice_get marks i ≡ Some m → is_part m.kind ≡ false
-    → head_of (drop i marks) ≡ Some m.kind
-head_found marks i m e p = ap head_of (drop_from marks i m e) ∙
-    ap (λ b. cond b (head_of (drop (i + 1) marks)) (Some m.kind)) p
+    → kind_after_key (drop i marks) ≡ Some m.kind
+head_found marks i m e p = ap kind_after_key (drop_from marks i m e) ∙
+    ap (λ b. cond b (kind_after_key (drop (i + 1) marks)) (Some m.kind)) p

@@ -9,8 +9,8 @@ use Rattle.edit_tree.specs.Assertions.{Place, Assertion, of_statement, prefix_af
 use Rattle.edit_tree.specs.EditBytes.{before}
 use Rattle.edit_rewrite.specs.Entries.{entry_of}
 use Rattle.edit_tree.specs.RemovedBytes.{is_gone, lines_left}
-use Rattle.edit_rewrite.specs.Spots.{IsSpot}
-use Rattle.edit_tree.specs.Statements.{Stated, stated_in, stated}
+use Rattle.edit_rewrite.specs.StatementOffsets.{IsSpot}
+use Rattle.edit_tree.specs.Statements.{PlacedStatement, stated_in, placed_statements}
 use Rattle.edit_document.proofs.Documents.{read_of, ends_all}
 use Rattle.edit_tree.proofs.Ends.{Ends, ends_line, ends_line_end}
 use Rattle.edit_rewrite.proofs.SlotLaws.{before_is}
@@ -20,7 +20,7 @@ use Rattle.edit_rewrite.proofs.StatementSpots.{spot_of, lines_start, start_spot}
 -- ---- where the lines behind statements begin
 
 -- the lines behind each statement begin behind those before, where the text may be cut
-abbrev pub Chain : List ℕ → List ℕ → List Stated → Type 0
+abbrev pub Chain : List ℕ → List ℕ → List PlacedStatement → Type 0
 Chain bytes from [] = Unit {0}
 Chain bytes from (s ∷ ss) = IsSpot bytes s.next × Ends from s.next × Chain bytes s.next ss
 
@@ -48,7 +48,7 @@ lines_chain bytes from earlier prefix (more_lines (full_line a s b c) n ls) vali
 pub record AtStatement (bytes : List ℕ) (gone : Place) (whole done : List ℕ) (from : ℕ) (left : List Entry)
     : Type 0 where
   pub rest : List ℕ
-  pub coming : List Stated
+  pub coming : List PlacedStatement
   pub spot : IsSpot bytes rest
   pub from_is : from ≡ length rest
   pub left_is : left ≡ map (entry_of gone) coming
@@ -59,8 +59,8 @@ pub record AtStatement (bytes : List ℕ) (gone : Place) (whole done : List ℕ)
 pub at_first : (bytes : List ℕ) (form : Text) (gone : Place) (done : List ℕ) (from : ℕ) (left : List Entry)
     → IsDocument bytes form → IsUtf8 bytes → from ≡ length (lines form.lines)
     → done ≡ cut_from bytes (length bytes - length bytes) (length bytes - from)
-    → left ≡ map (entry_of gone) (stated form)
-    → AtStatement bytes gone (byte_order_mark form.marked (lines_left gone (lines form.lines) (stated form)))
+    → left ≡ map (entry_of gone) (placed_statements form)
+    → AtStatement bytes gone (byte_order_mark form.marked (lines_left gone (lines form.lines) (placed_statements form)))
     done from left
 at_first bytes form gone done from left m u is cut all =
     let r = read_of bytes form m u in
@@ -74,13 +74,13 @@ at_first bytes form gone done from left m u is cut all =
     ∙ before_is bytes (byte_order_mark form.marked []) (lines form.lines) marked in
     record {
       rest = lines form.lines;
-      coming = stated form;
+      coming = placed_statements form;
       spot = spot;
       from_is = is;
       left_is = all;
       chain = lines_chain bytes (lines form.lines) [] [] form.lines r.spells.well_formed ends ([], refl);
-      made = ap (λ (l : List ℕ). l ++ lines_left gone (lines form.lines) (stated form)) front
-          ∙ sym (behind_mark form.marked (lines_left gone (lines form.lines) (stated form)));
+      made = ap (λ (l : List ℕ). l ++ lines_left gone (lines form.lines) (placed_statements form)) front
+          ∙ sym (behind_mark form.marked (lines_left gone (lines form.lines) (placed_statements form)));
     }
   where
     behind_mark : (b : Bool) (rest : List ℕ) → byte_order_mark b rest ≡ byte_order_mark b [] ++ rest
@@ -95,11 +95,12 @@ pub past_one : (bytes : List ℕ) (gone : Place) (whole done now : List ℕ) (fr
     → AtStatement bytes gone whole now e.next left
 past_one bytes gone whole done now from to e left at to_is is = go at.coming at.left_is at.chain at.made
   where
-    written : List ℕ → Bool → List Stated → List ℕ → List ℕ
+    written : List ℕ → Bool → List PlacedStatement → List ℕ → List ℕ
     written next within ss done =
         done ++ (if within then lines_left gone next ss else before at.rest next ++ lines_left gone next ss)
 
-    step : (s : Stated) (ss : List Stated) (within : Bool) → IsSpot bytes s.next → Ends at.rest s.next
+    step : (s : PlacedStatement) (ss : List PlacedStatement) (within : Bool) → IsSpot bytes s.next
+        → Ends at.rest s.next
         → e.next ≡ length s.next → to ≡ (if within then from else e.next)
         → now ++ lines_left gone s.next ss ≡ written s.next within ss done
     step s ss true spot ends next_is to_from =
@@ -117,7 +118,7 @@ past_one bytes gone whole done now from to e left at to_is is = go at.coming at.
         ap (λ (l : List ℕ). l ++ lines_left gone s.next ss) kept
         ∙ append_assoc done (before at.rest s.next) (lines_left gone s.next ss)
 
-    go : (ss : List Stated) → e ∷ left ≡ map (entry_of gone) ss → Chain bytes at.rest ss
+    go : (ss : List PlacedStatement) → e ∷ left ≡ map (entry_of gone) ss → Chain bytes at.rest ss
         → done ++ lines_left gone at.rest ss ≡ whole → AtStatement bytes gone whole now e.next left
     go [] all c m = absurd cc
     go (s ∷ ss) all c m =
@@ -142,7 +143,8 @@ pub past_last : (bytes : List ℕ) (gone : Place) (whole done now : List ℕ) (f
     → now ≡ done ++ cut_from bytes (length bytes - from) (length bytes - 0) → now ≡ whole
 past_last bytes gone whole done now from at is = go at.coming at.left_is at.made
   where
-    go : (ss : List Stated) → [] ≡ map (entry_of gone) ss → done ++ lines_left gone at.rest ss ≡ whole
+    go : (ss : List PlacedStatement) → [] ≡ map (entry_of gone) ss
+        → done ++ lines_left gone at.rest ss ≡ whole
         → now ≡ whole
     go [] e m = is ∙ ap (λ (l : List ℕ). done ++ l) (cut_rest bytes at.rest from at.spot at.from_is) ∙ m
     go (s ∷ ss) e m = absurd cc

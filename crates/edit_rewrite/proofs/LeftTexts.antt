@@ -8,7 +8,7 @@ use Rattle.edit_syntax.specs.Grammar.{Between, blank, break, remark, gap, IsGap,
 use Rattle.edit_syntax.specs.Depth.{depth}
 use Rattle.edit_syntax.proofs.ValueEdges.{value_rest, value_enclosed}
 use Rattle.edit_tree.specs.Assertions.{Place}
-use Rattle.edit_tree.specs.RemovedBytes.{Left, with_it, without_it, without_blanks, without_member, behind_comma, value_left}
+use Rattle.edit_tree.specs.RemovedBytes.{Left, left_with_comma, left_without_comma, without_blanks, without_member, behind_comma, value_left}
 use Rattle.edit_tree.specs.Slots.{Slot, of_value, of_pair, slot, IsSlot, Slots, no_slots, last_slot, more_slots, slots, AreSlots, closing, opening, of_elements, of_members, goes, slots_left, enclosed_left, IsEnclosed, IsContainer}
 use Rattle.edit_tree.proofs.Ends.{text_before, text_behind, one_text}
 use Rattle.edit_rewrite.proofs.SlotKeys.{array_enclosed, inline_enclosed, array_left, inline_left}
@@ -105,7 +105,7 @@ slots_text : (below : Place) (i : ℕ) (ss : Slots) (rest : List ℕ) → ArePie
 slots_text below i no_slots rest h u = u
 slots_text below i (last_slot s c) rest h u = go (goes below i s)
   where
-    go : (b : Bool) → let l = if b then without_it (gap c rest) else with_it (slot s (gap c rest)) in
+    go : (b : Bool) → let l = if b then left_without_comma (gap c rest) else left_with_comma (slot s (gap c rest)) in
         IsUtf8 l.rest
     go true = put_gap c rest h.1 u
     go false = put_slot s (gap c rest) h.0 (put_gap c rest h.1 u)
@@ -117,13 +117,13 @@ slots_text below i (more_slots s c d ss) rest h u =
     kept false x w = w
 
     gone : (b : Bool) (x : List ℕ) → IsUtf8 x
-        → let l = if b then with_it (without_blanks (gap d x)) else without_it (gap c x) in IsUtf8 l.rest
+        → let l = if b then left_with_comma (without_blanks (gap d x)) else left_without_comma (gap c x) in IsUtf8 l.rest
     gone true x w = blanks_left (gap d x) (put_gap d x h.2 w)
     gone false x w = put_gap c x h.1 w
 
     go : (b : Bool) (l : Left) → IsUtf8 l.rest
         → let m = if b then without_member (gap c) (gap d) l
-        else with_it (slot s (gap c (behind_comma (gap d) l))) in
+        else left_with_comma (slot s (gap c (behind_comma (gap d) l))) in
         IsUtf8 m.rest
     go true l w = gone l.comma_stays l.rest w
     go false l w = put_slot s _ h.0 (put_gap c _ h.1 (kept l.comma_stays l.rest w))

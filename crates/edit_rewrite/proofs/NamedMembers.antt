@@ -13,11 +13,11 @@ use Rattle.edit_syntax.proofs.MembersReadAgain.{pair_longer, value_longer}
 use Rattle.edit_syntax.proofs.NumberReadAgain.{is_start, integer_start, float_start}
 use Rattle.edit_tree.specs.Assertions.{Place}
 use Rattle.edit_tree.specs.EditBytes.{part_to}
-use Rattle.edit_rewrite.specs.EntrySpots.{StandsIn, Tells}
+use Rattle.edit_rewrite.specs.EntrySpots.{StandsIn, HasPairOffsets}
 use Rattle.edit_tree.specs.Slots.{of_pair}
 use Rattle.edit_tree.specs.SlotTexts.{Ends, StandsAt}
 use Rattle.edit_tree.specs.Statements.{paired, paired_members, paired_value}
-use Rattle.edit_tree.specs.Written.{Valued}
+use Rattle.edit_tree.specs.Written.{PlacedValue}
 use Rattle.edit_tree.proofs.Ends.{ends_one, ends_pair, ends_gap, ends_value}
 use Rattle.edit_rewrite.proofs.SlotLaws.{slot_begins}
 use Rattle.edit_rewrite.proofs.ToldPairs.{nothing_told, one_told, more_told}
@@ -48,7 +48,7 @@ opens_inline (inline g ms) rest h = refl
 -- ---- the loop
 
 -- what stands from a member on, behind so many: what is told of these members is told of all
-pub record MembersLeft (text : List ℕ) (place : Place) (w : Valued) (i size : ℕ) (rest : List ℕ) : Type 0
+pub record MembersLeft (text : List ℕ) (place : Place) (w : PlacedValue) (i size : ℕ) (rest : List ℕ) : Type 0
   where
     pub ms : Members
     pub valid : AreMembers ms
@@ -56,8 +56,9 @@ pub record MembersLeft (text : List ℕ) (place : Place) (w : Valued) (i size : 
     pub spelled : rest ≡ members ms (right_brace ∷ w.after)
     pub within : Ends text rest
     pub short : length rest + i ≤ size
-    pub told : (o : Option (ℕ × ℕ)) → Tells place (paired_members w.place ms (right_brace ∷ w.after)) o
-        → Tells place (paired_value w) o
+    pub told : (o : Option (ℕ × ℕ))
+        → HasPairOffsets place (paired_members w.place ms (right_brace ∷ w.after)) o
+        → HasPairOffsets place (paired_value w) o
 
 -- ---- where a member stands
 
@@ -85,7 +86,7 @@ no_brace : {A : Type 0} (s t : List ℕ) → s ≡ t → eqb (first s) left_brac
 no_brace s t e there none =
     absurd (true≢false (sym there ∙ ap (λ (x : List ℕ). eqb (first x) left_brace) e ∙ none))
 
-pub members_start : (text s : List ℕ) (place : Place) (w : Valued) (rest : List ℕ) → StandsIn text w
+pub members_start : (text s : List ℕ) (place : Place) (w : PlacedValue) (rest : List ℕ) → StandsIn text w
     → s ≡ value w.value w.after → eqb (first s) left_brace ≡ true → rest ≡ past_gap (drop 1 s)
     → MembersLeft text place w 0 (length s) rest
 members_start text s place w rest stands e begun is = go w.value stands e
@@ -118,12 +119,12 @@ members_start text s place w rest stands e begun is = go w.value stands e
         }
 
 -- what is no inline table has no members
-pub no_members_told : (text s : List ℕ) (place : Place) (w : Valued) → StandsIn text w
+pub no_members_told : (text s : List ℕ) (place : Place) (w : PlacedValue) → StandsIn text w
     → s ≡ value w.value w.after
-    → eqb (first s) left_brace ≡ false → Tells place (paired_value w) None
+    → eqb (first s) left_brace ≡ false → HasPairOffsets place (paired_value w) None
 no_members_told text s place w stands e shut = go w.value e
   where
-    go : (v : Value) → s ≡ value v w.after → Tells place (paired_value (record w { value = v })) None
+    go : (v : Value) → s ≡ value v w.after → HasPairOffsets place (paired_value (record w { value = v })) None
     go (basic ps) e = nothing_told place [] (λ p m. absurd m)
     go (literal t) e = nothing_told place [] (λ p m. absurd m)
     go (multi_basic ps) e = nothing_told place [] (λ p m. absurd m)
@@ -145,14 +146,14 @@ unshut s t e there none =
     absurd (true≢false (sym there ∙ ap (λ (x : List ℕ). eqb (first x) right_brace) e ∙ none))
 
 -- the closing brace comes
-pub members_closed : (text : List ℕ) (place : Place) (w : Valued) (i size : ℕ) (rest : List ℕ)
+pub members_closed : (text : List ℕ) (place : Place) (w : PlacedValue) (i size : ℕ) (rest : List ℕ)
     → MembersLeft text place w i size rest → eqb (first rest) right_brace ≡ true
-    → Tells place (paired_value w) None
+    → HasPairOffsets place (paired_value w) None
 members_closed text place w i size rest at shut = go at.ms at.valid at.shallow at.spelled at.told
   where
     go : (ms : Members) → AreMembers ms → members_depth ms ≤ 80 → rest ≡ members ms (right_brace ∷ w.after)
-        → ((o : Option (ℕ × ℕ)) → Tells place (paired_members w.place ms (right_brace ∷ w.after)) o
-        → Tells place (paired_value w) o) → Tells place (paired_value w) None
+        → ((o : Option (ℕ × ℕ)) → HasPairOffsets place (paired_members w.place ms (right_brace ∷ w.after)) o
+        → HasPairOffsets place (paired_value w) o) → HasPairOffsets place (paired_value w) None
     go no_members h d e told = told None (nothing_told place [] (λ p m. absurd m))
     go (last_member k a b v c) h d e told =
         unshut rest _ e shut
@@ -164,7 +165,7 @@ members_closed text place w i size rest at shut = go at.ms at.valid at.shallow a
         (refl, h.0, h.1, h.2, h.3, omega arith)).unshut
 
 -- the loop ends before so many turns
-pub members_over : (text : List ℕ) (place : Place) (w : Valued) (i size : ℕ) (rest : List ℕ)
+pub members_over : (text : List ℕ) (place : Place) (w : PlacedValue) (i size : ℕ) (rest : List ℕ)
     → MembersLeft text place w i size rest → size ≤ i → ⊥
 members_over text place w i size rest at le =
     let k = at.short in omega (arith, ap length at.spelled, some_left at.ms w.after)
@@ -172,7 +173,7 @@ members_over text place w i size rest at le =
 -- ---- one member
 
 -- it stands at the front, and names the place, or is the last one, or goes before others
-pub record MemberFront (text : List ℕ) (place : Place) (w : Valued) (i size : ℕ) (rest : List ℕ) : Type 0
+pub record MemberFront (text : List ℕ) (place : Place) (w : PlacedValue) (i size : ℕ) (rest : List ℕ) : Type 0
   where
     pub k : Key
     pub a : List ℕ
@@ -183,20 +184,20 @@ pub record MemberFront (text : List ℕ) (place : Place) (w : Valued) (i size : 
     pub stands : StandsAt text rest true (of_pair k a b v) c behind
     pub found : (part : List ℕ) (r : ℕ × ℕ) → part_to place (paired w.place k a b v (gap c behind))
         ≡ Some part
-        → r.0 ≡ length part → r.1 ≡ length (gap c behind) → Tells place (paired_value w) (Some r)
+        → r.0 ≡ length part → r.1 ≡ length (gap c behind) → HasPairOffsets place (paired_value w) (Some r)
     pub last : part_to place (paired w.place k a b v (gap c behind)) ≡ None → eqb (first behind) comma ≡ false
-        → Tells place (paired_value w) None
+        → HasPairOffsets place (paired_value w) None
     pub next : part_to place (paired w.place k a b v (gap c behind)) ≡ None → eqb (first behind) comma ≡ true
         → (next : List ℕ) → next ≡ past_gap (drop 1 behind) → MembersLeft text place w (i + 1) size next
 
-pub members_front : (text : List ℕ) (place : Place) (w : Valued) (i size : ℕ) (rest : List ℕ)
+pub members_front : (text : List ℕ) (place : Place) (w : PlacedValue) (i size : ℕ) (rest : List ℕ)
     → MembersLeft text place w i size rest → eqb (first rest) right_brace ≡ false
     → MemberFront text place w i size rest
 members_front text place w i size rest at begun = go at.ms at.valid at.shallow at.spelled at.told
   where
     go : (ms : Members) → AreMembers ms → members_depth ms ≤ 80 → rest ≡ members ms (right_brace ∷ w.after)
-        → ((o : Option (ℕ × ℕ)) → Tells place (paired_members w.place ms (right_brace ∷ w.after)) o
-        → Tells place (paired_value w) o) → MemberFront text place w i size rest
+        → ((o : Option (ℕ × ℕ)) → HasPairOffsets place (paired_members w.place ms (right_brace ∷ w.after)) o
+        → HasPairOffsets place (paired_value w) o) → MemberFront text place w i size rest
     go no_members h d e told =
         absurd (true≢false (sym (ap (λ (x : List ℕ). eqb (first x) right_brace) e) ∙ begun))
     go (last_member k a b v c) h d e told =

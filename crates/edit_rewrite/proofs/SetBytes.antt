@@ -6,12 +6,12 @@ use Rattle.edit_syntax.specs.Grammar.{value, Text, text}
 use Rattle.edit_syntax.proofs.Cases.{by_test}
 use Rattle.edit_syntax.proofs.ValueEdges.{value_rest}
 use Rattle.edit_tree.specs.Assertions.{Place, same_place, IsDocument}
-use Rattle.edit_tree.specs.EditBytes.{Splice, first_of, first_made, set_text}
+use Rattle.edit_tree.specs.EditBytes.{Splice, first_of, first_result, set_text}
 use Rattle.edit_tree.specs.NewItems.{NewValue, new_value}
 use Rattle.edit_tree.specs.Replaces.{Writer, replaced_by, edited, Swaps, rest, next}
 use Rattle.edit_document.specs.Splices.{Range, ranges_of}
 use Rattle.edit_tree.specs.Tree.{is_value_at}
-use Rattle.edit_tree.specs.Written.{Valued, values, start_of, end_of, IsWrittenAt}
+use Rattle.edit_tree.specs.Written.{PlacedValue, values, start_of, end_of, IsWrittenAt}
 use Rattle.edit_document.proofs.LocatedEdits.{first_of_distinct}
 use Rattle.edit_tree.proofs.ReplacedStrings.{told_value, one_apart}
 use Rattle.edit_document.proofs.ReplacementLaws.{one_range}
@@ -26,47 +26,47 @@ form_set p v form = replaced_by (turned (new_value v)) (one p) form
 
 -- ---- the bytes
 
-none_swapped : (write : Writer) (edits : List (Valued × List ℕ)) (old new : List ℕ)
+none_swapped : (write : Writer) (edits : List (PlacedValue × List ℕ)) (old new : List ℕ)
     → Swaps write edits old new → edits ≡ [] → new ≡ old
 none_swapped write edits old new (rest t) e = refl
 none_swapped write edits old new (next t w said more now s) e = absurd cc
 
 -- one value that gives way, with the text before it
-pub record OneSwap (write : Writer) (c : Valued × List ℕ) (old new : List ℕ) : Type 0 where
+pub record OneSwap (write : Writer) (c : PlacedValue × List ℕ) (old new : List ℕ) : Type 0 where
   pub before : List ℕ
   pub was : old ≡ before ++ value c.0.value c.0.after
   pub is : new ≡ before ++ value (write c.1) c.0.after
 
-pub one_swap : (write : Writer) (edits : List (Valued × List ℕ)) (c : Valued × List ℕ) (old new : List ℕ)
+pub one_swap : (write : Writer) (edits : List (PlacedValue × List ℕ)) (c : PlacedValue × List ℕ) (old new : List ℕ)
     → Swaps write edits old new → edits ≡ c ∷ [] → OneSwap write c old new
 one_swap write edits c old new (rest t) e = absurd cc
 one_swap write edits c old new (next t w said more now s) e =
     let first : (w, said) ≡ c = head_is e in
     let left : more ≡ [] = tail_is e in
     let all = none_swapped write more w.after now s left in
-    subst (λ (d : Valued × List ℕ). OneSwap write d (t ++ value w.value w.after)
+    subst (λ (d : PlacedValue × List ℕ). OneSwap write d (t ++ value w.value w.after)
     (t ++ value (write said) now)) first
     (record { before = t; was = refl; is = ap (λ (l : List ℕ). t ++ value (write said) l) all })
   where
     head_is : (w, said) ∷ more ≡ c ∷ [] → (w, said) ≡ c
     head_is h = let k : Some (w, said) ≡ Some c = ap first_there h in some_same (w, said) c k
       where
-        first_there : List (Valued × List ℕ) → Option (Valued × List ℕ)
+        first_there : List (PlacedValue × List ℕ) → Option (PlacedValue × List ℕ)
         first_there [] = None
         first_there (d ∷ ds) = Some d
 
-        some_same : (a b : Valued × List ℕ) → Some a ≡ Some b → a ≡ b
+        some_same : (a b : PlacedValue × List ℕ) → Some a ≡ Some b → a ≡ b
         some_same a b h = cc
 
     tail_is : (w, said) ∷ more ≡ c ∷ [] → more ≡ []
     tail_is h = ap others h
       where
-        others : List (Valued × List ℕ) → List (Valued × List ℕ)
+        others : List (PlacedValue × List ℕ) → List (PlacedValue × List ℕ)
         others [] = []
         others (d ∷ ds) = ds
 
-one_edited : (total : ℕ) (r : Range) (cs : List (Valued × List ℕ)) → r ∷ [] ≡ ranges_of total cs
-    → (c : Valued × List ℕ) × (cs ≡ c ∷ []) × (r.0 ≡ start_of total c.0) × (r.1 ≡ end_of total c.0)
+one_edited : (total : ℕ) (r : Range) (cs : List (PlacedValue × List ℕ)) → r ∷ [] ≡ ranges_of total cs
+    → (c : PlacedValue × List ℕ) × (cs ≡ c ∷ []) × (r.0 ≡ start_of total c.0) × (r.1 ≡ end_of total c.0)
 one_edited total r [] e = absurd cc
 one_edited total r (c ∷ []) e =
     let same : r ≡ (start_of total c.0, end_of total c.0, c.1) = first_is e in
@@ -87,7 +87,7 @@ one_edited total r (c ∷ d ∷ cs) e = absurd cc
 -- the range of the value at the place is the one that gives way
 pub found_edit : (form : Text) (p : Place) (start end : ℕ) (old : List ℕ) → IsDocument old form
     → is_value_at form p ≡ true → IsWrittenAt form p start end
-    → (c : Valued × List ℕ) × (edited (one p) form ≡ c ∷ []) × (start ≡ start_of (length (text form)) c.0) ×
+    → (c : PlacedValue × List ℕ) × (edited (one p) form ≡ c ∷ []) × (start ≡ start_of (length (text form)) c.0) ×
     (end ≡ end_of (length (text form)) c.0)
 found_edit form p start end old document told range =
     let apart = one_apart form p [] (told_value form p document.no_clash told) in
@@ -107,43 +107,43 @@ same_flip p q =
     (λ g. g)))
 
 -- what is written there
-abbrev splice_at : NewValue → Valued → Splice
+abbrev splice_at : NewValue → PlacedValue → Splice
 splice_at v w = record { from = value w.value w.after; to = w.after; now = value (new_value v) [] }
 
-abbrev splice_for : Place → NewValue → Valued → Option Splice
+abbrev splice_for : Place → NewValue → PlacedValue → Option Splice
 splice_for p v w = cond (same_place w.place p) (Some (splice_at v w)) None
 
 pub only_one : (o : Option Splice) → first_of (o ∷ []) ≡ o
 only_one None = refl
 only_one (Some s) = refl
 
-first_edit : (p : Place) (v : NewValue) (ws : List Valued) (c : Valued × List ℕ)
-    (more : List (Valued × List ℕ)) → filter_map (edit_of (one p)) ws ≡ c ∷ more
-    → first_made (splice_for p v) ws ≡ Some (splice_at v c.0)
+first_edit : (p : Place) (v : NewValue) (ws : List PlacedValue) (c : PlacedValue × List ℕ)
+    (more : List (PlacedValue × List ℕ)) → filter_map (edit_of (one p)) ws ≡ c ∷ more
+    → first_result (splice_for p v) ws ≡ Some (splice_at v c.0)
 first_edit p v [] c more e = absurd cc
 first_edit p v (w ∷ ws) c more e = go (same_place p w.place) (same_flip w.place p) e
     (first_edit p v ws c more)
   where
-    first_there : List (Valued × List ℕ) → Option (Valued × List ℕ)
+    first_there : List (PlacedValue × List ℕ) → Option (PlacedValue × List ℕ)
     first_there [] = None
     first_there (d ∷ ds) = Some d
 
-    some_same : (a b : Valued × List ℕ) → Some a ≡ Some b → a ≡ b
+    some_same : (a b : PlacedValue × List ℕ) → Some a ≡ Some b → a ≡ b
     some_same a b h = cc
 
     go : (b : Bool) → same_place w.place p ≡ b
         → cons_option (option_map (λ said. (w, said)) (cond b (Some []) None))
         (filter_map (edit_of (one p)) ws) ≡ c ∷ more
         → (filter_map (edit_of (one p)) ws ≡ c ∷ more
-        → first_made (splice_for p v) ws ≡ Some (splice_at v c.0))
-        → first_made (splice_for p v) (w ∷ ws) ≡ Some (splice_at v c.0)
+        → first_result (splice_for p v) ws ≡ Some (splice_at v c.0))
+        → first_result (splice_for p v) (w ∷ ws) ≡ Some (splice_at v c.0)
     go true h k ih =
         let same : (w, []) ≡ c = some_same (w, []) c (ap first_there k) in
-        ap (λ b. first_of (cond b (Some (splice_at v w)) None ∷ first_made (splice_for p v) ws ∷ [])) h
-        ∙ ap (λ (d : Valued × List ℕ). Some (splice_at v d.0)) same
+        ap (λ b. first_of (cond b (Some (splice_at v w)) None ∷ first_result (splice_for p v) ws ∷ [])) h
+        ∙ ap (λ (d : PlacedValue × List ℕ). Some (splice_at v d.0)) same
     go false h k ih =
-        ap (λ b. first_of (cond b (Some (splice_at v w)) None ∷ first_made (splice_for p v) ws ∷ [])) h
-        ∙ only_one (first_made (splice_for p v) ws) ∙ ih k
+        ap (λ b. first_of (cond b (Some (splice_at v w)) None ∷ first_result (splice_for p v) ws ∷ [])) h
+        ∙ only_one (first_result (splice_for p v) ws) ∙ ih k
 
 -- what the code writes and what the definition says are the text of the new form
 pub record SetAt (p : Place) (v : NewValue) (form : Text) (start end : ℕ) : Type 0 where

@@ -6,7 +6,7 @@ use Rattle.edit_syntax.specs.Grammar.{Between, gap}
 use Rattle.edit_syntax.specs.Reading.{first, past_gap}
 use Rattle.edit_syntax.specs.Steps.{ends_item}
 use Rattle.edit_syntax.proofs.GapLaws.{opens_gap, past_gap_again, gap_longer}
-use Rattle.edit_tree.specs.RemovedBytes.{with_it, without_it}
+use Rattle.edit_tree.specs.RemovedBytes.{left_with_comma, left_without_comma}
 use Rattle.edit_tree.specs.Slots.{Slot, slot, Slots, no_slots, last_slot, more_slots, slots, AreSlots, closing, opening, slots_left, IsEnclosed, enclosed_left}
 use Rattle.edit_tree.specs.SlotTexts.{Ends}
 use Rattle.edit_tree.specs.Assertions.{Place}
@@ -38,14 +38,14 @@ grouped firm commas s g z =
     ∙ ap (λ (x : List ℕ). (firm ++ commas) ++ x) (sym (append_assoc s g z))
     ∙ sym (append_assoc (firm ++ commas) (s ++ g) z)
 
-pub last_total : (g : Bool) (firm commas gaps r s : List ℕ) → let l = if g then without_it r else with_it s in
+pub last_total : (g : Bool) (firm commas gaps r s : List ℕ) → let l = if g then left_without_comma r else left_with_comma s in
     firm ++ ((if l.comma_stays then commas else gaps) ++ l.rest)
     ≡ (if g then (firm ++ gaps) ++ r else (firm ++ commas) ++ s)
 last_total true firm commas gaps r s = sym (append_assoc firm gaps r)
 last_total false firm commas gaps r s = sym (append_assoc firm commas s)
 
 pub left_total : (b : Bool) (x y z tr cs commas gaps : List ℕ) → (b ≡ true → x ≡ tr ++ z) → y ≡ cs ++ z
-    → let l = if b then with_it x else without_it y in
+    → let l = if b then left_with_comma x else left_without_comma y in
     (if l.comma_stays then commas else gaps) ++ l.rest ≡ (if b then commas ++ tr else gaps ++ cs) ++ z
 left_total true x y z tr cs commas gaps e f = ap (λ (t : List ℕ). commas ++ t) (e refl) ∙
     sym (append_assoc commas tr z)

@@ -6,14 +6,14 @@ use Rattle.edit_syntax.specs.Strings.{Piece, pieces, Part, bare, basic_part, lit
 use Rattle.edit_syntax.specs.Strings as strings
 use Rattle.edit_syntax.specs.Grammar.{Between, array, inline, value, IsValue, Elements, no_elements, last_element, element, Members, no_members, last_member, member}
 use Rattle.edit_syntax.specs.Depth.{depth}
-use Rattle.edit_syntax.specs.Marks.{part_mark, dotted_marks, key_marks}
+use Rattle.edit_syntax.specs.SyntaxTokens.{token_of_part, tokens_of_dotted, tokens_of_key}
 use Rattle.edit_syntax.proofs.PutBefore.{pieces_rest}
 use Rattle.edit_tree.specs.Assertions.{key, index, Place, same_bytes, same_place, names}
 use Rattle.edit_tree.specs.EditBytes.{is_within}
 use Rattle.edit_tree.specs.RemovedBytes.{elements_left, members_left, value_left}
 use Rattle.edit_tree.specs.Slots.{of_elements, of_members, slots_left, enclosed_left, IsEnclosed}
-use Rattle.edit_tree.specs.SlotTexts.{AreSaid, Ends}
-use Rattle.edit_tree.specs.WalkState.{SaysAt}
+use Rattle.edit_tree.specs.SlotTexts.{AreDecodedAs, Ends}
+use Rattle.edit_tree.specs.WalkState.{IsDecodedAt}
 use Rattle.edit_tree.proofs.Ends.{ends_past, ends_one, ends_part}
 use Rattle.std.specs.Str.{bytes_eq}
 use Rattle.std.proofs.lemmas.Slice.Eq.{bytes_eq-Decides}
@@ -27,7 +27,7 @@ basic_split : (ps : List Piece) (rest : List ℕ) → basic_text ps rest
 basic_split ps rest = ap (λ (t : List ℕ). quote ∷ t) (pieces_rest quote ps (quote ∷ rest))
 
 part_says : (bytes : List ℕ) (p : Part) (rest : List ℕ) → IsPart p → Ends bytes (part p rest)
-    → SaysAt bytes (part_mark p rest) (name p)
+    → IsDecodedAt bytes (token_of_part p rest) (name p)
 part_says bytes (bare text) rest h ends = (ends.0, text, rest, ends.1, refl, refl, (h.0, h.1, refl))
 part_says bytes (basic_part ps) rest h ends = (
   ends.0,
@@ -42,7 +42,7 @@ part_says bytes (literal_part text) rest h ends = (ends.0, text, rest, ends.1, r
 
 dotted_said : (bytes : List ℕ) (ds : List Dotted) (rest : List ℕ)
     → AllByRecursion (λ d. All is_blank d.before × All is_blank d.behind × IsPart d.part) ds
-    → Ends bytes (dotted ds rest) → AreSaid bytes (dotted_marks ds rest) (map (λ d. name d.part) ds)
+    → Ends bytes (dotted ds rest) → AreDecodedAs bytes (tokens_of_dotted ds rest) (map (λ d. name d.part) ds)
 dotted_said bytes [] rest h ends = tt
 dotted_said bytes (d ∷ ds) rest h ends =
     let here : Ends bytes (part d.part (dotted ds rest)) =
@@ -55,7 +55,7 @@ dotted_said bytes (d ∷ ds) rest h ends =
 
 -- the marks of a key say its names
 pub key_said : (bytes : List ℕ) (k : Key) (rest : List ℕ) → IsKey k → Ends bytes (strings.key k rest)
-    → AreSaid bytes (key_marks k rest) (names k)
+    → AreDecodedAs bytes (tokens_of_key k rest) (names k)
 key_said bytes k rest h ends = (
   part_says bytes k.first (dotted k.others rest) h.0 ends,
   dotted_said bytes k.others rest h.1 (ends_part bytes k.first (dotted k.others rest) ends),

@@ -12,7 +12,7 @@ use Rattle.edit_syntax.proofs.PutBefore.{Behind, behind_one, gap_before, pair_be
 use Rattle.edit_syntax.proofs.ValueEdges.{value_rest}
 use Rattle.edit_syntax.proofs.GapLaws.{opens_gap}
 use Rattle.edit_syntax.proofs.MembersReadAgain.{starts_value, value_starts, key_first}
-use Rattle.edit_tree.specs.RemovedBytes.{Left, with_it, without_it, without_blanks, without_member, behind_comma}
+use Rattle.edit_tree.specs.RemovedBytes.{Left, left_with_comma, left_without_comma, without_blanks, without_member, behind_comma}
 use Rattle.edit_tree.specs.Slots.{Slot, of_value, of_pair, slot, IsSlot, Slots, no_slots, last_slot, more_slots, slots, AreSlots, closing, of_elements, of_members, goes, slots_left}
 use Rattle.edit_tree.specs.Assertions.{Place}
 use Rattle.edit_rewrite.specs.Remainders.{before_end}
@@ -130,17 +130,17 @@ unblank [] = refl
 unblank (b ∷ text) = unblank_turn (is_blank b) b text refl (unblank text)
 
 first_case : (g : Bool) (r s : List ℕ) → is_blank (first s) ≡ false
-    → let l = if g then without_it r else with_it s in l.comma_stays ≡ true → is_blank (first l.rest) ≡ false
+    → let l = if g then left_without_comma r else left_with_comma s in l.comma_stays ≡ true → is_blank (first l.rest) ≡ false
 first_case true r s h e = absurd (true≢false (sym e))
 first_case false r s h e = h
 
-blank_case : (b : Bool) (x y : List ℕ) → let l = if b then with_it (without_blanks x) else without_it y in
+blank_case : (b : Bool) (x y : List ℕ) → let l = if b then left_with_comma (without_blanks x) else left_without_comma y in
     l.comma_stays ≡ true → is_blank (first l.rest) ≡ false
 blank_case true x y e = unblank x
 blank_case false x y e = absurd (true≢false (sym e))
 
 more_case : (g : Bool) (trail lead : List ℕ → List ℕ) (m : Left) (s : List ℕ) → is_blank (first s) ≡ false
-    → let l = if g then without_member trail lead m else with_it s in
+    → let l = if g then without_member trail lead m else left_with_comma s in
     l.comma_stays ≡ true → is_blank (first l.rest) ≡ false
 more_case true trail lead m s h e = blank_case m.comma_stays (lead m.rest) (trail m.rest) e
 more_case false trail lead m s h e = h

@@ -8,17 +8,17 @@ use Rattle.edit_syntax.specs.declared.read.marks.Mark.{Mark}
 use Rattle.edit_document.specs.declared.place.Step.{Step as WrittenStep}
 use Rattle.edit_tree.specs.Assertions.{key as name_step, same_step}
 use Rattle.edit_tree.specs.EditBytes.{is_within}
-use Rattle.edit_document.specs.Items.{place_seen, step_seen}
-use Rattle.edit_tree.specs.WalkState.{SaysAt}
+use Rattle.edit_document.specs.Items.{place_view, step_view}
+use Rattle.edit_tree.specs.WalkState.{IsDecodedAt}
 use Rattle.edit_syntax.specs.Characters.{equals}
 use Rattle.edit_syntax.specs.Strings.{Key, key}
 use Rattle.edit_syntax.specs.Grammar.{Between, gap, Value, value}
-use Rattle.edit_syntax.specs.Marks.{key_marks}
-use Rattle.edit_syntax.specs.Steps.{IsItem, IsNaming}
+use Rattle.edit_syntax.specs.SyntaxTokens.{tokens_of_key}
+use Rattle.edit_syntax.specs.Steps.{IsItem, IsKeyAndSign}
 use Rattle.edit_syntax.proofs.MembersReadAgain.{value_first}
 use Rattle.edit_tree.specs.Assertions.{names}
 use Rattle.edit_tree.specs.Slots.{Slot, of_value, of_pair}
-use Rattle.edit_tree.specs.SlotTexts.{AreSaid, Ends, StandsAt}
+use Rattle.edit_tree.specs.SlotTexts.{AreDecodedAs, Ends, StandsAt}
 use Rattle.edit_rewrite.proofs.SlotKeys.{key_said}
 
 -- an element
@@ -47,8 +47,8 @@ pub record PairAt (text s : List ℕ) (it : Slot) (c : List Between) (rest : Lis
   pub v : Value
   pub is : it ≡ of_pair k a b v
   pub item : IsItem v c rest
-  pub naming : IsNaming k a b (value v (gap c rest))
-  pub said : AreSaid text (key_marks k (a ++ (equals ∷ (b ++ value v (gap c rest))))) (names k)
+  pub naming : IsKeyAndSign k a b (value v (gap c rest))
+  pub said : AreDecodedAs text (tokens_of_key k (a ++ (equals ∷ (b ++ value v (gap c rest))))) (names k)
   pub spelled : s ≡ key k (a ++ (equals ∷ (b ++ value v (gap c rest))))
 
 pub pair_at_front : (text s : List ℕ) (t : Bool) (it : Slot) (c : List Between) (rest : List ℕ)
@@ -83,11 +83,11 @@ pub record FirstSaid (text : List ℕ) (marks : List Mark) (ns : List (List ℕ)
   pub name : List ℕ
   pub others : List (List ℕ)
   pub is : ns ≡ name ∷ others
-  pub said : (d : Mark) → SaysAt text (get_or marks 0 d) name
-  pub others_said : AreSaid text (take (length marks - 1) (drop 1 marks)) others
+  pub said : (d : Mark) → IsDecodedAt text (get_or marks 0 d) name
+  pub others_said : AreDecodedAs text (take (length marks - 1) (drop 1 marks)) others
 
 pub first_said : (text : List ℕ) (marks : List Mark) (ns : List (List ℕ)) → 1 ≤ length marks
-    → AreSaid text marks ns → FirstSaid text marks ns
+    → AreDecodedAs text marks ns → FirstSaid text marks ns
 first_said text [] ns le h = absurd (omega arith)
 first_said text (m ∷ ms) [] le h = absurd h
 first_said text (m ∷ ms) (n ∷ ns) le h =
@@ -95,9 +95,9 @@ first_said text (m ∷ ms) (n ∷ ns) le h =
 
 pub within_turn : (steps : List WrittenStep) (s : WrittenStep) (name : List ℕ) (others ns : List (List ℕ))
     → 1 ≤ length steps → s ≡ get_or steps 0 s → ns ≡ name ∷ others
-    → is_within (place_seen steps) (map name_step ns)
-    ≡ (same_step (step_seen s) (name_step name) && is_within
-    (place_seen (take (length steps - 1) (drop 1 steps))) (map name_step others))
+    → is_within (place_view steps) (map name_step ns)
+    ≡ (same_step (step_view s) (name_step name) && is_within
+    (place_view (take (length steps - 1) (drop 1 steps))) (map name_step others))
 within_turn [] s name others ns le e is = absurd (omega arith)
 within_turn (x ∷ xs) s name others ns le e is = rw (is, e, tail_slice (x ∷ xs)) refl
 

@@ -9,7 +9,7 @@ use Rattle.edit_tree.specs.RemovedBytes.{Left, without_blanks}
 use Rattle.edit_tree.specs.Slots.{Slot, slot, IsSlot, Slots, no_slots, last_slot, more_slots, slots, AreSlots, closing, opening, goes, slots_left, IsEnclosed}
 use Rattle.edit_tree.specs.SlotTexts.{Ends, StandsAt}
 use Rattle.edit_tree.specs.Assertions.{Place}
-use Rattle.edit_rewrite.specs.Remainders.{before_end, Leaves, Keeps}
+use Rattle.edit_rewrite.specs.Remainders.{before_end, SkipsItem, AppendsItem}
 use Rattle.edit_rewrite.specs.declared.inside.Remainder.{Remainder}
 use Rattle.edit_tree.proofs.Ends.{ends_past, ends_one, ends_gap}
 use Rattle.edit_rewrite.proofs.SlotLaws.{gap_rest, slot_rest, before_is, slots_gapless, trimmed, trimmed_gap, past_blanks_is, left_begins}
@@ -194,7 +194,8 @@ pub turned : (t : Bool) (text : List ℕ) (below : Place) (i : ℕ) (rest target
     (is_gone : Bool) (after stop next : List ℕ) → is_gone ≡ goes below i f.it
     → after ≡ gap f.gap_behind f.behind → stop ≡ f.behind → eqb (first f.behind) comma ≡ true
     → next ≡ past_gap (drop 1 f.behind)
-    → (is_gone ≡ true → Leaves old new after stop next) → (is_gone ≡ false → Keeps old new rest stop next)
+    → (is_gone ≡ true → SkipsItem old new after stop next)
+    → (is_gone ≡ false → AppendsItem old new rest stop next)
     → AtSlots t text below (i + 1) next new.firm.items new.with_comma.items new.without_comma.items target
 turned t text below i rest target old new f true after stop next is behind at_stop comma_there comes leaves
     keeps =

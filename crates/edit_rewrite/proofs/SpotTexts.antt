@@ -5,7 +5,7 @@ use Rattle.std.proofs.lemmas.Str.{IsCharBoundary-start, IsCharBoundary-end}
 use Rattle.edit_syntax.specs.Spans.{cut_from}
 use Rattle.edit_syntax.proofs.Kept.{cut_is}
 use Rattle.edit_tree.specs.EditBytes.{before, with_splice}
-use Rattle.edit_rewrite.specs.Spots.{IsSpot}
+use Rattle.edit_rewrite.specs.StatementOffsets.{IsSpot}
 use Rattle.edit_tree.proofs.Ends.{Ends, suffix_is}
 
 -- ---- what stands between spots

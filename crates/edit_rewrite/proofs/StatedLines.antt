@@ -9,15 +9,15 @@ use Rattle.edit_syntax.specs.Strings.{LineEnd, lf, crlf, line_end, Dotted, dotte
 use Rattle.edit_syntax.specs.Strings as strings
 use Rattle.edit_syntax.specs.Grammar.{Value, basic, literal, multi_basic, multi_literal, boolean, integer, float, datetime, array, inline, value, Statement, pair, header, element_header, statement, IsStatement, comment, empty_line, full_line, Lines, one_line, more_lines, lines, AreLines, Text}
 use Rattle.edit_syntax.specs.Depth.{lines_depth}
-use Rattle.edit_syntax.specs.Marks.{mark, part_kind, dotted_marks, key_marks, value_marks, statement_marks}
-use Rattle.edit_syntax.specs.FirstLine.{after_first, first_marks}
+use Rattle.edit_syntax.specs.SyntaxTokens.{mark, part_kind, tokens_of_dotted, tokens_of_key, tokens_of_value, tokens_of_statement}
+use Rattle.edit_syntax.specs.FirstLine.{after_first, tokens_of_first_line}
 use Rattle.edit_rewrite.specs.declared.locate.Entry.{Entry}
-use Rattle.edit_rewrite.specs.declared.locate.Spots.{Spots}
-use Rattle.edit_rewrite.specs.declared.locate.Standing.{Standing}
+use Rattle.edit_rewrite.specs.declared.locate.StatementOffsets.{StatementOffsets}
+use Rattle.edit_rewrite.specs.declared.locate.SearchState.{SearchState}
 use Rattle.edit_tree.specs.Assertions.{Place, Assertion, of_statement, prefix_after, IsDocument}
-use Rattle.edit_tree.specs.Statements.{Stated, stated_in, stated, parts}
-use Rattle.edit_rewrite.specs.Entries.{begins_part, head_of, first_from, AreParts, entry_of}
-use Rattle.edit_rewrite.specs.Standings.{StandsTo, HeadIs, IsTaken}
+use Rattle.edit_tree.specs.Statements.{PlacedStatement, stated_in, placed_statements, parts}
+use Rattle.edit_rewrite.specs.Entries.{begins_part, kind_after_key, first_from, AreParts, entry_of}
+use Rattle.edit_rewrite.specs.SearchStates.{IsSearchState, HeadIs, IsTokenized}
 use Rattle.edit_tree.proofs.Ends.{Ends, ends_past, ends_one, ends_line, ends_line_end}
 use Rattle.edit_rewrite.proofs.KeyWays.{kind_part, key_are}
 use Rattle.edit_syntax.specs.Reading.{past_mark}
@@ -28,19 +28,19 @@ use Rattle.edit_tree.proofs.Shallow.{shallow}
 -- ---- the marks of a statement
 
 dotted_head : (ds : List Dotted) (rest : List ℕ) (others : List Mark)
-    → head_of (dotted_marks ds rest ++ others) ≡ head_of others
+    → kind_after_key (tokens_of_dotted ds rest ++ others) ≡ kind_after_key others
 dotted_head [] rest others = refl
 dotted_head (d ∷ ds) rest others =
-    ap (λ b. cond b (head_of (dotted_marks ds rest ++ others)) (Some (part_kind d.part))) (kind_part d.part) ∙
+    ap (λ b. cond b (kind_after_key (tokens_of_dotted ds rest ++ others)) (Some (part_kind d.part))) (kind_part d.part) ∙
     dotted_head ds rest others
 
 head_key : (k : Key) (rest : List ℕ) (others : List Mark)
-    → head_of (key_marks k rest ++ others) ≡ head_of others
+    → kind_after_key (tokens_of_key k rest ++ others) ≡ kind_after_key others
 head_key k rest others =
-    ap (λ b. cond b (head_of (dotted_marks k.others rest ++ others)) (Some (part_kind k.first)))
+    ap (λ b. cond b (kind_after_key (tokens_of_dotted k.others rest ++ others)) (Some (part_kind k.first)))
     (kind_part k.first) ∙ dotted_head k.others rest others
 
-pub value_first : (v : Value) (rest : List ℕ) → begins_part (value_marks v rest) ≡ false
+pub value_first : (v : Value) (rest : List ℕ) → begins_part (tokens_of_value v rest) ≡ false
 value_first (basic ps) rest = refl
 value_first (literal text) rest = refl
 value_first (multi_basic ps) rest = refl
@@ -54,7 +54,7 @@ value_first (array g es) rest = refl
 value_first (inline g ms) rest = refl
 
 value_head : (k : Key) (a b : List ℕ) (v : Value) (rest : List ℕ)
-    → HeadIs (pair k a b v) (head_of (value_marks v rest))
+    → HeadIs (pair k a b v) (kind_after_key (tokens_of_value v rest))
 value_head k a b (basic ps) rest = (refl, refl)
 value_head k a b (literal text) rest = (refl, refl)
 value_head k a b (multi_basic ps) rest = (refl, refl)
@@ -67,22 +67,23 @@ value_head k a b (datetime d) rest = (refl, refl)
 value_head k a b (array g es) rest = (refl, refl)
 value_head k a b (inline g ms) rest = (refl, refl)
 
-pub taken_of : (bytes : List ℕ) (s : Stated) (marks : List Mark) (spots : Spots) → IsStatement s.statement
+pub defined_by : (bytes : List ℕ) (s : PlacedStatement) (marks : List Mark) (spots : StatementOffsets)
+    → IsStatement s.statement
     → IsUtf8 bytes → Ends bytes (statement s.statement s.behind)
-    → marks ≡ statement_marks s.statement s.behind
+    → marks ≡ tokens_of_statement s.statement s.behind
     → spots.line ≡ length s.line → spots.key ≡ first_from marks → spots.after ≡ length s.after
-    → spots.next ≡ length s.next → IsTaken bytes marks s spots
-taken_of bytes s marks spots h u ends is line from after next = go s.statement h ends is
+    → spots.next ≡ length s.next → IsTokenized bytes marks s spots
+defined_by bytes s marks spots h u ends is line from after next = go s.statement h ends is
   where
     go : (st : Statement) → IsStatement st → Ends bytes (statement st s.behind)
-        → marks ≡ statement_marks st s.behind → IsTaken bytes marks (record s { statement = st }) spots
+        → marks ≡ tokens_of_statement st s.behind → IsTokenized bytes marks (record s { statement = st }) spots
     go (pair k a b v) h ends is =
         let rest = a ++ (equals ∷ (b ++ value v s.behind)) in
         record {
           parts_marked = subst (AreParts bytes (parts k rest)) (sym is)
-              (key_are bytes k rest (value_marks v s.behind) h.0 u ends (value_first v s.behind));
+              (key_are bytes k rest (tokens_of_value v s.behind) h.0 u ends (value_first v s.behind));
           head = subst (HeadIs (pair k a b v))
-              (sym (ap head_of is ∙ head_key k rest (value_marks v s.behind))) (value_head k a b v s.behind);
+              (sym (ap kind_after_key is ∙ head_key k rest (tokens_of_value v s.behind))) (value_head k a b v s.behind);
           line = line;
           key = from ∙ ap first_from is;
           after = after;
@@ -96,7 +97,7 @@ taken_of bytes s marks spots h u ends is line from after next = go s.statement h
         record {
           parts_marked = subst (AreParts bytes (parts k rest)) (sym is)
               (key_are bytes k rest others h.1 u key_ends refl);
-          head = subst (HeadIs (header a k b)) (sym (ap head_of is ∙ head_key k rest others)) (refl, refl);
+          head = subst (HeadIs (header a k b)) (sym (ap kind_after_key is ∙ head_key k rest others)) (refl, refl);
           line = line;
           key = from ∙ ap first_from is;
           after = after;
@@ -112,7 +113,7 @@ taken_of bytes s marks spots h u ends is line from after next = go s.statement h
         record {
           parts_marked = subst (AreParts bytes (parts k rest)) (sym is)
               (key_are bytes k rest others h.1 u key_ends refl);
-          head = subst (HeadIs (element_header a k b)) (sym (ap head_of is ∙ head_key k rest others))
+          head = subst (HeadIs (element_header a k b)) (sym (ap kind_after_key is ∙ head_key k rest others))
               (refl, refl);
           line = line;
           key = from ∙ ap first_from is;
@@ -124,7 +125,7 @@ taken_of bytes s marks spots h u ends is line from after next = go s.statement h
 
 -- where the statements so far leave off: the lines that are left, and the entries of their statements behind
 -- those found
-pub record AtLine (bytes : List ℕ) (target : Place) (form : Text) (standing : Standing) (found : List Entry)
+pub record AtLine (bytes : List ℕ) (target : Place) (form : Text) (standing : SearchState) (found : List Entry)
     (rest : List ℕ) : Type 0 where
   pub earlier : List Assertion
   pub prefix : Place
@@ -133,25 +134,25 @@ pub record AtLine (bytes : List ℕ) (target : Place) (form : Text) (standing : 
   pub valid : AreLines left
   pub shallow : lines_depth left ≤ 80
   pub ends : Ends bytes (lines left)
-  pub stands : StandsTo target earlier prefix standing
-  pub all : map (entry_of target) (stated form) ≡ found ++ map (entry_of target)
+  pub stands : IsSearchState target earlier prefix standing
+  pub all : map (entry_of target) (placed_statements form) ≡ found ++ map (entry_of target)
       (stated_in earlier prefix left)
 
 no_end : (e : LineEnd) (rest : List ℕ) → length (line_end e rest) ≡ 0 → ⊥
 no_end lf rest h = omega arith
 no_end crlf rest h = omega arith
 
-some_marks : (s : Statement) (rest : List ℕ) → length (statement_marks s rest) ≡ 0 → ⊥
+some_marks : (s : Statement) (rest : List ℕ) → length (tokens_of_statement s rest) ≡ 0 → ⊥
 some_marks (pair k a b v) rest h = omega arith
 some_marks (header a k b) rest h = omega arith
 some_marks (element_header a k b) rest h = omega arith
 
-module _ (bytes : List ℕ) (u : IsUtf8 bytes) (target : Place) (form : Text) (standing : Standing)
+module _ (bytes : List ℕ) (u : IsUtf8 bytes) (target : Place) (form : Text) (standing : SearchState)
     (found : List Entry) (rest after next : List ℕ) (marks : List Mark)
     (d : AtLine bytes target form standing found rest)
-    (is_after : after ≡ after_first d.left) (is_marks : marks ≡ first_marks d.left) where
+    (is_after : after ≡ after_first d.left) (is_marks : marks ≡ tokens_of_first_line d.left) where
   abbrev AllAre : Lines → Type 0
-  AllAre ls = map (entry_of target) (stated form) ≡ found ++ map (entry_of target)
+  AllAre ls = map (entry_of target) (placed_statements form) ≡ found ++ map (entry_of target)
       (stated_in d.earlier d.prefix ls)
 
   -- a line without a statement, and another behind it
@@ -161,7 +162,8 @@ module _ (bytes : List ℕ) (u : IsUtf8 bytes) (target : Place) (form : Text) (s
   turn_empty none more nexts = go d.left d.valid d.shallow d.ends d.all is_after is_marks
     where
       go : (ls : Lines) → AreLines ls → lines_depth ls ≤ 80 → Ends bytes (lines ls) → AllAre ls
-          → after ≡ after_first ls → marks ≡ first_marks ls → AtLine bytes target form standing found next
+          → after ≡ after_first ls → marks ≡ tokens_of_first_line ls
+          → AtLine bytes target form standing found next
       go (one_line l) valid shallow ends all is_a is_m = absurd (more (ap length is_a))
       go (more_lines (empty_line a c) e ls) valid shallow ends all is_a is_m = record {
         earlier = d.earlier;
@@ -179,20 +181,20 @@ module _ (bytes : List ℕ) (u : IsUtf8 bytes) (target : Place) (form : Text) (s
           absurd (some_marks s (b ++ comment c (line_end e (lines ls))) (sym (ap length is_m) ∙ none))
 
   -- the last line, without a statement
-  pub end_empty : length marks ≡ 0 → length after ≡ 0 → found ≡ map (entry_of target) (stated form)
+  pub end_empty : length marks ≡ 0 → length after ≡ 0 → found ≡ map (entry_of target) (placed_statements form)
   end_empty none over = go d.left d.all is_after is_marks
     where
-      go : (ls : Lines) → AllAre ls → after ≡ after_first ls → marks ≡ first_marks ls
-          → found ≡ map (entry_of target) (stated form)
+      go : (ls : Lines) → AllAre ls → after ≡ after_first ls → marks ≡ tokens_of_first_line ls
+          → found ≡ map (entry_of target) (placed_statements form)
       go (one_line (empty_line a c)) all is_a is_m = sym (all ∙ append-nil found)
       go (one_line (full_line a s b c)) all is_a is_m =
           absurd (some_marks s (b ++ comment c []) (sym (ap length is_m) ∙ none))
       go (more_lines l e ls) all is_a is_m = absurd (no_end e (lines ls) (sym (ap length is_a) ∙ over))
 
-  module _ (standing2 : Standing) (entry : Entry) (spots : Spots)
-      (takes : (s : Stated) → IsTaken bytes marks s spots → StandsTo target s.earlier s.prefix standing
+  module _ (standing2 : SearchState) (entry : Entry) (spots : StatementOffsets)
+      (takes : (s : PlacedStatement) → IsTokenized bytes marks s spots → IsSearchState target s.earlier s.prefix standing
       → (entry ≡ entry_of target s)
-      × StandsTo target (s.earlier ++ of_statement s.earlier s.prefix s.statement)
+      × IsSearchState target (s.earlier ++ of_statement s.earlier s.prefix s.statement)
       (prefix_after s.earlier s.prefix s.statement) standing2)
       (line : spots.line ≡ length rest) (from : spots.key ≡ first_from marks)
       (at_after : spots.after ≡ length after) (at_next : spots.next ≡ length next) where
@@ -203,14 +205,14 @@ module _ (bytes : List ℕ) (u : IsUtf8 bytes) (target : Place) (form : Text) (s
     turn_full some more nexts = go d.left d.same d.valid d.shallow d.ends d.all is_after is_marks
       where
         go : (ls : Lines) → rest ≡ lines ls → AreLines ls → lines_depth ls ≤ 80 → Ends bytes (lines ls)
-            → AllAre ls → after ≡ after_first ls → marks ≡ first_marks ls
+            → AllAre ls → after ≡ after_first ls → marks ≡ tokens_of_first_line ls
             → AtLine bytes target form standing2 (found ++ entry ∷ []) next
         go (one_line l) same valid shallow ends all is_a is_m = absurd (more (ap length is_a))
         go (more_lines (empty_line a c) e ls) same valid shallow ends all is_a is_m =
             absurd (some (ap length is_m))
         go (more_lines (full_line a s b c) e ls) same valid shallow ends all is_a is_m =
             let behind = b ++ comment c (line_end e (lines ls)) in
-            let st : Stated = record {
+            let st : PlacedStatement = record {
               prefix = d.prefix;
               earlier = d.earlier;
               statement = s;
@@ -219,7 +221,7 @@ module _ (bytes : List ℕ) (u : IsUtf8 bytes) (target : Place) (form : Text) (s
               after = line_end e (lines ls);
               next = lines ls;
             } in
-            let taken = taken_of bytes st marks spots valid.0.1 u
+            let taken = defined_by bytes st marks spots valid.0.1 u
             (ends_past bytes a (statement s behind) ends) is_m (line ∙ ap length same) from
             (at_after ∙ ap length is_a) (at_next ∙ ap length (nexts e (lines ls) is_a)) in
             let p = takes st taken d.stands in
@@ -242,16 +244,16 @@ module _ (bytes : List ℕ) (u : IsUtf8 bytes) (target : Place) (form : Text) (s
 
     -- the last line, with a statement
     pub end_full : (length marks ≡ 0 → ⊥) → length after ≡ 0 → (after ≡ [] → next ≡ [])
-        → found ++ entry ∷ [] ≡ map (entry_of target) (stated form)
+        → found ++ entry ∷ [] ≡ map (entry_of target) (placed_statements form)
     end_full some over last = go d.left d.same d.valid d.ends d.all is_after is_marks
       where
         go : (ls : Lines) → rest ≡ lines ls → AreLines ls → Ends bytes (lines ls) → AllAre ls
-            → after ≡ after_first ls → marks ≡ first_marks ls
-            → found ++ entry ∷ [] ≡ map (entry_of target) (stated form)
+            → after ≡ after_first ls → marks ≡ tokens_of_first_line ls
+            → found ++ entry ∷ [] ≡ map (entry_of target) (placed_statements form)
         go (one_line (empty_line a c)) same valid ends all is_a is_m = absurd (some (ap length is_m))
         go (one_line (full_line a s b c)) same valid ends all is_a is_m =
             let behind = b ++ comment c [] in
-            let st : Stated = record {
+            let st : PlacedStatement = record {
               prefix = d.prefix;
               earlier = d.earlier;
               statement = s;
@@ -260,7 +262,7 @@ module _ (bytes : List ℕ) (u : IsUtf8 bytes) (target : Place) (form : Text) (s
               after = [];
               next = [];
             } in
-            let taken = taken_of bytes st marks spots valid.1 u
+            let taken = defined_by bytes st marks spots valid.1 u
             (ends_past bytes a (statement s behind) ends) is_m (line ∙ ap length same) from
             (at_after ∙ ap length is_a) (at_next ∙ ap length (last is_a)) in
             let p = takes st taken d.stands in
@@ -269,9 +271,9 @@ module _ (bytes : List ℕ) (u : IsUtf8 bytes) (target : Place) (form : Text) (s
             absurd (no_end e (lines ls) (sym (ap length is_a) ∙ over))
 
 -- before the first line
-pub at_start : (bytes : List ℕ) (target : Place) (form : Text) (standing : Standing) (found : List Entry)
+pub at_start : (bytes : List ℕ) (target : Place) (form : Text) (standing : SearchState) (found : List Entry)
     (rest : List ℕ) → IsDocument bytes form → IsUtf8 bytes → found ≡ [] → rest ≡ past_mark bytes
-    → StandsTo target [] [] standing → AtLine bytes target form standing found rest
+    → IsSearchState target [] [] standing → AtLine bytes target form standing found rest
 at_start bytes target form standing found rest m u none is stands =
     let r = read_of bytes form m u in
     record {
@@ -283,12 +285,12 @@ at_start bytes target form standing found rest m u none is stands =
       shallow = shallow bytes form m;
       ends = ends_all bytes form r;
       stands = stands;
-      all = ap (λ (f : List Entry). f ++ map (entry_of target) (stated form)) (sym none);
+      all = ap (λ (f : List Entry). f ++ map (entry_of target) (placed_statements form)) (sym none);
     }
 
-pub at_line_as : {bytes : List ℕ} {target : Place} {form : Text} (standing standing2 : Standing)
+pub at_line_as : {bytes : List ℕ} {target : Place} {form : Text} (standing standing2 : SearchState)
     (found found2 : List Entry) {rest : List ℕ} → standing ≡ standing2 → found ≡ found2
     → AtLine bytes target form standing2 found2 rest → AtLine bytes target form standing found rest
 at_line_as {bytes} {target} {form} standing standing2 found found2 {rest} e f d =
-    subst (λ (s : Standing). AtLine bytes target form s found rest) (sym e)
+    subst (λ (s : SearchState). AtLine bytes target form s found rest) (sym e)
     (subst (λ (x : List Entry). AtLine bytes target form standing2 x rest) (sym f) d)

@@ -11,8 +11,8 @@ use Rattle.edit_syntax.proofs.ListElements.{get_seam}
 use Rattle.edit_syntax.proofs.Members.{Among}
 use Rattle.edit_tree.specs.Assertions.{Place, key as name_step, at, same_place, Assertion, of_statement, prefix_after, IsDocument}
 use Rattle.edit_rewrite.specs.Entries.{begins_in, leads_to}
-use Rattle.edit_rewrite.specs.Spots.{IsSpot, IsFront, HasSpots}
-use Rattle.edit_tree.specs.Statements.{Stated, stated_line, stated_in, stated, dotted_parts, parts, front_parts, behind_part}
+use Rattle.edit_rewrite.specs.StatementOffsets.{IsSpot, IsFront, HasOffsets}
+use Rattle.edit_tree.specs.Statements.{PlacedStatement, stated_line, stated_in, placed_statements, dotted_parts, parts, front_parts, behind_part}
 use Rattle.edit_document.proofs.Documents.{read_of, ends_all}
 use Rattle.edit_tree.proofs.Ends.{Ends, bare_small, ends_past, ends_one, ends_part, ends_line, ends_line_end}
 use Rattle.edit_rewrite.proofs.SpotTexts.{end_spot}
@@ -126,7 +126,7 @@ key_fronts bytes k rest resolve place table spot h ends e =
 statement_spots : (bytes : List ℕ) (earlier : List Assertion) (prefix : Place) (a : List ℕ) (s : Statement)
     (behind after next : List ℕ) → All is_blank a → IsStatement s → Ends bytes (a ++ statement s behind)
     → Ends bytes after → Starts after
-    → HasSpots bytes (stated_line earlier prefix a s behind after next)
+    → HasOffsets bytes (stated_line earlier prefix a s behind after next)
 statement_spots bytes earlier prefix a (pair k b c v) behind after next blanks valid ends last st =
     let from : Ends bytes (key k (b ++ (equals ∷ (c ++ value v behind)))) = ends_past bytes a _ ends in
     record {
@@ -164,10 +164,11 @@ statement_spots bytes earlier prefix a (element_header b k c) behind after next 
     }
 
 lines_spots : (bytes : List ℕ) (earlier : List Assertion) (prefix : Place) (ls : Lines) → AreLines ls
-    → Ends bytes (lines ls) → (s : Stated) → Among s (stated_in earlier prefix ls) → HasSpots bytes s
+    → Ends bytes (lines ls) → (s : PlacedStatement) → Among s (stated_in earlier prefix ls)
+    → HasOffsets bytes s
 lines_spots bytes earlier prefix (one_line (empty_line a c)) valid ends s m = absurd m
 lines_spots bytes earlier prefix (one_line (full_line a st b c)) valid ends s (inl e) =
-    subst (HasSpots bytes) (sym e)
+    subst (HasOffsets bytes) (sym e)
     (statement_spots bytes earlier prefix a st (b ++ comment c []) [] [] valid.0 valid.1 ends
     (ends_line bytes (full_line a st b c) [] ends) tt)
 lines_spots bytes earlier prefix (one_line (full_line a st b c)) valid ends s (inr m) = absurd m
@@ -176,7 +177,7 @@ lines_spots bytes earlier prefix (more_lines (empty_line a c) e ls) valid ends s
     (ends_line_end bytes e (lines ls) (ends_line bytes (empty_line a c) (line_end e (lines ls)) ends)) s m
 lines_spots bytes earlier prefix (more_lines (full_line a st b c) e ls) valid ends s (inl same) =
     let after = line_end e (lines ls) in
-    subst (HasSpots bytes) (sym same)
+    subst (HasOffsets bytes) (sym same)
     (statement_spots bytes earlier prefix a st (b ++ comment c after) after
     (lines ls) valid.0.0 valid.0.1 ends
     (ends_line bytes (full_line a st b c) after ends) (line_end_start e (lines ls)))
@@ -185,8 +186,9 @@ lines_spots bytes earlier prefix (more_lines (full_line a st b c) e ls) valid en
     (ends_line_end bytes e (lines ls) (ends_line bytes (full_line a st b c) (line_end e (lines ls)) ends)) s m
 
 -- the statements of a document stand where it may be cut
-pub stated_spots : (bytes : List ℕ) (form : Text) → IsDocument bytes form → IsUtf8 bytes → (s : Stated)
-    → Among s (stated form) → HasSpots bytes s
+pub stated_spots : (bytes : List ℕ) (form : Text) → IsDocument bytes form → IsUtf8 bytes
+    → (s : PlacedStatement)
+    → Among s (placed_statements form) → HasOffsets bytes s
 stated_spots bytes form m u =
     let r = read_of bytes form m u in
     lines_spots bytes [] [] form.lines r.spells.well_formed (ends_all bytes form r)

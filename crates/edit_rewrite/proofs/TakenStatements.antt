@@ -4,22 +4,22 @@ use Rattle.std.specs.Prelude.{slice_index}
 use Rattle.std.proofs.lemmas.List.{length-set}
 use Rattle.edit_syntax.specs.declared.read.marks.Mark.{Mark}
 use Rattle.edit_syntax.specs.Grammar.{Statement, pair, header, element_header}
-use Rattle.edit_rewrite.specs.declared.way.Way.{Way}
-use Rattle.edit_rewrite.specs.declared.way.Way.TheVariants.{On, Below, Off}
+use Rattle.edit_rewrite.specs.declared.way.PathMatch.{PathMatch}
+use Rattle.edit_rewrite.specs.declared.way.PathMatch.TheVariants.{On, Below, Off}
 use Rattle.edit_rewrite.specs.declared.locate.Entry.{Entry}
-use Rattle.edit_rewrite.specs.declared.locate.Spots.{Spots}
-use Rattle.edit_rewrite.specs.declared.locate.Standing.{Standing}
+use Rattle.edit_rewrite.specs.declared.locate.StatementOffsets.{StatementOffsets}
+use Rattle.edit_rewrite.specs.declared.locate.SearchState.{SearchState}
 use Rattle.edit_tree.specs.Assertions.{Place, index, at, names, named, Assertion, elements_at, resolved, header_place, of_statement, prefix_after}
-use Rattle.edit_tree.specs.Statements.{Stated}
-use Rattle.edit_tree.specs.EditBytes.{as_it_is, is_pair}
-use Rattle.edit_rewrite.specs.Entries.{way, next_way, is_at, has_come, count_on, counted, Counts, key_of, entry_of}
-use Rattle.edit_rewrite.specs.Standings.{StandsTo, IsTaken, is_table_header, is_element_header}
+use Rattle.edit_tree.specs.Statements.{PlacedStatement}
+use Rattle.edit_tree.specs.EditBytes.{unresolved, is_pair}
+use Rattle.edit_rewrite.specs.Entries.{way, next_way, is_at, is_at_or_below, count_on, counted, Counts, key_of, entry_of}
+use Rattle.edit_rewrite.specs.SearchStates.{IsSearchState, IsTokenized, is_table_header, is_element_header}
 use Rattle.edit_rewrite.proofs.Ways.{way_at, way_root, within_is, same_is, on_front, follows_itself, follows_counts}
 use Rattle.edit_rewrite.proofs.KeyWays.{Promises, pair_led, header_led}
 use Rattle.edit_rewrite.proofs.WayCounts.{same_counts, pair_counts, header_counts, more_counts}
 
 -- an entry of these parts
-abbrev pub made : Bool → Bool → Bool → Option ℕ → Spots → Entry
+abbrev pub made : Bool → Bool → Bool → Option ℕ → StatementOffsets → Entry
 made own within head front spots =
     record {
       is_own = own;
@@ -32,7 +32,8 @@ made own within head front spots =
       next = spots.next;
     }
 
-entry_is : (head : Bool) (o o2 w w2 : Bool) (f f2 : Option ℕ) (spots : Spots) (l k a n : ℕ) → o ≡ o2 → w ≡ w2
+entry_is : (head : Bool) (o o2 w w2 : Bool) (f f2 : Option ℕ) (spots : StatementOffsets) (l k a n : ℕ)
+    → o ≡ o2 → w ≡ w2
     → f ≡ f2 → spots.line ≡ l → spots.key ≡ k → spots.after ≡ a → spots.next ≡ n
     → made o w head f spots
     ≡ record {
@@ -47,29 +48,29 @@ entry_is : (head : Bool) (o o2 w w2 : Bool) (f f2 : Option ℕ) (spots : Spots) 
     }
 entry_is head o o2 w w2 f f2 spots l k a n eo ew ef el ek ea en = cc
 
-module _ (bytes : List ℕ) (target : Place) (marks : List Mark) (s : Stated) (spots : Spots)
-    (r : Way × Option ℕ) where
+module _ (bytes : List ℕ) (target : Place) (marks : List Mark) (s : PlacedStatement) (spots : StatementOffsets)
+    (r : PathMatch × Option ℕ) where
   -- a pair
-  pub pair_taken : (standing : Standing) (own within : Bool) → is_pair s.statement ≡ true
-      → IsTaken bytes marks s spots → StandsTo target s.earlier s.prefix standing
+  pub pair_taken : (standing : SearchState) (own within : Bool) → is_pair s.statement ≡ true
+      → IsTokenized bytes marks s spots → IsSearchState target s.earlier s.prefix standing
       → Promises bytes target [] marks standing.prefix r
-      → own ≡ is_at (length target) standing.prefix → within ≡ has_come (length target) r.0
+      → own ≡ is_at (length target) standing.prefix → within ≡ is_at_or_below (length target) r.0
       → (made own within false r.1 spots ≡ entry_of target s)
-      × StandsTo target (s.earlier ++ of_statement s.earlier s.prefix s.statement)
+      × IsSearchState target (s.earlier ++ of_statement s.earlier s.prefix s.statement)
       (prefix_after s.earlier s.prefix s.statement) standing
   pair_taken standing own within kind taken stands promised is_own is_in = go s.statement kind taken
     where
-      go : (st : Statement) → is_pair st ≡ true → IsTaken bytes marks (record s { statement = st }) spots
+      go : (st : Statement) → is_pair st ≡ true → IsTokenized bytes marks (record s { statement = st }) spots
           → (made own within false r.1 spots ≡ entry_of target (record s { statement = st }))
-          × StandsTo target (s.earlier ++ of_statement s.earlier s.prefix st)
+          × IsSearchState target (s.earlier ++ of_statement s.earlier s.prefix st)
           (prefix_after s.earlier s.prefix st) standing
       go (pair k a b v) e t =
-          let s2 : Stated = record s { statement = pair k a b v } in
+          let s2 : PlacedStatement = record s { statement = pair k a b v } in
           let rest = (key_of s2).1 in
-          let g = promised s.prefix as_it_is _ _ t.parts_marked (follows_itself target) stands.under in (
+          let g = promised s.prefix unresolved _ _ t.parts_marked (follows_itself target) stands.under in (
             entry_is false _ _ _ _ _ _ spots _ _ _ _
                 (is_own ∙ ap (is_at (length target)) stands.under ∙ sym (same_is target s.prefix))
-                (is_in ∙ ap (has_come (length target)) (g.0 ∙ ap (way target) (pair_led s.prefix k rest)) ∙
+                (is_in ∙ ap (is_at_or_below (length target)) (g.0 ∙ ap (way target) (pair_led s.prefix k rest)) ∙
                 sym (within_is target (named s.prefix (names k))))
                 g.1 t.line t.key t.after t.next,
             record {
@@ -84,24 +85,24 @@ module _ (bytes : List ℕ) (target : Place) (marks : List Mark) (s : Stated) (s
       go (element_header a k b) e t = absurd cc
 
   -- a header
-  pub header_taken : (standing : Standing) (own within : Bool) → is_table_header s.statement ≡ true
-      → IsTaken bytes marks s spots → StandsTo target s.earlier s.prefix standing
+  pub header_taken : (standing : SearchState) (own within : Bool) → is_table_header s.statement ≡ true
+      → IsTokenized bytes marks s spots → IsSearchState target s.earlier s.prefix standing
       → Promises bytes target standing.counts.items marks (On 0) r
-      → own ≡ is_at (length target) r.0 → within ≡ has_come (length target) r.0
+      → own ≡ is_at (length target) r.0 → within ≡ is_at_or_below (length target) r.0
       → (made own within true r.1 spots ≡ entry_of target s)
-      × StandsTo target (s.earlier ++ of_statement s.earlier s.prefix s.statement)
+      × IsSearchState target (s.earlier ++ of_statement s.earlier s.prefix s.statement)
       (prefix_after s.earlier s.prefix s.statement) (record standing { prefix = r.0 })
   header_taken standing own within kind taken stands promised is_own is_in = go s.statement kind taken
     where
       go : (st : Statement) → is_table_header st ≡ true
-          → IsTaken bytes marks (record s { statement = st }) spots
+          → IsTokenized bytes marks (record s { statement = st }) spots
           → (made own within true r.1 spots ≡ entry_of target (record s { statement = st }))
-          × StandsTo target (s.earlier ++ of_statement s.earlier s.prefix st)
+          × IsSearchState target (s.earlier ++ of_statement s.earlier s.prefix st)
           (prefix_after s.earlier s.prefix st) (record standing { prefix = r.0 })
       go (pair k a b v) e t = absurd cc
       go (element_header a k b) e t = absurd cc
       go (header a k b) e t =
-          let s2 : Stated = record s { statement = header a k b } in
+          let s2 : PlacedStatement = record s { statement = header a k b } in
           let rest = (key_of s2).1 in
           let g = promised [] (resolved s.earlier) _ _ t.parts_marked
           (follows_counts target s.earlier standing.counts.items stands.counts) (way_root target) in
@@ -109,7 +110,7 @@ module _ (bytes : List ℕ) (target : Place) (marks : List Mark) (s : Stated) (s
           let come : r.0 ≡ way target q = g.0 ∙ ap (way target) (header_led s.earlier k rest) in (
             entry_is true _ _ _ _ _ _ spots _ _ _ _
                 (is_own ∙ ap (is_at (length target)) come ∙ sym (same_is target q))
-                (is_in ∙ ap (has_come (length target)) come ∙ sym (within_is target q))
+                (is_in ∙ ap (is_at_or_below (length target)) come ∙ sym (within_is target q))
                 g.1 t.line t.key t.after t.next,
             record {
               under = come;
@@ -126,7 +127,7 @@ element_way : (target : Place) (earlier : List Assertion) (counts : List ℕ) (q
 element_way target earlier counts q h = go (way target q) refl ∙
     sym (way_at target q (index (elements_at earlier q)))
   where
-    go : (w : Way) → way target q ≡ w
+    go : (w : PathMatch) → way target q ≡ w
         → next_way target (way target q) (index (count_on counts (way target q)))
         ≡ next_way target (way target q) (index (elements_at earlier q))
     go (On d) e =
@@ -134,41 +135,41 @@ element_way target earlier counts q h = go (way target q) refl ∙
         let count : count_on counts (way target q) ≡ elements_at earlier q = ap (count_on counts) e ∙
         h d f.1 ∙ ap (elements_at earlier) (sym f.0) in
         ap (λ (n : ℕ). next_way target (way target q) (index n)) count
-    go Below e = ap (λ (w : Way). next_way target w (index (count_on counts (way target q)))) e ∙
-        sym (ap (λ (w : Way). next_way target w (index (elements_at earlier q))) e)
-    go Off e = ap (λ (w : Way). next_way target w (index (count_on counts (way target q)))) e ∙
-        sym (ap (λ (w : Way). next_way target w (index (elements_at earlier q))) e)
+    go Below e = ap (λ (w : PathMatch). next_way target w (index (count_on counts (way target q)))) e ∙
+        sym (ap (λ (w : PathMatch). next_way target w (index (elements_at earlier q))) e)
+    go Off e = ap (λ (w : PathMatch). next_way target w (index (count_on counts (way target q)))) e ∙
+        sym (ap (λ (w : PathMatch). next_way target w (index (elements_at earlier q))) e)
 
-counted_size : (w : Way) (counts : List ℕ) → length (counted w counts) ≡ length counts
+counted_size : (w : PathMatch) (counts : List ℕ) → length (counted w counts) ≡ length counts
 counted_size (On d) counts = length-set counts d _
 counted_size Below counts = refl
 counted_size Off counts = refl
 
-module _ (bytes : List ℕ) (target : Place) (marks : List Mark) (s : Stated) (spots : Spots)
-    (r : Way × Option ℕ) where
+module _ (bytes : List ℕ) (target : Place) (marks : List Mark) (s : PlacedStatement) (spots : StatementOffsets)
+    (r : PathMatch × Option ℕ) where
   -- the header of an element
-  pub element_taken : (standing now : Standing) (element : Way) (own within : Bool)
-      → is_element_header s.statement ≡ true → IsTaken bytes marks s spots
-      → StandsTo target s.earlier s.prefix standing
+  pub element_taken : (standing now : SearchState) (element : PathMatch) (own within : Bool)
+      → is_element_header s.statement ≡ true → IsTokenized bytes marks s spots
+      → IsSearchState target s.earlier s.prefix standing
       → Promises bytes target standing.counts.items marks (On 0) r
       → element ≡ next_way target r.0 (index (count_on standing.counts.items r.0)) → now.prefix ≡ element
       → now.counts.items ≡ counted r.0 standing.counts.items
-      → own ≡ is_at (length target) element → within ≡ has_come (length target) element
+      → own ≡ is_at (length target) element → within ≡ is_at_or_below (length target) element
       → (made own within true r.1 spots ≡ entry_of target s)
-      × StandsTo target (s.earlier ++ of_statement s.earlier s.prefix s.statement)
+      × IsSearchState target (s.earlier ++ of_statement s.earlier s.prefix s.statement)
       (prefix_after s.earlier s.prefix s.statement) now
   element_taken standing now element own within kind taken stands promised at_last under more is_own is_in =
       go s.statement kind taken
     where
       go : (st : Statement) → is_element_header st ≡ true
-          → IsTaken bytes marks (record s { statement = st }) spots
+          → IsTokenized bytes marks (record s { statement = st }) spots
           → (made own within true r.1 spots ≡ entry_of target (record s { statement = st }))
-          × StandsTo target (s.earlier ++ of_statement s.earlier s.prefix st)
+          × IsSearchState target (s.earlier ++ of_statement s.earlier s.prefix st)
           (prefix_after s.earlier s.prefix st) now
       go (pair k a b v) e t = absurd cc
       go (header a k b) e t = absurd cc
       go (element_header a k b) e t =
-          let s2 : Stated = record s { statement = element_header a k b } in
+          let s2 : PlacedStatement = record s { statement = element_header a k b } in
           let rest = (key_of s2).1 in
           let counts = standing.counts.items in
           let g = promised [] (resolved s.earlier) _ _ t.parts_marked
@@ -177,11 +178,11 @@ module _ (bytes : List ℕ) (target : Place) (marks : List Mark) (s : Stated) (s
           let own_place = at q (index (elements_at s.earlier q)) in
           let come : r.0 ≡ way target q = g.0 ∙ ap (way target) (header_led s.earlier k rest) in
           let last : element ≡ way target own_place = at_last ∙
-          ap (λ (w : Way). next_way target w (index (count_on counts w))) come ∙
+          ap (λ (w : PathMatch). next_way target w (index (count_on counts w))) come ∙
           element_way target s.earlier counts q stands.counts in (
             entry_is true _ _ _ _ _ _ spots _ _ _ _
                 (is_own ∙ ap (is_at (length target)) last ∙ sym (same_is target own_place))
-                (is_in ∙ ap (has_come (length target)) last ∙ sym (within_is target own_place))
+                (is_in ∙ ap (is_at_or_below (length target)) last ∙ sym (within_is target own_place))
                 g.1 t.line t.key t.after t.next,
             record {
               under = under ∙ last;

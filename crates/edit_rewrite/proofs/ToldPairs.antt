@@ -3,18 +3,21 @@ use Rattle.std.proofs.Common.{◌≡◌, ℕ, List, ◌∷◌, length, Option, S
 use Rattle.edit_syntax.proofs.Members.{Among, among_contained, contained_among}
 use Rattle.edit_tree.specs.Assertions.{Place}
 use Rattle.edit_tree.specs.EditBytes.{part_to}
-use Rattle.edit_rewrite.specs.EntrySpots.{IsAround, Tells}
-use Rattle.edit_tree.specs.Statements.{Paired}
+use Rattle.edit_rewrite.specs.EntrySpots.{IsAround, HasPairOffsets}
+use Rattle.edit_tree.specs.Statements.{PlacedPair}
 
-pub nothing_told : (place : Place) (ps : List Paired) → ((p : Paired) → Among p ps → part_to place p ≡ None)
-    → Tells place ps None
+pub nothing_told : (place : Place) (ps : List PlacedPair)
+    → ((p : PlacedPair) → Among p ps → part_to place p ≡ None)
+    → HasPairOffsets place ps None
 nothing_told place ps none p c = none p (contained_among p ps c)
 
-none_among : (place : Place) (p : Paired) (ps : List Paired) → Tells place ps None → Among p ps
+none_among : (place : Place) (p : PlacedPair) (ps : List PlacedPair) → HasPairOffsets place ps None
+    → Among p ps
     → part_to place p ≡ None
 none_among place p ps told m = told p (among_contained p ps m)
 
-pub one_told : (place : Place) (p : Paired) (ps : List Paired) (part : List ℕ) (r : ℕ × ℕ) → Among p ps
+pub one_told : (place : Place) (p : PlacedPair) (ps : List PlacedPair) (part : List ℕ) (r : ℕ × ℕ)
+    → Among p ps
     → part_to place p ≡ Some part → r.0 ≡ length part → r.1 ≡ length p.behind → IsAround place ps r
 one_told place p ps part r m e from to = record {
   pair = p;
@@ -25,11 +28,12 @@ one_told place p ps part r m e from to = record {
   to = to;
 }
 
-pub more_told : (place : Place) (p : Paired) (ps : List Paired) (o : Option (ℕ × ℕ)) → part_to place p ≡ None
-    → Tells place ps o → Tells place (p ∷ ps) o
+pub more_told : (place : Place) (p : PlacedPair) (ps : List PlacedPair) (o : Option (ℕ × ℕ))
+    → part_to place p ≡ None
+    → HasPairOffsets place ps o → HasPairOffsets place (p ∷ ps) o
 more_told place p ps None e told = nothing_told place (p ∷ ps) each
   where
-    each : (q : Paired) → Among q (p ∷ ps) → part_to place q ≡ None
+    each : (q : PlacedPair) → Among q (p ∷ ps) → part_to place q ≡ None
     each q (inl same) = ap (part_to place) same ∙ e
     each q (inr m) = none_among place q ps told m
 more_told place p ps (Some r) e told =

@@ -4,7 +4,7 @@ use Rattle.edit_syntax.specs.Characters.{comma, right_bracket, right_brace}
 use Rattle.edit_syntax.specs.Strings.{Key, name, line_end}
 use Rattle.edit_syntax.specs.Grammar.{gap, Value, basic, literal, multi_basic, multi_literal, boolean, integer, float, datetime, array, inline, Elements, no_elements, last_element, element, elements, Members, no_members, last_member, member, members, Statement, pair, header, element_header, comment, empty_line, full_line, Lines, one_line, more_lines, lines, Text}
 use Rattle.edit_syntax.proofs.Members.{Among, among_append, among_all}
-use Rattle.edit_tree.specs.Assertions.{Place, key, index, at, Kind, leaf, Assertion, asserts, names, named, of_key, of_value, of_elements, of_members, of_statement, prefix_after, of_lines, assertions, together, NoClash}
+use Rattle.edit_tree.specs.Assertions.{Place, key, index, at, Kind, leaf, Assertion, asserts, names, named, of_key, of_value, of_elements, of_members, of_statement, prefix_after, of_lines, assertions, are_compatible, AreCompatible}
 use Rattle.edit_document.specs.Items.{is_inline}
 use Rattle.edit_document.specs.Ranges.{is_table_value}
 use Rattle.edit_tree.specs.Tree.{kind_at, view_of_kind, view_at}
@@ -12,7 +12,7 @@ use Rattle.edit_tree.proofs.NothingBelow.{rooted}
 use Rattle.edit_tree.proofs.PlainValues.{HasLeaf, leaf_there}
 use Rattle.edit_tree.proofs.ReplacedTree.{no_root}
 use Rattle.edit_tree.proofs.ThinnedLines.{leaf_alone}
-use Rattle.edit_tree.specs.Written.{Valued, valued, inside, in_elements, in_members, in_statement, in_lines, values}
+use Rattle.edit_tree.specs.Written.{PlacedValue, placed_value, inside, in_elements, in_members, in_statement, in_lines, values}
 
 -- ---- lists
 
@@ -28,7 +28,7 @@ among_right x (y ∷ xs) ys m = inr (among_right x xs ys m)
 -- ---- what a value asserts
 
 -- of its own place, and of those below
-abbrev pub asserted_by : Valued → List Assertion
+abbrev pub asserted_by : PlacedValue → List Assertion
 asserted_by w = asserts w.place w.place (leaf w.value) ∷ of_value w.place w.value
 
 key_leaf : (d : Bool) (by p : Place) (n : List ℕ) (ns : List (List ℕ)) (v : Value)
@@ -38,14 +38,14 @@ key_leaf d by p n (m ∷ ns) v =
     inr (subst (λ (q : Place). Among (asserts by q (leaf v)) (of_key d by (at p (key n)) (m ∷ ns) v))
     (append_assoc p (key n ∷ []) (map key (m ∷ ns))) (key_leaf d by (at p (key n)) m ns v))
 
-module _ (w : Valued) (a : Assertion) (own : Among a (asserted_by w)) where
+module _ (w : PlacedValue) (a : Assertion) (own : Among a (asserted_by w)) where
   abbrev Inside : Place → Value → List ℕ → Type 0
-  Inside q v after = Among w (valued q v after ∷ inside q v after)
+  Inside q v after = Among w (placed_value q v after ∷ inside q v after)
 
   value_here : (q : Place) (v : Value) (after : List ℕ)
       → (Among w (inside q v after) → Among a (of_value q v))
       → Inside q v after → Among a (asserts q q (leaf v) ∷ of_value q v)
-  value_here q v after below (inl e) = subst (λ (z : Valued). Among a (asserted_by z)) e own
+  value_here q v after below (inl e) = subst (λ (z : PlacedValue). Among a (asserted_by z)) e own
   value_here q v after below (inr m) = inr (below m)
 
   pair_here : (d : Bool) (p : Place) (k : Key) (v : Value) (after : List ℕ)
@@ -85,7 +85,7 @@ module _ (w : Valued) (a : Assertion) (own : Among a (asserted_by w)) where
         (value_here q v after (λ n. value_in q v after n) l))
         (λ r. among_right a (asserts q q (leaf v) ∷ of_value q v) (of_elements p (suc i) es)
         (elements_in p (suc i) es rest r))
-        (among_append w (valued q v after ∷ inside q v after) (in_elements p (suc i) es rest) m)
+        (among_append w (placed_value q v after ∷ inside q v after) (in_elements p (suc i) es rest) m)
 
     members_in : (p : Place) (ms : Members) (rest : List ℕ) → Among w (in_members p ms rest)
         → Among a (of_members p ms)
@@ -99,7 +99,7 @@ module _ (w : Valued) (a : Assertion) (own : Among a (asserted_by w)) where
         ⊎_elim (λ l. among_left a made (of_members p ms)
         (pair_here true p k v after (λ n. value_in q v after n) l))
         (λ r. among_right a made (of_members p ms) (members_in p ms rest r))
-        (among_append w (valued q v after ∷ inside q v after) (in_members p ms rest) m)
+        (among_append w (placed_value q v after ∷ inside q v after) (in_members p ms rest) m)
 
   statement_in : (earlier : List Assertion) (prefix : Place) (s : Statement) (after : List ℕ)
       → Among w (in_statement prefix s after) → Among a (of_statement earlier prefix s)
@@ -134,32 +134,34 @@ module _ (w : Valued) (a : Assertion) (own : Among a (asserted_by w)) where
       (λ r. lines_in (earlier ++ made) next ls r)
       (among_append w (in_statement prefix s after) (in_lines (earlier ++ made) next ls) m)
 
-pub value_told : (form : Text) (w : Valued) (a : Assertion) → Among w (values form) → Among a (asserted_by w)
+pub value_told : (form : Text) (w : PlacedValue) (a : Assertion) → Among w (values form)
+    → Among a (asserted_by w)
     → Among a (assertions form)
 value_told form w a m own = lines_in w a own [] [] form.lines m
 
 -- ---- a place with a value has no other assertion
 
-one_leaf : (made : List Assertion) (v : Value) (a b : Assertion) → NoClash made → Among a made → Among b made
+one_leaf : (made : List Assertion) (v : Value) (a b : Assertion) → AreCompatible made → Among a made
+    → Among b made
     → a.place ≡ b.place → b.kind ≡ leaf v → a.kind ≡ leaf v
 one_leaf [] v a b clash m n e k = absurd m
 one_leaf (x ∷ made) v a b clash (inl p) (inl q) e k =
     ap (λ (z : Assertion). z.kind) (p ∙ sym q) ∙ k
 one_leaf (x ∷ made) v a b clash (inl p) (inr n) e k =
     let met = among_all (λ (z : Assertion). x.place ≡ z.place
-    → together x.kind z.kind ≡ true) b made clash.0 n in
-    absurd (true≢false (sym (met (ap (λ (z : Assertion). z.place) (sym p) ∙ e)) ∙ ap (together x.kind) k ∙
+    → are_compatible x.kind z.kind ≡ true) b made clash.0 n in
+    absurd (true≢false (sym (met (ap (λ (z : Assertion). z.place) (sym p) ∙ e)) ∙ ap (are_compatible x.kind) k ∙
     leaf_alone x.kind v))
 one_leaf (x ∷ made) v a b clash (inr m) (inl q) e k =
     let met = among_all (λ (z : Assertion). x.place ≡ z.place
-    → together x.kind z.kind ≡ true) a made clash.0 m in
+    → are_compatible x.kind z.kind ≡ true) a made clash.0 m in
     let kind : x.kind ≡ leaf v = ap (λ (z : Assertion). z.kind) (sym q) ∙ k in
     absurd (true≢false (sym (met (ap (λ (z : Assertion). z.place) (sym q) ∙ sym e)) ∙
-    ap (λ (z : Kind). together z a.kind) kind))
+    ap (λ (z : Kind). are_compatible z a.kind) kind))
 one_leaf (x ∷ made) v a b clash (inr m) (inr n) e k = one_leaf made v a b clash.1 m n e k
 
 -- what is asserted of the place of a value is that value
-pub value_alone : (form : Text) (w : Valued) (a : Assertion) → NoClash (assertions form)
+pub value_alone : (form : Text) (w : PlacedValue) (a : Assertion) → AreCompatible (assertions form)
     → Among w (values form)
     → Among a (assertions form) → a.place ≡ w.place → a.kind ≡ leaf w.value
 value_alone form w a clash m n e =
@@ -175,7 +177,7 @@ leaf_has p v (x ∷ made) (inl e) =
     inl (ap (λ (z : Assertion). z.place) (sym e), ap (λ (z : Assertion). z.kind) (sym e))
 leaf_has p v (x ∷ made) (inr m) = inr (leaf_has p v made m)
 
-pub value_kind : (form : Text) (w : Valued) → NoClash (assertions form) → Among w (values form)
+pub value_kind : (form : Text) (w : PlacedValue) → AreCompatible (assertions form) → Among w (values form)
     → kind_at (assertions form) w.place ≡ Some (leaf w.value)
 value_kind form w clash m =
     let own = asserts w.place w.place (leaf w.value) in
@@ -196,7 +198,7 @@ kind_inline made p (datetime d) = refl
 kind_inline made p (array g es) = refl
 
 -- its place shows whether it is an inline table
-pub value_shows : (form : Text) (w : Valued) → NoClash (assertions form) → Among w (values form)
+pub value_shows : (form : Text) (w : PlacedValue) → AreCompatible (assertions form) → Among w (values form)
     → option_map is_inline (view_at form w.place) ≡ Some (is_table_value w.value)
 value_shows form w clash m = go w.place (value_kind form w clash m)
   where

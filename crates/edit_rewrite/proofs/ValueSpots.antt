@@ -9,22 +9,22 @@ use Rattle.edit_syntax.specs.Grammar.{gap, Value, basic, literal, multi_basic, m
 use Rattle.edit_syntax.proofs.Members.{Among, among_all}
 use Rattle.edit_tree.specs.Assertions.{Place, index, at, names, named, Assertion, of_statement, prefix_after, IsDocument}
 use Rattle.edit_rewrite.specs.EntrySpots.{StandsIn}
-use Rattle.edit_tree.specs.Written.{Valued, inside, in_elements, in_members, in_statement, in_lines, values}
+use Rattle.edit_tree.specs.Written.{PlacedValue, inside, in_elements, in_members, in_statement, in_lines, values}
 use Rattle.edit_document.proofs.Documents.{read_of, ends_all}
 use Rattle.edit_tree.proofs.Shallow.{shallow}
 use Rattle.edit_tree.proofs.FineValues.{values_fine}
 use Rattle.edit_tree.proofs.Ends.{Ends, ends_past, ends_one, ends_pair, ends_gap, ends_value, ends_line, ends_line_end}
 
 -- a value where it stands, at most 80 deep
-record Here (bytes : List ℕ) (w : Valued) : Type 0 where
+record Here (bytes : List ℕ) (w : PlacedValue) : Type 0 where
   shallow : depth w.value ≤ 80
   ends : Ends bytes (value w.value w.after)
 
 module _ (bytes : List ℕ) where
-  abbrev AllStand : List Valued → Type 0
+  abbrev AllStand : List PlacedValue → Type 0
   AllStand ws = AllByRecursion (Here bytes) ws
 
-  stand_append : (xs ys : List Valued) → AllStand xs → AllStand ys → AllStand (xs ++ ys)
+  stand_append : (xs ys : List PlacedValue) → AllStand xs → AllStand ys → AllStand (xs ++ ys)
   stand_append [] ys h g = g
   stand_append (x ∷ xs) ys h g = (h.0, stand_append xs ys h.1 g)
 
@@ -100,14 +100,14 @@ module _ (bytes : List ℕ) where
       (ends_line_end bytes n (lines ls) (ends_line bytes (full_line a s b c) (line_end n (lines ls)) e)))
 
 -- each value of a document stands so
-pub values_stand : (bytes : List ℕ) (form : Text) → IsDocument bytes form → IsUtf8 bytes → (w : Valued)
+pub values_stand : (bytes : List ℕ) (form : Text) → IsDocument bytes form → IsUtf8 bytes → (w : PlacedValue)
     → Among w (values form) → StandsIn bytes w
 values_stand bytes form m u w among =
     let here = among_all (Here bytes) w (values form)
     (stand_lines bytes [] [] form.lines (shallow bytes form m) (ends_all bytes form (read_of bytes form m u)))
     among in
     record {
-      valid = among_all (λ (z : Valued). IsValue z.value) w (values form)
+      valid = among_all (λ (z : PlacedValue). IsValue z.value) w (values form)
           (values_fine [] [] form.lines m.grammar.well_formed) among;
       shallow = here.shallow;
       ends = here.ends;

@@ -5,10 +5,10 @@ use Rattle.std.proofs.lemmas.List.{append-nil, get_or-set_same, get_or-set_other
 use Rattle.std.proofs.lemmas.Bool.Decides.{eqb_tells}
 use Rattle.edit_syntax.specs.Strings.{Key}
 use Rattle.edit_syntax.specs.Grammar.{Value, pair, header, element_header}
-use Rattle.edit_rewrite.specs.declared.way.Way.{Way}
-use Rattle.edit_rewrite.specs.declared.way.Way.TheVariants.{On, Below, Off}
+use Rattle.edit_rewrite.specs.declared.way.PathMatch.{PathMatch}
+use Rattle.edit_rewrite.specs.declared.way.PathMatch.TheVariants.{On, Below, Off}
 use Rattle.edit_tree.specs.Assertions.{index, Place, at, header_kind, array_kind, element_kind, Assertion, asserts, names, named, of_key, of_value, is_array_at, elements_at, fronts, header_place, of_statement}
-use Rattle.edit_rewrite.specs.Entries.{way_on, way, counted, Counts}
+use Rattle.edit_rewrite.specs.Entries.{path_match_on, way, counted, Counts}
 use Rattle.edit_tree.proofs.SamePlace.{same_step_self, same_place_self, other_place}
 use Rattle.edit_tree.proofs.ArrayCounts.{ArePlain, plain_both, plain_key, plain_value, plain_fronts, plain_array, arrays_more, arrays_stay}
 use Rattle.edit_rewrite.proofs.Ways.{on_front}
@@ -81,21 +81,21 @@ same_counts target earlier more counts e h d le = h d le ∙ sym (e (take d targ
 
 -- the front of so many steps is on the way
 way_take : (d done : ℕ) (target : Place) → done ≤ length target
-    → way_on d target (take done target) ≡ On (d + done)
+    → path_match_on d target (take done target) ≡ On (d + done)
 way_take d done [] le = let k : d + done ≡ d = omega arith in let none : done ≡ 0 = omega arith in
-    ap (λ (n : ℕ). way_on d [] (take n [])) none ∙ ap On (sym k)
+    ap (λ (n : ℕ). path_match_on d [] (take n [])) none ∙ ap On (sym k)
 way_take d zero (s ∷ ss) le = let k : d ≡ d + 0 = omega arith in ap On k
 way_take d (suc done) (s ∷ ss) le =
-    ap (λ b. cond b (way_on (d + 1) ss (take done ss)) Off) (same_step_self s) ∙
+    ap (λ b. cond b (path_match_on (d + 1) ss (take done ss)) Off) (same_step_self s) ∙
     way_take (d + 1) done ss (omega arith) ∙ (let k : (d + 1) + done ≡ d + suc done = omega arith in ap On k)
 
-not_on : (target p : Place) (d : ℕ) (w : Way) → d ≤ length target → way target p ≡ w → (On d ≡ w → ⊥)
+not_on : (target p : Place) (d : ℕ) (w : PathMatch) → d ≤ length target → way target p ≡ w → (On d ≡ w → ⊥)
     → p ≡ take d target → ⊥
 not_on target p d w le e ne same = let k : 0 + d ≡ d = omega arith in
     ne (sym (ap On k) ∙ sym (way_take 0 d target le) ∙ ap (way target) (sym same) ∙ e)
 
 pub more_counts : (target : Place) (earlier : List Assertion) (prefix : Place) (k : Key) (a b : List ℕ)
-    (counts : List ℕ) (w : Way) → w ≡ way target (array_of earlier k) → length counts ≡ suc (length target)
+    (counts : List ℕ) (w : PathMatch) → w ≡ way target (array_of earlier k) → length counts ≡ suc (length target)
     → Counts target earlier counts
     → Counts target (earlier ++ of_statement earlier prefix (element_header a k b)) (counted w counts)
 more_counts target earlier prefix k a b counts (On e) is size h d le =

@@ -6,36 +6,36 @@ use Rattle.std.proofs.lemmas.Option.{slice_get-map, slice_get_past, slice_get_re
 use Rattle.std.proofs.lemmas.List.{length-map}
 use Rattle.edit_document.specs.declared.place.Step.{Step as WrittenStep}
 use Rattle.edit_document.specs.declared.place.Step.TheVariants.{Key, Index}
-use Rattle.edit_document.specs.Items.{step_seen, place_seen}
+use Rattle.edit_document.specs.Items.{step_view, place_view}
 use Rattle.edit_tree.specs.Assertions.{Step, key, index, Place, at, same_step, same_place, Assertion, elements_at, resolved}
-use Rattle.edit_tree.specs.EditBytes.{is_within, as_it_is}
-use Rattle.edit_rewrite.specs.declared.way.Way.{Way}
-use Rattle.edit_rewrite.specs.declared.way.Way.TheVariants.{On, Below, Off}
-use Rattle.edit_rewrite.specs.Entries.{way_on, way, gone_on, next_way, is_at, has_come, count_on, resolved_way, Counts, Follows}
+use Rattle.edit_tree.specs.EditBytes.{is_within, unresolved}
+use Rattle.edit_rewrite.specs.declared.way.PathMatch.{PathMatch}
+use Rattle.edit_rewrite.specs.declared.way.PathMatch.TheVariants.{On, Below, Off}
+use Rattle.edit_rewrite.specs.Entries.{path_match_on, way, path_match_next, next_way, is_at, is_at_or_below, count_on, resolved_way, Counts, Follows}
 use Rattle.edit_tree.proofs.SamePlace.{same_step_is, same_step_self}
 
 -- ---- one step more
 
 way_next : (full : Place) (d : ℕ) (target p : Place) (s : Step)
     → ((i : ℕ) → slice_get full (d + i) ≡ slice_get target i)
-    → way_on d target (p ++ s ∷ []) ≡ next_way full (way_on d target p) s
+    → path_match_on d target (p ++ s ∷ []) ≡ next_way full (path_match_on d target p) s
 way_next full d [] [] s e = let here : d + 0 ≡ d = omega arith in
-    sym (ap (λ (o : Option Step). gone_on d o s) (ap (slice_get full) (sym here) ∙ e 0))
+    sym (ap (λ (o : Option Step). path_match_next d o s) (ap (slice_get full) (sym here) ∙ e 0))
 way_next full d [] (t ∷ ts) s e = refl
 way_next full d (u ∷ us) [] s e =
     let here : d + 0 ≡ d = omega arith in
-    ap (λ (w : Way). cond (same_step u s) w Off) (on us) ∙
-    sym (ap (λ (o : Option Step). gone_on d o s) (ap (slice_get full) (sym here) ∙ e 0))
+    ap (λ (w : PathMatch). cond (same_step u s) w Off) (on us) ∙
+    sym (ap (λ (o : Option Step). path_match_next d o s) (ap (slice_get full) (sym here) ∙ e 0))
   where
-    on : (us : Place) → way_on (d + 1) us [] ≡ On (d + 1)
+    on : (us : Place) → path_match_on (d + 1) us [] ≡ On (d + 1)
     on [] = refl
     on (v ∷ vs) = refl
 way_next full d (u ∷ us) (t ∷ ts) s e = go (same_step u t)
     (way_next full (d + 1) us ts s (λ i. let k : (d + 1) + i ≡ d + suc i = omega arith in
     ap (slice_get full) k ∙ e (suc i)))
   where
-    go : (b : Bool) → way_on (d + 1) us (ts ++ s ∷ []) ≡ next_way full (way_on (d + 1) us ts) s
-        → cond b (way_on (d + 1) us (ts ++ s ∷ [])) Off ≡ next_way full (cond b (way_on (d + 1) us ts) Off) s
+    go : (b : Bool) → path_match_on (d + 1) us (ts ++ s ∷ []) ≡ next_way full (path_match_on (d + 1) us ts) s
+        → cond b (path_match_on (d + 1) us (ts ++ s ∷ [])) Off ≡ next_way full (cond b (path_match_on (d + 1) us ts) Off) s
     go true ih = ih
     go false ih = refl
 
@@ -49,21 +49,22 @@ way_root (s ∷ ss) = refl
 
 -- ---- the place, or one below it
 
-within_on : (d : ℕ) (target p : Place) → is_within target p ≡ has_come (d + length target) (way_on d target p)
+within_on : (d : ℕ) (target p : Place)
+    → is_within target p ≡ is_at_or_below (d + length target) (path_match_on d target p)
 within_on d [] [] = let here : d ≡ d + 0 = omega arith in sym (eq-eqb d (d + 0) here)
 within_on d [] (t ∷ ts) = refl
 within_on d (s ∷ ss) [] = sym (ne_eqb d (d + length (s ∷ ss)) (λ e. omega arith))
 within_on d (s ∷ ss) (t ∷ ts) = go (same_step s t) (within_on (d + 1) ss ts)
   where
-    go : (b : Bool) → is_within ss ts ≡ has_come ((d + 1) + length ss) (way_on (d + 1) ss ts)
-        → (b && is_within ss ts) ≡ has_come (d + length (s ∷ ss)) (cond b (way_on (d + 1) ss ts) Off)
+    go : (b : Bool) → is_within ss ts ≡ is_at_or_below ((d + 1) + length ss) (path_match_on (d + 1) ss ts)
+        → (b && is_within ss ts) ≡ is_at_or_below (d + length (s ∷ ss)) (cond b (path_match_on (d + 1) ss ts) Off)
     go true ih = let k : (d + 1) + length ss ≡ d + length (s ∷ ss) = omega arith in
-        ih ∙ ap (λ n. has_come n (way_on (d + 1) ss ts)) k
+        ih ∙ ap (λ n. is_at_or_below n (path_match_on (d + 1) ss ts)) k
     go false ih = refl
 
-pub within_is : (target p : Place) → is_within target p ≡ has_come (length target) (way target p)
+pub within_is : (target p : Place) → is_within target p ≡ is_at_or_below (length target) (way target p)
 within_is target p = let k : 0 + length target ≡ length target = omega arith in
-    within_on 0 target p ∙ ap (λ n. has_come n (way target p)) k
+    within_on 0 target p ∙ ap (λ n. is_at_or_below n (way target p)) k
 
 same_step_swap : (s t : Step) → same_step s t ≡ same_step t s
 same_step_swap s t = go (same_step s t) refl (same_step t s) refl
@@ -78,17 +79,18 @@ same_step_swap s t = go (same_step s t) refl (same_step t s) refl
     go false e true f = absurd (clash t s f e)
     go false e false f = e ∙ sym f
 
-same_on : (d : ℕ) (target p : Place) → same_place p target ≡ is_at (d + length target) (way_on d target p)
+same_on : (d : ℕ) (target p : Place)
+    → same_place p target ≡ is_at (d + length target) (path_match_on d target p)
 same_on d [] [] = let here : d ≡ d + 0 = omega arith in sym (eq-eqb d (d + 0) here)
 same_on d [] (t ∷ ts) = refl
 same_on d (s ∷ ss) [] = sym (ne_eqb d (d + length (s ∷ ss)) (λ e. omega arith))
 same_on d (s ∷ ss) (t ∷ ts) = ap (λ b. b && same_place ts ss) (same_step_swap t s) ∙
     go (same_step s t) (same_on (d + 1) ss ts)
   where
-    go : (b : Bool) → same_place ts ss ≡ is_at ((d + 1) + length ss) (way_on (d + 1) ss ts)
-        → (b && same_place ts ss) ≡ is_at (d + length (s ∷ ss)) (cond b (way_on (d + 1) ss ts) Off)
+    go : (b : Bool) → same_place ts ss ≡ is_at ((d + 1) + length ss) (path_match_on (d + 1) ss ts)
+        → (b && same_place ts ss) ≡ is_at (d + length (s ∷ ss)) (cond b (path_match_on (d + 1) ss ts) Off)
     go true ih = let k : (d + 1) + length ss ≡ d + length (s ∷ ss) = omega arith in
-        ih ∙ ap (λ n. is_at n (way_on (d + 1) ss ts)) k
+        ih ∙ ap (λ n. is_at n (path_match_on (d + 1) ss ts)) k
     go false ih = refl
 
 pub same_is : (target p : Place) → same_place p target ≡ is_at (length target) (way target p)
@@ -101,7 +103,7 @@ pub record IsFront (d done : ℕ) (target p : Place) : Type 0 where
   pub front : p ≡ take (length p) target
   pub within : length p ≤ length target
 
-front_on : (d done : ℕ) (target p : Place) → way_on d target p ≡ On done → IsFront d done target p
+front_on : (d done : ℕ) (target p : Place) → path_match_on d target p ≡ On done → IsFront d done target p
 front_on d done [] [] e = let same : d ≡ done = cc in
     record { count = omega arith; front = refl; within = omega arith }
 front_on d done (s ∷ ss) [] e = let same : d ≡ done = cc in
@@ -109,8 +111,9 @@ front_on d done (s ∷ ss) [] e = let same : d ≡ done = cc in
 front_on d done [] (t ∷ ts) e = absurd cc
 front_on d done (s ∷ ss) (t ∷ ts) e = go (same_step s t) refl e (front_on (d + 1) done ss ts)
   where
-    go : (b : Bool) → same_step s t ≡ b → cond b (way_on (d + 1) ss ts) Off ≡ On done
-        → (way_on (d + 1) ss ts ≡ On done → IsFront (d + 1) done ss ts) → IsFront d done (s ∷ ss) (t ∷ ts)
+    go : (b : Bool) → same_step s t ≡ b → cond b (path_match_on (d + 1) ss ts) Off ≡ On done
+        → (path_match_on (d + 1) ss ts ≡ On done → IsFront (d + 1) done ss ts)
+        → IsFront d done (s ∷ ss) (t ∷ ts)
     go true h f ih =
         let f2 = ih f in
         let same : s ≡ t = same_step_is s t h in
@@ -135,10 +138,10 @@ on_front target p done e =
 -- ---- counts of elements
 
 -- the key of a pair leads on as it is
-pub follows_itself : (target : Place) → Follows target [] as_it_is
+pub follows_itself : (target : Place) → Follows target [] unresolved
 follows_itself target p = go (way target p)
   where
-    go : (w : Way) → w ≡ resolved_way target [] w
+    go : (w : PathMatch) → w ≡ resolved_way target [] w
     go (On d) = refl
     go Below = refl
     go Off = refl
@@ -162,7 +165,7 @@ follows_counts target earlier counts h p = step (nat_lt 0 (elements_at earlier p
         ≡ cond (nat_lt 0 d) (next_way target (way target p) (index (d - 1))) (way target p)
     off c d e = stays c (nat_lt 0 c) (e (c - 1)) ∙ sym (stays d (nat_lt 0 d) (e (d - 1)))
 
-    go : (w : Way) → way target p ≡ w
+    go : (w : PathMatch) → way target p ≡ w
         → cond (nat_lt 0 (elements_at earlier p))
         (next_way target (way target p) (index (elements_at earlier p - 1))) (way target p)
         ≡ resolved_way target counts (way target p)
@@ -173,24 +176,24 @@ follows_counts target earlier counts h p = step (nat_lt 0 (elements_at earlier p
         ap (λ (c : ℕ). cond (nat_lt 0 c) (next_way target (way target p) (index (c - 1))) (way target p))
         (sym count)
     go Below e = off (elements_at earlier p) (count_on counts (way target p))
-        (λ i. ap (λ (w : Way). next_way target w (index i)) e ∙ sym e)
+        (λ i. ap (λ (w : PathMatch). next_way target w (index i)) e ∙ sym e)
     go Off e = off (elements_at earlier p) (count_on counts (way target p))
-        (λ i. ap (λ (w : Way). next_way target w (index i)) e ∙ sym e)
+        (λ i. ap (λ (w : PathMatch). next_way target w (index i)) e ∙ sym e)
 
 -- ---- steps of the code
 
 pub next_past : (place : List WrittenStep) (done : ℕ) (s : Step) → length place ≤ done
-    → next_way (place_seen place) (On done) s ≡ Below
+    → next_way (place_view place) (On done) s ≡ Below
 next_past place done s le =
-    ap (λ (o : Option Step). gone_on done o s)
-    (slice_get_past (place_seen place) done (let n = length-map place step_seen in omega arith))
+    ap (λ (o : Option Step). path_match_next done o s)
+    (slice_get_past (place_view place) done (let n = length-map place step_view in omega arith))
 
 next_here : (place : List WrittenStep) (done : ℕ) (x : WrittenStep) (s : Step) → done < length place
-    → x ≡ get_or place done x → next_way (place_seen place) (On done) s
-    ≡ cond (same_step (step_seen x) s) (On (done + 1)) Off
+    → x ≡ get_or place done x → next_way (place_view place) (On done) s
+    ≡ cond (same_step (step_view x) s) (On (done + 1)) Off
 next_here place done x s lt is =
-    ap (λ (o : Option Step). gone_on done o s) (slice_get-map step_seen place done ∙
-    ap (λ (o : Option WrittenStep). option_map step_seen o)
+    ap (λ (o : Option Step). path_match_next done o s) (slice_get-map step_view place done ∙
+    ap (λ (o : Option WrittenStep). option_map step_view o)
     (slice_get_read place (length place) done x refl lt is))
 
 same_names : (a b : List ℕ) → a ≡ b → same_step (key a) (key b) ≡ true
@@ -207,54 +210,55 @@ other_names a b ne = go (same_step (key a) (key b)) refl
     go false e = e
 
 pub name_on : (place : List WrittenStep) (done : ℕ) (x : WrittenStep) (k : String Global) (name : List ℕ)
-    (w : Way) → w ≡ On done → done < length place → x ≡ get_or place done x → x ≡ Key k
-    → name ≡ string_bytes k → next_way (place_seen place) w (key name) ≡ On (done + 1)
+    (w : PathMatch) → w ≡ On done → done < length place → x ≡ get_or place done x → x ≡ Key k
+    → name ≡ string_bytes k → next_way (place_view place) w (key name) ≡ On (done + 1)
 name_on place done x k name w on lt is named same =
-    ap (λ (z : Way). next_way (place_seen place) z (key name)) on ∙ next_here place done x (key name) lt is
+    ap (λ (z : PathMatch). next_way (place_view place) z (key name)) on ∙ next_here place done x (key name) lt is
     ∙ ap (λ b. cond b (On (done + 1)) Off)
-    (ap (λ (y : WrittenStep). same_step (step_seen y) (key name)) named ∙
+    (ap (λ (y : WrittenStep). same_step (step_view y) (key name)) named ∙
     same_names (string_bytes k) name (sym same))
 
 pub name_off : (place : List WrittenStep) (done : ℕ) (x : WrittenStep) (k : String Global) (name : List ℕ)
-    (w : Way) → w ≡ On done → done < length place → x ≡ get_or place done x → x ≡ Key k
-    → (name ≡ string_bytes k → ⊥) → next_way (place_seen place) w (key name) ≡ Off
+    (w : PathMatch) → w ≡ On done → done < length place → x ≡ get_or place done x → x ≡ Key k
+    → (name ≡ string_bytes k → ⊥) → next_way (place_view place) w (key name) ≡ Off
 name_off place done x k name w on lt is named ne =
-    ap (λ (z : Way). next_way (place_seen place) z (key name)) on ∙ next_here place done x (key name) lt is
+    ap (λ (z : PathMatch). next_way (place_view place) z (key name)) on ∙ next_here place done x (key name) lt is
     ∙ ap (λ b. cond b (On (done + 1)) Off)
-    (ap (λ (y : WrittenStep). same_step (step_seen y) (key name)) named ∙
+    (ap (λ (y : WrittenStep). same_step (step_view y) (key name)) named ∙
     other_names (string_bytes k) name (λ e. ne (sym e)))
 
-pub index_off : (place : List WrittenStep) (done : ℕ) (x : WrittenStep) (i : ℕ) (name : List ℕ) (w : Way)
+pub index_off : (place : List WrittenStep) (done : ℕ) (x : WrittenStep) (i : ℕ) (name : List ℕ) (w : PathMatch)
     → w ≡ On done → done < length place → x ≡ get_or place done x → x ≡ Index i
-    → next_way (place_seen place) w (key name) ≡ Off
+    → next_way (place_view place) w (key name) ≡ Off
 index_off place done x i name w on lt is named =
-    ap (λ (z : Way). next_way (place_seen place) z (key name)) on ∙ next_here place done x (key name) lt is
+    ap (λ (z : PathMatch). next_way (place_view place) z (key name)) on ∙ next_here place done x (key name) lt is
     ∙ ap (λ b. cond b (On (done + 1)) Off)
-    (ap (λ (y : WrittenStep). same_step (step_seen y) (key name)) named)
+    (ap (λ (y : WrittenStep). same_step (step_view y) (key name)) named)
 
-pub index_on : (place : List WrittenStep) (done : ℕ) (x : WrittenStep) (i number : ℕ) (w : Way) → w ≡ On done
+pub index_on : (place : List WrittenStep) (done : ℕ) (x : WrittenStep) (i number : ℕ) (w : PathMatch)
+    → w ≡ On done
     → done < length place → x ≡ get_or place done x → x ≡ Index i → i ≡ number
-    → next_way (place_seen place) w (index number) ≡ On (done + 1)
+    → next_way (place_view place) w (index number) ≡ On (done + 1)
 index_on place done x i number w on lt is named same =
-    ap (λ (z : Way). next_way (place_seen place) z (index number)) on ∙
+    ap (λ (z : PathMatch). next_way (place_view place) z (index number)) on ∙
     next_here place done x (index number) lt is
     ∙ ap (λ b. cond b (On (done + 1)) Off)
-    (ap (λ (y : WrittenStep). same_step (step_seen y) (index number)) named ∙ eq-eqb i number same)
+    (ap (λ (y : WrittenStep). same_step (step_view y) (index number)) named ∙ eq-eqb i number same)
 
-pub index_past : (place : List WrittenStep) (done : ℕ) (x : WrittenStep) (i number : ℕ) (w : Way)
+pub index_past : (place : List WrittenStep) (done : ℕ) (x : WrittenStep) (i number : ℕ) (w : PathMatch)
     → w ≡ On done → done < length place → x ≡ get_or place done x → x ≡ Index i → (i ≡ number → ⊥)
-    → next_way (place_seen place) w (index number) ≡ Off
+    → next_way (place_view place) w (index number) ≡ Off
 index_past place done x i number w on lt is named ne =
-    ap (λ (z : Way). next_way (place_seen place) z (index number)) on ∙
+    ap (λ (z : PathMatch). next_way (place_view place) z (index number)) on ∙
     next_here place done x (index number) lt is
     ∙ ap (λ b. cond b (On (done + 1)) Off)
-    (ap (λ (y : WrittenStep). same_step (step_seen y) (index number)) named ∙ ne_eqb i number ne)
+    (ap (λ (y : WrittenStep). same_step (step_view y) (index number)) named ∙ ne_eqb i number ne)
 
 pub key_off : (place : List WrittenStep) (done : ℕ) (x : WrittenStep) (k : String Global) (number : ℕ)
-    (w : Way) → w ≡ On done → done < length place → x ≡ get_or place done x → x ≡ Key k
-    → next_way (place_seen place) w (index number) ≡ Off
+    (w : PathMatch) → w ≡ On done → done < length place → x ≡ get_or place done x → x ≡ Key k
+    → next_way (place_view place) w (index number) ≡ Off
 key_off place done x k number w on lt is named =
-    ap (λ (z : Way). next_way (place_seen place) z (index number)) on ∙
+    ap (λ (z : PathMatch). next_way (place_view place) z (index number)) on ∙
     next_here place done x (index number) lt is
     ∙ ap (λ b. cond b (On (done + 1)) Off)
-    (ap (λ (y : WrittenStep). same_step (step_seen y) (index number)) named)
+    (ap (λ (y : WrittenStep). same_step (step_view y) (index number)) named)

@@ -3,66 +3,66 @@ use Rattle.std.specs.Prelude.{◌≡◌, ◌≤◌, ℕ, ◌+◌, ◌-◌, Bool,
 use Rattle.edit_syntax.specs.Characters.{equals, right_bracket}
 use Rattle.edit_syntax.specs.Strings.{◌·◌, Key, key}
 use Rattle.edit_syntax.specs.Grammar.{value, Statement, pair, header, element_header}
-use Rattle.edit_rewrite.specs.declared.way.Way.{Way}
-use Rattle.edit_rewrite.specs.declared.way.Way.TheVariants.{On, Below, Off}
+use Rattle.edit_rewrite.specs.declared.way.PathMatch.{PathMatch}
+use Rattle.edit_rewrite.specs.declared.way.PathMatch.TheVariants.{On, Below, Off}
 use Rattle.edit_rewrite.specs.declared.locate.Entry.{Entry}
 use Rattle.edit_syntax.specs.declared.read.marks.Mark.{Mark}
 use Rattle.edit_syntax.specs.declared.read.marks.MarkKind.{MarkKind}
 use Rattle.edit_syntax.specs.declared.read.marks.MarkKind.TheVariants as kinds
 use Rattle.edit_tree.specs.Assertions.{Step, key as name_step, index, Place, at, same_step, Assertion, elements_at, resolved}
-use Rattle.edit_tree.specs.Statements.{Stated, Named, parts, front_parts, behind_part}
+use Rattle.edit_tree.specs.Statements.{PlacedStatement, Named, parts, front_parts, behind_part}
 use Rattle.edit_tree.specs.EditBytes.{is_pair, is_own}
 use Rattle.edit_tree.specs.RemovedBytes.{is_gone}
-use Rattle.edit_tree.specs.WalkState.{SaysAt}
+use Rattle.edit_tree.specs.WalkState.{IsDecodedAt}
 
 -- ---- paths
 
 -- the relation of a place to the target after n common steps: on the path to it, below it, or off the path
-abbrev pub way_on : ℕ → Place → Place → Way
-way_on done [] [] = On done
-way_on done (s ∷ ss) [] = On done
-way_on done [] (t ∷ ts) = Below
-way_on done (s ∷ ss) (t ∷ ts) = if same_step s t then way_on (done + 1) ss ts else Off
+abbrev pub path_match_on : ℕ → Place → Place → PathMatch
+path_match_on done [] [] = On done
+path_match_on done (s ∷ ss) [] = On done
+path_match_on done [] (t ∷ ts) = Below
+path_match_on done (s ∷ ss) (t ∷ ts) = if same_step s t then path_match_on (done + 1) ss ts else Off
 
 -- the relation of a place to the target
-abbrev pub way : Place → Place → Way
-way target place = way_on 0 target place
+abbrev pub way : Place → Place → PathMatch
+way target place = path_match_on 0 target place
 
 -- the relation after one more step, where this step comes next on the path
-abbrev pub gone_on : ℕ → Option Step → Step → Way
-gone_on done None step = Below
-gone_on done (Some s) step = if same_step s step then On (done + 1) else Off
+abbrev pub path_match_next : ℕ → Option Step → Step → PathMatch
+path_match_next done None step = Below
+path_match_next done (Some s) step = if same_step s step then On (done + 1) else Off
 
 -- the relation after one more step
-abbrev pub next_way : Place → Way → Step → Way
-next_way target (On done) step = gone_on done (slice_get target done) step
+abbrev pub next_way : Place → PathMatch → Step → PathMatch
+next_way target (On done) step = path_match_next done (slice_get target done) step
 next_way target Below step = Below
 next_way target Off step = Off
 
 -- the place is the target, which has this number of steps
-abbrev pub is_at : ℕ → Way → Bool
+abbrev pub is_at : ℕ → PathMatch → Bool
 is_at total (On done) = done == total
 is_at total _ = false
 
 -- the place is the target, which has this number of steps, or lies below it
-abbrev pub has_come : ℕ → Way → Bool
-has_come total (On done) = done == total
-has_come total Below = true
-has_come total Off = false
+abbrev pub is_at_or_below : ℕ → PathMatch → Bool
+is_at_or_below total (On done) = done == total
+is_at_or_below total Below = true
+is_at_or_below total Off = false
 
 -- the number of elements at the place reached; `counts` has a number for each number of steps on the path
-abbrev pub count_on : List ℕ → Way → ℕ
+abbrev pub count_on : List ℕ → PathMatch → ℕ
 count_on counts (On done) = slice_index counts done
 count_on counts _ = 0
 
 -- the relation of the last element of the array of tables at the place reached, or of that place where there
 -- is none
-abbrev pub resolved_way : Place → List ℕ → Way → Way
+abbrev pub resolved_way : Place → List ℕ → PathMatch → PathMatch
 resolved_way target counts w =
     if nat_lt 0 (count_on counts w) then next_way target w (index (count_on counts w - 1)) else w
 
 -- the counts with one more element at the place reached
-abbrev pub counted : Way → List ℕ → List ℕ
+abbrev pub counted : PathMatch → List ℕ → List ℕ
 counted (On done) counts = slice_set counts done (slice_index counts done + 1)
 counted _ counts = counts
 
@@ -86,9 +86,9 @@ begins_part [] = false
 begins_part (m ∷ ms) = is_part m.kind
 
 -- the kind of the first token that is not a part of a key
-abbrev pub head_of : List Mark → Option MarkKind
-head_of [] = None
-head_of (m ∷ ms) = if is_part m.kind then head_of ms else Some m.kind
+abbrev pub kind_after_key : List Mark → Option MarkKind
+kind_after_key [] = None
+kind_after_key (m ∷ ms) = if is_part m.kind then kind_after_key ms else Some m.kind
 
 -- the start of the first token
 abbrev pub first_from : List Mark → ℕ
@@ -100,7 +100,7 @@ abbrev pub AreParts : List ℕ → List Named → List Mark → Type 0
 AreParts bytes [] ms = begins_part ms ≡ false
 AreParts bytes (n ∷ ns) [] = ⊥
 AreParts bytes (n ∷ ns) (m ∷ ms) =
-    (is_part m.kind ≡ true) × SaysAt bytes m n.0 × (m.to ≡ length n.1) × AreParts bytes ns ms
+    (is_part m.kind ≡ true) × IsDecodedAt bytes m n.0 × (m.to ≡ length n.1) × AreParts bytes ns ms
 
 -- `resolve` on places agrees with the last element by counts on relations
 abbrev pub Follows : Place → List ℕ → (Place → Place) → Type 0
@@ -108,22 +108,22 @@ Follows target counts resolve =
     (p : Place) → way target (resolve p) ≡ resolved_way target counts (way target p)
 
 -- the place that the parts of a key lead to, from a table on
-abbrev pub led : (Place → Place) → Place → List Named → Place
-led resolve table [] = table
-led resolve table (n ∷ []) = at table (name_step n.0)
-led resolve table (n ∷ m ∷ ns) = led resolve (resolve (at table (name_step n.0))) (m ∷ ns)
+abbrev pub key_target : (Place → Place) → Place → List Named → Place
+key_target resolve table [] = table
+key_target resolve table (n ∷ []) = at table (name_step n.0)
+key_target resolve table (n ∷ m ∷ ns) = key_target resolve (resolve (at table (name_step n.0))) (m ∷ ns)
 
 -- the relation of the place that a key names, and the offset behind the front part of the key that names the
 -- target
-abbrev pub GoesAlong : Place → (Place → Place) → Place → List Named → Way × Option ℕ → Type 0
-GoesAlong target resolve table ns r =
-    (r.0 ≡ way target (led resolve table ns))
+abbrev pub FollowsKey : Place → (Place → Place) → Place → List Named → PathMatch × Option ℕ → Type 0
+FollowsKey target resolve table ns r =
+    (r.0 ≡ way target (key_target resolve table ns))
     × (r.1 ≡ option_map length (behind_part resolve target table (front_parts ns)))
 
 -- ---- statements
 
 -- the key of a statement, and the text behind it
-abbrev pub key_of : Stated → Key × List ℕ
+abbrev pub key_of : PlacedStatement → Key × List ℕ
 key_of s = of_statement s.statement
   where
     of_statement : Statement → Key × List ℕ
@@ -132,20 +132,20 @@ key_of s = of_statement s.statement
     of_statement (element_header a k b) = (k, b · right_bracket ∷ (right_bracket ∷ s.behind))
 
 -- the table that the key of a statement starts from
-abbrev pub begins_in : Stated → Place
+abbrev pub begins_in : PlacedStatement → Place
 begins_in s = if is_pair s.statement then s.prefix else []
 
 -- where a front part of the statement's key continues from
-abbrev pub leads_to : Stated → Place → Place
+abbrev pub leads_to : PlacedStatement → Place → Place
 leads_to s place = if is_pair s.statement then place else resolved s.earlier place
 
 -- the text behind the front part of the statement's key that names a place
-abbrev pub front_of : Place → Stated → Option (List ℕ)
+abbrev pub front_of : Place → PlacedStatement → Option (List ℕ)
 front_of place s =
     behind_part (leads_to s) place (begins_in s) (front_parts (parts (key_of s).0 (key_of s).1))
 
 -- the relation of a statement to a place
-abbrev pub entry_of : Place → Stated → Entry
+abbrev pub entry_of : Place → PlacedStatement → Entry
 entry_of place s = record {
   is_own = is_own place s;
   is_within = is_gone place s;

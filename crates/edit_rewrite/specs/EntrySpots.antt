@@ -5,13 +5,13 @@ use Rattle.edit_syntax.specs.declared.read.marks.Mark.{Mark}
 use Rattle.edit_syntax.specs.Depth.{depth}
 use Rattle.edit_syntax.specs.Grammar.{value, IsValue, Text}
 use Rattle.edit_rewrite.specs.declared.locate.Entry.{Entry}
-use Rattle.edit_rewrite.specs.declared.way.Way.{Way}
+use Rattle.edit_rewrite.specs.declared.way.PathMatch.{PathMatch}
 use Rattle.edit_tree.specs.Assertions.{Place}
 use Rattle.edit_tree.specs.EditBytes.{first_of, part_to}
 use Rattle.edit_rewrite.specs.Entries.{is_at, is_part}
 use Rattle.edit_tree.specs.SlotTexts.{Ends}
-use Rattle.edit_tree.specs.Statements.{Paired, inner_pairs}
-use Rattle.edit_tree.specs.Written.{Valued}
+use Rattle.edit_tree.specs.Statements.{PlacedPair, inner_pairs}
+use Rattle.edit_tree.specs.Written.{PlacedValue}
 
 -- the statement, where it is a pair that names the place or one below it
 abbrev pub within_entry : Entry → Option Entry
@@ -28,20 +28,20 @@ last_end end [] = end
 last_end end (m ∷ ms) = last_end m.to ms
 
 -- the end of the part of a key that names the place: a front part or the last one
-abbrev pub part_seen : ℕ → Way → Option ℕ → List Mark → Option ℕ
-part_seen total named front ms =
+abbrev pub part_offset : ℕ → PathMatch → Option ℕ → List Mark → Option ℕ
+part_offset total named front ms =
     first_of (front ∷ (if is_at total named then Some (key_end 0 ms) else None) ∷ [])
 
 -- a value in a text: well formed, and at most 80 deep
-pub record StandsIn (bytes : List ℕ) (w : Valued) : Type 0 where
+pub record StandsIn (bytes : List ℕ) (w : PlacedValue) : Type 0 where
   pub valid : IsValue w.value
   pub shallow : depth w.value ≤ 80
   pub ends : Ends bytes (value w.value w.after)
 
 -- The offsets of what an edit of the place replaces in one of these pairs: behind the part of its key that
 -- names the place, and behind its value. They are counted from the end of the text.
-pub record IsAround (place : Place) (ps : List Paired) (spots : ℕ × ℕ) : Type 0 where
-  pub pair : Paired
+pub record IsAround (place : Place) (ps : List PlacedPair) (spots : ℕ × ℕ) : Type 0 where
+  pub pair : PlacedPair
   pub among : Contains ps pair
   pub part : List ℕ
   pub named : part_to place pair ≡ Some part
@@ -49,12 +49,12 @@ pub record IsAround (place : Place) (ps : List Paired) (spots : ℕ × ℕ) : Ty
   pub to : spots.1 ≡ length pair.behind
 
 -- the offsets for the pair that names the place, or `None` where none of these pairs does
-abbrev pub Tells : Place → List Paired → Option (ℕ × ℕ) → Type 0
-Tells place ps r = MatchOption r ((p : Paired) → Contains ps p → part_to place p ≡ None) (IsAround place ps)
+abbrev pub HasPairOffsets : Place → List PlacedPair → Option (ℕ × ℕ) → Type 0
+HasPairOffsets place ps r = MatchOption r ((p : PlacedPair) → Contains ps p → part_to place p ≡ None) (IsAround place ps)
 
 -- the offsets for the pair that names the place in the inline table at its first n steps, or `None` where
 -- there is none
-abbrev pub TellsIn : Text → Place → ℕ → Option (ℕ × ℕ) → Type 0
-TellsIn form place n r = MatchOption r
-    ((p : Paired) → Contains (inner_pairs form) p → p.table ≡ take n place → part_to place p ≡ None)
+abbrev pub HasPairOffsetsIn : Text → Place → ℕ → Option (ℕ × ℕ) → Type 0
+HasPairOffsetsIn form place n r = MatchOption r
+    ((p : PlacedPair) → Contains (inner_pairs form) p → p.table ≡ take n place → part_to place p ≡ None)
     (IsAround place (inner_pairs form))

@@ -6,11 +6,11 @@ use Rattle.edit_tree.specs.Assertions.{Place}
 use Rattle.edit_tree.specs.EditBytes.{front_to}
 use Rattle.edit_document.specs.Ranges.{StartsTable, HasTable}
 use Rattle.edit_tree.specs.Slots.{Slot, of_value, of_pair}
-use Rattle.edit_rewrite.specs.Spots.{IsSpot, IsFront}
-use Rattle.edit_tree.specs.Statements.{Paired, paired}
+use Rattle.edit_rewrite.specs.StatementOffsets.{IsSpot, IsFront}
+use Rattle.edit_tree.specs.Statements.{PlacedPair, paired}
 
 -- the offsets of a pair whose key passes through the place
-abbrev pub inner_of : Place → Paired → Option Inner
+abbrev pub inner_of : Place → PlacedPair → Option Inner
 inner_of place p =
     option_map (λ spot. record { from = length p.from; front = length spot; behind = length p.behind })
     (front_to place p)
@@ -22,7 +22,7 @@ inner_in place table (of_value v) behind = None
 inner_in place table (of_pair k a b v) behind = inner_of place (paired table k a b v behind)
 
 -- the pair is in the text, and its positions are character boundaries
-pub record HasInner (bytes : List ℕ) (p : Paired) (spot : List ℕ) : Type 0 where
+pub record HasInner (bytes : List ℕ) (p : PlacedPair) (spot : List ℕ) : Type 0 where
   pub from : IsSpot bytes p.from
   pub front : IsFront bytes p.from spot
   pub behind : IsSpot bytes p.behind

@@ -1,6 +1,6 @@
 pub mod Entries
-pub mod Standings
-pub mod Spots
+pub mod SearchStates
+pub mod StatementOffsets
 pub mod Remainders
 pub mod EntrySpots
 pub mod RemoveText

@@ -8,13 +8,13 @@ abbrev pub before_end : List ℕ → List ℕ → List ℕ
 before_end from to = take (length from - length to) from
 
 -- an item is removed: the gaps after and before its comma are kept for what follows
-pub record Leaves (old new : Remainder) (after stop next : List ℕ) : Type 0 where
+pub record SkipsItem (old new : Remainder) (after stop next : List ℕ) : Type 0 where
   pub firm : new.firm.items ≡ old.firm.items
   pub with_comma : new.with_comma.items ≡ old.with_comma.items ++ before_end (past_blanks (drop 1 stop)) next
   pub without_comma : new.without_comma.items ≡ old.without_comma.items ++ before_end after stop
 
 -- an item stays: its bytes, and its comma with the gap after it
-pub record Keeps (old new : Remainder) (rest stop next : List ℕ) : Type 0 where
+pub record AppendsItem (old new : Remainder) (rest stop next : List ℕ) : Type 0 where
   pub firm : new.firm.items ≡ (old.firm.items ++ old.with_comma.items) ++ before_end rest stop
   pub with_comma : new.with_comma.items ≡ before_end stop next
   pub without_comma : new.without_comma.items ≡ []

@@ -5,11 +5,11 @@ ghost use Rattle.edit_syntax.specs.Characters.{right_brace};
 ghost use Rattle.edit_syntax.specs.Grammar.{Between, inline, Members, no_members, Text};
 ghost use Rattle.edit_tree.specs.EditBytes.{Splice, put_before, with_splice, behind_last, inline_grown, in_inline, inserted_text};
 ghost use Rattle.edit_document.specs.Forms.{IfDocument};
-ghost use Rattle.edit_document.specs.Items.{place_seen};
-ghost use Rattle.edit_tree.specs.NewItems.{NewValue as Meant, new_pair};
+ghost use Rattle.edit_document.specs.Items.{place_view};
+ghost use Rattle.edit_tree.specs.NewItems.{NewValue as IntendedTrees, new_pair};
 ghost use Rattle.edit_document.specs.Ranges.{HasTable};
 ghost use Rattle.edit_tree.specs.SlotTexts.{TableAt};
-ghost use Rattle.edit_rewrite.specs.Spots.{IsSpot};
+ghost use Rattle.edit_rewrite.specs.StatementOffsets.{IsSpot};
 ghost use Rattle.edit_tree.specs.Assertions.{IsDocument};
 
 use crate::inside::{begins, behind_one, past_slot};
@@ -127,9 +127,9 @@ pub(crate) fn from_start(s: &[u8], start: usize) -> &[u8]
 
 /// The position of the inline table at a place, or `None` where none is written there.
 pub(crate) fn table_start(document: &Document, place: &[Step]) -> Option<usize>
-    ensures { IfDocument document.now.bytes (λ form. HasTable form (place_seen place.now) result) }
+    ensures { IfDocument document.now.bytes (λ form. HasTable form (place_view place.now) result) }
 {
-    document.has_form();
+    document.lemma_form();
     let (start, _) = document.value_range(place)?;
     let item = document.item(place)?;
     if item.is_inline_table() {
@@ -147,13 +147,13 @@ pub(crate) fn with_inline_member(
     place: &[Step],
     pair: &str,
 ) -> CargoResult<Option<String>>
-    ensures text { (form : Text) (name : List ℕ) (v : Meant) → IsDocument document.now.bytes form
+    ensures text { (form : Text) (name : List ℕ) (v : IntendedTrees) → IsDocument document.now.bytes form
         → pair.now ≡ new_pair name v [] → IfOk result (λ o. MatchOption o
-        (in_inline (place_seen place.now) pair.now form ≡ None)
-        (λ t. string_bytes t ≡ inserted_text (place_seen place.now) name v form)) }
+        (in_inline (place_view place.now) pair.now form ≡ None)
+        (λ t. string_bytes t ≡ inserted_text (place_view place.now) name v form)) }
     ensures refused { IfErr result IsMemory }
 {
-    document.has_form();
+    document.lemma_form();
     let Some(start) = table_start(document, place) else {
         return Ok(None);
     };

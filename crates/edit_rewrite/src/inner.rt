@@ -4,18 +4,18 @@ ghost use Rattle.edit_base.specs.Errors.{IsMemory};
 ghost use Rattle.edit_syntax.specs.Characters.{right_brace};
 ghost use Rattle.edit_syntax.specs.Grammar.{Between, gap, Members};
 ghost use Rattle.edit_tree.specs.Assertions.{Place};
-ghost use Rattle.edit_tree.specs.EditBytes.{put_before, last_made, with_splice, front_to, dotted_pair};
+ghost use Rattle.edit_tree.specs.EditBytes.{put_before, last_result, with_splice, front_to, dotted_pair};
 ghost use Rattle.edit_document.specs.Forms.{IfDocument};
 ghost use Rattle.edit_rewrite.specs.Entries as entries_seen;
 ghost use Rattle.edit_rewrite.specs.Inner as inner_seen;
-ghost use Rattle.edit_document.specs.Items.{place_seen};
+ghost use Rattle.edit_document.specs.Items.{place_view};
 ghost use Rattle.edit_tree.specs.Slots.{Slot};
 ghost use Rattle.edit_tree.specs.SlotTexts.{StandsAt, TableAt};
-ghost use Rattle.edit_tree.specs.Statements.{Paired, paired_members, inner_pairs};
+ghost use Rattle.edit_tree.specs.Statements.{PlacedPair, paired_members, inner_pairs};
 
 use crate::inline::{from_start, table_start, with_lead};
 use crate::inside::{begins, behind_one};
-use crate::way::{Way, along};
+use crate::way::{PathMatch, follow_key};
 use edit_base::errors::CargoResult;
 use edit_document::{Document, Step};
 use edit_syntax::read::gaps::past_gap;
@@ -54,17 +54,17 @@ fn inner_at<'a>(
     alloc: Global,
     text: &str,
     place: &[Step],
-    table: Way,
+    table: PathMatch,
     s: &'a [u8],
 ) -> CargoResult<(Option<Inner>, &'a [u8])>
     ensures { (above : Place) (it : Slot) (c : List Between) (rest : List ℕ)
-        → StandsAt text.now s.now true it c rest → table ≡ entries_seen.way (place_seen place.now) above
-        → MatchResult result (λ r. (r.0 ≡ inner_seen.inner_in (place_seen place.now) above it (gap c rest))
+        → StandsAt text.now s.now true it c rest → table ≡ entries_seen.way (place_view place.now) above
+        → MatchResult result (λ r. (r.0 ≡ inner_seen.inner_in (place_view place.now) above it (gap c rest))
         × (r.1.now ≡ gap c rest)) IsMemory }
 {
     let mut marks = Vec::new(alloc);
     let value = past_name(&mut marks, s)?;
-    let (_, front) = along(alloc, text, place, marks.as_slice(), table, &[])?;
+    let (_, front) = follow_key(alloc, text, place, marks.as_slice(), table, &[])?;
     let rest = past_value(alloc, value)?;
     Ok((inner_from(s, front, rest), rest))
 }
@@ -75,12 +75,12 @@ pub(crate) fn last_inner(
     alloc: Global,
     text: &str,
     place: &[Step],
-    start: Way,
+    start: PathMatch,
     table: &[u8],
 ) -> CargoResult<Option<Inner>>
     ensures { (above : Place) (g : List Between) (ms : Members) (after : List ℕ)
-        → TableAt text.now table.now g ms after → start ≡ entries_seen.way (place_seen place.now) above
-        → MatchResult result (λ o. o ≡ last_made (inner_seen.inner_of (place_seen place.now))
+        → TableAt text.now table.now g ms after → start ≡ entries_seen.way (place_view place.now) above
+        → MatchResult result (λ o. o ≡ last_result (inner_seen.inner_of (place_view place.now))
         (paired_members above ms (right_brace ∷ after))) IsMemory }
 {
     let mut rest = past_gap(behind_one(table));
@@ -102,7 +102,7 @@ pub(crate) fn last_inner(
 
 /// The text with a new pair inserted behind the value of one whose key passes through the place.
 pub(crate) fn with_inner(alloc: Global, text: &str, inner: Inner, pair: &str) -> CargoResult<String>
-    ensures text { (place : Place) (p : Paired) (spot : List ℕ) → inner_seen.HasInner text.now p spot
+    ensures text { (place : Place) (p : PlacedPair) (spot : List ℕ) → inner_seen.HasInner text.now p spot
         → front_to place p ≡ Some spot → inner_seen.inner_of place p ≡ Some inner
         → IfOk result (λ t. string_bytes t
         ≡ with_splice text.now (put_before p.behind (codes ", " ++ dotted_pair p spot pair.now))) }
@@ -116,7 +116,7 @@ pub(crate) fn with_inner(alloc: Global, text: &str, inner: Inner, pair: &str) ->
 
 /// The innermost inline table around a place: the number of steps to it, and its position.
 fn table_above(document: &Document, place: &[Step]) -> Option<(usize, usize)>
-    ensures { IfDocument document.now.bytes (λ form. inner_seen.IsClosest form (place_seen place.now)
+    ensures { IfDocument document.now.bytes (λ form. inner_seen.IsClosest form (place_view place.now)
         result) }
 {
     let mut found = None;
@@ -134,15 +134,15 @@ pub(crate) fn last_inner_of(
     alloc: Global,
     place: &[Step],
 ) -> CargoResult<Option<Inner>>
-    ensures found { IfDocument document.now.bytes (λ form. IfOk result (λ o. o ≡ last_made
-        (inner_seen.inner_of (place_seen place.now)) (inner_pairs form))) }
+    ensures found { IfDocument document.now.bytes (λ form. IfOk result (λ o. o ≡ last_result
+        (inner_seen.inner_of (place_view place.now)) (inner_pairs form))) }
     ensures refused { IfErr result IsMemory }
 {
-    document.has_form();
+    document.lemma_form();
     let Some((steps, start)) = table_above(document, place) else {
         return Ok(None);
     };
     let text = document.as_str();
     let table = from_start(text.as_bytes(), start);
-    last_inner(alloc, text, place, Way::On(steps), table)
+    last_inner(alloc, text, place, PathMatch::On(steps), table)
 }

@@ -5,17 +5,17 @@ ghost use Rattle.edit_base.specs.declared.errors.Error.TheVariants.{EditRefused}
 ghost use Rattle.edit_syntax.specs.Grammar.{Text};
 ghost use Rattle.edit_syntax.specs.Strings.{◌·◌};
 ghost use Rattle.edit_tree.specs.Assertions.{IsDocument, Place, at, key as key_step};
-ghost use Rattle.edit_tree.specs.EditBytes.{first_made, last_made, put_before, new_line, at_start, with_splice, in_inline, inserted_text};
+ghost use Rattle.edit_tree.specs.EditBytes.{first_result, last_result, put_before, new_line, at_start, with_splice, in_inline, inserted_text};
 ghost use Rattle.edit_document.specs.Forms.{Becomes, IfDocument};
 ghost use Rattle.edit_rewrite.specs.Entries.{entry_of, front_of};
 ghost use Rattle.edit_rewrite.specs.Inner.{inner_of};
-ghost use Rattle.edit_document.specs.Items.{place_seen};
-ghost use Rattle.edit_tree.specs.Meant.{Inserted, InsertFails};
-ghost use Rattle.edit_tree.specs.NewItems.{NewValue as Meant, new_pair};
-ghost use Rattle.edit_document.specs.NewItemViews.{value_seen};
-ghost use Rattle.edit_tree.specs.Shown.{tree_of};
-ghost use Rattle.edit_rewrite.specs.Spots.{HasSpots, key_to, section_text, own_entry, dotted_entry, through_entry};
-ghost use Rattle.edit_tree.specs.Statements.{Stated, inner_pairs};
+ghost use Rattle.edit_document.specs.Items.{place_view};
+ghost use Rattle.edit_tree.specs.IntendedTrees.{Inserted, InsertFails};
+ghost use Rattle.edit_tree.specs.NewItems.{NewValue as IntendedTrees, new_pair};
+ghost use Rattle.edit_document.specs.NewItemViews.{new_value_view};
+ghost use Rattle.edit_tree.specs.DocumentViews.{tree_of};
+ghost use Rattle.edit_rewrite.specs.StatementOffsets.{HasOffsets, key_to, section_text, own_entry, dotted_entry, through_entry};
+ghost use Rattle.edit_tree.specs.Statements.{PlacedStatement, inner_pairs};
 
 use crate::inline::with_inline_member;
 use crate::inner::{Inner, last_inner_of, with_inner};
@@ -30,7 +30,7 @@ use std::alloc::Global;
 
 /// The last statement that is the place's own header or a pair below it.
 fn last_own(found: &[Entry]) -> Option<Entry>
-    ensures { result ≡ last_made own_entry found.now }
+    ensures { result ≡ last_result own_entry found.now }
 {
     let mut last = None;
     'entries: for entry in found {
@@ -49,7 +49,7 @@ fn is_dotted(entry: Entry) -> bool
 }
 
 /// Whether a statement is a header whose key passes through the place.
-fn is_through(entry: Entry) -> bool
+fn is_passing_header(entry: Entry) -> bool
     ensures { result ≡ (entry.is_header && is_some entry.front) }
 {
     entry.is_header && entry.front.is_some()
@@ -57,7 +57,7 @@ fn is_through(entry: Entry) -> bool
 
 /// The last pair whose dotted key passes through the place.
 fn last_dotted(found: &[Entry]) -> Option<Entry>
-    ensures { result ≡ last_made dotted_entry found.now }
+    ensures { result ≡ last_result dotted_entry found.now }
 {
     let mut last = None;
     'entries: for entry in found {
@@ -70,10 +70,10 @@ fn last_dotted(found: &[Entry]) -> Option<Entry>
 
 /// The first header whose key passes through the place.
 fn first_through(found: &[Entry]) -> Option<Entry>
-    ensures { result ≡ first_made through_entry found.now }
+    ensures { result ≡ first_result through_entry found.now }
 {
     'entries: for entry in found {
-        if is_through(*entry) {
+        if is_passing_header(*entry) {
             return Some(*entry);
         }
     }
@@ -82,7 +82,7 @@ fn first_through(found: &[Entry]) -> Option<Entry>
 
 /// The part of a statement's key that names the place, as written.
 fn name_of(text: &str, entry: Entry) -> &str
-    ensures { (place : Place) (s : Stated) (spot : List ℕ) → HasSpots text.now s → entry ≡ entry_of place s
+    ensures { (place : Place) (s : PlacedStatement) (spot : List ℕ) → HasOffsets text.now s → entry ≡ entry_of place s
         → front_of place s ≡ Some spot → result.now ≡ key_to s spot }
 {
     between(text, entry.key, entry.front.unwrap_or(0))
@@ -90,7 +90,7 @@ fn name_of(text: &str, entry: Entry) -> &str
 
 /// The text with a dotted pair inserted on a new line behind one whose key passes through the place.
 fn with_dotted(alloc: Global, text: &str, entry: Entry, pair: &str) -> CargoResult<String>
-    ensures text { (place : Place) (s : Stated) (spot : List ℕ) → HasSpots text.now s
+    ensures text { (place : Place) (s : PlacedStatement) (spot : List ℕ) → HasOffsets text.now s
         → entry ≡ entry_of place s → front_of place s ≡ Some spot
         → IfOk result (λ t. string_bytes t
         ≡ with_splice text.now (new_line s.after (key_to s spot · codes "." · pair.now))) }
@@ -105,7 +105,7 @@ fn with_dotted(alloc: Global, text: &str, entry: Entry, pair: &str) -> CargoResu
 /// The text with a header of the place and a pair inserted before a header whose key passes through the
 /// place.
 fn with_header(alloc: Global, text: &str, entry: Entry, pair: &str) -> CargoResult<String>
-    ensures text { (place : Place) (s : Stated) (spot : List ℕ) → HasSpots text.now s
+    ensures text { (place : Place) (s : PlacedStatement) (spot : List ℕ) → HasOffsets text.now s
         → entry ≡ entry_of place s → front_of place s ≡ Some spot
         → IfOk result (λ t. string_bytes t
         ≡ with_splice text.now (put_before s.line (section_text (key_to s spot) pair.now))) }
@@ -134,11 +134,11 @@ fn with_pair(
     inner: Option<Inner>,
     pair: &str,
 ) -> CargoResult<String>
-    ensures text { (form : Text) (name : List ℕ) (v : Meant) → IsDocument text.now form
-        → in_inline (place_seen place.now) pair.now form ≡ None
-        → inner ≡ last_made (inner_of (place_seen place.now)) (inner_pairs form)
+    ensures text { (form : Text) (name : List ℕ) (v : IntendedTrees) → IsDocument text.now form
+        → in_inline (place_view place.now) pair.now form ≡ None
+        → inner ≡ last_result (inner_of (place_view place.now)) (inner_pairs form)
         → pair.now ≡ new_pair name v []
-        → IfOk result (λ t. string_bytes t ≡ inserted_text (place_seen place.now) name v form) }
+        → IfOk result (λ t. string_bytes t ≡ inserted_text (place_view place.now) name v form) }
     ensures refused { IfErr result IsMemory }
 {
     let all = entries(alloc, text, place)?;
@@ -160,7 +160,7 @@ fn with_pair(
 
 /// The pair `name = literal`.
 fn pair_text(alloc: Global, name: &str, value: &NewValue) -> CargoResult<String>
-    ensures text { IfOk result (λ t. string_bytes t ≡ new_pair name.now (value_seen value.now) []) }
+    ensures text { IfOk result (λ t. string_bytes t ≡ new_pair name.now (new_value_view value.now) []) }
     ensures refused { IfErr result IsMemory }
 {
     let mut out = String::new(alloc);
@@ -176,8 +176,8 @@ pub fn with_member(
     key: &str,
     value: &NewValue,
 ) -> CargoResult<String>
-    ensures text { IfOk result (λ t. Becomes document.now.bytes (inserted_text (place_seen place.now) key.now
-        (value_seen value.now)) (string_bytes t)) }
+    ensures text { IfOk result (λ t. Becomes document.now.bytes (inserted_text (place_view place.now) key.now
+        (new_value_view value.now)) (string_bytes t)) }
     ensures refused { IfErr result IsMemory }
 {
     let written = pair_text(alloc, key, value)?;

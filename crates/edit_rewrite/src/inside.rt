@@ -3,24 +3,24 @@ ghost use Rattle.std.specs.Prelude.{◌≡◌, ℕ, List, Bool, true, false, if�
 ghost use Rattle.edit_base.specs.Errors.{IsMemory};
 ghost use Rattle.edit_syntax.specs.Grammar.{Between, gap, Value, value as value_text, IsValue};
 ghost use Rattle.edit_syntax.specs.Depth.{depth};
-ghost use Rattle.edit_syntax.specs.Marks.{key_marks};
+ghost use Rattle.edit_syntax.specs.SyntaxTokens.{tokens_of_key};
 ghost use Rattle.edit_syntax.specs.Reading as reading;
 ghost use Rattle.edit_syntax.specs.Steps.{ends_item};
 ghost use Rattle.edit_tree.specs.Assertions.{Place, key as name_step, index as index_step, same_step, same_place};
 ghost use Rattle.edit_tree.specs.EditBytes.{is_within};
 ghost use Rattle.edit_tree.specs.RemovedBytes.{value_left};
-ghost use Rattle.edit_document.specs.Items.{place_seen, step_seen};
+ghost use Rattle.edit_document.specs.Items.{place_view, step_view};
 ghost use Rattle.edit_tree.specs.Slots.{Slot, slot, IsSlot, Slots, slots, closing, goes, enclosed_left, IsEnclosed, IsContainer};
-ghost use Rattle.edit_tree.specs.SlotTexts.{AreSaid, StandsAt};
-ghost use Rattle.edit_rewrite.specs.Remainders.{Leaves, Keeps};
-ghost use Rattle.edit_tree.specs.WalkState.{SaysAt};
+ghost use Rattle.edit_tree.specs.SlotTexts.{AreDecodedAs, StandsAt};
+ghost use Rattle.edit_rewrite.specs.Remainders.{SkipsItem, AppendsItem};
+ghost use Rattle.edit_tree.specs.WalkState.{IsDecodedAt};
 
 use edit_base::errors::CargoResult;
 use edit_document::Step;
 use edit_syntax::read::Mark;
 use edit_syntax::read::gaps::past_gap;
 use edit_syntax::read::steps::{past_blanks, past_name, past_value};
-use edit_tree::nodes::words_in;
+use edit_tree::nodes::decoded_str;
 use edit_tree::words::words_of;
 use std::alloc::{AllocError, Global};
 
@@ -110,8 +110,8 @@ impl Remainder {
         stop: &[u8],
         next: &[u8],
     ) -> Result<(), AllocError>
-        ensures gone { OnOk result (is_gone ≡ true → Leaves self.old self.new after.now stop.now next.now) }
-        ensures kept { OnOk result (is_gone ≡ false → Keeps self.old self.new rest.now stop.now next.now) }
+        ensures gone { OnOk result (is_gone ≡ true → SkipsItem self.old self.new after.now stop.now next.now) }
+        ensures kept { OnOk result (is_gone ≡ false → AppendsItem self.old self.new rest.now stop.now next.now) }
     {
         if is_gone {
             self.leave(
@@ -174,22 +174,22 @@ fn closer(is_table: bool) -> u8
 
 /// Whether a token of a part of a key is the name in a step.
 fn is_step(alloc: Global, text: &str, mark: Mark, step: &Step) -> CargoResult<bool>
-    ensures { (name : List ℕ) → SaysAt text.now mark name
-        → MatchResult result (λ b. b ≡ same_step (step_seen step.now) (name_step name)) IsMemory }
+    ensures { (name : List ℕ) → IsDecodedAt text.now mark name
+        → MatchResult result (λ b. b ≡ same_step (step_view step.now) (name_step name)) IsMemory }
 {
     match step {
         Step::Index(_) => Ok(false),
         Step::Key(key) => {
             let words = words_of(alloc, text, mark)?;
-            Ok(words_in(text, &words) == key.as_str())
+            Ok(decoded_str(text, &words) == key.as_str())
         }
     }
 }
 
 /// Whether a key with these tokens names the place `steps` or one below it.
 fn is_named(alloc: Global, text: &str, marks: &[Mark], steps: &[Step]) -> CargoResult<bool>
-    ensures { (ns : List (List ℕ)) → AreSaid text.now marks.now ns
-        → MatchResult result (λ b. b ≡ is_within (place_seen steps.now) (map name_step ns)) IsMemory }
+    ensures { (ns : List (List ℕ)) → AreDecodedAs text.now marks.now ns
+        → MatchResult result (λ b. b ≡ is_within (place_view steps.now) (map name_step ns)) IsMemory }
 {
     let [step, steps @ ..] = steps else {
         return Ok(true);
@@ -206,7 +206,7 @@ fn is_named(alloc: Global, text: &str, marks: &[Mark], steps: &[Step]) -> CargoR
 
 /// Whether a place is the element at an index.
 fn is_element(index: usize, below: &[Step]) -> bool
-    ensures { result ≡ same_place (index_step index ∷ []) (place_seen below.now) }
+    ensures { result ≡ same_place (index_step index ∷ []) (place_view below.now) }
 {
     match below {
         [Step::Index(other)] => index == *other,
@@ -224,7 +224,7 @@ pub(crate) fn past_slot<'a>(
     below: &[Step],
 ) -> CargoResult<(bool, &'a [u8])>
     ensures { (it : Slot) (c : List Between) (rest : List ℕ) → StandsAt text.now s.now is_table it c rest
-        → MatchResult result (λ r. (r.0 ≡ goes (place_seen below.now) index it)
+        → MatchResult result (λ r. (r.0 ≡ goes (place_view below.now) index it)
         × (r.1.now ≡ gap c rest)) IsMemory }
 {
     if !is_table {
@@ -242,7 +242,7 @@ pub(crate) fn past_slot<'a>(
 /// at or below it.
 fn slots_left(alloc: Global, text: &str, below: &[Step]) -> CargoResult<Vec<u8>>
     ensures { (is_table : Bool) (g : List Between) (ss : Slots) → IsEnclosed is_table g ss text.now
-        → MatchResult result (λ v. v.items ≡ enclosed_left is_table (place_seen below.now) g ss) IsMemory }
+        → MatchResult result (λ v. v.items ≡ enclosed_left is_table (place_view below.now) g ss) IsMemory }
 {
     let bytes = text.as_bytes();
     let is_table = begins(bytes, b'{');
@@ -271,7 +271,7 @@ pub(crate) fn value_without(alloc: Global, text: &str, below: &[Step]) -> CargoR
     ensures { (place : Place) (v : Value) → IsContainer v → IsValue v → depth v ≤ 80
         → text.now ≡ value_text v []
         → MatchResult result
-        (λ w. w.items ≡ value_left (place ++ place_seen below.now) place v []) IsMemory }
+        (λ w. w.items ≡ value_left (place ++ place_view below.now) place v []) IsMemory }
 {
     slots_left(alloc, text, below)
 }

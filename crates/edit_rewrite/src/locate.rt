@@ -3,14 +3,15 @@ ghost use Rattle.std.specs.Prelude.{◌≡◌, [], ◌++◌, true, IfOk, IfErr, 
 ghost use Rattle.edit_base.specs.Errors.{IsMemory};
 ghost use Rattle.edit_tree.specs.Assertions.{of_statement, prefix_after};
 ghost use Rattle.edit_document.specs.Forms.{IfDocument};
-ghost use Rattle.edit_document.specs.Items.{place_seen};
-ghost use Rattle.edit_tree.specs.Statements.{Stated, stated};
+ghost use Rattle.edit_document.specs.Items.{place_view};
+ghost use Rattle.edit_tree.specs.Statements.{PlacedStatement, placed_statements};
 ghost use Rattle.edit_tree.specs.EditBytes.{is_pair};
-ghost use Rattle.edit_rewrite.specs.Standings.{StandsTo, IsTaken, is_table_header, is_element_header};
+ghost use Rattle.edit_rewrite.specs.SearchStates.{IsSearchState, IsTokenized, is_table_header, is_element_header};
 ghost use Rattle.edit_rewrite.specs.Entries as entries_seen;
 
 use crate::way::{
-    Way, along, count_on, first_from, has_come, heads_element, heads_table, is_at, step_index,
+    PathMatch, count_on, first_from, follow_key, is_at, is_at_or_below, is_element_header_next,
+    is_table_header_next, step_by_index,
 };
 use edit_base::errors::{CargoResult, Error};
 use edit_document::Step;
@@ -35,11 +36,11 @@ pub(crate) struct Entry {
 }
 
 /// Counts one more element in the array of tables that a path has reached.
-fn count_more(counts: &mut Vec<usize>, way: Way) -> CargoResult<()>
+fn count_more(counts: &mut Vec<usize>, way: PathMatch) -> CargoResult<()>
     ensures counted { IfOk result (λ _. counts.new.items ≡ entries_seen.counted way counts.old.items) }
     ensures refused { IfErr result IsMemory }
 {
-    let Way::On(done) = way else {
+    let PathMatch::On(done) = way else {
         return Ok(());
     };
     if done >= counts.len() {
@@ -55,14 +56,14 @@ fn count_more(counts: &mut Vec<usize>, way: Way) -> CargoResult<()>
 /// The offsets of a statement, counted from the end of the text: of its line, its key, the end of its line,
 /// and the next line.
 #[derive(Clone, Copy)]
-struct Spots {
+struct StatementOffsets {
     line: usize,
     key: usize,
     after: usize,
     next: usize,
 }
 
-impl Spots {
+impl StatementOffsets {
     /// The statement at these offsets with its relation to a place.
     fn entry(self, is_own: bool, is_within: bool, is_header: bool, front: Option<usize>) -> Entry
         ensures { result ≡ record {
@@ -92,23 +93,23 @@ impl Spots {
 /// The state after some statements: how far the last header leads to the place, and the number of elements of
 /// each array of tables on the path to it, by number of steps.
 #[derive(Drop)]
-struct Standing {
-    prefix: Way,
+struct SearchState {
+    prefix: PathMatch,
     counts: Vec<usize>,
 }
 
-impl Standing {
+impl SearchState {
     /// The state before the first statement.
-    fn new(alloc: Global, place: &[Step]) -> CargoResult<Standing>
-        ensures none { IfOk result (λ s. StandsTo (place_seen place.now) [] [] s) }
+    fn new(alloc: Global, place: &[Step]) -> CargoResult<SearchState>
+        ensures none { IfOk result (λ s. IsSearchState (place_view place.now) [] [] s) }
         ensures refused { IfErr result IsMemory }
     {
         let mut counts = Vec::new(alloc);
         'steps: for _step in 0..place.len() + 1 {
             counts.push(0)?;
         }
-        Ok(Standing {
-            prefix: Way::On(0),
+        Ok(SearchState {
+            prefix: PathMatch::On(0),
             counts,
         })
     }
@@ -120,19 +121,19 @@ impl Standing {
         text: &str,
         place: &[Step],
         marks: &[Mark],
-        spots: Spots,
+        spots: StatementOffsets,
     ) -> CargoResult<Entry>
-        ensures taken { (s : Stated) → is_pair s.statement ≡ true → IsTaken text.now marks.now s spots
-            → StandsTo (place_seen place.now) s.earlier s.prefix self.now
-            → IfOk result (λ e. (e ≡ entries_seen.entry_of (place_seen place.now) s)
-            × StandsTo (place_seen place.now) (s.earlier ++ of_statement s.earlier s.prefix s.statement)
+        ensures taken { (s : PlacedStatement) → is_pair s.statement ≡ true → IsTokenized text.now marks.now s spots
+            → IsSearchState (place_view place.now) s.earlier s.prefix self.now
+            → IfOk result (λ e. (e ≡ entries_seen.entry_of (place_view place.now) s)
+            × IsSearchState (place_view place.now) (s.earlier ++ of_statement s.earlier s.prefix s.statement)
             (prefix_after s.earlier s.prefix s.statement) self.now) }
         ensures refused { IfErr result IsMemory }
     {
-        let (named, front) = along(alloc, text, place, marks, self.prefix, &[])?;
+        let (named, front) = follow_key(alloc, text, place, marks, self.prefix, &[])?;
         Ok(spots.entry(
             is_at(self.prefix, place),
-            has_come(named, place),
+            is_at_or_below(named, place),
             false,
             front,
         ))
@@ -145,19 +146,24 @@ impl Standing {
         text: &str,
         place: &[Step],
         marks: &[Mark],
-        spots: Spots,
+        spots: StatementOffsets,
     ) -> CargoResult<Entry>
-        ensures taken { (s : Stated) → is_table_header s.statement ≡ true
-            → IsTaken text.now marks.now s spots
-            → StandsTo (place_seen place.now) s.earlier s.prefix self.old
-            → IfOk result (λ e. (e ≡ entries_seen.entry_of (place_seen place.now) s)
-            × StandsTo (place_seen place.now) (s.earlier ++ of_statement s.earlier s.prefix s.statement)
+        ensures taken { (s : PlacedStatement) → is_table_header s.statement ≡ true
+            → IsTokenized text.now marks.now s spots
+            → IsSearchState (place_view place.now) s.earlier s.prefix self.old
+            → IfOk result (λ e. (e ≡ entries_seen.entry_of (place_view place.now) s)
+            × IsSearchState (place_view place.now) (s.earlier ++ of_statement s.earlier s.prefix s.statement)
             (prefix_after s.earlier s.prefix s.statement) self.new) }
         ensures refused { IfErr result IsMemory }
     {
-        let (named, front) = along(alloc, text, place, marks, Way::On(0), &self.counts)?;
+        let (named, front) = follow_key(alloc, text, place, marks, PathMatch::On(0), &self.counts)?;
         self.prefix = named;
-        Ok(spots.entry(is_at(named, place), has_come(named, place), true, front))
+        Ok(spots.entry(
+            is_at(named, place),
+            is_at_or_below(named, place),
+            true,
+            front,
+        ))
     }
 
     /// Relates a header `[[key]]` to the place.
@@ -167,21 +173,26 @@ impl Standing {
         text: &str,
         place: &[Step],
         marks: &[Mark],
-        spots: Spots,
+        spots: StatementOffsets,
     ) -> CargoResult<Entry>
-        ensures taken { (s : Stated) → is_element_header s.statement ≡ true
-            → IsTaken text.now marks.now s spots
-            → StandsTo (place_seen place.now) s.earlier s.prefix self.old
-            → IfOk result (λ e. (e ≡ entries_seen.entry_of (place_seen place.now) s)
-            × StandsTo (place_seen place.now) (s.earlier ++ of_statement s.earlier s.prefix s.statement)
+        ensures taken { (s : PlacedStatement) → is_element_header s.statement ≡ true
+            → IsTokenized text.now marks.now s spots
+            → IsSearchState (place_view place.now) s.earlier s.prefix self.old
+            → IfOk result (λ e. (e ≡ entries_seen.entry_of (place_view place.now) s)
+            × IsSearchState (place_view place.now) (s.earlier ++ of_statement s.earlier s.prefix s.statement)
             (prefix_after s.earlier s.prefix s.statement) self.new) }
         ensures refused { IfErr result IsMemory }
     {
-        let (named, front) = along(alloc, text, place, marks, Way::On(0), &self.counts)?;
-        let element = step_index(named, place, count_on(named, &self.counts));
+        let (named, front) = follow_key(alloc, text, place, marks, PathMatch::On(0), &self.counts)?;
+        let element = step_by_index(named, place, count_on(named, &self.counts));
         count_more(&mut self.counts, named)?;
         self.prefix = element;
-        Ok(spots.entry(is_at(element, place), has_come(element, place), true, front))
+        Ok(spots.entry(
+            is_at(element, place),
+            is_at_or_below(element, place),
+            true,
+            front,
+        ))
     }
 
     /// Relates the next statement to the place.
@@ -191,19 +202,19 @@ impl Standing {
         text: &str,
         place: &[Step],
         marks: &[Mark],
-        spots: Spots,
+        spots: StatementOffsets,
     ) -> CargoResult<Entry>
-        ensures taken { (s : Stated) → IsTaken text.now marks.now s spots
-            → StandsTo (place_seen place.now) s.earlier s.prefix self.old
-            → IfOk result (λ e. (e ≡ entries_seen.entry_of (place_seen place.now) s)
-            × StandsTo (place_seen place.now) (s.earlier ++ of_statement s.earlier s.prefix s.statement)
+        ensures taken { (s : PlacedStatement) → IsTokenized text.now marks.now s spots
+            → IsSearchState (place_view place.now) s.earlier s.prefix self.old
+            → IfOk result (λ e. (e ≡ entries_seen.entry_of (place_view place.now) s)
+            × IsSearchState (place_view place.now) (s.earlier ++ of_statement s.earlier s.prefix s.statement)
             (prefix_after s.earlier s.prefix s.statement) self.new) }
         ensures refused { IfErr result IsMemory }
     {
-        if heads_table(marks) {
+        if is_table_header_next(marks) {
             return self.take_header(alloc, text, place, marks, spots);
         }
-        if heads_element(marks) {
+        if is_element_header_next(marks) {
             return self.take_element(alloc, text, place, marks, spots);
         }
         self.take_pair(alloc, text, place, marks, spots)
@@ -213,11 +224,11 @@ impl Standing {
 /// The statements of a text in order, each with its relation to a place.
 pub(crate) fn entries(alloc: Global, text: &str, place: &[Step]) -> CargoResult<Vec<Entry>>
     ensures found { IfDocument text.now (λ form. IfOk result (λ v. v.items ≡ map (entries_seen.entry_of
-        (place_seen place.now)) (stated form))) }
+        (place_view place.now)) (placed_statements form))) }
     ensures refused { IfErr result IsMemory }
 {
     let mut found = Vec::new(alloc);
-    let mut standing = Standing::new(alloc, place)?;
+    let mut standing = SearchState::new(alloc, place)?;
     let mut marks = Vec::new(alloc);
     let mut rest = past_mark(text.as_bytes());
     'lines: for _line in 0..text.len() + 1 {
@@ -228,7 +239,7 @@ pub(crate) fn entries(alloc: Global, text: &str, place: &[Step]) -> CargoResult<
         let next = next_line(after);
         let seen = marks.as_slice();
         if !seen.is_empty() {
-            let spots = Spots {
+            let spots = StatementOffsets {
                 line: rest.len(),
                 key: first_from(seen),
                 after: after.len(),

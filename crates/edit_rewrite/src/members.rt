@@ -6,15 +6,15 @@ ghost use Rattle.edit_syntax.specs.Strings.{Key};
 ghost use Rattle.edit_tree.specs.Assertions.{Place};
 ghost use Rattle.edit_tree.specs.EditBytes.{part_to};
 ghost use Rattle.edit_rewrite.specs.Entries.{way};
-ghost use Rattle.edit_rewrite.specs.EntrySpots.{part_seen, StandsIn, Tells};
-ghost use Rattle.edit_document.specs.Items.{place_seen};
+ghost use Rattle.edit_rewrite.specs.EntrySpots.{part_offset, StandsIn, HasPairOffsets};
+ghost use Rattle.edit_document.specs.Items.{place_view};
 ghost use Rattle.edit_tree.specs.Slots.{of_pair};
 ghost use Rattle.edit_tree.specs.SlotTexts.{StandsAt};
 ghost use Rattle.edit_tree.specs.Statements.{paired, paired_value};
-ghost use Rattle.edit_tree.specs.Written.{Valued};
+ghost use Rattle.edit_tree.specs.Written.{PlacedValue};
 
 use crate::inside::{begins, behind_one};
-use crate::way::{Way, along, is_at, key_end};
+use crate::way::{PathMatch, follow_key, is_at, key_end};
 use edit_base::errors::{CargoResult, Error};
 use edit_document::Step;
 use edit_syntax::Mark;
@@ -23,8 +23,8 @@ use edit_syntax::read::steps::{past_name, past_value};
 use std::alloc::Global;
 
 /// The offset behind the part of a key that names the place, where the key does.
-fn part_end(named: Way, front: Option<usize>, marks: &[Mark], place: &[Step]) -> Option<usize>
-    ensures { result ≡ part_seen (length (place_seen place.now)) named front marks.now }
+fn part_end(named: PathMatch, front: Option<usize>, marks: &[Mark], place: &[Step]) -> Option<usize>
+    ensures { result ≡ part_offset (length (place_view place.now)) named front marks.now }
 {
     if front.is_some() {
         return front;
@@ -43,12 +43,12 @@ fn past_member<'a>(
     text: &str,
     s: &'a [u8],
     place: &[Step],
-    start: Way,
+    start: PathMatch,
 ) -> CargoResult<(Option<usize>, &'a [u8])>
     ensures told { (table : Place) (k : Key) (a b : List ℕ) (v : Value) (c : List Between) (rest : List ℕ)
-        → StandsAt text.now s.now true (of_pair k a b v) c rest → start ≡ way (place_seen place.now) table
+        → StandsAt text.now s.now true (of_pair k a b v) c rest → start ≡ way (place_view place.now) table
         → IfOk result (λ r.
-        (r.0 ≡ option_map length (part_to (place_seen place.now) (paired table k a b v (gap c rest))))
+        (r.0 ≡ option_map length (part_to (place_view place.now) (paired table k a b v (gap c rest))))
         × (r.1.now ≡ gap c rest)) }
     ensures refused { IfErr result IsMemory }
 {
@@ -57,7 +57,7 @@ fn past_member<'a>(
         return Err(Error::Memory);
     };
     let seen = marks.as_slice();
-    let (named, front) = along(alloc, text, place, seen, start, &[])?;
+    let (named, front) = follow_key(alloc, text, place, seen, start, &[])?;
     let Ok(after) = past_value(alloc, value) else {
         return Err(Error::Memory);
     };
@@ -66,16 +66,16 @@ fn past_member<'a>(
 
 /// The offsets of the pair that names the place in the inline table that a suffix of the text begins with:
 /// behind the part of its key, and behind its value.
-pub(crate) fn table_spots(
+pub(crate) fn table_offsets(
     alloc: Global,
     text: &str,
     s: &[u8],
     place: &[Step],
-    start: Way,
+    start: PathMatch,
 ) -> CargoResult<Option<(usize, usize)>>
-    ensures told { (w : Valued) → StandsIn text.now w → s.now ≡ value_text w.value w.after
-        → start ≡ way (place_seen place.now) w.place
-        → IfOk result (Tells (place_seen place.now) (paired_value w)) }
+    ensures told { (w : PlacedValue) → StandsIn text.now w → s.now ≡ value_text w.value w.after
+        → start ≡ way (place_view place.now) w.place
+        → IfOk result (HasPairOffsets (place_view place.now) (paired_value w)) }
     ensures refused { IfErr result IsMemory }
 {
     if !begins(s, b'{') {

@@ -5,12 +5,12 @@ ghost use Rattle.edit_base.specs.Errors.{IsMemory};
 ghost use Rattle.edit_syntax.specs.Grammar.{Value, value, IsValue, lines, byte_order_mark};
 ghost use Rattle.edit_tree.specs.EditBytes.{with_splice};
 ghost use Rattle.edit_document.specs.Forms.{Becomes, IfDocument};
-ghost use Rattle.edit_document.specs.Items.{place_seen};
+ghost use Rattle.edit_document.specs.Items.{place_view};
 ghost use Rattle.edit_tree.specs.RemovedBytes.{lines_left, value_left, removed_text};
 ghost use Rattle.edit_rewrite.specs.RemoveText.{HasAround, StandsBetween};
 ghost use Rattle.edit_tree.specs.Slots.{IsContainer};
-ghost use Rattle.edit_tree.specs.Statements.{stated};
-ghost use Rattle.edit_tree.specs.Written.{Valued};
+ghost use Rattle.edit_tree.specs.Statements.{placed_statements};
+ghost use Rattle.edit_tree.specs.Written.{PlacedValue};
 
 use crate::inside::{begins, value_without};
 use crate::locate::entries;
@@ -24,7 +24,7 @@ use std::alloc::Global;
 /// before it.
 fn without_lines(alloc: Global, text: &str, place: &[Step]) -> CargoResult<String>
     ensures text { IfDocument text.now (λ form. IfOk result (λ t. string_bytes t
-        ≡ byte_order_mark form.marked (lines_left (place_seen place.now) (lines form.lines) (stated form)))) }
+        ≡ byte_order_mark form.marked (lines_left (place_view place.now) (lines form.lines) (placed_statements form)))) }
     ensures refused { IfErr result IsMemory }
 {
     let all = entries(alloc, text, place)?;
@@ -51,7 +51,7 @@ pub(crate) struct Around {
 
 /// The text with the range between two offsets, counted from its end, replaced by `now`.
 fn with_part(alloc: Global, text: &str, from: usize, to: usize, now: &str) -> CargoResult<String>
-    ensures text { (w : Valued) → StandsBetween text.now w from to
+    ensures text { (w : PlacedValue) → StandsBetween text.now w from to
         → IfOk result (λ t. string_bytes t ≡ with_splice text.now
         (record { from = value w.value w.after; to = w.after; now = now.now })) }
     ensures refused { IfErr result IsMemory }
@@ -79,12 +79,12 @@ fn without_members(
     to: usize,
     below: &[Step],
 ) -> CargoResult<String>
-    requires stands { (w : Valued) × StandsBetween text.now w from to }
-    ensures text { (w : Valued) → StandsBetween text.now w from to
+    requires stands { (w : PlacedValue) × StandsBetween text.now w from to }
+    ensures text { (w : PlacedValue) → StandsBetween text.now w from to
         → IfOk result (λ t. string_bytes t ≡ with_splice text.now (record {
           from = value w.value w.after;
           to = w.after;
-          now = value_left (w.place ++ place_seen below.now) w.place w.value [];
+          now = value_left (w.place ++ place_view below.now) w.place w.value [];
         })) }
     ensures refused { IfErr result IsMemory }
 {
@@ -100,7 +100,7 @@ fn without_members(
 
 /// The innermost array or inline table around a place.
 fn value_around(document: &Document, place: &[Step]) -> Option<Around>
-    ensures { IfDocument document.now.bytes (λ form. HasAround form (place_seen place.now) result) }
+    ensures { IfDocument document.now.bytes (λ form. HasAround form (place_view place.now) result) }
 {
     let [above @ .., _] = place else {
         return None;
@@ -117,11 +117,11 @@ fn value_around(document: &Document, place: &[Step]) -> Option<Around>
 
 /// The document's text without the item at a place; unchanged where no item is there.
 pub fn without(document: &Document, alloc: Global, place: &[Step]) -> CargoResult<String>
-    ensures text { IfOk result (λ t. Becomes document.now.bytes (removed_text (place_seen place.now))
+    ensures text { IfOk result (λ t. Becomes document.now.bytes (removed_text (place_view place.now))
         (string_bytes t)) }
     ensures refused { IfErr result IsMemory }
 {
-    document.has_form();
+    document.lemma_form();
     match value_around(document, place) {
         Some(around) => {
             let below = &place[around.steps..];

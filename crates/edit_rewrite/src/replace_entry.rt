@@ -5,21 +5,21 @@ ghost use Rattle.edit_base.specs.Errors.{IsMemory};
 ghost use Rattle.edit_base.specs.declared.errors.Error.TheVariants.{EditRefused};
 ghost use Rattle.edit_syntax.specs.Grammar.{Text};
 ghost use Rattle.edit_tree.specs.Assertions.{IsDocument, Place};
-ghost use Rattle.edit_tree.specs.EditBytes.{Splice, first_made, with_splice, replaced_text, is_one_statement};
+ghost use Rattle.edit_tree.specs.EditBytes.{Splice, first_result, with_splice, replaced_text, is_one_statement};
 ghost use Rattle.edit_document.specs.Forms.{Becomes, IfDocument};
 ghost use Rattle.edit_rewrite.specs.Entries.{entry_of};
-ghost use Rattle.edit_rewrite.specs.EntrySpots.{within_entry, last_end, IsAround, Tells, TellsIn};
-ghost use Rattle.edit_document.specs.Items.{place_seen};
-ghost use Rattle.edit_tree.specs.Meant.{HasReplaced, ReplaceFails};
+ghost use Rattle.edit_rewrite.specs.EntrySpots.{within_entry, last_end, IsAround, HasPairOffsets, HasPairOffsetsIn};
+ghost use Rattle.edit_document.specs.Items.{place_view};
+ghost use Rattle.edit_tree.specs.IntendedTrees.{HasReplaced, ReplaceFails};
 ghost use Rattle.edit_tree.specs.NewItems.{IsEntry};
-ghost use Rattle.edit_document.specs.NewItemViews.{item_seen};
-ghost use Rattle.edit_tree.specs.Shown.{tree_of};
-ghost use Rattle.edit_rewrite.specs.Spots.{IsSpot};
-ghost use Rattle.edit_tree.specs.Statements.{Stated, stated, line_pairs, inner_pairs};
+ghost use Rattle.edit_document.specs.NewItemViews.{new_item_view};
+ghost use Rattle.edit_tree.specs.DocumentViews.{tree_of};
+ghost use Rattle.edit_rewrite.specs.StatementOffsets.{IsSpot};
+ghost use Rattle.edit_tree.specs.Statements.{PlacedStatement, placed_statements, line_pairs, inner_pairs};
 
 use crate::locate::{Entry, entries};
-use crate::members::table_spots;
-use crate::way::{Way, key_end};
+use crate::members::table_offsets;
+use crate::way::{PathMatch, key_end};
 use edit_base::errors::{CargoResult, Error};
 use edit_document::new_item::push_entry;
 use edit_document::{Document, NewItem, Step};
@@ -36,7 +36,7 @@ fn is_pair_within(entry: Entry) -> bool
 
 /// The first pair that names the place or one below it.
 fn first_within(found: &[Entry]) -> Option<Entry>
-    ensures { result ≡ first_made within_entry found.now }
+    ensures { result ≡ first_result within_entry found.now }
 {
     'entries: for entry in found {
         if is_pair_within(*entry) {
@@ -58,9 +58,9 @@ fn last_to(marks: &[Mark]) -> usize
 }
 
 /// The offsets of a pair that names the place: behind the part of its key that does, and behind its value.
-fn pair_spots(alloc: Global, text: &str, entry: Entry) -> CargoResult<(usize, usize)>
-    ensures around { (form : Text) (place : Place) (s : Stated) → IsDocument text.now form
-        → is_one_statement form place ≡ true → Contains (stated form) s → entry ≡ entry_of place s
+fn pair_offsets(alloc: Global, text: &str, entry: Entry) -> CargoResult<(usize, usize)>
+    ensures around { (form : Text) (place : Place) (s : PlacedStatement) → IsDocument text.now form
+        → is_one_statement form place ≡ true → Contains (placed_statements form) s → entry ≡ entry_of place s
         → within_entry entry ≡ Some entry → IfOk result (IsAround place (line_pairs form)) }
     ensures refused { IfErr result IsMemory }
 {
@@ -73,14 +73,14 @@ fn pair_spots(alloc: Global, text: &str, entry: Entry) -> CargoResult<(usize, us
 }
 
 /// The offsets of the pair, written as a statement, that names the place, if there is one.
-fn line_spots(alloc: Global, text: &str, place: &[Step]) -> CargoResult<Option<(usize, usize)>>
-    ensures told { IfDocument text.now (λ form. is_one_statement form (place_seen place.now) ≡ true
-        → IfOk result (Tells (place_seen place.now) (line_pairs form))) }
+fn line_offsets(alloc: Global, text: &str, place: &[Step]) -> CargoResult<Option<(usize, usize)>>
+    ensures told { IfDocument text.now (λ form. is_one_statement form (place_view place.now) ≡ true
+        → IfOk result (HasPairOffsets (place_view place.now) (line_pairs form))) }
     ensures refused { IfErr result IsMemory }
 {
     let all = entries(alloc, text, place)?;
     match first_within(all.as_slice()) {
-        Some(entry) => Ok(Some(pair_spots(alloc, text, entry)?)),
+        Some(entry) => Ok(Some(pair_offsets(alloc, text, entry)?)),
         None => Ok(None),
     }
 }
@@ -107,28 +107,28 @@ fn spots_in(
     end: usize,
 ) -> CargoResult<Option<(usize, usize)>>
     requires { end ≤ length place.now }
-    ensures told { IfDocument document.now.bytes (λ form. IfOk result (TellsIn form
-        (place_seen place.now) end)) }
+    ensures told { IfDocument document.now.bytes (λ form. IfOk result (HasPairOffsetsIn form
+        (place_view place.now) end)) }
     ensures refused { IfErr result IsMemory }
 {
-    document.has_form();
+    document.lemma_form();
     let text = document.as_str();
     match document.value_range(&place[..end]) {
         Some((start, _)) => {
             let table = &text.as_bytes()[start..];
-            table_spots(alloc, text, table, place, Way::On(end))
+            table_offsets(alloc, text, table, place, PathMatch::On(end))
         }
         None => Ok(None),
     }
 }
 
 /// The offsets of the pair that names the place, in any inline table around it.
-fn inner_spots(
+fn inline_offsets(
     document: &Document,
     alloc: Global,
     place: &[Step],
 ) -> CargoResult<Option<(usize, usize)>>
-    ensures told { IfDocument document.now.bytes (λ form. IfOk result (Tells (place_seen place.now)
+    ensures told { IfDocument document.now.bytes (λ form. IfOk result (HasPairOffsets (place_view place.now)
         (inner_pairs form))) }
     ensures refused { IfErr result IsMemory }
 {
@@ -142,18 +142,18 @@ fn inner_spots(
 }
 
 /// The offsets of the only pair that names a place.
-fn entry_spots(document: &Document, alloc: Global, place: &[Step]) -> CargoResult<(usize, usize)>
-    requires one { IfDocument document.now.bytes (λ form. is_one_statement form (place_seen place.now)
+fn entry_offsets(document: &Document, alloc: Global, place: &[Step]) -> CargoResult<(usize, usize)>
+    requires one { IfDocument document.now.bytes (λ form. is_one_statement form (place_view place.now)
         ≡ true) }
-    ensures around { IfDocument document.now.bytes (λ form. IfOk result (IsAround (place_seen place.now)
+    ensures around { IfDocument document.now.bytes (λ form. IfOk result (IsAround (place_view place.now)
         (line_pairs form ++ inner_pairs form))) }
     ensures refused { IfErr result IsMemory }
 {
-    document.has_form();
-    if let Some(spots) = line_spots(alloc, document.as_str(), place)? {
+    document.lemma_form();
+    if let Some(spots) = line_offsets(alloc, document.as_str(), place)? {
         return Ok(spots);
     }
-    match inner_spots(document, alloc, place)? {
+    match inline_offsets(document, alloc, place)? {
         Some(spots) => Ok(spots),
         None => unreachable!(),
     }
@@ -166,13 +166,13 @@ pub fn with_entry(
     place: &[Step],
     item: &NewItem,
 ) -> CargoResult<String>
-    requires one { IfDocument document.now.bytes (λ form. is_one_statement form (place_seen place.now)
+    requires one { IfDocument document.now.bytes (λ form. is_one_statement form (place_view place.now)
         ≡ true) }
-    ensures text { IfOk result (λ t. Becomes document.now.bytes (replaced_text (place_seen place.now)
-        (item_seen item.now)) (string_bytes t)) }
+    ensures text { IfOk result (λ t. Becomes document.now.bytes (replaced_text (place_view place.now)
+        (new_item_view item.now)) (string_bytes t)) }
     ensures refused { IfErr result IsMemory }
 {
-    let (from, to) = entry_spots(document, alloc, place)?;
+    let (from, to) = entry_offsets(document, alloc, place)?;
     let mut now = String::new(alloc);
     push_entry(&mut now, item)?;
     swapped(alloc, document.as_str(), from, to, now.as_str())

@@ -4,7 +4,7 @@ ghost use Rattle.edit_base.specs.Errors.{IsMemory};
 ghost use Rattle.edit_syntax.specs.Spans.{cut_from};
 ghost use Rattle.edit_syntax.specs.Strings.{line_end};
 ghost use Rattle.edit_tree.specs.EditBytes.{put_before, with_splice, end_like, new_line};
-ghost use Rattle.edit_rewrite.specs.Spots.{IsSpot, section_text};
+ghost use Rattle.edit_rewrite.specs.StatementOffsets.{IsSpot, section_text};
 
 use edit_base::errors::CargoResult;
 use edit_tree::cut::between;

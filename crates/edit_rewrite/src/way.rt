@@ -2,116 +2,116 @@
 ghost use Rattle.std.specs.Prelude.{◌≡◌, List, ◌∷◌, IfOk, IfErr, length};
 ghost use Rattle.edit_base.specs.Errors.{IsMemory};
 ghost use Rattle.edit_tree.specs.Assertions.{Place, key as key_step, index as index_step};
-ghost use Rattle.edit_document.specs.Items.{place_seen};
+ghost use Rattle.edit_document.specs.Items.{place_view};
 ghost use Rattle.edit_tree.specs.Statements.{Named};
-ghost use Rattle.edit_rewrite.specs.Standings as standings;
+ghost use Rattle.edit_rewrite.specs.SearchStates as standings;
 ghost use Rattle.edit_rewrite.specs.Entries as entries_seen;
 ghost use Rattle.edit_rewrite.specs.EntrySpots as spots_seen;
 
 use edit_base::errors::CargoResult;
 use edit_document::Step;
 use edit_syntax::{Mark, MarkKind};
-use edit_tree::nodes::words_in;
+use edit_tree::nodes::decoded_str;
 use edit_tree::words::words_of;
 use std::alloc::Global;
 
 /// How far a path leads to a place: to it by a number of steps, below it, or elsewhere.
 #[derive(Clone, Copy, PartialEq, Eq)]
-pub(crate) enum Way {
+pub(crate) enum PathMatch {
     On(usize),
     Below,
     Off,
 }
 
 /// Whether a path leads exactly to the place.
-pub(crate) fn is_at(way: Way, place: &[Step]) -> bool
-    ensures { result ≡ entries_seen.is_at (length (place_seen place.now)) way }
+pub(crate) fn is_at(way: PathMatch, place: &[Step]) -> bool
+    ensures { result ≡ entries_seen.is_at (length (place_view place.now)) way }
 {
     match way {
-        Way::On(done) => done == place.len(),
-        Way::Below | Way::Off => false,
+        PathMatch::On(done) => done == place.len(),
+        PathMatch::Below | PathMatch::Off => false,
     }
 }
 
 /// Whether a path leads to the place or below it.
-pub(crate) fn has_come(way: Way, place: &[Step]) -> bool
-    ensures { result ≡ entries_seen.has_come (length (place_seen place.now)) way }
+pub(crate) fn is_at_or_below(way: PathMatch, place: &[Step]) -> bool
+    ensures { result ≡ entries_seen.is_at_or_below (length (place_view place.now)) way }
 {
     match way {
-        Way::On(done) => done == place.len(),
-        Way::Below => true,
-        Way::Off => false,
+        PathMatch::On(done) => done == place.len(),
+        PathMatch::Below => true,
+        PathMatch::Off => false,
     }
 }
 
 /// The path extended by the key of a member.
-pub(crate) fn step_name(way: Way, place: &[Step], name: &str) -> Way
-    ensures { result ≡ entries_seen.next_way (place_seen place.now) way (key_step name.now) }
+pub(crate) fn step_by_key(way: PathMatch, place: &[Step], name: &str) -> PathMatch
+    ensures { result ≡ entries_seen.next_way (place_view place.now) way (key_step name.now) }
 {
     match way {
-        Way::On(done) => {
+        PathMatch::On(done) => {
             if done >= place.len() {
-                return Way::Below;
+                return PathMatch::Below;
             }
             match &place[done] {
                 Step::Key(key) => {
                     if name == key.as_str() {
-                        Way::On(done + 1)
+                        PathMatch::On(done + 1)
                     } else {
-                        Way::Off
+                        PathMatch::Off
                     }
                 }
-                Step::Index(_) => Way::Off,
+                Step::Index(_) => PathMatch::Off,
             }
         }
-        Way::Below => Way::Below,
-        Way::Off => Way::Off,
+        PathMatch::Below => PathMatch::Below,
+        PathMatch::Off => PathMatch::Off,
     }
 }
 
 /// The path extended by the index of an element.
-pub(crate) fn step_index(way: Way, place: &[Step], number: usize) -> Way
-    ensures { result ≡ entries_seen.next_way (place_seen place.now) way (index_step number) }
+pub(crate) fn step_by_index(way: PathMatch, place: &[Step], number: usize) -> PathMatch
+    ensures { result ≡ entries_seen.next_way (place_view place.now) way (index_step number) }
 {
     match way {
-        Way::On(done) => {
+        PathMatch::On(done) => {
             if done >= place.len() {
-                return Way::Below;
+                return PathMatch::Below;
             }
             match &place[done] {
-                Step::Key(_) => Way::Off,
+                Step::Key(_) => PathMatch::Off,
                 Step::Index(index) => {
                     if *index == number {
-                        Way::On(done + 1)
+                        PathMatch::On(done + 1)
                     } else {
-                        Way::Off
+                        PathMatch::Off
                     }
                 }
             }
         }
-        Way::Below => Way::Below,
-        Way::Off => Way::Off,
+        PathMatch::Below => PathMatch::Below,
+        PathMatch::Off => PathMatch::Off,
     }
 }
 
 /// The number of elements so far of the array of tables that a path has reached.
-pub(crate) fn count_on(way: Way, counts: &[usize]) -> usize
+pub(crate) fn count_on(way: PathMatch, counts: &[usize]) -> usize
     ensures { result ≡ entries_seen.count_on counts.now way }
 {
     match way {
-        Way::On(done) => { if done < counts.len() { counts[done] } else { 0 } }
-        Way::Below | Way::Off => 0,
+        PathMatch::On(done) => { if done < counts.len() { counts[done] } else { 0 } }
+        PathMatch::Below | PathMatch::Off => 0,
     }
 }
 
 /// Extends a path that reaches an array of tables to its last element, as headers do (TOML 1.0.0, "Array of
 /// Tables").
-pub(crate) fn resolved(way: Way, place: &[Step], counts: &[usize]) -> Way
-    ensures { result ≡ entries_seen.resolved_way (place_seen place.now) counts.now way }
+pub(crate) fn resolved(way: PathMatch, place: &[Step], counts: &[usize]) -> PathMatch
+    ensures { result ≡ entries_seen.resolved_way (place_view place.now) counts.now way }
 {
     let count = count_on(way, counts);
     if count > 0 {
-        step_index(way, place, count - 1)
+        step_by_index(way, place, count - 1)
     } else {
         way
     }
@@ -139,19 +139,19 @@ fn begins_part(marks: &[Mark]) -> bool
 
 /// The path extended by a key, and the offset behind the part of the key that reaches the place, where the
 /// key goes on.
-pub(crate) fn along(
+pub(crate) fn follow_key(
     alloc: Global,
     text: &str,
     place: &[Step],
     marks: &[Mark],
-    start: Way,
+    start: PathMatch,
     counts: &[usize],
-) -> CargoResult<(Way, Option<usize>)>
+) -> CargoResult<(PathMatch, Option<usize>)>
     ensures goes { (table : Place) (resolve : Place → Place) (n : Named) (ns : List Named)
         → entries_seen.AreParts text.now (n ∷ ns) marks.now
-        → entries_seen.Follows (place_seen place.now) counts.now resolve
-        → start ≡ entries_seen.way (place_seen place.now) table
-        → IfOk result (entries_seen.GoesAlong (place_seen place.now) resolve table (n ∷ ns)) }
+        → entries_seen.Follows (place_view place.now) counts.now resolve
+        → start ≡ entries_seen.way (place_view place.now) table
+        → IfOk result (entries_seen.FollowsKey (place_view place.now) resolve table (n ∷ ns)) }
     ensures refused { IfErr result IsMemory }
 {
     if marks.is_empty() {
@@ -159,13 +159,13 @@ pub(crate) fn along(
     }
     let mark = marks[0];
     let words = words_of(alloc, text, mark)?;
-    let here = step_name(start, place, words_in(text, &words));
+    let here = step_by_key(start, place, decoded_str(text, &words));
     let others = &marks[1..];
     if !begins_part(others) {
         return Ok((here, None));
     }
     let next = resolved(here, place, counts);
-    let (end, front) = along(alloc, text, place, others, next, counts)?;
+    let (end, front) = follow_key(alloc, text, place, others, next, counts)?;
     if is_at(next, place) {
         Ok((end, Some(mark.to as usize)))
     } else {
@@ -174,8 +174,8 @@ pub(crate) fn along(
 }
 
 /// The kind of the first token that is not a part of a key.
-fn head_of(marks: &[Mark]) -> Option<MarkKind>
-    ensures { result ≡ entries_seen.head_of marks.now }
+fn kind_after_key(marks: &[Mark]) -> Option<MarkKind>
+    ensures { result ≡ entries_seen.kind_after_key marks.now }
 {
     'marks: for mark in marks {
         if !is_part(mark.kind) {
@@ -196,20 +196,20 @@ pub(crate) fn first_from(marks: &[Mark]) -> usize
 }
 
 /// Whether the key at the front is that of a header `[key]`.
-pub(crate) fn heads_table(marks: &[Mark]) -> bool
-    ensures { result ≡ standings.heads_table (entries_seen.head_of marks.now) }
+pub(crate) fn is_table_header_next(marks: &[Mark]) -> bool
+    ensures { result ≡ standings.is_table_header_next (entries_seen.kind_after_key marks.now) }
 {
-    match head_of(marks) {
+    match kind_after_key(marks) {
         Some(MarkKind::Header) => true,
         _ => false,
     }
 }
 
 /// Whether the key at the front is that of a header `[[key]]`.
-pub(crate) fn heads_element(marks: &[Mark]) -> bool
-    ensures { result ≡ standings.heads_element (entries_seen.head_of marks.now) }
+pub(crate) fn is_element_header_next(marks: &[Mark]) -> bool
+    ensures { result ≡ standings.is_element_header_next (entries_seen.kind_after_key marks.now) }
 {
-    match head_of(marks) {
+    match kind_after_key(marks) {
         Some(MarkKind::ElementHeader) => true,
         _ => false,
     }

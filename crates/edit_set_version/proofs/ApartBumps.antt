@@ -4,7 +4,7 @@ use Rattle.std.specs.Prelude.{◌&&◌, ◌==◌, AllPairs}
 use Rattle.std.specs.List.{AllByRecursion, AllZip, filter, filter_map}
 use Rattle.std.proofs.lemmas.Bool.{cases_Bool}
 use Rattle.edit_metadata.specs.Folders.{IsManifestFolder}
-use Rattle.edit_metadata.specs.Metadata.{PackageSaid, WorkspaceSaid, members}
+use Rattle.edit_metadata.specs.Metadata.{PackageModel, WorkspaceModel, members}
 use Rattle.edit_metadata.specs.Workspaces.{HasOwnFolders}
 use Rattle.edit_metadata.specs.declared.input.Input.{Input}
 use Rattle.edit_manifest.specs.Versions.{is_inherited}
@@ -67,8 +67,8 @@ members_apart (m ∷ ms) pairs = (
     each (c ∷ cs) h = (other_texts m c h.0, each cs h.1)
 
 -- the folders of manifests are those of the members
-folders_told : (is : List Input) (ps : List PackageSaid) (folders : List (List ℕ)) (ms : List Member)
-    → AllZip IsManifestFolder (map (λ (p : PackageSaid). p.manifest_path) ps) folders
+folders_told : (is : List Input) (ps : List PackageModel) (folders : List (List ℕ)) (ms : List Member)
+    → AllZip IsManifestFolder (map (λ (p : PackageModel). p.manifest_path) ps) folders
     → AllZip (IsMemberOf is) ps ms → folders ≡ map folder_told ms
 folders_told is [] [] [] stand are = refl
 folders_told is [] [] (m ∷ ms) stand are = absurd are
@@ -83,7 +83,7 @@ folders_told is (p ∷ ps) (f ∷ fs) (m ∷ ms) stand are =
     ap (λ x. x ∷ fs) own ∙ ap (λ xs. folder_told m ∷ xs) (folders_told is ps fs ms stand.1 are.1)
 
 -- the members of a project
-pub project_apart : (w : WorkspaceSaid) (is : List Input) (p : Project) → HasOwnFolders w → IsProject w is p
+pub project_apart : (w : WorkspaceModel) (is : List Input) (p : Project) → HasOwnFolders w → IsProject w is p
     → StandApart p.members
 project_apart w is p own project =
     members_apart p.members
@@ -188,7 +188,7 @@ made_apart t a (m ∷ ms) apart = elim (option_cases (bump_of t a m)) [
 ]
 
 -- the bumps of a project
-pub bumps_apart : (t : Target) (a : Asked) (w : WorkspaceSaid) (is : List Input) (p : Project)
+pub bumps_apart : (t : Target) (a : Asked) (w : WorkspaceModel) (is : List Input) (p : Project)
     → HasOwnFolders w → IsProject w is p → AreApart (bumps t a p)
 bumps_apart t a w is p own project =
     made_apart t a (chosen a p.members) (chosen_apart a p.members (project_apart w is p own project))

@@ -8,11 +8,11 @@ use Rattle.std.proofs.lemmas.List.Concat.{flat_map-append}
 use Rattle.std.proofs.lemmas.List.Elements.{filter-append, filter_map-append}
 use Rattle.edit_base.specs.Paths.{texts}
 use Rattle.edit_manifest.specs.Versions.{is_inherited}
-use Rattle.edit_set_version.specs.Chosen.{Asked, Member, asks_all, inheriting, is_among, is_asked}
+use Rattle.edit_set_version.specs.Chosen.{Asked, Member, is_all_selected, inheriting, is_among, is_asked}
 use Rattle.edit_set_version.proofs.PointedLemmas.{alone}
-use Rattle.edit_set_version.specs.Wanted.{IsWanted, is_in, wants}
+use Rattle.edit_set_version.specs.SelectedNames.{IsSelectedNames, is_in, is_selected_by}
 use Rattle.edit_set_version.specs.declared.choose.Part.TheVariants.{Asked as Asking, Inheriting, Others}
-use Rattle.edit_set_version.specs.declared.choose.Wanted.{Wanted}
+use Rattle.edit_set_version.specs.declared.choose.SelectedNames.{SelectedNames}
 
 -- those that a test keeps, with one more
 pub kept_more : {X Y : Type 0} (p : Y → Bool) (f : X → Y) (xs : List X) (i : ℕ) (x : X) → i < length xs
@@ -99,10 +99,11 @@ joined_texts sep (x ∷ xs) = ap (λ ts. x.now ++ ts) (rest xs)
     rest (y ∷ ys) = ap (λ ts. (sep ++ y.now) ++ ts) (rest ys)
 
 -- the set that decides has who is asked for
-pub wants_asked : (a : Asked) (w : Wanted) (m : Member) → IsWanted a w → wants w m ≡ is_asked a m
+pub wants_asked : (a : Asked) (w : SelectedNames) (m : Member) → IsSelectedNames a w
+    → is_selected_by w m ≡ is_asked a m
 wants_asked a w m is =
     ap (λ b. if b then not (contains_text w.names m.name) else contains_text w.names m.name) is.all
-    ∙ ap (λ c. if asks_all a then not c else c) (is.names m.name) ∙ by_case (asks_all a)
+    ∙ ap (λ c. if is_all_selected a then not c else c) (is.names m.name) ∙ by_case (is_all_selected a)
   where
     by_case : (b : Bool)
         → (if b then not (is_among (if b then a.exclude else a.packages) m.name)
@@ -111,17 +112,17 @@ wants_asked a w m is =
     by_case true = refl
     by_case false = refl
 
-pub asked_part : (a : Asked) (w : Wanted) (ms : List Member) → IsWanted a w
+pub asked_part : (a : Asked) (w : SelectedNames) (ms : List Member) → IsSelectedNames a w
     → filter (is_in Asking w) ms ≡ filter (is_asked a) ms
 asked_part a w ms is = filter_same (is_in Asking w) (is_asked a) (λ m. wants_asked a w m is) ms
 
-pub inheriting_part : (a : Asked) (w : Wanted) (ms : List Member) → IsWanted a w
+pub inheriting_part : (a : Asked) (w : SelectedNames) (ms : List Member) → IsSelectedNames a w
     → filter (is_in Inheriting w) ms ≡ inheriting a ms
 inheriting_part a w ms is =
     filter_same (is_in Inheriting w) (λ m. is_asked a m && is_inherited m.tree)
     (λ m. ap (λ b. b && is_inherited m.tree) (wants_asked a w m is)) ms
 
-pub others_part : (a : Asked) (w : Wanted) (ms : List Member) → IsWanted a w
+pub others_part : (a : Asked) (w : SelectedNames) (ms : List Member) → IsSelectedNames a w
     → filter (is_in Others w) ms ≡ filter (λ m. not (is_asked a m) && is_inherited m.tree) ms
 others_part a w ms is =
     filter_same (is_in Others w) (λ m. not (is_asked a m) && is_inherited m.tree)

@@ -7,11 +7,11 @@ use Rattle.std.proofs.lemmas.List.Elements.{All-cons, All-head, All-nil, All-tai
 use Rattle.semver.specs.Parse.{Parts}
 use Rattle.edit_tree.specs.Assertions.{Place, key, same_bytes, same_place}
 use Rattle.edit_document.specs.Items.{string_in}
-use Rattle.edit_tree.specs.Replaces.{Edits, emptied, is_below, written}
+use Rattle.edit_tree.specs.Replaces.{Edits, tree_without_below, is_below, written}
 use Rattle.edit_tree.specs.Tree.{View, string}
 use Rattle.edit_version.proofs.Outcomes.{nothing-outcome, reach-of, settled-of, text-outcome}
 use Rattle.edit_version.specs.Laws.{Admits, CanReach, IsVersion}
-use Rattle.edit_version.specs.Requirement.{Nothing, Raised, Text, Unread, Unsupported, raise}
+use Rattle.edit_version.specs.Requirement.{Nothing, UpgradeResult, Text, Unread, Unsupported, raise}
 use Rattle.edit_manifest.specs.Tables.{Tree, is_table_like, keyed}
 use Rattle.edit_manifest.specs.Versions.{package_version, shared_version, version_member}
 use Rattle.edit_set_version.specs.Entries.{entries, path_member, points_to, requirement, text_at}
@@ -97,7 +97,7 @@ next_at_is_version bs None v all h = cc h
 next_at_is_version bs (Some folder) v all h = next_is_version bs folder v all h
 
 -- a requirement that is not refused stays or becomes another
-rises : (r : Raised) → CanRise r → (r ≡ Nothing) ⊎ ((s : List ℕ) × (r ≡ Text s))
+rises : (r : UpgradeResult) → CanRise r → (r ≡ Nothing) ⊎ ((s : List ℕ) × (r ≡ Text s))
 rises Nothing h = inl refl
 rises (Text s) h = inr (s, refl)
 rises Unread h = absurd h
@@ -217,25 +217,25 @@ dependents_admit t a p file tree after readable rising left =
         (all_then (λ e. IsWritten e.0) (λ e. is_below e.0 (path_member q) ≡ false)
         (λ e w. member_below e.0 q (key (codes "path")) (away e.0 w))
         es all) in
-        let kept : emptied es tree (version_member q) ≡ tree (version_member q) =
+        let kept : tree_without_below es tree (version_member q) ≡ tree (version_member q) =
         emptied_other es tree (version_member q)
         (all_then (λ e. IsWritten e.0) (λ e. is_below e.0 (version_member q) ≡ false)
         (λ e w. member_below e.0 q (key (codes "version")) (away e.0 w))
         es all) in
         let Other : Place × List ℕ → Type 0 = λ e. same_place e.0 (version_member q) ≡ false in
         let look : after (version_member q)
-        ≡ written (entry_edits (new_at bs file tree) (entries tree)) (emptied es tree) (version_member q) =
+        ≡ written (entry_edits (new_at bs file tree) (entries tree)) (tree_without_below es tree) (version_member q) =
         left (version_member q)
-        ∙ (written_past shared (owns ++ reqs) (emptied es tree) (version_member q)
+        ∙ (written_past shared (owns ++ reqs) (tree_without_below es tree) (version_member q)
         (shared_all Other (λ s. subst (λ (z : Place). same_place shared_version (version_member z) ≡ false)
         (sym is.is) (whole_apart is.table is.name is.shape)) _ _)
-        ∙ (written_past owns reqs (emptied es tree) (version_member q)
+        ∙ (written_past owns reqs (tree_without_below es tree) (version_member q)
         (all_filter_map (λ b. Unit {0}) Other (own_edit file)
         (λ b none y e. subst (λ (z : Place). same_place z (version_member q) ≡ false) (own_at file b y e)
         (subst (λ (z : Place). same_place package_version (version_member z) ≡ false)
         (sym is.is) (own_apart is.table is.name is.shape)))
         bs (all_every (λ b. Unit {0}) (λ b. tt) bs))
-        ∙ ap (λ ws. written ws (emptied es tree) (version_member q))
+        ∙ ap (λ ws. written ws (tree_without_below es tree) (version_member q))
         (edits_by_entry bs file tree (entries tree)))) in
         let parts = dependent_parts q (requirement after q) (next_at bs file after q) f here in
         let now = required after q f.text parts.text in
@@ -243,7 +243,7 @@ dependents_admit t a p file tree after readable rising left =
         let leads : next_at bs file tree q ≡ Some f.next =
         sym (ap (λ (x : Option View). option_and_then (next_in bs) (option_map (reached file)
         (option_and_then string_in x))) path) ∙ parts.next in
-        λ can. at_entry bs file tree (emptied es tree) q (after (version_member q)) f.text f.next like i
+        λ can. at_entry bs file tree (tree_without_below es tree) q (after (version_member q)) f.text f.next like i
         leads
         kept look now.said
         (by_recursion (λ g. CanRise (raise g.text g.next)) (dependents bs file tree) rising)

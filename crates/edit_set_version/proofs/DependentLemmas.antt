@@ -13,9 +13,9 @@ use Rattle.edit_base.specs.Paths.{parts_of}
 use Rattle.edit_base.specs.declared.errors.Error.{Error}
 use Rattle.edit_manifest.specs.Tables.{Tree}
 use Rattle.edit_set_version.specs.Folders.{along, folder_of, names_of, reached}
-use Rattle.edit_set_version.specs.Dependents.{IsUnraised, IsEntryUnraised, all_numbered, fixed, lacks, memory, numbered, stays}
-use Rattle.edit_set_version.specs.Numbers.{TellsFirst, first_in, told_in}
-use Rattle.edit_set_version.specs.Pointed.{Pointed, led, pointed, pointed_view, pointed_views}
+use Rattle.edit_set_version.specs.Dependents.{IsUnraised, IsEntryUnraised, all_numbered, fixed, lacks, memory, with_bump_index, stays}
+use Rattle.edit_set_version.specs.BumpsByFolder.{HasFirstBumps, first_in, numbered_at}
+use Rattle.edit_set_version.specs.PathDependency.{PathDependency, dependent_by_path, pointed, path_dependency_view, path_dependency_views}
 use Rattle.edit_set_version.specs.SetVersioned.{Bump, Dependent, dependents}
 use Rattle.edit_set_version.specs.declared.pointed.PathEntry.{PathEntry}
 use Rattle.edit_set_version.specs.declared.numbers.Numbered.{Numbered}
@@ -40,23 +40,23 @@ reached_named file path = elim (cases_Bool (starts_with nat_eq path (codes "/"))
 
 -- what the map has for the folder that is reached
 pub tells_reached : (bs : List Bump) (numbers : BTreeMap (String Global) Numbered Global) (file path : List ℕ)
-    → TellsFirst bs numbers → told_in numbers (reached file path) ≡ first_in bs (reached file path)
+    → HasFirstBumps bs numbers → numbered_at numbers (reached file path) ≡ first_in bs (reached file path)
 tells_reached bs numbers file path tells =
     let way = reached_named file path in
-    subst (λ folder. told_in numbers folder ≡ first_in bs folder) way.1 (tells way.0)
+    subst (λ folder. numbered_at numbers folder ≡ first_in bs folder) way.1 (tells way.0)
 
 -- the requirement of an entry, by what the map has
 pub numbered_by : (bs : List Bump) (numbers : BTreeMap (String Global) Numbered Global) (file : List ℕ)
-    (q : Pointed) (o : Option (ℕ × Parts)) → TellsFirst bs numbers → o ≡ told_in numbers (reached file q.path)
-    → numbered bs file q
+    (q : PathDependency) (o : Option (ℕ × Parts)) → HasFirstBumps bs numbers → o ≡ numbered_at numbers (reached file q.path)
+    → with_bump_index bs file q
     ≡ option_map (λ (n : ℕ × Parts). (n.0, record { place = q.place; text = q.text; next = n.1 })) o
 numbered_by bs numbers file q o tells is =
     ap (option_map (λ (n : ℕ × Parts). (n.0, record { place = q.place; text = q.text; next = n.1 })))
     (sym (is ∙ tells_reached bs numbers file q.path tells))
 
 -- without its number
-pub led_numbered : (bs : List Bump) (file : List ℕ) (q : Pointed)
-    → led bs file q ≡ option_map (λ (n : ℕ × Dependent). n.1) (numbered bs file q)
+pub led_numbered : (bs : List Bump) (file : List ℕ) (q : PathDependency)
+    → dependent_by_path bs file q ≡ option_map (λ (n : ℕ × Dependent). n.1) (with_bump_index bs file q)
 led_numbered bs file q =
     ap (option_map (λ (v : Parts). record { place = q.place; text = q.text; next = v }))
     (next_first bs (reached file q.path)) ∙ both (first_in bs (reached file q.path))
@@ -80,44 +80,44 @@ dependents_numbered bs file t = dependents_pointed bs file t ∙ each (pointed t
     kept None ns = refl
     kept (Some n) ns = refl
 
-    each : (qs : List Pointed)
-        → filter_map (led bs file) qs ≡ map (λ (n : ℕ × Dependent). n.1) (filter_map (numbered bs file) qs)
+    each : (qs : List PathDependency)
+        → filter_map (dependent_by_path bs file) qs ≡ map (λ (n : ℕ × Dependent). n.1) (filter_map (with_bump_index bs file) qs)
     each [] = refl
     each (q ∷ qs) =
-        ap (λ (fs : List Dependent). cons_option (led bs file q) fs) (each qs)
-        ∙ ap (λ o. cons_option o (map (λ (n : ℕ × Dependent). n.1) (filter_map (numbered bs file) qs)))
+        ap (λ (fs : List Dependent). cons_option (dependent_by_path bs file q) fs) (each qs)
+        ∙ ap (λ o. cons_option o (map (λ (n : ℕ × Dependent). n.1) (filter_map (with_bump_index bs file) qs)))
         (led_numbered bs file q)
-        ∙ kept (numbered bs file q) (filter_map (numbered bs file) qs)
+        ∙ kept (with_bump_index bs file q) (filter_map (with_bump_index bs file) qs)
 
 -- one entry more
 pub numbered_more : (bs : List Bump) (file : List ℕ) (es : List PathEntry) (e : PathEntry)
-    → filter_map (numbered bs file) (pointed_views (es ++ e ∷ []))
-    ≡ filter_map (numbered bs file) (pointed_views es) ++ option_to_list (numbered bs file (pointed_view e))
+    → filter_map (with_bump_index bs file) (path_dependency_views (es ++ e ∷ []))
+    ≡ filter_map (with_bump_index bs file) (path_dependency_views es) ++ option_to_list (with_bump_index bs file (path_dependency_view e))
 numbered_more bs file es e =
-    ap (filter_map (numbered bs file)) (map_push pointed_view es e)
-    ∙ filter_map-append (numbered bs file) (pointed_views es) (pointed_view e ∷ [])
-    ∙ ap (λ (ns : List (ℕ × Dependent)). filter_map (numbered bs file) (pointed_views es) ++ ns)
-    (alone (numbered bs file (pointed_view e)))
+    ap (filter_map (with_bump_index bs file)) (map_push path_dependency_view es e)
+    ∙ filter_map-append (with_bump_index bs file) (path_dependency_views es) (path_dependency_view e ∷ [])
+    ∙ ap (λ (ns : List (ℕ × Dependent)). filter_map (with_bump_index bs file) (path_dependency_views es) ++ ns)
+    (alone (with_bump_index bs file (path_dependency_view e)))
 
 -- ---- errors
 
 -- what an entry gives is among what all give
-led_among : (bs : List Bump) (file : List ℕ) (xs : List Pointed) (q : Pointed) (ys : List Pointed)
-    (f : Dependent) → led bs file q ≡ Some f → Contains (filter_map (led bs file) (xs ++ q ∷ ys)) f
+led_among : (bs : List Bump) (file : List ℕ) (xs : List PathDependency) (q : PathDependency) (ys : List PathDependency)
+    (f : Dependent) → dependent_by_path bs file q ≡ Some f → Contains (filter_map (dependent_by_path bs file) (xs ++ q ∷ ys)) f
 led_among bs file xs q ys f is =
-    subst (λ (fs : List Dependent). Contains fs f) (sym (filter_map-append (led bs file) xs (q ∷ ys)))
-    (Contains-append_right (filter_map (led bs file) xs) (filter_map (led bs file) (q ∷ ys)) f
-    (subst (λ (o : Option Dependent). Contains (cons_option o (filter_map (led bs file) ys)) f) (sym is)
+    subst (λ (fs : List Dependent). Contains fs f) (sym (filter_map-append (dependent_by_path bs file) xs (q ∷ ys)))
+    (Contains-append_right (filter_map (dependent_by_path bs file) xs) (filter_map (dependent_by_path bs file) (q ∷ ys)) f
+    (subst (λ (o : Option Dependent). Contains (cons_option o (filter_map (dependent_by_path bs file) ys)) f) (sym is)
     (zero, omega arith, refl)))
 
 -- a requirement that cannot be raised is one of its manifest
 pub unraised : (bs : List Bump) (file : List ℕ) (t : Tree) (es : List PathEntry) (e : PathEntry)
-    (rest : List PathEntry) (why : Error) → pointed_views (es ++ e ∷ rest) ≡ pointed t
-    → IsEntryUnraised bs file (pointed_view e) why → IsUnraised bs file t why
+    (rest : List PathEntry) (why : Error) → path_dependency_views (es ++ e ∷ rest) ≡ pointed t
+    → IsEntryUnraised bs file (path_dependency_view e) why → IsUnraised bs file t why
 unraised bs file t es e rest why all (lacks none) = memory none
 unraised bs file t es e rest why all (stays f is refused) =
     fixed f
     (subst (λ (fs : List Dependent). Contains fs f)
-    (ap (filter_map (led bs file))
-    (sym (map-append pointed_view es (e ∷ rest)) ∙ all) ∙ sym (dependents_pointed bs file t))
-    (led_among bs file (pointed_views es) (pointed_view e) (pointed_views rest) f is)) refused
+    (ap (filter_map (dependent_by_path bs file))
+    (sym (map-append path_dependency_view es (e ∷ rest)) ∙ all) ∙ sym (dependents_pointed bs file t))
+    (led_among bs file (path_dependency_views es) (path_dependency_view e) (path_dependency_views rest) f is)) refused

@@ -6,7 +6,7 @@ use Rattle.semver.specs.Parse.{Parts}
 use Rattle.edit_syntax.specs.Grammar.{Text}
 use Rattle.edit_document.specs.Items.{string_in}
 use Rattle.edit_tree.specs.Assertions.{IsDocument, Place}
-use Rattle.edit_tree.specs.Shown.{tree_of}
+use Rattle.edit_tree.specs.DocumentViews.{tree_of}
 use Rattle.edit_tree.specs.Tree.{View, view_at}
 use Rattle.edit_tree.proofs.Shallow.{one_form}
 use Rattle.edit_manifest.specs.Tables.{Tree}
@@ -17,7 +17,7 @@ use Rattle.edit_version.specs.ReadVersion.{version_read}
 use Rattle.edit_set_version.specs.Crates.{IsReadOf}
 use Rattle.edit_set_version.specs.Projects.{IsTreeAt}
 use Rattle.edit_metadata.specs.Inputs.{HaveOwnPaths, path_of}
-use Rattle.edit_set_version.specs.Written.{CanShare, TellsShared}
+use Rattle.edit_set_version.specs.Written.{CanShare, HasSharedVersion}
 use Rattle.edit_set_version.proofs.ProjectRoot.{tree_beside}
 
 -- no two inputs have one path, input by input
@@ -71,7 +71,7 @@ one_tree xs path t u d a b q =
 -- where the workspace gets a next version, the manifest beside the input at the root's path has
 -- its version
 pub can_share : (root : List ℕ) (next : Option Parts) (is : List Input) (ms : List Manifest) (n : ℕ)
-    (i : Input) (m : Manifest) → AllZip IsReadOf is ms → HaveOwnPaths is → TellsShared is root next
+    (i : Input) (m : Manifest) → AllZip IsReadOf is ms → HaveOwnPaths is → HasSharedVersion is root next
     → n < length is → i ≡ get_or is n i → m ≡ get_or ms n m
     → CanShare root next (path_of i) (tree_of m.document)
 can_share root None is ms n i m read distinct tells within ei em = tt

@@ -12,20 +12,20 @@ use Rattle.edit_manifest.specs.declared.manifest.Manifest.{Manifest}
 use Rattle.edit_metadata.specs.declared.input.Input.{Input}
 use Rattle.edit_syntax.specs.Grammar.{Text}
 use Rattle.edit_tree.specs.Assertions.{IsDocument}
-use Rattle.edit_tree.specs.Shown.{tree_of}
+use Rattle.edit_tree.specs.DocumentViews.{tree_of}
 use Rattle.edit_tree.specs.Tree.{is_value_at, view_at}
 use Rattle.edit_tree.proofs.Shallow.{one_form}
 use Rattle.edit_set_version.specs.Crates.{IsReadOf}
 use Rattle.edit_set_version.specs.Dependents.{IsUnraised, fixed, memory}
 use Rattle.edit_set_version.specs.Admitted.{AllRise}
 use Rattle.edit_set_version.specs.PlanCauses.{literal as of_literal, requirement}
-use Rattle.edit_set_version.specs.PlanRefused.{HasBadInputBy, HasLiteral, IsInputClearBy, StandsAgainstInput}
+use Rattle.edit_set_version.specs.PlanRefused.{HasBadInputBy, HasLiteral, IsInputClearBy, IsInputError}
 use Rattle.edit_metadata.specs.Inputs.{path_of}
 use Rattle.edit_set_version.specs.SetVersioned.{Bump, dependents, writes_own}
 
 -- a requirement that cannot be raised stands against the bumps
 pub unraised_stands : (bs : List Bump) (input : Input) (m : Manifest) (e : Error) → IsReadOf input m
-    → IsUnraised bs (path_of input) (tree_of m.document) e → IsMemory e ⊎ StandsAgainstInput bs input e
+    → IsUnraised bs (path_of input) (tree_of m.document) e → IsMemory e ⊎ IsInputError bs input e
 unraised_stands bs input m e read (memory none) = inl none
 unraised_stands bs input m e read (fixed f among refused) = inr (record {
   form = read.form;
@@ -52,7 +52,7 @@ has_literal bs input m read literal = record {
 pub unvalued_stands : (bs : List Bump) (input : Input) (m : Manifest) (e : Error) → IsReadOf input m
     → IsMemory e ⊎ ((e ≡ NoVersionPlace) × (filter (writes_own (path_of input)) bs ≢ [])
     × IsNoValue m.document package_version)
-    → IsMemory e ⊎ ((e ≡ NoVersionPlace) × StandsAgainstInput bs input e)
+    → IsMemory e ⊎ ((e ≡ NoVersionPlace) × IsInputError bs input e)
 unvalued_stands bs input m e read (inl none) = inl none
 unvalued_stands bs input m e read (inr why) = inr (
   why.0,
@@ -86,9 +86,9 @@ pub shown : (input : Input) (m : Manifest) (read : IsReadOf input m) → tree_of
 shown input m read = fun_ext read.shows
 
 -- and of each form of its text
-pub shown_of : (input : Input) (m : Manifest) → IsReadOf input m → (form : Text)
+pub document_view_of : (input : Input) (m : Manifest) → IsReadOf input m → (form : Text)
     → IsDocument m.document.bytes form → tree_of m.document ≡ view_at form
-shown_of input m read form manifest =
+document_view_of input m read form manifest =
     fun_ext read.shows
     ∙ ap view_at (one_form m.document.bytes read.form form
     (subst (λ (bytes : List ℕ). IsDocument bytes read.form) (sym read.bytes) read.manifest) manifest)
@@ -104,7 +104,7 @@ literal_of bs input m form read manifest clear some =
 
 -- what stands against an input stands against it among all
 pub stands_among : (bs : List Bump) (inputs : List Input) (input : Input) (e : Error) → Contains inputs input
-    → IsMemory e ⊎ StandsAgainstInput bs input e → IsMemory e ⊎ HasBadInputBy bs inputs e
+    → IsMemory e ⊎ IsInputError bs input e → IsMemory e ⊎ HasBadInputBy bs inputs e
 stands_among bs inputs input e among (inl none) = inl none
 stands_among bs inputs input e among (inr stands) =
     inr (record { input = input; among = among; stands = stands })

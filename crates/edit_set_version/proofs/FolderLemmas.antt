@@ -3,7 +3,7 @@ use Rattle.std.proofs.Common.{◌≡◌, ◌≢◌, ◌∙◌, ℕ, List, [], �
 use Rattle.std.proofs.lemmas.List.{reverse-append}
 use Rattle.std.specs.Prelude.{codes, ◌||◌, if◌then◌else◌}
 use Rattle.edit_tree.specs.Assertions.{same_bytes}
-use Rattle.edit_base.specs.Paths.{Normal, root, skip, keep, back, stay, IsIdle, IsName}
+use Rattle.edit_base.specs.Paths.{Normal, root, skip, keep, back, stay, IsEmptyOrDot, IsName}
 use Rattle.edit_tree.proofs.SamePlace.{same_bytes_is}
 use Rattle.edit_set_version.specs.Folders.{Folder, above, along, further}
 
@@ -14,7 +14,7 @@ along_more folder [] part = refl
 along_more folder (p ∷ ps) part = along_more (further folder p) ps part
 
 -- an idle part leads nowhere
-further_idle : (folder : Folder) (part : List ℕ) → IsIdle part → further folder part ≡ folder
+further_idle : (folder : Folder) (part : List ℕ) → IsEmptyOrDot part → further folder part ≡ folder
 further_idle folder part (inl none) = ap (further folder) none
 further_idle folder part (inr dot) = ap (further folder) dot
 

@@ -47,8 +47,8 @@ names_kept path = along_kept [] (parts_of path) tt (parts_free path)
 -- ---- the walk along a normal form
 
 -- names with a slash before each
-abbrev pub slashed : List (List ℕ) → List ℕ
-slashed names = flat_map (λ n. 47 ∷ n) names
+abbrev pub replace_backslashes : List (List ℕ) → List ℕ
+replace_backslashes names = flat_map (λ n. 47 ∷ n) names
 
 further_on : (folder : Folder) (name : List ℕ) → IsKept name → further folder name ≡ name ∷ folder
 further_on folder name kept = rw (kept.0.1, kept.1.0, kept.1.1) refl
@@ -118,24 +118,26 @@ before_last (x ∷ a) b (y ∷ c) d hb hd e =
     ap (λ z. z ∷ a) h ∙ ap (λ z. y ∷ z) (before_last a b c d hb hd t)
 
 -- one name more
-slashed_more : (names : List (List ℕ)) (n : List ℕ) → slashed (names ++ n ∷ []) ≡ slashed names ++ 47 ∷ n
+slashed_more : (names : List (List ℕ)) (n : List ℕ)
+    → replace_backslashes (names ++ n ∷ []) ≡ replace_backslashes names ++ 47 ∷ n
 slashed_more [] n = append-nil (47 ∷ n)
 slashed_more (m ∷ ms) n =
-    ap (λ t. (47 ∷ m) ++ t) (slashed_more ms n) ∙ sym (append_assoc (47 ∷ m) (slashed ms) (47 ∷ n))
+    ap (λ t. (47 ∷ m) ++ t) (slashed_more ms n) ∙ sym (append_assoc (47 ∷ m) (replace_backslashes ms) (47 ∷ n))
 
 -- the path of one name or more
 absolute_more : (names : List (List ℕ)) (n : List ℕ)
-    → absolute (names ++ n ∷ []) ≡ slashed names ++ 47 ∷ n
+    → absolute (names ++ n ∷ []) ≡ replace_backslashes names ++ 47 ∷ n
 absolute_more [] n = append-nil (47 ∷ n)
 absolute_more (m ∷ ms) n = slashed_more (m ∷ ms) n
 
 -- the path of names, where they are some
-absolute_some : (names : List (List ℕ)) → 0 < length (slashed names) → absolute names ≡ slashed names
+absolute_some : (names : List (List ℕ)) → 0 < length (replace_backslashes names)
+    → absolute names ≡ replace_backslashes names
 absolute_some [] some = absurd (omega (arith, some))
 absolute_some (n ∷ ns) some = refl
 
 -- where they are none
-absolute_none : (names : List (List ℕ)) → [] ≡ slashed names → absolute names ≡ codes "/"
+absolute_none : (names : List (List ℕ)) → [] ≡ replace_backslashes names → absolute names ≡ codes "/"
 absolute_none [] none = refl
 absolute_none (n ∷ ns) none = cc none
 
@@ -155,15 +157,15 @@ folder_above folder g kept is = by folder kept (folder_text folder) g refl is
     by [] kept text _ e (bare free) = refl
     by (n ∷ f) kept text _ e (before b a is free some) =
         let last = e ∙ ap absolute (reverse-append (n ∷ []) f) ∙ absolute_more (reverse f) n in
-        let same = before_last b a (slashed (reverse f)) n free kept.0.0.0 (sym is ∙ last) in
+        let same = before_last b a (replace_backslashes (reverse f)) n free kept.0.0.0 (sym is ∙ last) in
         same ∙ sym (absolute_some (reverse f) (subst (λ x. 0 < length x) same some))
     by (n ∷ f) kept text _ e (below_root a is free) =
         let last = e ∙ ap absolute (reverse-append (n ∷ []) f) ∙ absolute_more (reverse f) n in
-        let same = before_last [] a (slashed (reverse f)) n free kept.0.0.0 (sym is ∙ last) in
+        let same = before_last [] a (replace_backslashes (reverse f)) n free kept.0.0.0 (sym is ∙ last) in
         sym (absolute_none (reverse f) same)
     by (n ∷ f) kept text _ e (bare free) =
         let last = e ∙ ap absolute (reverse-append (n ∷ []) f) ∙ absolute_more (reverse f) n in
-        absurd (slash_inside text (slashed (reverse f)) n free last)
+        absurd (slash_inside text (replace_backslashes (reverse f)) n free last)
 
 -- the folder of a path in normal form, by its names
 pub folder_named : (path normal g : List ℕ) → IsNormalOf path normal → IsFolderOf normal g

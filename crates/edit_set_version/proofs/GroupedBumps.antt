@@ -9,9 +9,9 @@ use Rattle.semver.specs.Parse.{Parts}
 use Rattle.edit_manifest.specs.Tables.{Tree}
 use Rattle.edit_set_version.specs.Apart.{AreApart}
 use Rattle.edit_set_version.specs.Folders.{Folder, folder_of, reached, same_folder}
-use Rattle.edit_set_version.specs.Dependents.{all_numbered, numbered}
-use Rattle.edit_set_version.specs.Numbers.{first_in}
-use Rattle.edit_set_version.specs.Pointed.{Pointed, led, pointed}
+use Rattle.edit_set_version.specs.Dependents.{all_numbered, with_bump_index}
+use Rattle.edit_set_version.specs.BumpsByFolder.{first_in}
+use Rattle.edit_set_version.specs.PathDependency.{PathDependency, dependent_by_path, pointed}
 use Rattle.edit_set_version.specs.SetVersioned.{Bump, Dependent, dependents, next_in}
 use Rattle.edit_set_version.specs.ToldLines.{dependent_number}
 use Rattle.edit_set_version.proofs.FolderSameness.{same_folder_is, same_folder_self}
@@ -73,10 +73,10 @@ alone_first (x ∷ xs) b after folder apart =
     ]
 
 -- the requirement of an entry on one bumped crate
-alone_led : (before : List Bump) (b : Bump) (after : List Bump) (file : List ℕ) (q : Pointed)
+alone_led : (before : List Bump) (b : Bump) (after : List Bump) (file : List ℕ) (q : PathDependency)
     → AreApart (before ++ b ∷ after)
-    → led (b ∷ []) file q
-    ≡ option_and_then (dependent_number (length before)) (numbered (before ++ b ∷ after) file q)
+    → dependent_by_path (b ∷ []) file q
+    ≡ option_and_then (dependent_number (length before)) (with_bump_index (before ++ b ∷ after) file q)
 alone_led before b after file q apart =
     ap (option_map (λ (v : Parts). record { place = q.place; text = q.text; next = v }))
     (alone_first before b after (reached file q.path) apart)
@@ -107,13 +107,13 @@ alone_dependents before b after file t apart = dependents_pointed (b ∷ []) fil
     picked None ns = refl
     picked (Some n) ns = refl
 
-    each : (qs : List Pointed)
-        → filter_map (led (b ∷ []) file) qs
-        ≡ filter_map (dependent_number (length before)) (filter_map (numbered (before ++ b ∷ after) file) qs)
+    each : (qs : List PathDependency)
+        → filter_map (dependent_by_path (b ∷ []) file) qs
+        ≡ filter_map (dependent_number (length before)) (filter_map (with_bump_index (before ++ b ∷ after) file) qs)
     each [] = refl
     each (q ∷ qs) =
-        ap (λ (fs : List Dependent). cons_option (led (b ∷ []) file q) fs) (each qs)
+        ap (λ (fs : List Dependent). cons_option (dependent_by_path (b ∷ []) file q) fs) (each qs)
         ∙ ap (λ o. cons_option o (filter_map (dependent_number (length before))
-        (filter_map (numbered (before ++ b ∷ after) file) qs))) (alone_led before b after file q apart)
-        ∙ picked (numbered (before ++ b ∷ after) file q)
-        (filter_map (numbered (before ++ b ∷ after) file) qs)
+        (filter_map (with_bump_index (before ++ b ∷ after) file) qs))) (alone_led before b after file q apart)
+        ∙ picked (with_bump_index (before ++ b ∷ after) file q)
+        (filter_map (with_bump_index (before ++ b ∷ after) file) qs)

@@ -7,9 +7,9 @@ use Rattle.std.proofs.lemmas.List.{length-map}
 use Rattle.std.proofs.lemmas.List.Elements.{All-cons, All-nil}
 use Rattle.std.proofs.lemmas.List.Kept.{AllPairs-cons}
 use Rattle.edit_metadata.specs.Folders.{IsManifestFolder}
-use Rattle.edit_metadata.specs.Inputs.{AreInputs, HaveOwnPaths, IsInputOf, RustAsked, input_paths, manifest_of, path_of}
+use Rattle.edit_metadata.specs.Inputs.{AreInputs, HaveOwnPaths, IsInputOf, RustOptions, input_paths, manifest_of, path_of}
 use Rattle.edit_metadata.specs.Inputs.AreInputs.{of_members, with_root}
-use Rattle.edit_metadata.specs.Metadata.{PackageSaid, WorkspaceSaid, members}
+use Rattle.edit_metadata.specs.Metadata.{PackageModel, WorkspaceModel, members}
 use Rattle.edit_metadata.specs.Workspaces.{HasOwnFolders}
 use Rattle.edit_metadata.specs.declared.input.Input.{Input}
 use Rattle.edit_set_version.specs.FolderTexts.{folder_text}
@@ -23,8 +23,8 @@ abbrev pub folder_told : Input → List ℕ
 folder_told i = folder_text (folder_of (path_of i))
 
 -- the folders of manifests are those of their inputs
-folders_made : (asked : RustAsked) (ps : List PackageSaid) (folders : List (List ℕ)) (is : List Input)
-    → AllZip IsManifestFolder (map (λ (p : PackageSaid). p.manifest_path) ps) folders
+folders_made : (asked : RustOptions) (ps : List PackageModel) (folders : List (List ℕ)) (is : List Input)
+    → AllZip IsManifestFolder (map (λ (p : PackageModel). p.manifest_path) ps) folders
     → AllZip (IsInputOf asked) (map manifest_of ps) is → folders ≡ map folder_told is
 folders_made asked [] [] [] stand made = refl
 folders_made asked [] [] (i ∷ is) stand made = absurd made
@@ -55,18 +55,18 @@ none_among (i ∷ is) path none =
     (none_among is path (λ there. none (suc there.0, omega (arith, there.1), there.2)))
 
 -- the inputs of a workspace
-pub inputs_apart : (w : WorkspaceSaid) (is : List Input) → HasOwnFolders w → AreInputsOf w is
+pub inputs_apart : (w : WorkspaceModel) (is : List Input) → HasOwnFolders w → AreInputsOf w is
     → HaveOwnPaths is
 inputs_apart w is own are = by (are.0) is are.1
   where
-    of_own : (asked : RustAsked) (js : List Input)
+    of_own : (asked : RustOptions) (js : List Input)
         → AllZip (IsInputOf asked) (map manifest_of (members w.packages)) js → HaveOwnPaths js
     of_own asked js made =
         paths_apart js
         (subst (AllPairs (λ (a b : List ℕ). a ≢ b))
         (folders_made asked (members w.packages) own.folders js own.stand made) own.apart)
 
-    by : (asked : RustAsked) (js : List Input) → AreInputs asked w js → HaveOwnPaths js
+    by : (asked : RustOptions) (js : List Input) → AreInputs asked w js → HaveOwnPaths js
     by asked _ (of_members root js made normal among) = of_own asked js made
     by asked _ (with_root j js made root other) =
         AllPairs-cons (λ (a b : Input). path_of a ≢ path_of b) j js (none_among js (path_of j) other)

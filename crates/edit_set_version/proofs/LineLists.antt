@@ -8,31 +8,31 @@ use Rattle.std.proofs.lemmas.List.Elements.{filter_map-append}
 use Rattle.std.specs.Global.{Vec}
 use Rattle.std.specs.Prelude.{String}
 use Rattle.std.specs.declared.alloc.Global.{Global}
-use Rattle.edit_set_version.specs.PlanLines.{Told}
+use Rattle.edit_set_version.specs.PlanLines.{ReportLine}
 use Rattle.edit_set_version.specs.SetVersioned.{Dependent}
-use Rattle.edit_set_version.specs.ToldLines.{dependent_number, line_told, lists_told, update_told, updates_told, with_line, with_updates}
+use Rattle.edit_set_version.specs.ToldLines.{dependent_number, report_line_view, line_lists_view, update_line_view, update_lines_view, with_line, with_updates}
 
 -- the lines of requirements in two parts
 updates_append : (name : List ℕ) (xs ys : List (ℕ × Dependent)) (n : ℕ)
-    → updates_told name (xs ++ ys) n ≡ updates_told name xs n ++ updates_told name ys n
+    → update_lines_view name (xs ++ ys) n ≡ update_lines_view name xs n ++ update_lines_view name ys n
 updates_append name xs ys n =
-    ap (filter_map (update_told name)) (filter_map-append (dependent_number n) xs ys)
-    ∙ filter_map-append (update_told name) (filter_map (dependent_number n) xs)
+    ap (filter_map (update_line_view name)) (filter_map-append (dependent_number n) xs ys)
+    ∙ filter_map-append (update_line_view name) (filter_map (dependent_number n) xs)
     (filter_map (dependent_number n) ys)
 
 -- lists grow by one part and then by the other
-pub updates_in_parts : (name : List ℕ) (xs ys : List (ℕ × Dependent)) (n : ℕ) (ls : List (List Told))
+pub updates_in_parts : (name : List ℕ) (xs ys : List (ℕ × Dependent)) (n : ℕ) (ls : List (List ReportLine))
     → with_updates name (xs ++ ys) n ls ≡ with_updates name ys n (with_updates name xs n ls)
 updates_in_parts name xs ys n [] = refl
 updates_in_parts name xs ys n (l ∷ ls) =
     ap (λ us. (l ++ us) ∷ with_updates name (xs ++ ys) (suc n) ls) (updates_append name xs ys n)
     ∙ ap (λ l. l ∷ with_updates name (xs ++ ys) (suc n) ls)
-    (sym (append_assoc l (updates_told name xs n) (updates_told name ys n)))
-    ∙ ap (λ ls. ((l ++ updates_told name xs n) ++ updates_told name ys n) ∷ ls)
+    (sym (append_assoc l (update_lines_view name xs n) (update_lines_view name ys n)))
+    ∙ ap (λ ls. ((l ++ update_lines_view name xs n) ++ update_lines_view name ys n) ∷ ls)
     (updates_in_parts name xs ys (suc n) ls)
 
 -- without requirements they stay
-pub no_updates : (name : List ℕ) (n : ℕ) (ls : List (List Told)) → with_updates name [] n ls ≡ ls
+pub no_updates : (name : List ℕ) (n : ℕ) (ls : List (List ReportLine)) → with_updates name [] n ls ≡ ls
 no_updates name n [] = refl
 no_updates name n (l ∷ ls) =
     ap (λ l. l ∷ with_updates name [] (suc n) ls) (append-nil l)
@@ -48,8 +48,8 @@ other_number m n less = elim (cases_Bool (m == n)) [
 ]
 
 -- a requirement that stays has no line
-pub stays_untold : (name : List ℕ) (m : ℕ) (f : Dependent) (n : ℕ) (ls : List (List Told))
-    → update_told name f ≡ None → with_updates name ((m, f) ∷ []) n ls ≡ ls
+pub stays_untold : (name : List ℕ) (m : ℕ) (f : Dependent) (n : ℕ) (ls : List (List ReportLine))
+    → update_line_view name f ≡ None → with_updates name ((m, f) ∷ []) n ls ≡ ls
 stays_untold name m f n [] none = refl
 stays_untold name m f n (l ∷ ls) none = elim (cases_Bool (m == n)) [
   | inl same ↦ rw (same, none) (ap₂ (λ x xs. x ∷ xs) (append-nil l) (stays_untold name m f (suc n) ls none))
@@ -57,7 +57,7 @@ stays_untold name m f n (l ∷ ls) none = elim (cases_Bool (m == n)) [
 ]
 
 -- nor to later lists
-past_untold : (name : List ℕ) (m : ℕ) (f : Dependent) (n : ℕ) (ls : List (List Told)) → m < n
+past_untold : (name : List ℕ) (m : ℕ) (f : Dependent) (n : ℕ) (ls : List (List ReportLine)) → m < n
     → with_updates name ((m, f) ∷ []) n ls ≡ ls
 past_untold name m f n [] less = refl
 past_untold name m f n (l ∷ ls) less =
@@ -65,8 +65,8 @@ past_untold name m f n (l ∷ ls) less =
     (past_untold name m f (suc n) ls (omega (arith, less))))
 
 -- one that becomes another text has one line
-pub rise_told : (name : List ℕ) (m k n : ℕ) (f : Dependent) (line : Told) (ls : List (List Told))
-    → m ≡ k + n → update_told name f ≡ Some line
+pub rise_told : (name : List ℕ) (m k n : ℕ) (f : Dependent) (line : ReportLine) (ls : List (List ReportLine))
+    → m ≡ k + n → update_line_view name f ≡ Some line
     → with_updates name ((m, f) ∷ []) n ls ≡ with_line k line ls
 rise_told name m k n f line [] at is = refl
 rise_told name m zero n f line (l ∷ ls) at is =
@@ -91,20 +91,20 @@ abbrev pub Lines : Type 0
 Lines = Vec (String Global × String Global)
 
 -- a number past the last list
-pub line_past : (ls : List Lines) (n : ℕ) (line : Told) → length ls ≤ n
-    → lists_told ls ≡ with_line n line (lists_told ls)
+pub line_past : (ls : List Lines) (n : ℕ) (line : ReportLine) → length ls ≤ n
+    → line_lists_view ls ≡ with_line n line (line_lists_view ls)
 line_past [] n line past = refl
 line_past (l ∷ ls) zero line past = absurd (omega (arith, past))
 line_past (l ∷ ls) (suc n) line past =
-    ap (λ xs. map line_told l.items ∷ xs) (line_past ls n line (omega (arith, past)))
+    ap (λ xs. map report_line_view l.items ∷ xs) (line_past ls n line (omega (arith, past)))
 
 -- a line more at the end of a list
 pub line_put : (ls : List Lines) (n : ℕ) (old new : Lines) (line : String Global × String Global)
     → n < length ls → old ≡ get_or ls n old → new.items ≡ old.items ++ line ∷ []
-    → lists_told (slice_set ls n new) ≡ with_line n (line_told line) (lists_told ls)
+    → line_lists_view (slice_set ls n new) ≡ with_line n (report_line_view line) (line_lists_view ls)
 line_put [] n old new line within is more = absurd (omega (arith, within))
 line_put (l ∷ ls) zero old new line within is more =
-    ap (λ x. x ∷ lists_told ls) (ap (map line_told) more ∙ map_push line_told old.items line
-    ∙ ap (λ (x : Lines). map line_told x.items ++ line_told line ∷ []) is)
+    ap (λ x. x ∷ line_lists_view ls) (ap (map report_line_view) more ∙ map_push report_line_view old.items line
+    ∙ ap (λ (x : Lines). map report_line_view x.items ++ report_line_view line ∷ []) is)
 line_put (l ∷ ls) (suc n) old new line within is more =
-    ap (λ xs. map line_told l.items ∷ xs) (line_put ls n old new line (omega (arith, within)) is more)
+    ap (λ xs. map report_line_view l.items ∷ xs) (line_put ls n old new line (omega (arith, within)) is more)

@@ -10,12 +10,13 @@ use Rattle.edit_set_version.specs.Chosen.{Member}
 use Rattle.edit_set_version.specs.Crates.{member_of, members_of}
 use Rattle.edit_set_version.specs.declared.crates.Crate.{Crate}
 use Rattle.edit_set_version.specs.Dependents.{all_numbered}
-use Rattle.edit_set_version.specs.PlanLines.{Named, Told}
+use Rattle.edit_set_version.specs.PlanLines.{Named, ReportLine}
 use Rattle.edit_set_version.specs.SetVersioned.{Bump}
-use Rattle.edit_set_version.specs.ToldLines.{HasUnraised, manifests_told, named_member, other_manifests, updates_told, with_manifests, with_more, with_updates}
+use Rattle.edit_set_version.specs.ToldLines.{HasUnraised, manifest_lines_view, named_member, other_manifests, update_lines_view, with_manifests, with_more, with_updates}
 
 -- lines in two parts
-more_in_parts : (f g h : ℕ → List Told) → ((k : ℕ) → h k ≡ f k ++ g k) → (n : ℕ) (ls : List (List Told))
+more_in_parts : (f g h : ℕ → List ReportLine) → ((k : ℕ) → h k ≡ f k ++ g k)
+    → (n : ℕ) (ls : List (List ReportLine))
     → with_more h n ls ≡ with_more g n (with_more f n ls)
 more_in_parts f g h same n [] = refl
 more_in_parts f g h same n (l ∷ ls) =
@@ -24,7 +25,7 @@ more_in_parts f g h same n (l ∷ ls) =
     ∙ ap (λ xs. ((l ++ f n) ++ g n) ∷ xs) (more_in_parts f g h same (suc n) ls)
 
 -- the lines are equal
-more_same : (f g : ℕ → List Told) → ((k : ℕ) → f k ≡ g k) → (n : ℕ) (ls : List (List Told))
+more_same : (f g : ℕ → List ReportLine) → ((k : ℕ) → f k ≡ g k) → (n : ℕ) (ls : List (List ReportLine))
     → with_more f n ls ≡ with_more g n ls
 more_same f g same n [] = refl
 more_same f g same n (l ∷ ls) =
@@ -32,29 +33,29 @@ more_same f g same n (l ∷ ls) =
     ∙ ap (λ xs. (l ++ g n) ∷ xs) (more_same f g same (suc n) ls)
 
 told_append : (bs : List Bump) (xs ys : List Named) (n : ℕ)
-    → manifests_told bs (xs ++ ys) n ≡ manifests_told bs xs n ++ manifests_told bs ys n
+    → manifest_lines_view bs (xs ++ ys) n ≡ manifest_lines_view bs xs n ++ manifest_lines_view bs ys n
 told_append bs [] ys n = refl
 told_append bs (x ∷ xs) ys n =
-    ap (λ us. updates_told x.name (all_numbered bs x.path x.tree) n ++ us) (told_append bs xs ys n)
-    ∙ sym (append_assoc (updates_told x.name (all_numbered bs x.path x.tree) n) (manifests_told bs xs n)
-    (manifests_told bs ys n))
+    ap (λ us. update_lines_view x.name (all_numbered bs x.path x.tree) n ++ us) (told_append bs xs ys n)
+    ∙ sym (append_assoc (update_lines_view x.name (all_numbered bs x.path x.tree) n) (manifest_lines_view bs xs n)
+    (manifest_lines_view bs ys n))
 
 -- manifests in two parts
-pub manifests_in_parts : (bs : List Bump) (xs ys : List Named) (n : ℕ) (ls : List (List Told))
+pub manifests_in_parts : (bs : List Bump) (xs ys : List Named) (n : ℕ) (ls : List (List ReportLine))
     → with_manifests bs (xs ++ ys) n ls ≡ with_manifests bs ys n (with_manifests bs xs n ls)
 manifests_in_parts bs xs ys n ls =
-    more_in_parts (manifests_told bs xs) (manifests_told bs ys) (manifests_told bs (xs ++ ys))
+    more_in_parts (manifest_lines_view bs xs) (manifest_lines_view bs ys) (manifest_lines_view bs (xs ++ ys))
     (told_append bs xs ys) n ls
 
 -- one manifest
-pub one_manifest : (bs : List Bump) (m : Named) (n : ℕ) (ls : List (List Told))
+pub one_manifest : (bs : List Bump) (m : Named) (n : ℕ) (ls : List (List ReportLine))
     → with_updates m.name (all_numbered bs m.path m.tree) n ls ≡ with_manifests bs (m ∷ []) n ls
 one_manifest bs m n ls =
-    more_same (updates_told m.name (all_numbered bs m.path m.tree)) (manifests_told bs (m ∷ []))
-    (λ k. sym (append-nil (updates_told m.name (all_numbered bs m.path m.tree) k))) n ls
+    more_same (update_lines_view m.name (all_numbered bs m.path m.tree)) (manifest_lines_view bs (m ∷ []))
+    (λ k. sym (append-nil (update_lines_view m.name (all_numbered bs m.path m.tree) k))) n ls
 
 -- none
-pub no_manifests : (bs : List Bump) (n : ℕ) (ls : List (List Told)) → with_manifests bs [] n ls ≡ ls
+pub no_manifests : (bs : List Bump) (n : ℕ) (ls : List (List ReportLine)) → with_manifests bs [] n ls ≡ ls
 no_manifests bs n [] = refl
 no_manifests bs n (l ∷ ls) =
     ap (λ x. x ∷ with_manifests bs [] (suc n) ls) (append-nil l)

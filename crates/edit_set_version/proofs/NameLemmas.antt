@@ -10,8 +10,8 @@ use Rattle.std.proofs.lemmas.List.Folds.{list_any-append}
 use Rattle.edit_tree.specs.Assertions.{same_bytes}
 use Rattle.edit_document.proofs.EntryPartViews.{same_texts}
 use Rattle.edit_tree.proofs.SamePlace.{same_bytes_is, same_bytes_self}
-use Rattle.edit_metadata.specs.Metadata.{PackageSaid, members}
-use Rattle.edit_metadata.specs.Workspaces.{package_said, packages_said}
+use Rattle.edit_metadata.specs.Metadata.{PackageModel, members}
+use Rattle.edit_metadata.specs.Workspaces.{package_view, packages_view}
 use Rattle.edit_metadata.specs.declared.workspace.Package.{Package}
 use Rattle.edit_set_version.specs.Chosen.{each_once, is_among}
 use Rattle.edit_set_version.specs.Missing.{absent, names_of}
@@ -91,26 +91,26 @@ absent_more there names x =
 -- ---- one package more
 
 -- the name of a member, added
-pub member_among : (p : PackageSaid) (q own : List ℕ) (was : Bool) → p.member ≡ true → own ≡ p.name
+pub member_among : (p : PackageModel) (q own : List ℕ) (was : Bool) → p.member ≡ true → own ≡ p.name
     → cond (bytes_eq own q) true was ≡ (was || is_among (names_of (p ∷ [])) q)
 member_among p q own was m o =
     ap (λ (x : List ℕ). cond (bytes_eq x q) true was) o
     ∙ sym (ap (λ (b : Bool). was || (b || false)) (swapped q p.name) ∙ either was (bytes_eq p.name q))
     ∙ ap (λ (b : Bool). was
-    || list_any (same_bytes q) (map (λ (x : PackageSaid). x.name) (cond b (p ∷ []) []))) (sym m)
+    || list_any (same_bytes q) (map (λ (x : PackageModel). x.name) (cond b (p ∷ []) []))) (sym m)
 
 -- the names of the members among packages with one more
 pub names_more : (ps : List Package) (i : ℕ) (p : Package) → i < length ps → p ≡ get_or ps i p
-    → names_of (packages_said (take (i + 1) ps))
-    ≡ names_of (packages_said (take i ps)) ++ names_of (package_said p ∷ [])
+    → names_of (packages_view (take (i + 1) ps))
+    ≡ names_of (packages_view (take i ps)) ++ names_of (package_view p ∷ [])
 names_more ps i p within is =
-    ap (λ (xs : List Package). names_of (packages_said xs))
+    ap (λ (xs : List Package). names_of (packages_view xs))
     (take_more ps i p within ∙ ap (λ (x : Package). take i ps ++ x ∷ []) (sym is))
-    ∙ ap names_of (map-append package_said (take i ps) (p ∷ []))
-    ∙ ap (map (λ (x : PackageSaid). x.name))
-    (filter-append (λ (x : PackageSaid). x.member) (packages_said (take i ps)) (package_said p ∷ []))
-    ∙ map-append (λ (x : PackageSaid). x.name) (members (packages_said (take i ps)))
-    (members (package_said p ∷ []))
+    ∙ ap names_of (map-append package_view (take i ps) (p ∷ []))
+    ∙ ap (map (λ (x : PackageModel). x.name))
+    (filter-append (λ (x : PackageModel). x.member) (packages_view (take i ps)) (package_view p ∷ []))
+    ∙ map-append (λ (x : PackageModel). x.name) (members (packages_view (take i ps)))
+    (members (package_view p ∷ []))
 
 -- a list that is found empty, and one that is found not to be
 pub told_none : {A : Type 0} (xs : List A) (n : ℕ) (b : Bool) → b ≡ true → b ≡ (n == 0) → length xs ≡ n

@@ -5,7 +5,7 @@ use Rattle.std.specs.Option.{option_or}
 use Rattle.std.proofs.lemmas.Bool.{cases_Bool}
 use Rattle.semver.specs.Parse.{Parts}
 use Rattle.edit_set_version.specs.Folders.{Folder, folder_of, same_folder}
-use Rattle.edit_set_version.specs.Numbers.{first_in}
+use Rattle.edit_set_version.specs.BumpsByFolder.{first_in}
 use Rattle.edit_set_version.specs.SetVersioned.{Bump, next_in}
 
 -- a number more

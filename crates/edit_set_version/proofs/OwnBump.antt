@@ -12,9 +12,9 @@ use Rattle.edit_tree.specs.Replaces.{AreDistinct, Edits}
 use Rattle.edit_tree.proofs.SamePlace.{same_bytes_is}
 use Rattle.edit_manifest.specs.Versions.{package_version}
 use Rattle.edit_set_version.specs.Apart.{AreApart}
-use Rattle.edit_set_version.specs.Crates.{bump_seen, bumps_seen}
+use Rattle.edit_set_version.specs.Crates.{bump_view, bumps_view}
 use Rattle.edit_set_version.specs.Folders.{folder_of, same_folder}
-use Rattle.edit_set_version.specs.Numbers.{TellsFirst, first_in, numbered_seen, told_in}
+use Rattle.edit_set_version.specs.BumpsByFolder.{HasFirstBumps, first_in, numbered_view, numbered_at}
 use Rattle.edit_set_version.specs.SetVersioned.{Bump, own_edit, writes_own}
 use Rattle.edit_set_version.specs.declared.crates.Bump.{Bump as Bumping}
 use Rattle.edit_set_version.specs.declared.numbers.Numbered.{Numbered}
@@ -116,53 +116,53 @@ own_none file (b ∷ bs) h = elim (cases_Bool (same_folder (folder_of b.member.p
 pub record IsOwnAt (file : List ℕ) (xs : List Bumping) (n : ℕ) : Type 0 where
   pub within : n < length xs
   pub only : (x : Bumping) → x ≡ get_or xs n x
-      → filter (writes_own file) (bumps_seen xs) ≡ filter (writes_own file) (bump_seen x ∷ [])
+      → filter (writes_own file) (bumps_view xs) ≡ filter (writes_own file) (bump_view x ∷ [])
 
 -- so it is with the first one that stands there
-pub own_first : (file : List ℕ) (xs : List Bumping) (n : ℕ) (v : Parts) → AreApart (bumps_seen xs)
-    → first_in (bumps_seen xs) (folder_of file) ≡ Some (n, v) → IsOwnAt file xs n
+pub own_first : (file : List ℕ) (xs : List Bumping) (n : ℕ) (v : Parts) → AreApart (bumps_view xs)
+    → first_in (bumps_view xs) (folder_of file) ≡ Some (n, v) → IsOwnAt file xs n
 own_first file [] n v apart h = cc h
 own_first file (x ∷ xs) n v apart h =
-    elim (cases_Bool (same_folder (folder_of (bump_seen x).member.path) (folder_of file))) [
+    elim (cases_Bool (same_folder (folder_of (bump_view x).member.path) (folder_of file))) [
       | inl same ↦
-          let e : ◌≡◌ {A = Option (ℕ × Parts)} (Some (0, (bump_seen x).next)) (Some (n, v)) = rw same at h in
-          let number : 0 ≡ n = first_number 0 n (bump_seen x).next v e in
-          let here = same_folder_is (folder_of (bump_seen x).member.path) (folder_of file) same in
-          let rest = rest_none file (bump_seen x) (bumps_seen xs) here apart.0 in
+          let e : ◌≡◌ {A = Option (ℕ × Parts)} (Some (0, (bump_view x).next)) (Some (n, v)) = rw same at h in
+          let number : 0 ≡ n = first_number 0 n (bump_view x).next v e in
+          let here = same_folder_is (folder_of (bump_view x).member.path) (folder_of file) same in
+          let rest = rest_none file (bump_view x) (bumps_view xs) here apart.0 in
           subst (IsOwnAt file (x ∷ xs)) number (record {
             within = omega arith;
             only = λ y is.
-                ap (λ bs. cond (writes_own file (bump_seen x)) (bump_seen x ∷ bs) bs) rest
-                ∙ ap (λ z. filter (writes_own file) (bump_seen z ∷ [])) (sym is);
+                ap (λ bs. cond (writes_own file (bump_view x)) (bump_view x ∷ bs) bs) rest
+                ∙ ap (λ z. filter (writes_own file) (bump_view z ∷ [])) (sym is);
           })
       | inr other ↦
           let rest = rw other at h in
-          let back = some_later (first_in (bumps_seen xs) (folder_of file)) n v rest in
+          let back = some_later (first_in (bumps_view xs) (folder_of file)) n v rest in
           let there = own_first file xs back.0 v apart.1 back.1 in
-          let away = own_elsewhere file (bump_seen x) (unlike file (bump_seen x) other) in
+          let away = own_elsewhere file (bump_view x) (unlike file (bump_view x) other) in
           subst (IsOwnAt file (x ∷ xs)) (sym back.2) (record {
             within = omega (arith, there.within);
             only = λ y is.
-                ap (λ b. cond b (bump_seen x ∷ filter (writes_own file) (bumps_seen xs))
-                (filter (writes_own file) (bumps_seen xs))) away
+                ap (λ b. cond b (bump_view x ∷ filter (writes_own file) (bumps_view xs))
+                (filter (writes_own file) (bumps_view xs))) away
                 ∙ there.only y is;
           })
     ]
 
 -- what a map has for a manifest's folder
 pub tells_beside : (bs : List Bump) (numbers : BTreeMap (String Global) Numbered Global) (file : List ℕ)
-    → TellsFirst bs numbers → told_in numbers (folder_of file) ≡ first_in bs (folder_of file)
+    → HasFirstBumps bs numbers → numbered_at numbers (folder_of file) ≡ first_in bs (folder_of file)
 tells_beside bs numbers file tells =
-    subst (λ folder. told_in numbers folder ≡ first_in bs folder) (way_up file) (tells (file ++ codes "/.."))
+    subst (λ folder. numbered_at numbers folder ≡ first_in bs folder) (way_up file) (tells (file ++ codes "/.."))
 
 -- the bump of the number that such a map has
 pub own_told : (file : List ℕ) (xs : List Bumping) (numbers : BTreeMap (String Global) Numbered Global)
-    (o : Option Numbered) (told : Numbered) → TellsFirst (bumps_seen xs) numbers → AreApart (bumps_seen xs)
-    → option_map numbered_seen o ≡ told_in numbers (folder_of file) → o ≡ Some told
+    (o : Option Numbered) (told : Numbered) → HasFirstBumps (bumps_view xs) numbers → AreApart (bumps_view xs)
+    → option_map numbered_view o ≡ numbered_at numbers (folder_of file) → o ≡ Some told
     → IsOwnAt file xs told.number
 own_told file xs numbers o told tells apart is some =
     own_first file xs told.number (parts_of told.next.now) apart
-    (sym (tells_beside (bumps_seen xs) numbers file tells) ∙ sym is ∙ ap (option_map numbered_seen) some)
+    (sym (tells_beside (bumps_view xs) numbers file tells) ∙ sym is ∙ ap (option_map numbered_view) some)
 
 -- ---- what is written
 

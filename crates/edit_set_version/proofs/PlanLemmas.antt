@@ -11,11 +11,11 @@ use Rattle.edit_base.specs.Errors.{IsMemory}
 use Rattle.edit_base.specs.declared.errors.Error.{Error}
 use Rattle.edit_manifest.specs.Tables.{Tree}
 use Rattle.edit_manifest.specs.Versions.{is_inherited, workspace_version}
-use Rattle.edit_metadata.specs.Metadata.{PackageSaid, WorkspaceSaid, members}
+use Rattle.edit_metadata.specs.Metadata.{PackageModel, WorkspaceModel, members}
 use Rattle.edit_metadata.specs.declared.input.Input.{Input}
 use Rattle.edit_syntax.specs.Grammar.{Text}
 use Rattle.edit_tree.specs.Assertions.{IsDocument, same_bytes}
-use Rattle.edit_tree.specs.Replaces.{Edits, emptied, replaced, written}
+use Rattle.edit_tree.specs.Replaces.{Edits, tree_without_below, replaced, written}
 use Rattle.edit_tree.specs.Tree.{view_at}
 use Rattle.edit_tree.proofs.Shallow.{one_form}
 use Rattle.edit_report.specs.declared.output.Output.{Output}
@@ -33,29 +33,29 @@ use Rattle.edit_metadata.specs.Inputs.{path_of}
 use Rattle.edit_set_version.specs.Projects.{IsMemberOf, IsProject, IsTreeAt}
 use Rattle.edit_set_version.specs.SetVersioned.{Bump, Project, bumps, edits, dependents, workspace_current, workspace_next}
 use Rattle.edit_set_version.specs.ToldLines.{HasUnraised}
-use Rattle.edit_set_version.specs.Written.{TellsShared, shared_seen}
+use Rattle.edit_set_version.specs.Written.{HasSharedVersion, shared_version_view}
 use Rattle.edit_set_version.proofs.DependentLaw.{dependents_admit}
 
 -- ---- the members of a project, by their packages
 
 -- members have the names of their packages
-pub names_told : (is : List Input) (ps : List PackageSaid) (ms : List Member) → AllZip (IsMemberOf is) ps ms
-    → map (λ (m : Member). m.name) ms ≡ map (λ (p : PackageSaid). p.name) ps
+pub names_told : (is : List Input) (ps : List PackageModel) (ms : List Member) → AllZip (IsMemberOf is) ps ms
+    → map (λ (m : Member). m.name) ms ≡ map (λ (p : PackageModel). p.name) ps
 names_told is [] [] are = refl
 names_told is [] (m ∷ ms) are = absurd are
 names_told is (p ∷ ps) [] are = absurd are
 names_told is (p ∷ ps) (m ∷ ms) are = ap₂ (λ x xs. x ∷ xs) are.0.name (names_told is ps ms are.1)
 
 -- and their versions
-readable_told : (is : List Input) (ps : List PackageSaid) (ms : List Member) → AllZip (IsMemberOf is) ps ms
-    → All (λ (p : PackageSaid). IsReadable p.version) ps → All (λ (m : Member). IsReadable m.version) ms
+readable_told : (is : List Input) (ps : List PackageModel) (ms : List Member) → AllZip (IsMemberOf is) ps ms
+    → All (λ (p : PackageModel). IsReadable p.version) ps → All (λ (m : Member). IsReadable m.version) ms
 readable_told is [] [] are all = All-nil (λ (m : Member). IsReadable m.version)
 readable_told is [] (m ∷ ms) are all = absurd are
 readable_told is (p ∷ ps) [] are all = absurd are
 readable_told is (p ∷ ps) (m ∷ ms) are all =
     All-cons (λ (m : Member). IsReadable m.version) m ms
-    (subst IsReadable (sym are.0.version) (All-head (λ (p : PackageSaid). IsReadable p.version) p ps all))
-    (readable_told is ps ms are.1 (All-tail (λ (p : PackageSaid). IsReadable p.version) p ps all))
+    (subst IsReadable (sym are.0.version) (All-head (λ (p : PackageModel). IsReadable p.version) p ps all))
+    (readable_told is ps ms are.1 (All-tail (λ (p : PackageModel). IsReadable p.version) p ps all))
 
 -- what holds of all members holds of those that are chosen
 pub all_chosen : (P : Member → Type 0) (a : Asked) (ms : List Member) → All P ms → All P (chosen a ms)
@@ -69,15 +69,15 @@ all_chosen P a ms all =
     by false = All-filter (λ m. not (is_asked a m) && is_inherited m.tree) P ms all
 
 -- the versions of the members can be read, where those of the packages can
-pub readable_members : (w : WorkspaceSaid) (is : List Input) (p : Project) → IsProject w is p
-    → All (λ (q : PackageSaid). IsReadable q.version) w.packages
+pub readable_members : (w : WorkspaceModel) (is : List Input) (p : Project) → IsProject w is p
+    → All (λ (q : PackageModel). IsReadable q.version) w.packages
     → All (λ (m : Member). IsReadable m.version) p.members
 readable_members w is p project all =
     readable_told is (members w.packages) p.members project.members
-    (All-filter (λ (q : PackageSaid). q.member) (λ (q : PackageSaid). IsReadable q.version) w.packages all)
+    (All-filter (λ (q : PackageModel). q.member) (λ (q : PackageModel). IsReadable q.version) w.packages all)
 
 -- the manifest of each member is that of an input
-trees_told : (is : List Input) (ps : List PackageSaid) (ms : List Member) → AllZip (IsMemberOf is) ps ms
+trees_told : (is : List Input) (ps : List PackageModel) (ms : List Member) → AllZip (IsMemberOf is) ps ms
     → All (λ (m : Member). IsTreeAt is m.path m.tree) ms
 trees_told is [] [] are = All-nil (λ (m : Member). IsTreeAt is m.path m.tree)
 trees_told is [] (m ∷ ms) are = absurd are
@@ -86,9 +86,9 @@ trees_told is (p ∷ ps) (m ∷ ms) are =
     All-cons (λ (m : Member). IsTreeAt is m.path m.tree) m ms are.0.tree (trees_told is ps ms are.1)
 
 -- so is each manifest of a project
-manifests_told : (w : WorkspaceSaid) (is : List Input) (p : Project) → IsProject w is p
+manifest_lines_view : (w : WorkspaceModel) (is : List Input) (p : Project) → IsProject w is p
     → All (λ (m : Named). IsTreeAt is m.path m.tree) (manifests p)
-manifests_told w is p project =
+manifest_lines_view w is p project =
     All-cons (λ (m : Named). IsTreeAt is m.path m.tree) _ _ project.tree
     (All-map (λ (m : Named). IsTreeAt is m.path m.tree)
     (λ (m : Member). record { name = m.name; path = m.path; tree = m.tree })
@@ -122,7 +122,7 @@ member_current a p m there =
     (contains_map (λ (m : Member). m.version) (chosen a p.members) m there)
 
 -- a version that is lent, by its parts
-pub seen_copied : (o : Option (Bor Version)) → shared_seen o ≡ option_map parts_of (option_copied o)
+pub seen_copied : (o : Option (Bor Version)) → shared_version_view o ≡ option_map parts_of (option_copied o)
 seen_copied None = refl
 seen_copied (Some v) = refl
 
@@ -143,7 +143,8 @@ lines_for p a b m n bs cs old next same =
     ∙ ap (λ (xs : List Bump). shared_lines b n ++ flat_map (lines_of p) xs) same
 
 -- what holds of a version that may be there
-pub all_shared : (P : Parts → Type 0) (o : Option (Bor Version)) (q : Option Parts) → shared_seen o ≡ q
+pub all_shared : (P : Parts → Type 0) (o : Option (Bor Version)) (q : Option Parts)
+    → shared_version_view o ≡ q
     → IfSome o (λ v. P (parts_of v.now)) → All P (option_to_list q)
 all_shared P None q is h = subst (λ z. All P (option_to_list z)) is (All-nil P)
 all_shared P (Some v) q is h =
@@ -159,8 +160,8 @@ all_currents P a p shared own =
     (All-map P (λ (m : Member). m.version) (chosen a p.members) own)
 
 -- where the workspace gets a next version, its root has the current one
-pub tells_shared : (t : Target) (a : Asked) (w : WorkspaceSaid) (is : List Input) (p : Project)
-    → IsProject w is p → TellsShared is p.path (workspace_next t a p)
+pub tells_shared : (t : Target) (a : Asked) (w : WorkspaceModel) (is : List Input) (p : Project)
+    → IsProject w is p → HasSharedVersion is p.path (workspace_next t a p)
 tells_shared t a w is p project = by (workspace_next t a p) refl
   where
     current : (o : Option Parts) → workspace_current a p ≡ o → (v : Parts) → workspace_next t a p ≡ Some v
@@ -174,19 +175,19 @@ tells_shared t a w is p project = by (workspace_next t a p) refl
         by_choice true is none = cc (is ∙ none)
         by_choice false is none = cc is
 
-    by : (o : Option Parts) → workspace_next t a p ≡ o → TellsShared is p.path o
+    by : (o : Option Parts) → workspace_next t a p ≡ o → HasSharedVersion is p.path o
     by None e = tt
     by (Some v) e = (p.tree, project.tree, current (workspace_current a p) refl v e)
 
 -- a requirement that cannot be raised stands in an input
-pub bad_input : (t : Target) (a : Asked) (w : WorkspaceSaid) (is : List Input) (p : Project) (e : Error)
+pub bad_input : (t : Target) (a : Asked) (w : WorkspaceModel) (is : List Input) (p : Project) (e : Error)
     → IsProject w is p → HasUnraised (bumps t a p) (manifests p) e → IsMemory e ⊎ HasBadInput t a is p e
 bad_input t a w is p e project has = by has.unraised
   where
     at : IsTreeAt is has.manifest.path has.manifest.tree
     at =
         All-contains (λ (m : Named). IsTreeAt is m.path m.tree) (manifests p) has.manifest
-        (manifests_told w is p project) has.among
+        (manifest_lines_view w is p project) has.among
 
     by : IsUnraised (bumps t a p) has.manifest.path has.manifest.tree e
         → IsMemory e ⊎ HasBadInput t a is p e
@@ -209,26 +210,26 @@ bad_input t a w is p e project has = by has.unraised
     })
 
 -- what stands after a plan is a manifest of which this holds
-record StandsAfter (old : List ℕ) (outputs : List Output) (Holds : Tree → Type 0) : Type 0 where
+record StandsAfter (old : List ℕ) (outputs : List Output) (RepresentsNodes : Tree → Type 0) : Type 0 where
   form : Text
   manifest : IsDocument (bytes_after old outputs) form
-  holds : Holds (view_at form)
+  holds : RepresentsNodes (view_at form)
 
 -- what holds of each tree that the edits leave holds of what stands after a plan
-stands_after : (path old : List ℕ) (form : Text) (es : Edits) (outputs : List Output) (Holds : Tree → Type 0)
-    → IsDocument old form → ((after : Tree) → IsLeftBy es (view_at form) after → Holds after)
-    → AreOutputs path old es outputs → StandsAfter old outputs Holds
-stands_after path old form es _ Holds manifest each (unchanged none) = record {
+stands_after : (path old : List ℕ) (form : Text) (es : Edits) (outputs : List Output) (RepresentsNodes : Tree → Type 0)
+    → IsDocument old form → ((after : Tree) → IsLeftBy es (view_at form) after → RepresentsNodes after)
+    → AreOutputs path old es outputs → StandsAfter old outputs RepresentsNodes
+stands_after path old form es _ RepresentsNodes manifest each (unchanged none) = record {
   form = form;
   manifest = manifest;
   holds = each (view_at form) (λ q. subst (λ (ds : Edits). view_at form q
-      ≡ written ds (emptied ds (view_at form)) q) (sym none) refl);
+      ≡ written ds (tree_without_below ds (view_at form)) q) (sym none) refl);
 }
-stands_after path old form es _ Holds manifest each (changed output some at new) = record {
+stands_after path old form es _ RepresentsNodes manifest each (changed output some at new) = record {
   form = replaced es new.form;
   manifest = new.is;
   holds = each (view_at (replaced es new.form)) (λ q. subst (λ (f : Text). view_at (replaced es new.form) q
-      ≡ written es (emptied es (view_at f)) q) (one_form old new.form form new.was manifest) (new.tree q));
+      ≡ written es (tree_without_below es (view_at f)) q) (one_form old new.form form new.was manifest) (new.tree q));
 }
 
 -- after a plan, the requirements of an input on bumped crates admit the next versions
@@ -279,7 +280,7 @@ all_admitted t a is p outputs versions set clear =
     (set k d within)
 
 -- an error of the lines or the outputs has its cause
-pub cause_given : (t : Target) (a : Asked) (w : WorkspaceSaid) (is : List Input) (p : Project)
+pub cause_given : (t : Target) (a : Asked) (w : WorkspaceModel) (is : List Input) (p : Project)
     (bs : List Bump) (e : Error) → unknown a w ≡ [] → IsProject w is p → HasVersions t a p
     → bs ≡ bumps t a p
     → IsMemory e ⊎ (IsBehindLiterals bs is e × (HasUnraised bs (manifests p) e ⊎ HasBadInputBy bs is e))

@@ -8,7 +8,7 @@ use Rattle.edit_tree.specs.Assertions.{Place, at, key}
 use Rattle.edit_manifest.specs.Tables.{Tree, dependency_tables, member_names}
 use Rattle.edit_set_version.specs.Entries.{entries_in, path_member, requirement, text_at}
 use Rattle.edit_set_version.specs.Folders.{reached}
-use Rattle.edit_set_version.specs.Pointed.{led, pointed, pointed_at, pointed_in, pointed_named, pointed_with}
+use Rattle.edit_set_version.specs.PathDependency.{dependent_by_path, pointed, path_dependency_at, path_dependencies_in, path_dependency_named, path_dependency_with}
 use Rattle.edit_set_version.specs.SetVersioned.{Bump, Dependent, dependent, dependent_at, dependents, next_in}
 use Rattle.edit_set_version.proofs.EntriesStay.{flat_same}
 
@@ -46,7 +46,7 @@ next_one place text (Some v) = refl
 
 -- with both texts, or without one of them
 led_with : (bs : List Bump) (file : List ℕ) (place : Place) (text path : Option (List ℕ))
-    → option_and_then (led bs file) (pointed_with place text path)
+    → option_and_then (dependent_by_path bs file) (path_dependency_with place text path)
     ≡ dependent_at place text (option_and_then (next_in bs) (option_map (reached file) path))
 led_with bs file place None None = refl
 led_with bs file place None (Some path) = refl
@@ -55,11 +55,11 @@ led_with bs file place (Some text) (Some path) = next_one place text (next_in bs
 
 -- an entry of a table
 named_led : (bs : List Bump) (file : List ℕ) (t : Tree) (table : Place) (name : List ℕ)
-    → filter_map (led bs file) (pointed_named t table name)
+    → filter_map (dependent_by_path bs file) (path_dependency_named t table name)
     ≡ option_to_list (dependent bs file t (at table (key name)))
 named_led bs file t table name =
     let place = at table (key name) in
-    one (led bs file) (pointed_at t place)
+    one (dependent_by_path bs file) (path_dependency_at t place)
     ∙ ap (λ (o : Option Dependent). option_to_list o)
     (led_with bs file place (requirement t place) (text_at t (path_member place)))
 
@@ -76,21 +76,21 @@ members_kept f table (n ∷ ns) =
 
 -- the entries of a table
 table_led : (bs : List Bump) (file : List ℕ) (t : Tree) (table : Place)
-    → filter_map (led bs file) (pointed_in t table)
+    → filter_map (dependent_by_path bs file) (path_dependencies_in t table)
     ≡ filter_map (dependent bs file t) (entries_in t table)
 table_led bs file t table =
-    flat (led bs file) (pointed_named t table) (member_names (t table))
-    ∙ flat_same (λ name. filter_map (led bs file) (pointed_named t table name))
+    flat (dependent_by_path bs file) (path_dependency_named t table) (member_names (t table))
+    ∙ flat_same (λ name. filter_map (dependent_by_path bs file) (path_dependency_named t table name))
     (λ name. option_to_list (dependent bs file t (at table (key name)))) (named_led bs file t table)
     (member_names (t table))
     ∙ members_kept (dependent bs file t) table (member_names (t table))
 
 -- those of a manifest
 pub dependents_pointed : (bs : List Bump) (file : List ℕ) (t : Tree)
-    → dependents bs file t ≡ filter_map (led bs file) (pointed t)
+    → dependents bs file t ≡ filter_map (dependent_by_path bs file) (pointed t)
 dependents_pointed bs file t =
     flat (dependent bs file t) (entries_in t) (dependency_tables t)
-    ∙ sym (flat_same (λ table. filter_map (led bs file) (pointed_in t table))
+    ∙ sym (flat_same (λ table. filter_map (dependent_by_path bs file) (path_dependencies_in t table))
     (λ table. filter_map (dependent bs file t) (entries_in t table)) (table_led bs file t)
     (dependency_tables t))
-    ∙ sym (flat (led bs file) (pointed_in t) (dependency_tables t))
+    ∙ sym (flat (dependent_by_path bs file) (path_dependencies_in t) (dependency_tables t))

@@ -6,9 +6,9 @@ use Rattle.std.proofs.lemmas.List.{length-map}
 use Rattle.std.proofs.lemmas.Slice.Zip.{AllZip-long}
 use Rattle.std.proofs.lemmas.List.Elements.{Contains-append_right}
 use Rattle.edit_manifest.specs.declared.manifest.Manifest.{Manifest}
-use Rattle.edit_metadata.specs.Inputs.{AreInputs, IsInputOf, RustAsked, manifest_of, member_manifests, of_members, with_root}
-use Rattle.edit_metadata.specs.Metadata.{PackageSaid, WorkspaceSaid, members}
-use Rattle.edit_metadata.specs.Workspaces.{package_said}
+use Rattle.edit_metadata.specs.Inputs.{AreInputs, IsInputOf, RustOptions, manifest_of, member_manifests, of_members, with_root}
+use Rattle.edit_metadata.specs.Metadata.{PackageModel, WorkspaceModel, members}
+use Rattle.edit_metadata.specs.Workspaces.{package_view}
 use Rattle.edit_metadata.specs.declared.input.Input.{Input}
 use Rattle.edit_metadata.specs.declared.workspace.Package.{Package}
 use Rattle.edit_set_version.specs.Crates.{IsReadOf, members_of}
@@ -20,13 +20,13 @@ abbrev pub inputs_of : List Crate → List Input
 inputs_of cs = map (λ (c : Crate). c.input.now) cs
 
 -- the packages of crates, as the metadata have them
-abbrev pub told_of : List Crate → List PackageSaid
-told_of cs = map (λ (c : Crate). package_said c.told.now) cs
+abbrev pub told_of : List Crate → List PackageModel
+told_of cs = map (λ (c : Crate). package_view c.told.now) cs
 
 -- crates whose inputs are made of their manifests, and whose manifests are read of these, are the members of
 -- their packages
-pub members_stand : (asked : RustAsked) (all : List Input) (cs : List Crate)
-    → AllZip (IsInputOf asked) (map (λ (c : Crate). manifest_of (package_said c.told.now)) cs) (inputs_of cs)
+pub members_stand : (asked : RustOptions) (all : List Input) (cs : List Crate)
+    → AllZip (IsInputOf asked) (map (λ (c : Crate). manifest_of (package_view c.told.now)) cs) (inputs_of cs)
     → AllZip IsReadOf (inputs_of cs) (map (λ (c : Crate). c.manifest.now) cs)
     → ((i : Input) → Contains (inputs_of cs) i → Contains all i)
     → AllZip (IsMemberOf all) (told_of cs) (members_of cs)
@@ -50,17 +50,17 @@ members_stand asked all (c ∷ cs) made read inside = (
 )
 
 -- the inputs of a workspace's members stand last
-pub record LastInputs (w : WorkspaceSaid) (is : List Input) : Type 0 where
-  pub asked : RustAsked
+pub record LastInputs (w : WorkspaceModel) (is : List Input) : Type 0 where
+  pub asked : RustOptions
   pub before : List Input
   pub own : List Input
   pub all : is ≡ before ++ own
   pub made : AllZip (IsInputOf asked) (member_manifests w.packages) own
 
-pub last_inputs : (w : WorkspaceSaid) (is : List Input) → AreInputsOf w is → LastInputs w is
+pub last_inputs : (w : WorkspaceModel) (is : List Input) → AreInputsOf w is → LastInputs w is
 last_inputs w is are = by (are.0) is are.1
   where
-    by : (asked : RustAsked) (js : List Input) → AreInputs asked w js → LastInputs w js
+    by : (asked : RustOptions) (js : List Input) → AreInputs asked w js → LastInputs w js
     by asked _ (of_members root js made normal among) =
         record { asked = asked; before = []; own = js; all = refl; made = made }
     by asked _ (with_root j js made root other) =
@@ -80,28 +80,28 @@ dropped (x ∷ before) own = dropped before own
 
 -- the manifests of crates, as the metadata have them
 told_manifests : (cs : List Crate)
-    → map (λ (c : Crate). manifest_of (package_said c.told.now)) cs ≡ map manifest_of (told_of cs)
+    → map (λ (c : Crate). manifest_of (package_view c.told.now)) cs ≡ map manifest_of (told_of cs)
 told_manifests [] = refl
-told_manifests (c ∷ cs) = ap (λ ms. manifest_of (package_said c.told.now) ∷ ms) (told_manifests cs)
+told_manifests (c ∷ cs) = ap (λ ms. manifest_of (package_view c.told.now) ∷ ms) (told_manifests cs)
 
 -- the packages of crates, one by one
-pub said_of : (cs : List Crate) (ps : List (Bor Package))
+pub read_item : (cs : List Crate) (ps : List (Bor Package))
     → map (λ (c : Crate). c.told.now) cs ≡ map (λ p. p.now) ps
-    → told_of cs ≡ map (λ (p : Bor Package). package_said p.now) ps
-said_of cs ps same = of_crates cs ∙ ap (map package_said) same ∙ of_packages ps
+    → told_of cs ≡ map (λ (p : Bor Package). package_view p.now) ps
+read_item cs ps same = of_crates cs ∙ ap (map package_view) same ∙ of_packages ps
   where
-    of_crates : (xs : List Crate) → told_of xs ≡ map package_said (map (λ (c : Crate). c.told.now) xs)
+    of_crates : (xs : List Crate) → told_of xs ≡ map package_view (map (λ (c : Crate). c.told.now) xs)
     of_crates [] = refl
-    of_crates (x ∷ xs) = ap (λ ys. package_said x.told.now ∷ ys) (of_crates xs)
+    of_crates (x ∷ xs) = ap (λ ys. package_view x.told.now ∷ ys) (of_crates xs)
 
     of_packages : (xs : List (Bor Package))
-        → map package_said (map (λ (p : Bor Package). p.now) xs)
-        ≡ map (λ (p : Bor Package). package_said p.now) xs
+        → map package_view (map (λ (p : Bor Package). p.now) xs)
+        ≡ map (λ (p : Bor Package). package_view p.now) xs
     of_packages [] = refl
-    of_packages (x ∷ xs) = ap (λ ys. package_said x.now ∷ ys) (of_packages xs)
+    of_packages (x ∷ xs) = ap (λ ys. package_view x.now ∷ ys) (of_packages xs)
 
 -- how many inputs there are
-pub counted : (w : WorkspaceSaid) (is : List Input) (last : LastInputs w is)
+pub counted : (w : WorkspaceModel) (is : List Input) (last : LastInputs w is)
     → length is ≡ length last.before + length (members w.packages)
 counted w is last =
     ap length last.all ∙ length-append last.before last.own
@@ -110,7 +110,7 @@ counted w is last =
     ∙ length-map (members w.packages) manifest_of)
 
 -- crates that stand beside the last inputs of a workspace are its members
-pub members_last : (w : WorkspaceSaid) (is : List Input) (ms : List Manifest) (cs : List Crate) (n : ℕ)
+pub members_last : (w : WorkspaceModel) (is : List Input) (ms : List Manifest) (cs : List Crate) (n : ℕ)
     (last : LastInputs w is) → AllZip IsReadOf is ms → n ≡ length last.before
     → told_of cs ≡ members w.packages
     → inputs_of cs ≡ drop n is → map (λ (c : Crate). c.manifest.now) cs ≡ drop n ms
@@ -119,7 +119,7 @@ members_last w is ms cs n last read long told ins mans =
     let own : inputs_of cs ≡ last.own
     = ins ∙ ap (λ k. drop k is) long ∙ ap (drop (length last.before)) last.all
     ∙ dropped last.before last.own in
-    let named : map (λ (c : Crate). manifest_of (package_said c.told.now)) cs ≡ member_manifests w.packages
+    let named : map (λ (c : Crate). manifest_of (package_view c.told.now)) cs ≡ member_manifests w.packages
     = told_manifests cs ∙ ap (map manifest_of) told in
     subst (λ ps. AllZip (IsMemberOf is) ps (members_of cs)) told
     (members_stand last.asked is cs

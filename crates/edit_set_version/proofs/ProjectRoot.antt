@@ -4,25 +4,25 @@ use Rattle.std.specs.Prelude.{Contains, string_bytes}
 use Rattle.std.specs.List.{AllZip}
 use Rattle.edit_base.specs.Paths.{IsNormalOf}
 use Rattle.edit_manifest.specs.declared.manifest.Manifest.{Manifest}
-use Rattle.edit_metadata.specs.Inputs.{AreInputs, RustAsked, input_paths, path_of, root_manifest}
+use Rattle.edit_metadata.specs.Inputs.{AreInputs, RustOptions, input_paths, path_of, root_manifest}
 use Rattle.edit_metadata.specs.Inputs.AreInputs.{of_members, with_root}
-use Rattle.edit_metadata.specs.Metadata.{WorkspaceSaid}
+use Rattle.edit_metadata.specs.Metadata.{WorkspaceModel}
 use Rattle.edit_metadata.specs.declared.input.Input.{Input}
 use Rattle.edit_set_version.specs.Crates.{IsReadOf}
 use Rattle.edit_set_version.specs.Projects.{AreInputsOf, IsTreeAt}
 use Rattle.edit_set_version.proofs.ReachedFolders.{normal_text}
-use Rattle.edit_tree.specs.Shown.{tree_of}
+use Rattle.edit_tree.specs.DocumentViews.{tree_of}
 
 -- a path has one normal form
 pub one_normal : (path a b : List ℕ) → IsNormalOf path a → IsNormalOf path b → a ≡ b
 one_normal path a b na nb = normal_text path a na ∙ sym (normal_text path b nb)
 
 -- the normal path of the root's manifest is that of an input
-pub root_among : (w : WorkspaceSaid) (is : List Input) (path : List ℕ) → AreInputsOf w is
+pub root_among : (w : WorkspaceModel) (is : List Input) (path : List ℕ) → AreInputsOf w is
     → IsNormalOf (root_manifest w).path path → Contains (input_paths is) path
 root_among w is path are normal = by (are.0) is are.1
   where
-    by : (asked : RustAsked) (js : List Input) → AreInputs asked w js → Contains (input_paths js) path
+    by : (asked : RustOptions) (js : List Input) → AreInputs asked w js → Contains (input_paths js) path
     by asked _ (of_members root js made own among) =
         subst (Contains (input_paths js)) (one_normal (root_manifest w).path root path own normal) among
     by asked _ (with_root j js made own other) =

@@ -6,7 +6,7 @@ use Rattle.std.proofs.lemmas.Bool.{cases_Bool}
 use Rattle.semver.specs.Identifiers.{parts_text}
 use Rattle.semver.specs.Parse.{Parts}
 use Rattle.edit_tree.specs.Assertions.{Place, key, same_bytes, same_place}
-use Rattle.edit_tree.specs.Replaces.{Edits, emptied, is_below, is_below_any, written}
+use Rattle.edit_tree.specs.Replaces.{Edits, tree_without_below, is_below, is_below_any, written}
 use Rattle.edit_tree.specs.Tree.{string}
 use Rattle.edit_tree.proofs.SamePlace.{last_same, same_place_is, same_place_self}
 use Rattle.edit_manifest.specs.Tables.{Tree}
@@ -127,17 +127,17 @@ below_none (e ∷ es) q h = rw (h.0, below_none es q h.1) refl
 
 -- it keeps what it had
 pub emptied_other : (es : Edits) (t : Tree) (q : Place) → AllByRecursion (λ e. is_below e.0 q ≡ false) es
-    → emptied es t q ≡ t q
+    → tree_without_below es t q ≡ t q
 emptied_other es t q h = rw (below_none es q h) refl
 
 -- so a place that is neither one of those nor below one
 pub untouched : (es : Edits) (t : Tree) (q : Place) → AllByRecursion (λ e. same_place e.0 q ≡ false) es
-    → AllByRecursion (λ e. is_below e.0 q ≡ false) es → written es (emptied es t) q ≡ t q
-untouched es t q other below = written_other es (emptied es t) q other ∙ emptied_other es t q below
+    → AllByRecursion (λ e. is_below e.0 q ≡ false) es → written es (tree_without_below es t) q ≡ t q
+untouched es t q other below = written_other es (tree_without_below es t) q other ∙ emptied_other es t q below
 
 -- what is written leaves a place that none of it reaches
 pub unreached : (es : Edits) (t : Tree) (q : Place) → AllByRecursion (λ e. reaches e.0 q ≡ false) es
-    → written es (emptied es t) q ≡ t q
+    → written es (tree_without_below es t) q ≡ t q
 unreached es t q h =
     untouched es t q
     (all_then (λ e. reaches e.0 q ≡ false) (λ e. same_place e.0 q ≡ false) (λ e. not_same e.0 q) es h)

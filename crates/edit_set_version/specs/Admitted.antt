@@ -1,10 +1,10 @@
 -- Properties of the requirements on bumped crates after a plan.
 use Rattle.std.specs.Prelude.{◌≡◌, ℕ, List, All}
 use Rattle.edit_tree.specs.Assertions.{Place}
-use Rattle.edit_tree.specs.Replaces.{Edits, emptied, written}
+use Rattle.edit_tree.specs.Replaces.{Edits, tree_without_below, written}
 use Rattle.edit_manifest.specs.Tables.{Tree}
 use Rattle.edit_version.specs.Laws.{Admits, CanReach, IsVersion}
-use Rattle.edit_version.specs.Requirement.{Nothing, Raised, Text, raise}
+use Rattle.edit_version.specs.Requirement.{Nothing, UpgradeResult, Text, raise}
 use Rattle.edit_set_version.specs.Bumps.{Target}
 use Rattle.edit_set_version.specs.Chosen.{Asked}
 use Rattle.edit_set_version.specs.SetVersioned.{Bump, Dependent, Project, bumps, edits, dependents}
@@ -19,7 +19,7 @@ abbrev pub AllAdmitNext : List Bump → List ℕ → Tree → Type 0
 AllAdmitNext bs file t = All AdmitsNext (dependents bs file t)
 
 -- the requirement can be raised: it is unchanged or becomes another text
-abbrev pub CanRise : Raised → Type 0
+abbrev pub CanRise : UpgradeResult → Type 0
 CanRise Nothing = Unit {0}
 CanRise (Text s) = Unit {0}
 CanRise _ = ⊥
@@ -34,7 +34,7 @@ AreVersions bs = All (λ b. IsVersion b.next) bs
 
 -- the tree after these strings are written, without what was below them, and else unchanged
 abbrev pub IsLeftBy : Edits → Tree → Tree → Type 0
-IsLeftBy es tree after = (q : Place) → after q ≡ written es (emptied es tree) q
+IsLeftBy es tree after = (q : Place) → after q ≡ written es (tree_without_below es tree) q
 
 -- After a plan that succeeds, each requirement of a manifest on a bumped crate admits its next version,
 -- where that has no pre-release, or where the requirement has comparators, all of three numbers.

@@ -34,16 +34,16 @@ pub data Bumped : Type 0 where
   lower : Parts → Bumped
 
 -- without its pre-release (SemVer 2.0.0, item 9)
-abbrev pub released : Parts → Parts
-released v = (v.0, v.1, v.2, [], v.4)
+abbrev pub without_prerelease : Parts → Parts
+without_prerelease v = (v.0, v.1, v.2, [], v.4)
 
 -- raised by a level: the increment; but patch of a pre-release, and release, only clear the pre-release
 -- (own)
 abbrev pub raised_by : BumpLevel → Parts → Change
 raised_by level.Major v = step Major v
 raised_by level.Minor v = step Minor v
-raised_by level.Patch v = if length v.3 == 0 then step Patch v else To (released v)
-raised_by level.Release v = To (released v)
+raised_by level.Patch v = if length v.3 == 0 then step Patch v else To (without_prerelease v)
+raised_by level.Release v = To (without_prerelease v)
 raised_by level.Rc v = step rc v
 raised_by level.Beta v = step beta v
 raised_by level.Alpha v = step alpha v

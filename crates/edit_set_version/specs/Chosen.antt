@@ -27,16 +27,16 @@ abbrev pub is_among : List (List ℕ) → List ℕ → Bool
 is_among names name = list_any (same_bytes name) names
 
 -- all members are selected: with `--workspace`, or since no name is given
-abbrev pub asks_all : Asked → Bool
-asks_all a = a.workspace || (length a.packages == 0)
+abbrev pub is_all_selected : Asked → Bool
+is_all_selected a = a.workspace || (length a.packages == 0)
 
 -- all members are selected, and none is excluded
-abbrev pub asks_whole : Asked → Bool
-asks_whole a = asks_all a && (length a.exclude == 0)
+abbrev pub is_whole_selected : Asked → Bool
+is_whole_selected a = is_all_selected a && (length a.exclude == 0)
 
 -- the member is selected: it is not excluded where all are selected, else it is named
 abbrev pub is_asked : Asked → Member → Bool
-is_asked a m = if asks_all a then not (is_among a.exclude m.name) else is_among a.packages m.name
+is_asked a m = if is_all_selected a then not (is_among a.exclude m.name) else is_among a.packages m.name
 
 -- the selected members that inherit their version from the workspace
 abbrev pub inheriting : Asked → List Member → List Member
@@ -55,7 +55,7 @@ chosen a ms = filter (is_asked a) ms ++ added a ms
 
 -- the version of the workspace is bumped
 abbrev pub bumps_workspace : Asked → List Member → Bool
-bumps_workspace a ms = asks_whole a || not (length (inheriting a ms) == 0)
+bumps_workspace a ms = is_whole_selected a || not (length (inheriting a ms) == 0)
 
 -- ---- errors of a selection
 

@@ -5,7 +5,7 @@ use Rattle.edit_manifest.specs.declared.manifest.Manifest.{Manifest}
 use Rattle.edit_metadata.specs.declared.input.Input.{Input}
 use Rattle.edit_syntax.specs.Grammar.{Text}
 use Rattle.edit_tree.specs.Assertions.{IsDocument}
-use Rattle.edit_tree.specs.Shown.{ShowsTree, tree_of}
+use Rattle.edit_tree.specs.DocumentViews.{ShowsTree, tree_of}
 use Rattle.edit_set_version.specs.Chosen.{Member}
 use Rattle.edit_set_version.specs.SetVersioned.{Bump, Project}
 use Rattle.edit_set_version.specs.declared.crates.Bump.{Bump as Bumping}
@@ -26,16 +26,16 @@ abbrev pub members_of : List Crate → List Member
 members_of cs = map member_of cs
 
 -- a bump of the program
-abbrev pub bump_seen : Bumping → Bump
-bump_seen b = record { member = member_of b.member; next = parts_of b.next }
+abbrev pub bump_view : Bumping → Bump
+bump_view b = record { member = member_of b.member; next = parts_of b.next }
 
 -- bumps of the program, in order
-abbrev pub bumps_seen : List Bumping → List Bump
-bumps_seen bs = map bump_seen bs
+abbrev pub bumps_view : List Bumping → List Bump
+bumps_view bs = map bump_view bs
 
 -- a project of the program
-abbrev pub project_seen : ProjectRead → Project
-project_seen p = record {
+abbrev pub project_view : ProjectRead → Project
+project_view p = record {
   path = string_bytes p.root.input.now.path;
   tree = tree_of p.root.manifest.now.document;
   members = members_of p.members.items;

@@ -8,10 +8,10 @@ pub mod Entries
 pub mod SetVersioned
 pub mod Apart
 pub mod Crates
-pub mod Wanted
-pub mod Numbers
+pub mod SelectedNames
+pub mod BumpsByFolder
 pub mod Dependents
-pub mod Pointed
+pub mod PathDependency
 pub mod PlanLines
 pub mod ToldLines
 pub mod Admitted

@@ -6,7 +6,7 @@ use Rattle.edit_set_version.specs.Bumps.{IsReadableTarget, Target}
 use Rattle.edit_set_version.specs.Chosen.{Asked}
 use Rattle.edit_set_version.specs.PlanLines.{lines}
 use Rattle.edit_set_version.specs.PlanRefused.{IsClear}
-use Rattle.edit_set_version.specs.Planned.{HasAdmitted, HasSetOutputs, OutputsInOrder, has_lines, told_lines}
+use Rattle.edit_set_version.specs.Planned.{HasAdmitted, HasSetOutputs, OutputsInOrder, has_lines, plan_lines_view}
 use Rattle.edit_set_version.specs.SetVersioned.{Project}
 use Rattle.edit_set_version.specs.declared.plan.SetVersionPlan.{SetVersionPlan}
 
@@ -17,7 +17,7 @@ pub record IsPlan (t : Target) (a : Asked) (inputs : List Input) (plan : SetVers
   -- and no other byte
   pub outputs : All (HasSetOutputs t a plan.outputs.items p) inputs
   pub in_order : OutputsInOrder inputs plan.outputs.items
-  pub lines : told_lines plan ≡ lines t a p
+  pub lines : plan_lines_view plan ≡ lines t a p
   pub changed : plan.changed ≡ has_lines plan
   -- nothing is an error: no unknown name, excluded member, rejected version, missing literal, or
   -- requirement that cannot be raised

@@ -8,7 +8,7 @@ use Rattle.edit_base.specs.declared.errors.details.MissingKind.TheVariants as ki
 use Rattle.edit_tree.specs.Tree.{is_value_at, view_at}
 use Rattle.edit_manifest.specs.Versions.{package_version}
 use Rattle.edit_syntax.specs.Grammar.{Text}
-use Rattle.edit_version.specs.Refusals.{IsRefusal}
+use Rattle.edit_version.specs.RequirementErrors.{IsUpgradeError}
 use Rattle.edit_version.specs.Requirement.{raise}
 use Rattle.edit_set_version.specs.BumpCauses.{IsUnbumped}
 use Rattle.edit_set_version.specs.Bumps.{Target, bump}
@@ -26,10 +26,10 @@ IsMissing names (error.PackagesMissing told) =
 IsMissing names _ = ⊥
 
 -- the error has the excluded members that inherit, and the selected ones that do
-abbrev pub IsHeldBack : List Member → List Member → Error → Type 0
-IsHeldBack held others (error.CannotExclude excluded named) =
+abbrev pub IsExcludeError : List Member → List Member → Error → Type 0
+IsExcludeError held others (error.CannotExclude excluded named) =
     (held ≢ []) × (string_bytes excluded ≡ listed held) × (string_bytes named ≡ listed others)
-IsHeldBack held others _ = ⊥
+IsExcludeError held others _ = ⊥
 
 -- the current versions that a plan bumps: that of the workspace, and those of the chosen members
 abbrev pub currents : Asked → Project → List Parts
@@ -51,12 +51,12 @@ pub record HasNoLiteral (bs : List Bump) (file : List ℕ) (form : Text) (e : Er
 pub record HasFixed (bs : List Bump) (file : List ℕ) (form : Text) (e : Error) : Type 0 where
   pub dependent : Dependent
   pub among : Contains (dependents bs file (view_at form)) dependent
-  pub fixed : IsRefusal (raise dependent.text dependent.next) dependent.text e
+  pub fixed : IsUpgradeError (raise dependent.text dependent.next) dependent.text e
 
 -- the error in the choice of members, and where there is none, in bumping their versions
-pub data StandsAgainst (t : Target) (a : Asked) (p : Project) (e : Error) : Type 0 where
-  excluded : IsHeldBack (held_back a p.members) (inheriting a p.members) e → StandsAgainst t a p e
-  version : held_back a p.members ≡ [] → HasUnbumped t a p e → StandsAgainst t a p e
+pub data IsVersionError (t : Target) (a : Asked) (p : Project) (e : Error) : Type 0 where
+  excluded : IsExcludeError (held_back a p.members) (inheriting a p.members) e → IsVersionError t a p e
+  version : held_back a p.members ≡ [] → HasUnbumped t a p e → IsVersionError t a p e
 
 -- the error in a manifest
 pub data ManifestStandsAgainst (bs : List Bump) (file : List ℕ) (form : Text) (e : Error) : Type 0 where

@@ -11,11 +11,11 @@ use Rattle.edit_set_version.specs.Chosen.{Asked, Member}
 use Rattle.edit_set_version.specs.SetVersioned.{Bump, Project, bumps, dependents, risen, workspace_current, workspace_next}
 
 -- a line: an action and a text
-abbrev pub Told : Type 0
-Told = List ℕ × List ℕ
+abbrev pub ReportLine : Type 0
+ReportLine = List ℕ × List ℕ
 
 -- the `Upgrading` line of a changed version
-abbrev pub upgrading : List ℕ → Parts → Parts → List ℕ → Told
+abbrev pub upgrading : List ℕ → Parts → Parts → List ℕ → ReportLine
 upgrading name old new note = (
   codes "Upgrading",
   name ++ (codes " from " ++ (parts_text old ++ (codes " to " ++ (parts_text new
@@ -23,12 +23,12 @@ upgrading name old new note = (
 )
 
 -- the `Updating` line of a changed requirement
-abbrev pub updating : List ℕ → List ℕ → List ℕ → Told
-updating name old new =
+abbrev pub updating_line : List ℕ → List ℕ → List ℕ → ReportLine
+updating_line name old new =
     (codes "Updating", name ++ (codes "'s dependency from " ++ (old ++ (codes " to " ++ new))))
 
 -- the line of the workspace's version, where it changes
-abbrev pub shared_lines : Option Parts → Option Parts → List Told
+abbrev pub shared_lines : Option Parts → Option Parts → List ReportLine
 shared_lines (Some old) (Some new) = upgrading (codes "workspace version") old new [] ∷ []
 shared_lines _ _ = []
 
@@ -45,20 +45,20 @@ manifests p = record { name = codes "workspace"; path = p.path; tree = p.tree }
     (filter (λ m. not (same_bytes m.path p.path)) p.members)
 
 -- the lines of a manifest for one bump, in the order of its entries
-abbrev pub updates : Bump → Named → List Told
+abbrev pub updates : Bump → Named → List ReportLine
 updates b m =
-    filter_map (λ f. option_map (updating m.name f.text) (risen f)) (dependents (b ∷ []) m.path m.tree)
+    filter_map (λ f. option_map (updating_line m.name f.text) (risen f)) (dependents (b ∷ []) m.path m.tree)
 
 -- the note that a line appends to the two versions
 abbrev pub note_of : Member → List ℕ
 note_of m = if is_inherited m.tree then codes " (inherited from workspace)" else []
 
 -- the lines of a bump: its own, then those of the requirements on its crate
-abbrev pub lines_of : Project → Bump → List Told
+abbrev pub lines_of : Project → Bump → List ReportLine
 lines_of p b =
     upgrading b.member.name b.member.version b.next (note_of b.member) ∷ flat_map (updates b) (manifests p)
 
 -- the lines: that of the workspace's version, then those of the bumps
-abbrev pub lines : Target → Asked → Project → List Told
+abbrev pub lines : Target → Asked → Project → List ReportLine
 lines t a p =
     shared_lines (workspace_current a p) (workspace_next t a p) ++ flat_map (lines_of p) (bumps t a p)

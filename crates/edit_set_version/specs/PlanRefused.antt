@@ -10,18 +10,18 @@ use Rattle.edit_tree.specs.Assertions.{IsDocument}
 use Rattle.edit_tree.specs.Tree.{is_value_at, view_at}
 use Rattle.edit_manifest.specs.Loaded.{IsBadManifest}
 use Rattle.edit_manifest.specs.Versions.{package_version}
-use Rattle.edit_metadata.specs.Metadata.{WorkspaceSaid, members}
+use Rattle.edit_metadata.specs.Metadata.{WorkspaceModel, members}
 use Rattle.edit_metadata.specs.declared.input.Input.{Input}
 use Rattle.edit_set_version.specs.Bumps.{Bumped, Target, becomes, bump, stays}
 use Rattle.edit_set_version.specs.Chosen.{Asked, held_back, missing}
 use Rattle.edit_set_version.specs.Admitted.{AllRise}
-use Rattle.edit_set_version.specs.PlanCauses.{IsMissing, ManifestStandsAgainst, StandsAgainst, currents}
+use Rattle.edit_set_version.specs.PlanCauses.{IsMissing, ManifestStandsAgainst, IsVersionError, currents}
 use Rattle.edit_metadata.specs.Inputs.{path_of}
 use Rattle.edit_set_version.specs.Projects.{IsProject}
 use Rattle.edit_set_version.specs.SetVersioned.{Bump, Project, bumps, writes_own}
 
 -- the error is caused by an input's manifest, for these bumps
-pub record StandsAgainstInput (bs : List Bump) (input : Input) (e : Error) : Type 0 where
+pub record IsInputError (bs : List Bump) (input : Input) (e : Error) : Type 0 where
   pub form : Text
   pub manifest : IsDocument input.bytes.items form
   pub against : ManifestStandsAgainst bs (path_of input) form e
@@ -30,7 +30,7 @@ pub record StandsAgainstInput (bs : List Bump) (input : Input) (e : Error) : Typ
 pub record HasBadInputBy (bs : List Bump) (inputs : List Input) (e : Error) : Type 0 where
   pub input : Input
   pub among : Contains inputs input
-  pub stands : StandsAgainstInput bs input e
+  pub stands : IsInputError bs input e
 
 -- the error is caused by an input of a project
 abbrev pub HasBadInput : Target → Asked → List Input → Project → Error → Type 0
@@ -43,7 +43,7 @@ IsBumpable (becomes v) = Unit {0}
 IsBumpable _ = ⊥
 
 -- the selected names that no member of a workspace has
-abbrev pub unknown : Asked → WorkspaceSaid → List (List ℕ)
+abbrev pub unknown : Asked → WorkspaceModel → List (List ℕ)
 unknown a w = missing a (map (λ p. p.name) (members w.packages))
 
 -- no excluded member inherits a version that is bumped, and each chosen version can be bumped
@@ -65,12 +65,12 @@ IsBehindLiterals bs inputs e = (e ≡ NoVersionPlace) ⊎ All (HasLiteral bs) in
 -- that no member has, an input that is no manifest, an excluded member that shares a bumped version, a
 -- version that the target refuses, a bumped version without a literal, and a requirement that cannot rise.
 pub data IsCauseOf
-    (t : Target) (a : Asked) (w : WorkspaceSaid) (inputs : List Input) (e : Error) : Type 0 where
+    (t : Target) (a : Asked) (w : WorkspaceModel) (inputs : List Input) (e : Error) : Type 0 where
   memory : IsMemory e → IsCauseOf t a w inputs e
   no_package : IsMissing (unknown a w) e → IsCauseOf t a w inputs e
   no_manifest : unknown a w ≡ [] → (input : Input) → Contains inputs input
       → IsBadManifest input.bytes.items e → IsCauseOf t a w inputs e
-  project : unknown a w ≡ [] → (p : Project) → IsProject w inputs p → StandsAgainst t a p e
+  project : unknown a w ≡ [] → (p : Project) → IsProject w inputs p → IsVersionError t a p e
       → IsCauseOf t a w inputs e
   manifest : unknown a w ≡ [] → (p : Project) → IsProject w inputs p → HasVersions t a p
       → IsBehindLiterals (bumps t a p) inputs e → HasBadInput t a inputs p e → IsCauseOf t a w inputs e

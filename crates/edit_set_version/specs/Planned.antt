@@ -11,7 +11,7 @@ use Rattle.edit_report.specs.declared.output.Output.{Output}
 use Rattle.edit_set_version.specs.Bumps.{Target}
 use Rattle.edit_set_version.specs.Chosen.{Asked}
 use Rattle.edit_set_version.specs.Admitted.{AllAdmitNext}
-use Rattle.edit_set_version.specs.PlanLines.{Told}
+use Rattle.edit_set_version.specs.PlanLines.{ReportLine}
 use Rattle.edit_metadata.specs.Inputs.{path_of}
 use Rattle.edit_set_version.specs.SetVersioned.{Bump, Project, bumps, edits_by, workspace_next}
 use Rattle.edit_set_version.specs.declared.plan.SetVersionPlan.{SetVersionPlan}
@@ -57,8 +57,8 @@ HasSetOutputs t a outputs p input =
 -- ---- lines
 
 -- the lines, by their texts
-abbrev pub told_lines : SetVersionPlan → List Told
-told_lines plan = map (λ l. (string_bytes l.0, string_bytes l.1)) plan.lines.items
+abbrev pub plan_lines_view : SetVersionPlan → List ReportLine
+plan_lines_view plan = map (λ l. (string_bytes l.0, string_bytes l.1)) plan.lines.items
 
 -- the plan has lines
 abbrev pub has_lines : SetVersionPlan → Bool

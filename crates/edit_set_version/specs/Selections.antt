@@ -4,8 +4,8 @@ use Rattle.edit_set_version.specs.Chosen.{Asked}
 use Rattle.edit_set_version.specs.declared.plan.Selection.{Selection}
 
 -- the selection of the program, by its texts
-abbrev pub asked_of : Selection → Asked
-asked_of s = record {
+abbrev pub selection_view : Selection → Asked
+selection_view s = record {
   packages = map string_bytes s.packages.items;
   exclude = map string_bytes s.exclude.items;
   workspace = s.workspace;

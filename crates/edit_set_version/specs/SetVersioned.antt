@@ -7,7 +7,7 @@ use Rattle.edit_tree.specs.Assertions.{Place, same_bytes}
 use Rattle.edit_tree.specs.Replaces.{Edits}
 use Rattle.edit_manifest.specs.Tables.{Tree}
 use Rattle.edit_manifest.specs.Versions.{is_inherited, package_version, shared_version, version_member, workspace_version}
-use Rattle.edit_version.specs.Requirement.{Raised, Text, raise}
+use Rattle.edit_version.specs.Requirement.{UpgradeResult, Text, raise}
 use Rattle.edit_set_version.specs.Bumps.{Target, bump, next_of}
 use Rattle.edit_set_version.specs.Chosen.{Asked, Member, bumps_workspace, chosen}
 use Rattle.edit_set_version.specs.Entries.{entries, points_to, requirement}
@@ -74,7 +74,7 @@ abbrev pub dependents : List Bump → List ℕ → Tree → List Dependent
 dependents bs file t = filter_map (dependent bs file t) (entries t)
 
 -- the new text, where raising gives one
-abbrev pub text_of : Raised → Option (List ℕ)
+abbrev pub text_of : UpgradeResult → Option (List ℕ)
 text_of (Text s) = Some s
 text_of _ = None
 

@@ -7,12 +7,12 @@ use Rattle.edit_base.specs.declared.errors.Error.{Error}
 use Rattle.edit_tree.specs.Assertions.{same_bytes}
 use Rattle.edit_set_version.specs.Chosen.{Member}
 use Rattle.edit_set_version.specs.Dependents.{IsUnraised, all_numbered}
-use Rattle.edit_set_version.specs.PlanLines.{Named, Told, note_of, updating, upgrading}
+use Rattle.edit_set_version.specs.PlanLines.{Named, ReportLine, note_of, updating_line, upgrading}
 use Rattle.edit_set_version.specs.SetVersioned.{Bump, Dependent, risen}
 
 -- a line of the program, by its texts
-abbrev pub line_told : String Global × String Global → Told
-line_told l = (string_bytes l.0, string_bytes l.1)
+abbrev pub report_line_view : String Global × String Global → ReportLine
+report_line_view l = (string_bytes l.0, string_bytes l.1)
 
 -- the note that the line of an inherited version appends
 abbrev pub note_if : Bool → List ℕ
@@ -21,39 +21,39 @@ note_if inherited = if inherited then codes " (inherited from workspace)" else [
 -- ---- a list of lines for each bump
 
 -- lists of lines, by their texts
-abbrev pub lists_told : List (Vec (String Global × String Global)) → List (List Told)
-lists_told lists = map (λ l. map line_told l.items) lists
+abbrev pub line_lists_view : List (Vec (String Global × String Global)) → List (List ReportLine)
+line_lists_view lists = map (λ l. map report_line_view l.items) lists
 
 -- the lists, with a line appended to the one at this index
-abbrev pub with_line : ℕ → Told → List (List Told) → List (List Told)
+abbrev pub with_line : ℕ → ReportLine → List (List ReportLine) → List (List ReportLine)
 with_line n line [] = []
 with_line zero line (l ∷ ls) = (l ++ line ∷ []) ∷ ls
 with_line (suc n) line (l ∷ ls) = l ∷ with_line n line ls
 
 -- the `Upgrading` line of a bump
-abbrev pub bump_told : Bump → Told
-bump_told b = upgrading b.member.name b.member.version b.next (note_of b.member)
+abbrev pub bump_line_view : Bump → ReportLine
+bump_line_view b = upgrading b.member.name b.member.version b.next (note_of b.member)
 
 -- the requirement, where its bump has this index
 abbrev pub dependent_number : ℕ → ℕ × Dependent → Option Dependent
 dependent_number n f = if f.0 == n then Some f.1 else None
 
 -- the `Updating` line of a requirement of a manifest, where it changes
-abbrev pub update_told : List ℕ → Dependent → Option Told
-update_told name f = option_map (updating name f.text) (risen f)
+abbrev pub update_line_view : List ℕ → Dependent → Option ReportLine
+update_line_view name f = option_map (updating_line name f.text) (risen f)
 
 -- the lines of those of a manifest whose bump has this number
-abbrev pub updates_told : List ℕ → List (ℕ × Dependent) → ℕ → List Told
-updates_told name fs n = filter_map (update_told name) (filter_map (dependent_number n) fs)
+abbrev pub update_lines_view : List ℕ → List (ℕ × Dependent) → ℕ → List ReportLine
+update_lines_view name fs n = filter_map (update_line_view name) (filter_map (dependent_number n) fs)
 
 -- lists, of this number and the next ones, each with the lines of its number at the end
-abbrev pub with_more : (ℕ → List Told) → ℕ → List (List Told) → List (List Told)
+abbrev pub with_more : (ℕ → List ReportLine) → ℕ → List (List ReportLine) → List (List ReportLine)
 with_more tell n [] = []
 with_more tell n (l ∷ ls) = (l ++ tell n) ∷ with_more tell (suc n) ls
 
 -- with the lines of the requirements of a manifest
-abbrev pub with_updates : List ℕ → List (ℕ × Dependent) → ℕ → List (List Told) → List (List Told)
-with_updates name fs n ls = with_more (updates_told name fs) n ls
+abbrev pub with_updates : List ℕ → List (ℕ × Dependent) → ℕ → List (List ReportLine) → List (List ReportLine)
+with_updates name fs n ls = with_more (update_lines_view name fs) n ls
 
 -- ---- manifests
 
@@ -66,12 +66,12 @@ abbrev pub other_manifests : List ℕ → List Member → List Named
 other_manifests path ms = map named_member (filter (λ m. not (same_bytes m.path path)) ms)
 
 -- the lines of manifests for the bump with this number
-abbrev pub manifests_told : List Bump → List Named → ℕ → List Told
-manifests_told bs ms n = flat_map (λ m. updates_told m.name (all_numbered bs m.path m.tree) n) ms
+abbrev pub manifest_lines_view : List Bump → List Named → ℕ → List ReportLine
+manifest_lines_view bs ms n = flat_map (λ m. update_lines_view m.name (all_numbered bs m.path m.tree) n) ms
 
 -- with the lines of manifests
-abbrev pub with_manifests : List Bump → List Named → ℕ → List (List Told) → List (List Told)
-with_manifests bs ms n ls = with_more (manifests_told bs ms) n ls
+abbrev pub with_manifests : List Bump → List Named → ℕ → List (List ReportLine) → List (List ReportLine)
+with_manifests bs ms n ls = with_more (manifest_lines_view bs ms) n ls
 
 -- a requirement of one of these manifests on a bumped crate cannot be raised, or memory ran out
 pub record HasUnraised (bs : List Bump) (ms : List Named) (e : Error) : Type 0 where

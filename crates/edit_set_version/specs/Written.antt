@@ -10,13 +10,13 @@ use Rattle.semver.specs.declared.Version.{Version}
 use Rattle.edit_set_version.specs.Projects.{IsTreeAt}
 
 -- an optional version, by its parts
-abbrev pub shared_seen : Option (Bor Version) → Option Parts
-shared_seen shared = option_map (λ v. parts_of v.now) shared
+abbrev pub shared_version_view : Option (Bor Version) → Option Parts
+shared_version_view shared = option_map (λ v. parts_of v.now) shared
 
 -- where the workspace has a next version, the manifest at the root's path has its current version
-abbrev pub TellsShared : List Input → List ℕ → Option Parts → Type 0
-TellsShared inputs root None = Unit {0}
-TellsShared inputs root (Some next) =
+abbrev pub HasSharedVersion : List Input → List ℕ → Option Parts → Type 0
+HasSharedVersion inputs root None = Unit {0}
+HasSharedVersion inputs root (Some next) =
     (tree : Tree) × IsTreeAt inputs root tree × (workspace_version tree ≢ None)
 
 -- where the workspace has a next version and the manifest is at the root's path, it has the current version

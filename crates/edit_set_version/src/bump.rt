@@ -10,7 +10,7 @@ ghost use Rattle.edit_version.specs.Laws.{IsReadable};
 ghost use Rattle.edit_version.specs.VersionOrder.{full_order};
 ghost use Rattle.edit_set_version.specs.declared.set_version.BumpLevel.TheVariants as level;
 ghost use Rattle.edit_set_version.specs.BumpCauses.{IsMade, IsUnbumped};
-ghost use Rattle.edit_set_version.specs.Bumps.{bump, bumped_to, by_level, exactly, filled, is_same, lower, raised_by, released, taken, with_given};
+ghost use Rattle.edit_set_version.specs.Bumps.{bump, bumped_to, by_level, exactly, filled, is_same, lower, raised_by, without_prerelease, taken, with_given};
 
 use crate::set_version::BumpLevel;
 use edit_base::errors::{CargoResult, Error};
@@ -20,8 +20,8 @@ use std::alloc::{AllocError, Global};
 use std::cmp::Ordering;
 
 /// Clears the pre-release.
-fn release(version: &mut Version)
-    ensures { parts_of version.new ≡ released (parts_of version.old) }
+fn clear_prerelease(version: &mut Version)
+    ensures { parts_of version.new ≡ without_prerelease (parts_of version.old) }
 {
     version.pre = Prerelease::empty();
 }
@@ -35,7 +35,7 @@ fn raise_patch(version: &mut Version) -> CargoResult<()>
     if version.pre.is_empty() {
         return version.increment_patch();
     }
-    release(version);
+    clear_prerelease(version);
     Ok(())
 }
 
@@ -49,7 +49,7 @@ fn raise_by(alloc: Global, version: &mut Version, level: BumpLevel) -> CargoResu
         BumpLevel::Minor => version.increment_minor(),
         BumpLevel::Patch => raise_patch(version),
         BumpLevel::Release => {
-            release(version);
+            clear_prerelease(version);
             Ok(())
         }
         BumpLevel::Rc => version.increment_rc(alloc),
@@ -186,7 +186,7 @@ fn taken(
 
 /// The requested version in place of the current one, `None` where they are equal. A lower version is an
 /// error.
-pub(crate) fn replaced(
+pub(crate) fn bump_to_version(
     alloc: Global,
     requested: &Version,
     current: &Version,

@@ -7,10 +7,10 @@ ghost use Rattle.edit_version.specs.Laws.{IsReadable, IsVersion};
 ghost use Rattle.edit_set_version.specs.BumpCauses.{IsUnbumped};
 ghost use Rattle.edit_set_version.specs.Bumps.{IsReadableTarget, bump, target_of};
 ghost use Rattle.edit_set_version.specs.Chosen.{Member};
-ghost use Rattle.edit_set_version.specs.Crates.{bump_seen, bumps_seen, member_of, members_of};
+ghost use Rattle.edit_set_version.specs.Crates.{bump_view, bumps_view, member_of, members_of};
 ghost use Rattle.edit_set_version.specs.Admitted.{AreVersions};
 ghost use Rattle.edit_set_version.specs.PlanRefused.{IsBumpable};
-ghost use Rattle.edit_set_version.specs.Selections.{asked_of};
+ghost use Rattle.edit_set_version.specs.Selections.{selection_view};
 ghost use Rattle.edit_set_version.specs.SetVersioned.{bump_of};
 
 use crate::crates::{Bump, Crate};
@@ -22,7 +22,7 @@ use std::alloc::Global;
 
 /// The `--metadata` of a selection.
 pub(crate) fn metadata_of(selection: &Selection) -> Option<&str>
-    ensures { option_copied result ≡ (asked_of selection.now).metadata }
+    ensures { option_copied result ≡ (selection_view selection.now).metadata }
 {
     match &selection.metadata {
         Some(metadata) => Some(metadata.as_str()),
@@ -51,14 +51,14 @@ fn bump_of<'a>(
     selection: &Selection,
     found: Crate<'a>,
 ) -> CargoResult<Option<Bump<'a>>>
-    ensures ok { IfOk result (λ o. option_map bump_seen o
-        ≡ bump_of (target_of target.now) (asked_of selection.now) (member_of found.entry)) }
+    ensures ok { IfOk result (λ o. option_map bump_view o
+        ≡ bump_of (target_of target.now) (selection_view selection.now) (member_of found.entry)) }
     ensures bumpable { OnOk result (IsBumpable (bump (target_of target.now)
-        (asked_of selection.now).metadata (member_of found.entry).version)) }
+        (selection_view selection.now).metadata (member_of found.entry).version)) }
     ensures versions { IsReadableTarget (target_of target.now) → IsReadable (member_of found.entry).version
-        → IfOk result (λ o. IfSome o (λ b. IsVersion (bump_seen b).next)) }
+        → IfOk result (λ o. IfSome o (λ b. IsVersion (bump_view b).next)) }
     ensures refused { IfErr result (IsUnbumped (bump (target_of target.now)
-        (asked_of selection.now).metadata (member_of found.entry).version) (member_of found.entry).version) }
+        (selection_view selection.now).metadata (member_of found.entry).version) (member_of found.entry).version) }
 {
     let metadata = metadata_of(selection);
     let next = target.bump(alloc, &found.told.version, metadata)?;
@@ -82,15 +82,15 @@ fn push_bump<'a>(
     found: Crate<'a>,
     bumps: &mut Vec<Bump<'a>>,
 ) -> CargoResult<()>
-    ensures ok { OnOk result (bumps_seen bumps.new.items ≡ bumps_seen bumps.old.items
-        ++ option_to_list (bump_of (target_of target.now) (asked_of selection.now) (member_of found.entry))) }
+    ensures ok { OnOk result (bumps_view bumps.new.items ≡ bumps_view bumps.old.items
+        ++ option_to_list (bump_of (target_of target.now) (selection_view selection.now) (member_of found.entry))) }
     ensures bumpable { OnOk result (IsBumpable (bump (target_of target.now)
-        (asked_of selection.now).metadata (member_of found.entry).version)) }
+        (selection_view selection.now).metadata (member_of found.entry).version)) }
     ensures versions { OnOk result (IsReadableTarget (target_of target.now)
-        → IsReadable (member_of found.entry).version → AreVersions (bumps_seen bumps.old.items)
-        → AreVersions (bumps_seen bumps.new.items)) }
+        → IsReadable (member_of found.entry).version → AreVersions (bumps_view bumps.old.items)
+        → AreVersions (bumps_view bumps.new.items)) }
     ensures refused { IfErr result (λ e. IsMemory e ⊎ IsUnbumped (bump (target_of target.now)
-        (asked_of selection.now).metadata (member_of found.entry).version)
+        (selection_view selection.now).metadata (member_of found.entry).version)
         (member_of found.entry).version e) }
 {
     let bump = bump_of(alloc, target, selection, found)?;
@@ -110,15 +110,15 @@ pub(crate) fn bumps_of<'a>(
     selection: &Selection,
     crates: &[Crate<'a>],
 ) -> CargoResult<Vec<Bump<'a>>>
-    ensures ok { IfOk result (λ bs. bumps_seen bs.items
-        ≡ filter_map (bump_of (target_of target.now) (asked_of selection.now)) (members_of crates.now)) }
+    ensures ok { IfOk result (λ bs. bumps_view bs.items
+        ≡ filter_map (bump_of (target_of target.now) (selection_view selection.now)) (members_of crates.now)) }
     ensures bumpable { OnOk result (All (λ m. IsBumpable (bump (target_of target.now)
-        (asked_of selection.now).metadata m.version)) (members_of crates.now)) }
+        (selection_view selection.now).metadata m.version)) (members_of crates.now)) }
     ensures versions { IsReadableTarget (target_of target.now)
         → All (λ m. IsReadable m.version) (members_of crates.now)
-        → IfOk result (λ bs. AreVersions (bumps_seen bs.items)) }
+        → IfOk result (λ bs. AreVersions (bumps_view bs.items)) }
     ensures refused { IfErr result (λ e. IsMemory e ⊎ ((m : Member) × Contains (members_of crates.now) m
-        × IsUnbumped (bump (target_of target.now) (asked_of selection.now).metadata m.version) m.version e)) }
+        × IsUnbumped (bump (target_of target.now) (selection_view selection.now).metadata m.version) m.version e)) }
 {
     let mut bumps = Vec::new(alloc);
     'crates: for found in crates {

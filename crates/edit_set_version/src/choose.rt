@@ -2,11 +2,11 @@
 ghost use Rattle.std.specs.Prelude.{◌≡◌, ◌⊎◌, ◌++◌, ◌==◌, ◌∷◌, [], if◌then◌else◌, IfErr, IfOk, OnOk, length, string_bytes};
 ghost use Rattle.std.specs.List.{filter};
 ghost use Rattle.edit_base.specs.Errors.{IsMemory};
-ghost use Rattle.edit_set_version.specs.Chosen.{asks_whole, bumps_workspace, chosen, held_back, inheriting, is_among};
+ghost use Rattle.edit_set_version.specs.Chosen.{is_whole_selected, bumps_workspace, chosen, held_back, inheriting, is_among};
 ghost use Rattle.edit_set_version.specs.Crates.{member_of, members_of};
-ghost use Rattle.edit_set_version.specs.PlanCauses.{IsHeldBack, listed};
-ghost use Rattle.edit_set_version.specs.Selections.{asked_of};
-ghost use Rattle.edit_set_version.specs.Wanted.{IsWanted, is_in, wants};
+ghost use Rattle.edit_set_version.specs.PlanCauses.{IsExcludeError, listed};
+ghost use Rattle.edit_set_version.specs.Selections.{selection_view};
+ghost use Rattle.edit_set_version.specs.SelectedNames.{IsSelectedNames, is_in, is_selected_by};
 ghost use Rattle.edit_set_version.specs.declared.choose.Part.TheVariants.{Others};
 
 use crate::crates::Crate;
@@ -17,7 +17,7 @@ use std::alloc::{AllocError, Global};
 
 /// The members that a selection names: all but `names`, or only `names`.
 #[derive(Drop)]
-pub(crate) struct Wanted {
+pub(crate) struct SelectedNames {
     /// Whether all members are selected, but for `names`.
     all: bool,
     names: Names,
@@ -35,8 +35,8 @@ pub(crate) enum Part {
 }
 
 /// The members that a selection names, as a set of names.
-fn wanted_by(alloc: Global, selection: &Selection) -> Result<Wanted, AllocError>
-    ensures ok { IfOk result (IsWanted (asked_of selection.now)) }
+fn selected_names_of(alloc: Global, selection: &Selection) -> Result<SelectedNames, AllocError>
+    ensures ok { IfOk result (IsSelectedNames (selection_view selection.now)) }
 {
     let all = selection.workspace || selection.packages.is_empty();
     let names = if all {
@@ -45,22 +45,22 @@ fn wanted_by(alloc: Global, selection: &Selection) -> Result<Wanted, AllocError>
         &selection.packages
     };
     let names = name_set(alloc, names)?;
-    Ok(Wanted { all, names })
+    Ok(SelectedNames { all, names })
 }
 
 /// Whether a member is selected.
-fn wants(wanted: &Wanted, found: Crate<'_>) -> bool
-    ensures { result ≡ wants wanted.now (member_of found.entry) }
+fn is_selected_by(wanted: &SelectedNames, found: Crate<'_>) -> bool
+    ensures { result ≡ is_selected_by wanted.now (member_of found.entry) }
 {
     let named = wanted.names.contains(found.told.name.as_str());
     if wanted.all { !named } else { named }
 }
 
 /// Whether a member belongs to a subset.
-fn is_in(part: Part, wanted: &Wanted, found: Crate<'_>) -> bool
+fn is_in(part: Part, wanted: &SelectedNames, found: Crate<'_>) -> bool
     ensures { result ≡ is_in part wanted.now (member_of found.entry) }
 {
-    let asked = wants(wanted, found);
+    let asked = is_selected_by(wanted, found);
     match part {
         Part::Asked => asked,
         Part::Inheriting => asked && found.manifest.version_is_inherited(),
@@ -84,7 +84,7 @@ fn push_where<'a>(keep: bool, found: Crate<'a>, list: &mut Vec<Crate<'a>>) -> Re
 fn crates_in<'a>(
     alloc: Global,
     part: Part,
-    wanted: &Wanted,
+    wanted: &SelectedNames,
     crates: &[Crate<'a>],
 ) -> Result<Vec<Crate<'a>>, AllocError>
     ensures ok { IfOk result (λ cs. members_of cs.items
@@ -116,7 +116,7 @@ fn held_back<'a>(
     crates: &[Crate<'a>],
 ) -> Result<Vec<Crate<'a>>, AllocError>
     ensures ok { IfOk result (λ cs. members_of cs.items
-        ≡ filter (λ m. is_among (asked_of selection.now).exclude m.name) (members_of crates.now)) }
+        ≡ filter (λ m. is_among (selection_view selection.now).exclude m.name) (members_of crates.now)) }
 {
     let excluded = name_set(alloc, &selection.exclude)?;
     let mut list = Vec::new(alloc);
@@ -135,10 +135,10 @@ fn check_excluded(
     added: &[Crate<'_>],
     inheriting: &[Crate<'_>],
 ) -> CargoResult<()>
-    ensures none { OnOk result (filter (λ m. is_among (asked_of selection.now).exclude m.name)
+    ensures none { OnOk result (filter (λ m. is_among (selection_view selection.now).exclude m.name)
         (members_of added.now) ≡ []) }
     ensures refused { IfErr result (λ e. IsMemory e
-        ⊎ IsHeldBack (filter (λ m. is_among (asked_of selection.now).exclude m.name) (members_of added.now))
+        ⊎ IsExcludeError (filter (λ m. is_among (selection_view selection.now).exclude m.name) (members_of added.now))
         (members_of inheriting.now) e) }
 {
     let held = held_back(alloc, selection, added)?;
@@ -171,7 +171,7 @@ fn is_none(crates: &[Crate<'_>]) -> bool
 /// too.
 fn added<'a>(
     alloc: Global,
-    wanted: &Wanted,
+    wanted: &SelectedNames,
     crates: &[Crate<'a>],
     inheriting: &[Crate<'a>],
 ) -> Result<Vec<Crate<'a>>, AllocError>
@@ -185,8 +185,8 @@ fn added<'a>(
 }
 
 /// Whether all members are selected, without any excluded.
-fn asks_whole(selection: &Selection) -> bool
-    ensures { result ≡ asks_whole (asked_of selection.now) }
+fn is_whole_selected(selection: &Selection) -> bool
+    ensures { result ≡ is_whole_selected (selection_view selection.now) }
 {
     let all = selection.workspace || selection.packages.is_empty();
     all && selection.exclude.is_empty()
@@ -203,19 +203,19 @@ pub(crate) fn choose<'a>(
     crates: &[Crate<'a>],
 ) -> CargoResult<Choice<'a>>
     ensures chosen { IfOk result (λ c. members_of c.crates.items
-        ≡ chosen (asked_of selection.now) (members_of crates.now)) }
+        ≡ chosen (selection_view selection.now) (members_of crates.now)) }
     ensures workspace { IfOk result (λ c. c.workspace
-        ≡ bumps_workspace (asked_of selection.now) (members_of crates.now)) }
-    ensures excluded { OnOk result (held_back (asked_of selection.now) (members_of crates.now) ≡ []) }
+        ≡ bumps_workspace (selection_view selection.now) (members_of crates.now)) }
+    ensures excluded { OnOk result (held_back (selection_view selection.now) (members_of crates.now) ≡ []) }
     ensures refused { IfErr result (λ e. IsMemory e
-        ⊎ IsHeldBack (held_back (asked_of selection.now) (members_of crates.now))
-        (inheriting (asked_of selection.now) (members_of crates.now)) e) }
+        ⊎ IsExcludeError (held_back (selection_view selection.now) (members_of crates.now))
+        (inheriting (selection_view selection.now) (members_of crates.now)) e) }
 {
-    let wanted = wanted_by(alloc, selection)?;
+    let wanted = selected_names_of(alloc, selection)?;
     let inheriting = crates_in(alloc, Part::Inheriting, &wanted, crates)?;
     let others = added(alloc, &wanted, crates, &inheriting)?;
     check_excluded(alloc, selection, &others, &inheriting)?;
-    let workspace = asks_whole(selection) || !is_none(&inheriting);
+    let workspace = is_whole_selected(selection) || !is_none(&inheriting);
     let mut chosen = crates_in(alloc, Part::Asked, &wanted, crates)?;
     chosen.extend_from_slice(&others)?;
     Ok(Choice {

@@ -2,7 +2,7 @@
 ghost use Rattle.std.specs.Prelude.{◌≡◌, ◌≤◌, ◌-◌, ◌++◌, ◌∷◌, [], if◌then◌else◌, IfOk, OnOk, drop, length, map};
 ghost use Rattle.std.specs.List.{AllZip};
 ghost use Rattle.edit_metadata.specs.Metadata.{members};
-ghost use Rattle.edit_metadata.specs.Workspaces.{package_said, packages_said, workspace_said};
+ghost use Rattle.edit_metadata.specs.Workspaces.{package_view, packages_view, workspace_view};
 ghost use Rattle.edit_set_version.specs.Crates.{IsReadOf, members_of};
 ghost use Rattle.edit_set_version.specs.Projects.{AreInputsOf, IsMemberOf};
 
@@ -28,9 +28,9 @@ pub(crate) struct Bump<'a> {
 
 /// Adds a package, where it is a workspace member.
 fn push_member<'a>(found: &'a Package, members: &mut Vec<&'a Package>) -> Result<(), AllocError>
-    ensures ok { OnOk result (map (λ p. package_said p.now) members.new.items
-        ≡ map (λ p. package_said p.now) members.old.items
-        ++ (if found.entry.now.member then package_said found.entry.now ∷ [] else [])) }
+    ensures ok { OnOk result (map (λ p. package_view p.now) members.new.items
+        ≡ map (λ p. package_view p.now) members.old.items
+        ++ (if found.entry.now.member then package_view found.entry.now ∷ [] else [])) }
 {
     if !found.member {
         return Ok(());
@@ -44,8 +44,8 @@ pub(crate) fn members_in<'a>(
     alloc: Global,
     packages: &'a [Package],
 ) -> Result<Vec<&'a Package>, AllocError>
-    ensures ok { IfOk result (λ v. map (λ p. package_said p.now) v.items
-        ≡ members (packages_said packages.entry.now)) }
+    ensures ok { IfOk result (λ v. map (λ p. package_view p.now) v.items
+        ≡ members (packages_view packages.entry.now)) }
 {
     let mut list = Vec::new(alloc);
     'packages: for found in packages {
@@ -105,10 +105,10 @@ pub(crate) fn crates_of<'a>(
     inputs: &'a [Input],
     manifests: &'a [Manifest],
 ) -> Result<Vec<Crate<'a>>, AllocError>
-    requires inputs { AreInputsOf (workspace_said workspace.now) inputs.now }
+    requires inputs { AreInputsOf (workspace_view workspace.now) inputs.now }
     requires manifests { AllZip IsReadOf inputs.now manifests.now }
     ensures ok { IfOk result (λ cs. AllZip (IsMemberOf inputs.entry.now)
-        (members (workspace_said workspace.entry.now).packages) (members_of cs.items)) }
+        (members (workspace_view workspace.entry.now).packages) (members_of cs.items)) }
 {
     let members = members_in(alloc, &workspace.packages)?;
     let crates = crates_last(alloc, &members, inputs, manifests)?;

@@ -1,16 +1,16 @@
 //! The entries of a manifest that depend on bumped crates.
 ghost use Rattle.std.specs.Prelude.{◌≡◌, ◌++◌, List, All, IfErr, IfOk, OnOk, map, option_to_list, string_bytes};
 ghost use Rattle.semver.specs.Identifiers.{parts_of};
-ghost use Rattle.edit_document.specs.Items.{place_seen};
-ghost use Rattle.edit_tree.specs.Shown.{tree_of};
-ghost use Rattle.edit_version.specs.Refusals.{IsRefusal};
+ghost use Rattle.edit_document.specs.Items.{place_view};
+ghost use Rattle.edit_tree.specs.DocumentViews.{tree_of};
+ghost use Rattle.edit_version.specs.RequirementErrors.{IsUpgradeError};
 ghost use Rattle.edit_version.specs.Requirement.{raise};
-ghost use Rattle.edit_set_version.specs.Dependents.{HasRisen, IsUnraised, IsEntryUnraised, all_numbered, dependent_of, dependent_seen, numbered};
-ghost use Rattle.edit_set_version.specs.Numbers.{TellsFirst, numbered_seen};
-ghost use Rattle.edit_set_version.specs.Pointed.{pointed_view};
+ghost use Rattle.edit_set_version.specs.Dependents.{HasRaisedText, IsUnraised, IsEntryUnraised, all_numbered, dependent_of, numbered_dependent_view, with_bump_index};
+ghost use Rattle.edit_set_version.specs.BumpsByFolder.{HasFirstBumps, numbered_view};
+ghost use Rattle.edit_set_version.specs.PathDependency.{path_dependency_view};
 ghost use Rattle.edit_set_version.specs.SetVersioned.{Bump};
 
-use crate::numbers::{Numbered, Numbers, bump_at};
+use crate::numbers::{BumpsByFolder, Numbered, bump_at};
 use crate::pointed::{PathEntry, path_entries};
 use edit_base::CargoResult;
 use edit_document::{Document, Place};
@@ -34,14 +34,14 @@ fn raised_dependent<'a>(
     entry: PathEntry,
     bump: Numbered<'a>,
 ) -> CargoResult<DependentEntry<'a>>
-    ensures bump { IfOk result (λ f. numbered_seen f.bump ≡ numbered_seen bump.entry) }
+    ensures bump { IfOk result (λ f. numbered_view f.bump ≡ numbered_view bump.entry) }
     ensures entry { IfOk result (λ f. dependent_of f ≡ record {
-      place = (pointed_view entry).place;
-      text = (pointed_view entry).text;
-      next = (numbered_seen bump.entry).1;
+      place = (path_dependency_view entry).place;
+      text = (path_dependency_view entry).text;
+      next = (numbered_view bump.entry).1;
     }) }
-    ensures risen { IfOk result HasRisen }
-    ensures refused { IfErr result (IsRefusal (raise (string_bytes entry.text) (numbered_seen bump.entry).1)
+    ensures risen { IfOk result HasRaisedText }
+    ensures refused { IfErr result (IsUpgradeError (raise (string_bytes entry.text) (numbered_view bump.entry).1)
         (string_bytes entry.text)) }
 {
     let risen = upgrade_requirement(alloc, entry.text.as_str(), bump.next)?;
@@ -57,17 +57,17 @@ fn raised_dependent<'a>(
 /// Adds an entry, where its path is that of a bumped crate.
 fn push_dependent<'a>(
     alloc: Global,
-    numbers: &Numbers<'a>,
+    numbers: &BumpsByFolder<'a>,
     file: &str,
     entry: PathEntry,
     dependents: &mut Vec<DependentEntry<'a>>,
 ) -> CargoResult<()>
-    ensures ok { OnOk result ((bs : List Bump) → TellsFirst bs numbers.now
-        → map dependent_seen dependents.new.items ≡ map dependent_seen dependents.old.items
-        ++ option_to_list (numbered bs file.now (pointed_view entry))) }
-    ensures risen { OnOk result (All HasRisen dependents.old.items → All HasRisen dependents.new.items) }
-    ensures refused { IfErr result (λ e. (bs : List Bump) → TellsFirst bs numbers.now
-        → IsEntryUnraised bs file.now (pointed_view entry) e) }
+    ensures ok { OnOk result ((bs : List Bump) → HasFirstBumps bs numbers.now
+        → map numbered_dependent_view dependents.new.items ≡ map numbered_dependent_view dependents.old.items
+        ++ option_to_list (with_bump_index bs file.now (path_dependency_view entry))) }
+    ensures risen { OnOk result (All HasRaisedText dependents.old.items → All HasRaisedText dependents.new.items) }
+    ensures refused { IfErr result (λ e. (bs : List Bump) → HasFirstBumps bs numbers.now
+        → IsEntryUnraised bs file.now (path_dependency_view entry) e) }
 {
     let bump = bump_at(alloc, numbers, file, entry.path.as_str())?;
     match bump {
@@ -84,14 +84,14 @@ fn push_dependent<'a>(
 /// down its tree.
 pub(crate) fn dependents_of<'a>(
     alloc: Global,
-    numbers: &Numbers<'a>,
+    numbers: &BumpsByFolder<'a>,
     file: &str,
     document: &Document,
 ) -> CargoResult<Vec<DependentEntry<'a>>>
-    ensures ok { IfOk result (λ fs. (bs : List Bump) → TellsFirst bs numbers.now
-        → map dependent_seen fs.items ≡ all_numbered bs file.now (tree_of document.now)) }
-    ensures risen { IfOk result (λ fs. All HasRisen fs.items) }
-    ensures refused { IfErr result (λ e. (bs : List Bump) → TellsFirst bs numbers.now
+    ensures ok { IfOk result (λ fs. (bs : List Bump) → HasFirstBumps bs numbers.now
+        → map numbered_dependent_view fs.items ≡ all_numbered bs file.now (tree_of document.now)) }
+    ensures risen { IfOk result (λ fs. All HasRaisedText fs.items) }
+    ensures refused { IfErr result (λ e. (bs : List Bump) → HasFirstBumps bs numbers.now
         → IsUnraised bs file.now (tree_of document.now) e) }
 {
     let entries = path_entries(alloc, document)?;

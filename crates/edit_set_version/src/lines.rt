@@ -1,9 +1,9 @@
 //! The lines that a plan reports.
 ghost use Rattle.std.specs.Prelude.{◌≡◌, [], IfOk, codes};
 ghost use Rattle.semver.specs.Identifiers.{parts_of};
-ghost use Rattle.edit_set_version.specs.Crates.{bump_seen};
-ghost use Rattle.edit_set_version.specs.PlanLines.{note_of, updating, upgrading};
-ghost use Rattle.edit_set_version.specs.ToldLines.{line_told, note_if};
+ghost use Rattle.edit_set_version.specs.Crates.{bump_view};
+ghost use Rattle.edit_set_version.specs.PlanLines.{note_of, updating_line, upgrading};
+ghost use Rattle.edit_set_version.specs.ToldLines.{report_line_view, note_if};
 
 use crate::crates::Bump;
 use semver::Version;
@@ -20,7 +20,7 @@ fn upgrading(
     new: &Version,
     note: &str,
 ) -> Result<Line, AllocError>
-    ensures ok { IfOk result (λ l. line_told l
+    ensures ok { IfOk result (λ l. report_line_view l
         ≡ upgrading name.now (parts_of old.now) (parts_of new.now) note.now) }
 {
     let action = String::from_str(alloc, "Upgrading")?;
@@ -29,8 +29,13 @@ fn upgrading(
 }
 
 /// The `Updating` line of a changed requirement.
-pub(crate) fn updating(alloc: Global, name: &str, old: &str, new: &str) -> Result<Line, AllocError>
-    ensures ok { IfOk result (λ l. line_told l ≡ updating name.now old.now new.now) }
+pub(crate) fn updating_line(
+    alloc: Global,
+    name: &str,
+    old: &str,
+    new: &str,
+) -> Result<Line, AllocError>
+    ensures ok { IfOk result (λ l. report_line_view l ≡ updating_line name.now old.now new.now) }
 {
     let action = String::from_str(alloc, "Updating")?;
     let text = format!(in alloc; "{name}'s dependency from {old} to {new}")?;
@@ -50,8 +55,8 @@ fn note_of(inherited: bool) -> &'static str
 
 /// The line of a crate's bump.
 pub(crate) fn bump_line(alloc: Global, bump: &Bump<'_>) -> Result<Line, AllocError>
-    ensures ok { IfOk result (λ l. line_told l ≡ upgrading (bump_seen bump.now).member.name
-        (bump_seen bump.now).member.version (bump_seen bump.now).next (note_of (bump_seen bump.now).member)) }
+    ensures ok { IfOk result (λ l. report_line_view l ≡ upgrading (bump_view bump.now).member.name
+        (bump_view bump.now).member.version (bump_view bump.now).next (note_of (bump_view bump.now).member)) }
 {
     let name = bump.member.told.name.as_str();
     let note = note_of(bump.member.manifest.version_is_inherited());
@@ -64,7 +69,7 @@ pub(crate) fn workspace_line(
     old: &Version,
     new: &Version,
 ) -> Result<Line, AllocError>
-    ensures ok { IfOk result (λ l. line_told l
+    ensures ok { IfOk result (λ l. report_line_view l
         ≡ upgrading (codes "workspace version") (parts_of old.now) (parts_of new.now) []) }
 {
     upgrading(alloc, "workspace version", old, new, "")

@@ -4,11 +4,11 @@ ghost use Rattle.std.specs.List.{AllZip};
 ghost use Rattle.edit_base.specs.Errors.{IsMemory};
 ghost use Rattle.edit_base.specs.declared.errors.Error.TheVariants.{NoVersionPlace};
 ghost use Rattle.edit_set_version.specs.Apart.{AreApart};
-ghost use Rattle.edit_set_version.specs.Crates.{IsReadOf, bumps_seen};
-ghost use Rattle.edit_set_version.specs.Numbers.{TellsFirst};
-ghost use Rattle.edit_set_version.specs.PlanRefused.{HasBadInputBy, HasLiteral, StandsAgainstInput};
+ghost use Rattle.edit_set_version.specs.Crates.{IsReadOf, bumps_view};
+ghost use Rattle.edit_set_version.specs.BumpsByFolder.{HasFirstBumps};
+ghost use Rattle.edit_set_version.specs.PlanRefused.{HasBadInputBy, HasLiteral, IsInputError};
 
-use crate::outputs::{Writing, push_own};
+use crate::outputs::{PlannedWrites, push_own};
 use edit_base::CargoResult;
 use edit_manifest::Manifest;
 use edit_metadata::Input;
@@ -18,16 +18,16 @@ use std::alloc::Global;
 /// has no literal for it.
 fn check_literal(
     alloc: Global,
-    writing: &Writing<'_, '_>,
+    writing: &PlannedWrites<'_, '_>,
     input: &Input,
     manifest: &Manifest,
 ) -> CargoResult<()>
-    requires numbers { TellsFirst (bumps_seen writing.now.bumps.now) writing.now.numbers.now }
-    requires apart { AreApart (bumps_seen writing.now.bumps.now) }
+    requires numbers { HasFirstBumps (bumps_view writing.now.bumps.now) writing.now.numbers.now }
+    requires apart { AreApart (bumps_view writing.now.bumps.now) }
     requires read { IsReadOf input.now manifest.now }
-    ensures literal { OnOk result (HasLiteral (bumps_seen writing.now.bumps.now) input.now) }
+    ensures literal { OnOk result (HasLiteral (bumps_view writing.now.bumps.now) input.now) }
     ensures refused { IfErr result (λ e. IsMemory e ⊎ ((e ≡ NoVersionPlace)
-        × StandsAgainstInput (bumps_seen writing.now.bumps.now) input.now e)) }
+        × IsInputError (bumps_view writing.now.bumps.now) input.now e)) }
 {
     let path = input.path.as_str();
     let mut edits = Vec::new(alloc);
@@ -39,16 +39,16 @@ fn check_literal(
 /// that is to be written into it.
 pub(crate) fn check_literals(
     alloc: Global,
-    writing: &Writing<'_, '_>,
+    writing: &PlannedWrites<'_, '_>,
     inputs: &[Input],
     manifests: &[Manifest],
 ) -> CargoResult<()>
-    requires numbers { TellsFirst (bumps_seen writing.now.bumps.now) writing.now.numbers.now }
-    requires apart { AreApart (bumps_seen writing.now.bumps.now) }
+    requires numbers { HasFirstBumps (bumps_view writing.now.bumps.now) writing.now.numbers.now }
+    requires apart { AreApart (bumps_view writing.now.bumps.now) }
     requires read { AllZip IsReadOf inputs.now manifests.now }
-    ensures literals { OnOk result (All (HasLiteral (bumps_seen writing.now.bumps.now)) inputs.now) }
+    ensures literals { OnOk result (All (HasLiteral (bumps_view writing.now.bumps.now)) inputs.now) }
     ensures refused { IfErr result (λ e. IsMemory e ⊎ ((e ≡ NoVersionPlace)
-        × HasBadInputBy (bumps_seen writing.now.bumps.now) inputs.now e)) }
+        × HasBadInputBy (bumps_view writing.now.bumps.now) inputs.now e)) }
 {
     'inputs: for i in 0..inputs.len() {
         check_literal(alloc, writing, &inputs[i], &manifests[i])?;

@@ -3,10 +3,10 @@ ghost use Rattle.std.specs.Prelude.{◌≡◌, ◌++◌, ◌||◌, ℕ, List, []
 ghost use Rattle.std.specs.BTreeSet.{contains_text};
 ghost use Rattle.std.specs.Str.{bytes_eq};
 ghost use Rattle.edit_metadata.specs.Metadata.{members};
-ghost use Rattle.edit_metadata.specs.Workspaces.{package_said, packages_said, workspace_said};
+ghost use Rattle.edit_metadata.specs.Workspaces.{package_view, packages_view, workspace_view};
 ghost use Rattle.edit_set_version.specs.Chosen.{is_among, missing};
-ghost use Rattle.edit_set_version.specs.Missing.{AsksForOthers, absent, names_of};
-ghost use Rattle.edit_set_version.specs.Selections.{asked_of};
+ghost use Rattle.edit_set_version.specs.Missing.{IsMissingNamesError, absent, names_of};
+ghost use Rattle.edit_set_version.specs.Selections.{selection_view};
 
 use crate::plan::Selection;
 use edit_base::{CargoResult, Error, MissingKind, MissingNames};
@@ -31,7 +31,7 @@ fn add_name(alloc: Global, names: &mut Names, name: &str) -> Result<bool, AllocE
 /// Inserts the name of a package, where that is a workspace member.
 fn add_member(alloc: Global, names: &mut Names, found: &Package) -> Result<(), AllocError>
     ensures ok { OnOk result ((q : List ℕ) → contains_text names.new q
-        ≡ (contains_text names.old q || is_among (names_of (package_said found.now ∷ [])) q)) }
+        ≡ (contains_text names.old q || is_among (names_of (package_view found.now ∷ [])) q)) }
 {
     if !found.member {
         return Ok(());
@@ -43,7 +43,7 @@ fn add_member(alloc: Global, names: &mut Names, found: &Package) -> Result<(), A
 /// The names of the workspace members among packages.
 fn member_names(alloc: Global, packages: &[Package]) -> Result<Names, AllocError>
     ensures ok { IfOk result (λ s. (q : List ℕ)
-        → contains_text s q ≡ is_among (names_of (packages_said packages.now)) q) }
+        → contains_text s q ≡ is_among (names_of (packages_view packages.now)) q) }
 {
     let mut names = BTreeSet::new(alloc);
     'packages: for package in packages {
@@ -106,9 +106,9 @@ impl Selection {
     /// Fails with `Error::PackagesMissing` where a selected name is that of no workspace member. The error
     /// has those names, without duplicates.
     pub fn check_names(&self, alloc: Global, workspace: &Workspace) -> CargoResult<()>
-        ensures found { OnOk result (missing (asked_of self.now)
-            (names_of (workspace_said workspace.now).packages) ≡ []) }
-        ensures refused { IfErr result (AsksForOthers (asked_of self.now) (workspace_said workspace.now)) }
+        ensures found { OnOk result (missing (selection_view self.now)
+            (names_of (workspace_view workspace.now).packages) ≡ []) }
+        ensures refused { IfErr result (IsMissingNamesError (selection_view self.now) (workspace_view workspace.now)) }
     {
         let mut known = member_names(alloc, &workspace.packages)?;
         let names = missing_names(alloc, &mut known, &self.packages)?;

@@ -2,9 +2,9 @@
 ghost use Rattle.std.specs.Prelude.{◌≡◌, ℕ, List, Some, None, if◌then◌else◌, IfErr, IfOk, OnOk, option_map};
 ghost use Rattle.std.specs.Option.{option_or};
 ghost use Rattle.edit_base.specs.Errors.{IsMemory};
-ghost use Rattle.edit_set_version.specs.Crates.{bumps_seen};
+ghost use Rattle.edit_set_version.specs.Crates.{bumps_view};
 ghost use Rattle.edit_set_version.specs.Folders.{folder_of, names_of, reached, same_folder};
-ghost use Rattle.edit_set_version.specs.Numbers.{TellsFirst, numbered_seen, told_in};
+ghost use Rattle.edit_set_version.specs.BumpsByFolder.{HasFirstBumps, numbered_view, numbered_at};
 
 use crate::crates::Bump;
 use crate::reach::{folder_of, reached};
@@ -21,18 +21,18 @@ pub(crate) struct Numbered<'a> {
 }
 
 /// Bumps by the normalized folder of their crate.
-pub(crate) type Numbers<'a> = BTreeMap<String, Numbered<'a>>;
+pub(crate) type BumpsByFolder<'a> = BTreeMap<String, Numbered<'a>>;
 
 /// Adds the bump of a crate under the folder of its manifest, unless a bump has that folder already.
 fn add_bump<'a>(
     alloc: Global,
-    numbers: &mut Numbers<'a>,
+    numbers: &mut BumpsByFolder<'a>,
     path: &str,
     bump: Numbered<'a>,
 ) -> CargoResult<()>
-    ensures ok { OnOk result ((q : List ℕ) → told_in numbers.new (names_of q)
-        ≡ option_or (told_in numbers.old (names_of q))
-        (if same_folder (folder_of path.now) (names_of q) then Some (numbered_seen bump.entry) else None)) }
+    ensures ok { OnOk result ((q : List ℕ) → numbered_at numbers.new (names_of q)
+        ≡ option_or (numbered_at numbers.old (names_of q))
+        (if same_folder (folder_of path.now) (names_of q) then Some (numbered_view bump.entry) else None)) }
     ensures refused { IfErr result IsMemory }
 {
     let folder = folder_of(alloc, path)?;
@@ -44,8 +44,11 @@ fn add_bump<'a>(
 }
 
 /// Indexes bumps by the folder of their crate. Where several share a folder, the first is taken.
-pub(crate) fn numbers_of<'a>(alloc: Global, bumps: &'a [Bump<'_>]) -> CargoResult<Numbers<'a>>
-    ensures ok { IfOk result (TellsFirst (bumps_seen bumps.entry.now)) }
+pub(crate) fn index_bumps<'a>(
+    alloc: Global,
+    bumps: &'a [Bump<'_>],
+) -> CargoResult<BumpsByFolder<'a>>
+    ensures ok { IfOk result (HasFirstBumps (bumps_view bumps.entry.now)) }
     ensures refused { IfErr result IsMemory }
 {
     let mut numbers = BTreeMap::new(alloc);
@@ -60,12 +63,12 @@ pub(crate) fn numbers_of<'a>(alloc: Global, bumps: &'a [Bump<'_>]) -> CargoResul
 /// The bump of the crate in the folder that a `path` key names, in the manifest at an absolute path.
 pub(crate) fn bump_at<'a>(
     alloc: Global,
-    numbers: &Numbers<'a>,
+    numbers: &BumpsByFolder<'a>,
     file: &str,
     path: &str,
 ) -> CargoResult<Option<Numbered<'a>>>
-    ensures ok { IfOk result (λ o. option_map numbered_seen o
-        ≡ told_in numbers.now (reached file.now path.now)) }
+    ensures ok { IfOk result (λ o. option_map numbered_view o
+        ≡ numbered_at numbers.now (reached file.now path.now)) }
     ensures refused { IfErr result IsMemory }
 {
     let folder = reached(alloc, file, path)?;
@@ -75,11 +78,11 @@ pub(crate) fn bump_at<'a>(
 /// The bump of the crate whose manifest is in the folder of an absolute path.
 pub(crate) fn bump_beside<'a>(
     alloc: Global,
-    numbers: &Numbers<'a>,
+    numbers: &BumpsByFolder<'a>,
     file: &str,
 ) -> CargoResult<Option<Numbered<'a>>>
-    ensures ok { IfOk result (λ o. option_map numbered_seen o
-        ≡ told_in numbers.now (folder_of file.now)) }
+    ensures ok { IfOk result (λ o. option_map numbered_view o
+        ≡ numbered_at numbers.now (folder_of file.now)) }
     ensures refused { IfErr result IsMemory }
 {
     let folder = folder_of(alloc, file)?;

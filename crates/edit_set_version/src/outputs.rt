@@ -3,27 +3,27 @@ ghost use Rattle.std.specs.Prelude.{◌≡◌, ◌≢◌, ◌<◌, ◌⊎◌, �
 ghost use Rattle.std.specs.List.{AllZip, filter, filter_map};
 ghost use Rattle.edit_base.specs.Errors.{IsMemory};
 ghost use Rattle.edit_base.specs.declared.errors.Error.TheVariants.{NoVersionPlace};
-ghost use Rattle.edit_document.specs.Ranges.{edits_seen};
+ghost use Rattle.edit_document.specs.Ranges.{edit_views};
 ghost use Rattle.edit_manifest.specs.Versions.{IsNoValue, package_version};
 ghost use Rattle.edit_report.specs.declared.output.Output.{Output as OutputSeen};
 ghost use Rattle.edit_syntax.specs.Grammar.{Text};
 ghost use Rattle.edit_tree.specs.Assertions.{IsDocument, same_bytes};
-ghost use Rattle.edit_tree.specs.Shown.{tree_of};
+ghost use Rattle.edit_tree.specs.DocumentViews.{tree_of};
 ghost use Rattle.edit_tree.specs.Tree.{is_value_at};
 ghost use Rattle.edit_set_version.specs.Apart.{AreApart};
-ghost use Rattle.edit_set_version.specs.Crates.{IsReadOf, bump_seen, bumps_seen};
+ghost use Rattle.edit_set_version.specs.Crates.{IsReadOf, bump_view, bumps_view};
 ghost use Rattle.edit_set_version.specs.Admitted.{AllRise};
 ghost use Rattle.edit_set_version.specs.Dependents.{IsUnraised};
-ghost use Rattle.edit_set_version.specs.Numbers.{TellsFirst};
-ghost use Rattle.edit_set_version.specs.PlanRefused.{HasBadInputBy, IsInputClearBy, StandsAgainstInput};
+ghost use Rattle.edit_set_version.specs.BumpsByFolder.{HasFirstBumps};
+ghost use Rattle.edit_set_version.specs.PlanRefused.{HasBadInputBy, IsInputClearBy, IsInputError};
 ghost use Rattle.edit_set_version.specs.Planned.{AreOutputsOf, HasOutputsBy, OutputsInOrder};
 ghost use Rattle.edit_set_version.specs.SetVersioned.{edits_by, dependents, own_edit, requirement_edit, shared_edits, writes_own};
 ghost use Rattle.edit_metadata.specs.Inputs.{HaveOwnPaths, path_of};
-ghost use Rattle.edit_set_version.specs.Written.{CanShare, TellsShared, shared_seen};
+ghost use Rattle.edit_set_version.specs.Written.{CanShare, HasSharedVersion, shared_version_view};
 
 use crate::crates::Bump;
 use crate::dependents::dependents_of;
-use crate::numbers::{Numbers, bump_beside};
+use crate::numbers::{BumpsByFolder, bump_beside};
 use crate::writes::{Edit, own_edit, push_requirements, shared_edit};
 use edit_base::errors::{CargoResult, Error};
 use edit_document::Document;
@@ -36,17 +36,17 @@ use std::alloc::Global;
 /// What a plan writes: the path of the root manifest, the next version of the workspace where it changes,
 /// and the bumps by folder.
 #[derive(Clone, Copy)]
-pub(crate) struct Writing<'a, 'n> {
+pub(crate) struct PlannedWrites<'a, 'n> {
     pub(crate) root: &'a str,
     pub(crate) shared: Option<&'a Version>,
-    pub(crate) numbers: &'a Numbers<'n>,
+    pub(crate) numbers: &'a BumpsByFolder<'n>,
     pub(crate) bumps: &'a [Bump<'a>],
 }
 
 /// Whether the version of a bumped crate is a literal in the manifest at a path: that is the crate's
 /// manifest, and the version is not inherited.
 fn writes_own(bump: &Bump<'_>, path: &str) -> bool
-    ensures { result ≡ writes_own path.now (bump_seen bump.now) }
+    ensures { result ≡ writes_own path.now (bump_view bump.now) }
 {
     bump.member.input.path.as_str() == path && !bump.member.manifest.version_is_inherited()
 }
@@ -62,13 +62,13 @@ fn numbered_bump<'a>(bumps: &'a [Bump<'a>], number: usize) -> &'a Bump<'a>
 /// The bump whose version is a literal in the manifest at a path, where there is one.
 fn own_bump<'a>(
     alloc: Global,
-    writing: &Writing<'a, '_>,
+    writing: &PlannedWrites<'a, '_>,
     path: &str,
 ) -> CargoResult<Option<&'a Bump<'a>>>
-    requires numbers { TellsFirst (bumps_seen writing.now.bumps.now) writing.now.numbers.now }
-    requires apart { AreApart (bumps_seen writing.now.bumps.now) }
-    ensures ok { IfOk result (λ o. filter (writes_own path.now) (bumps_seen writing.entry.now.bumps.now)
-        ≡ option_to_list (option_map (λ b. bump_seen b.now) o)) }
+    requires numbers { HasFirstBumps (bumps_view writing.now.bumps.now) writing.now.numbers.now }
+    requires apart { AreApart (bumps_view writing.now.bumps.now) }
+    ensures ok { IfOk result (λ o. filter (writes_own path.now) (bumps_view writing.entry.now.bumps.now)
+        ≡ option_to_list (option_map (λ b. bump_view b.now) o)) }
     ensures refused { IfErr result IsMemory }
 {
     let Some(told) = bump_beside(alloc, writing.numbers, path)? else {
@@ -84,12 +84,12 @@ fn own_bump<'a>(
 /// Adds the edit of the workspace's version, where the root manifest is at this path.
 fn push_shared(
     alloc: Global,
-    writing: &Writing<'_, '_>,
+    writing: &PlannedWrites<'_, '_>,
     path: &str,
     edits: &mut Vec<Edit>,
 ) -> CargoResult<()>
-    ensures ok { OnOk result (edits_seen edits.new.items ≡ edits_seen edits.old.items
-        ++ shared_edits (same_bytes path.now writing.now.root.now) (shared_seen writing.now.shared)) }
+    ensures ok { OnOk result (edit_views edits.new.items ≡ edit_views edits.old.items
+        ++ shared_edits (same_bytes path.now writing.now.root.now) (shared_version_view writing.now.shared)) }
     ensures refused { IfErr result IsMemory }
 {
     if path != writing.root {
@@ -107,19 +107,19 @@ fn push_shared(
 /// this path.
 pub(crate) fn push_own(
     alloc: Global,
-    writing: &Writing<'_, '_>,
+    writing: &PlannedWrites<'_, '_>,
     path: &str,
     document: &Document,
     edits: &mut Vec<Edit>,
 ) -> CargoResult<()>
-    requires numbers { TellsFirst (bumps_seen writing.now.bumps.now) writing.now.numbers.now }
-    requires apart { AreApart (bumps_seen writing.now.bumps.now) }
-    ensures ok { OnOk result (edits_seen edits.new.items ≡ edits_seen edits.old.items
-        ++ filter_map (own_edit path.now) (bumps_seen writing.now.bumps.now)) }
-    ensures literal { OnOk result (filter (writes_own path.now) (bumps_seen writing.now.bumps.now) ≢ []
+    requires numbers { HasFirstBumps (bumps_view writing.now.bumps.now) writing.now.numbers.now }
+    requires apart { AreApart (bumps_view writing.now.bumps.now) }
+    ensures ok { OnOk result (edit_views edits.new.items ≡ edit_views edits.old.items
+        ++ filter_map (own_edit path.now) (bumps_view writing.now.bumps.now)) }
+    ensures literal { OnOk result (filter (writes_own path.now) (bumps_view writing.now.bumps.now) ≢ []
         → (form : Text) → IsDocument document.now.bytes form → is_value_at form package_version ≡ true) }
     ensures refused { IfErr result (λ e. IsMemory e ⊎ ((e ≡ NoVersionPlace)
-        × (filter (writes_own path.now) (bumps_seen writing.now.bumps.now) ≢ [])
+        × (filter (writes_own path.now) (bumps_view writing.now.bumps.now) ≢ [])
         × IsNoValue document.now package_version)) }
 {
     let Some(bump) = own_bump(alloc, writing, path)? else {
@@ -136,19 +136,19 @@ pub(crate) fn push_own(
 /// Adds the edits of the requirements on bumped crates in the manifest at this path.
 fn push_dependents(
     alloc: Global,
-    writing: &Writing<'_, '_>,
+    writing: &PlannedWrites<'_, '_>,
     path: &str,
     document: &Document,
     edits: &mut Vec<Edit>,
 ) -> CargoResult<()>
-    requires numbers { TellsFirst (bumps_seen writing.now.bumps.now) writing.now.numbers.now }
-    ensures ok { OnOk result (edits_seen edits.new.items ≡ edits_seen edits.old.items
+    requires numbers { HasFirstBumps (bumps_view writing.now.bumps.now) writing.now.numbers.now }
+    ensures ok { OnOk result (edit_views edits.new.items ≡ edit_views edits.old.items
         ++ filter_map requirement_edit
-        (dependents (bumps_seen writing.now.bumps.now) path.now (tree_of document.now))) }
+        (dependents (bumps_view writing.now.bumps.now) path.now (tree_of document.now))) }
     ensures rise { OnOk result
-        (AllRise (bumps_seen writing.now.bumps.now) path.now (tree_of document.now)) }
+        (AllRise (bumps_view writing.now.bumps.now) path.now (tree_of document.now)) }
     ensures refused { IfErr result
-        (IsUnraised (bumps_seen writing.now.bumps.now) path.now (tree_of document.now)) }
+        (IsUnraised (bumps_view writing.now.bumps.now) path.now (tree_of document.now)) }
 {
     let dependents = dependents_of(alloc, writing.numbers, path, document)?;
     push_requirements(alloc, &dependents, edits)?;
@@ -158,19 +158,19 @@ fn push_dependents(
 /// The edits of an input.
 fn edits_of(
     alloc: Global,
-    writing: &Writing<'_, '_>,
+    writing: &PlannedWrites<'_, '_>,
     input: &Input,
     manifest: &Manifest,
 ) -> CargoResult<Vec<Edit>>
-    requires numbers { TellsFirst (bumps_seen writing.now.bumps.now) writing.now.numbers.now }
-    requires apart { AreApart (bumps_seen writing.now.bumps.now) }
+    requires numbers { HasFirstBumps (bumps_view writing.now.bumps.now) writing.now.numbers.now }
+    requires apart { AreApart (bumps_view writing.now.bumps.now) }
     requires read { IsReadOf input.now manifest.now }
-    ensures ok { IfOk result (λ es. edits_seen es.items
-        ≡ edits_by writing.now.root.now (shared_seen writing.now.shared)
-        (bumps_seen writing.now.bumps.now) (path_of input.now) (tree_of manifest.now.document)) }
-    ensures clear { OnOk result (IsInputClearBy (bumps_seen writing.now.bumps.now) input.now) }
+    ensures ok { IfOk result (λ es. edit_views es.items
+        ≡ edits_by writing.now.root.now (shared_version_view writing.now.shared)
+        (bumps_view writing.now.bumps.now) (path_of input.now) (tree_of manifest.now.document)) }
+    ensures clear { OnOk result (IsInputClearBy (bumps_view writing.now.bumps.now) input.now) }
     ensures refused { IfErr result (λ e. IsMemory e
-        ⊎ StandsAgainstInput (bumps_seen writing.now.bumps.now) input.now e) }
+        ⊎ IsInputError (bumps_view writing.now.bumps.now) input.now e) }
 {
     let path = input.path.as_str();
     let document = &manifest.document;
@@ -184,27 +184,27 @@ fn edits_of(
 /// The output of an input, `None` where there are no edits.
 fn output_of(
     alloc: Global,
-    writing: &Writing<'_, '_>,
+    writing: &PlannedWrites<'_, '_>,
     input: &Input,
     manifest: &Manifest,
 ) -> CargoResult<Option<Output>>
-    requires numbers { TellsFirst (bumps_seen writing.now.bumps.now) writing.now.numbers.now }
-    requires apart { AreApart (bumps_seen writing.now.bumps.now) }
+    requires numbers { HasFirstBumps (bumps_view writing.now.bumps.now) writing.now.numbers.now }
+    requires apart { AreApart (bumps_view writing.now.bumps.now) }
     requires read { IsReadOf input.now manifest.now }
-    requires shared { CanShare writing.now.root.now (shared_seen writing.now.shared) (path_of input.now)
+    requires shared { CanShare writing.now.root.now (shared_version_view writing.now.shared) (path_of input.now)
         (tree_of manifest.now.document) }
-    ensures output { IfOk result (λ o. AreOutputsOf writing.now.root.now (shared_seen writing.now.shared)
-        (bumps_seen writing.now.bumps.now) input.now (option_to_list o)) }
-    ensures clear { OnOk result (IsInputClearBy (bumps_seen writing.now.bumps.now) input.now) }
+    ensures output { IfOk result (λ o. AreOutputsOf writing.now.root.now (shared_version_view writing.now.shared)
+        (bumps_view writing.now.bumps.now) input.now (option_to_list o)) }
+    ensures clear { OnOk result (IsInputClearBy (bumps_view writing.now.bumps.now) input.now) }
     ensures refused { IfErr result (λ e. IsMemory e
-        ⊎ StandsAgainstInput (bumps_seen writing.now.bumps.now) input.now e) }
+        ⊎ IsInputError (bumps_view writing.now.bumps.now) input.now e) }
 {
     let edits = edits_of(alloc, writing, input, manifest)?;
     if edits.is_empty() {
         return Ok(None);
     }
     let document = &manifest.document;
-    document.has_form();
+    document.lemma_form();
     let text = document.with_literals(alloc, &edits)?;
     let path = String::from_str(alloc, input.path.as_str())?;
     Ok(Some(Output {
@@ -216,23 +216,23 @@ fn output_of(
 /// Adds the output of an input, where there are edits.
 fn push_output(
     alloc: Global,
-    writing: &Writing<'_, '_>,
+    writing: &PlannedWrites<'_, '_>,
     input: &Input,
     manifest: &Manifest,
     outputs: &mut Vec<Output>,
 ) -> CargoResult<()>
-    requires numbers { TellsFirst (bumps_seen writing.now.bumps.now) writing.now.numbers.now }
-    requires apart { AreApart (bumps_seen writing.now.bumps.now) }
+    requires numbers { HasFirstBumps (bumps_view writing.now.bumps.now) writing.now.numbers.now }
+    requires apart { AreApart (bumps_view writing.now.bumps.now) }
     requires read { IsReadOf input.now manifest.now }
-    requires shared { CanShare writing.now.root.now (shared_seen writing.now.shared) (path_of input.now)
+    requires shared { CanShare writing.now.root.now (shared_version_view writing.now.shared) (path_of input.now)
         (tree_of manifest.now.document) }
     ensures output { OnOk result ((own : List OutputSeen)
         × (outputs.new.items ≡ outputs.old.items ++ own)
-        × AreOutputsOf writing.now.root.now (shared_seen writing.now.shared)
-        (bumps_seen writing.now.bumps.now) input.now own) }
-    ensures clear { OnOk result (IsInputClearBy (bumps_seen writing.now.bumps.now) input.now) }
+        × AreOutputsOf writing.now.root.now (shared_version_view writing.now.shared)
+        (bumps_view writing.now.bumps.now) input.now own) }
+    ensures clear { OnOk result (IsInputClearBy (bumps_view writing.now.bumps.now) input.now) }
     ensures refused { IfErr result (λ e. IsMemory e
-        ⊎ StandsAgainstInput (bumps_seen writing.now.bumps.now) input.now e) }
+        ⊎ IsInputError (bumps_view writing.now.bumps.now) input.now e) }
 {
     let output = output_of(alloc, writing, input, manifest)?;
     match output {
@@ -248,21 +248,21 @@ fn push_output(
 /// edits.
 pub(crate) fn outputs_of(
     alloc: Global,
-    writing: &Writing<'_, '_>,
+    writing: &PlannedWrites<'_, '_>,
     inputs: &[Input],
     manifests: &[Manifest],
 ) -> CargoResult<Vec<Output>>
-    requires numbers { TellsFirst (bumps_seen writing.now.bumps.now) writing.now.numbers.now }
-    requires apart { AreApart (bumps_seen writing.now.bumps.now) }
+    requires numbers { HasFirstBumps (bumps_view writing.now.bumps.now) writing.now.numbers.now }
+    requires apart { AreApart (bumps_view writing.now.bumps.now) }
     requires read { AllZip IsReadOf inputs.now manifests.now }
     requires distinct { HaveOwnPaths inputs.now }
-    requires shared { TellsShared inputs.now writing.now.root.now (shared_seen writing.now.shared) }
+    requires shared { HasSharedVersion inputs.now writing.now.root.now (shared_version_view writing.now.shared) }
     ensures outputs { IfOk result (λ os. All (HasOutputsBy writing.now.root.now
-        (shared_seen writing.now.shared) (bumps_seen writing.now.bumps.now) os.items) inputs.now) }
+        (shared_version_view writing.now.shared) (bumps_view writing.now.bumps.now) os.items) inputs.now) }
     ensures in_order { IfOk result (λ os. OutputsInOrder inputs.now os.items) }
-    ensures clear { OnOk result (All (IsInputClearBy (bumps_seen writing.now.bumps.now)) inputs.now) }
+    ensures clear { OnOk result (All (IsInputClearBy (bumps_view writing.now.bumps.now)) inputs.now) }
     ensures refused { IfErr result (λ e. IsMemory e
-        ⊎ HasBadInputBy (bumps_seen writing.now.bumps.now) inputs.now e) }
+        ⊎ HasBadInputBy (bumps_view writing.now.bumps.now) inputs.now e) }
 {
     let mut outputs = Vec::new(alloc);
     'inputs: for i in 0..inputs.len() {

@@ -3,37 +3,37 @@ ghost use Rattle.std.specs.Prelude.{◌≡◌, ◌⊎◌, ◌++◌, [], All, IfE
 ghost use Rattle.std.specs.List.{AllZip, flat_map};
 ghost use Rattle.semver.specs.Identifiers.{parts_of};
 ghost use Rattle.edit_base.specs.Errors.{IsMemory};
-ghost use Rattle.edit_metadata.specs.Workspaces.{HasOwnFolders, workspace_said};
+ghost use Rattle.edit_metadata.specs.Workspaces.{HasOwnFolders, workspace_view};
 ghost use Rattle.edit_version.specs.Laws.{IsReadable};
 ghost use Rattle.edit_set_version.specs.Apart.{AreApart};
 ghost use Rattle.edit_set_version.specs.Bumps.{IsReadableTarget, bump, target_of};
 ghost use Rattle.edit_set_version.specs.Chosen.{chosen, held_back};
-ghost use Rattle.edit_set_version.specs.Crates.{IsReadOf, bumps_seen, project_seen};
+ghost use Rattle.edit_set_version.specs.Crates.{IsReadOf, bumps_view, project_view};
 ghost use Rattle.edit_set_version.specs.Admitted.{AreVersions};
-ghost use Rattle.edit_set_version.specs.PlanCauses.{StandsAgainst, currents};
+ghost use Rattle.edit_set_version.specs.PlanCauses.{IsVersionError, currents};
 ghost use Rattle.edit_set_version.specs.Plan.{IsPlan};
 ghost use Rattle.edit_set_version.specs.PlanLines.{lines_of, manifests, shared_lines};
 ghost use Rattle.edit_set_version.specs.PlanRefused.{HasBadInputBy, IsBehindLiterals, IsBumpable, IsCauseOf, IsInputClearBy};
-ghost use Rattle.edit_set_version.specs.Planned.{HasOutputsBy, OutputsInOrder, has_lines, told_lines};
+ghost use Rattle.edit_set_version.specs.Planned.{HasOutputsBy, OutputsInOrder, has_lines, plan_lines_view};
 ghost use Rattle.edit_set_version.specs.Projects.{AreInputsOf, HasProject};
-ghost use Rattle.edit_set_version.specs.Selections.{asked_of};
+ghost use Rattle.edit_set_version.specs.Selections.{selection_view};
 ghost use Rattle.edit_set_version.specs.SetVersioned.{bumps, workspace_current, workspace_next};
 ghost use Rattle.edit_set_version.specs.ToldLines.{HasUnraised};
 ghost use Rattle.edit_metadata.specs.Inputs.{HaveOwnPaths};
-ghost use Rattle.edit_set_version.specs.Written.{TellsShared};
+ghost use Rattle.edit_set_version.specs.Written.{HasSharedVersion};
 
 use crate::bumps::bumps_of;
 use crate::choose::choose;
 use crate::crates::Bump;
 use crate::literals::check_literals;
 use crate::manifests::manifests_of;
-use crate::numbers::numbers_of;
-use crate::outputs::{Writing, outputs_of};
+use crate::numbers::index_bumps;
+use crate::outputs::{PlannedWrites, outputs_of};
 use crate::plan::{Selection, SetVersionPlan};
 use crate::project::{ProjectRead, project_of};
 use crate::rows::plan_lines;
 use crate::set_version::TargetVersion;
-use crate::shared::{shared_current, shared_next};
+use crate::shared::{current_workspace_version, next_workspace_version};
 use edit_base::CargoResult;
 use edit_manifest::Manifest;
 use edit_metadata::{Input, Workspace};
@@ -56,26 +56,26 @@ fn versions_of<'a>(
     selection: &Selection,
     project: &ProjectRead<'a>,
 ) -> CargoResult<Versions<'a>>
-    ensures bumps { IfOk result (λ v. bumps_seen v.bumps.items
-        ≡ bumps (target_of target.now) (asked_of selection.now) (project_seen project.now)) }
+    ensures bumps { IfOk result (λ v. bumps_view v.bumps.items
+        ≡ bumps (target_of target.now) (selection_view selection.now) (project_view project.now)) }
     ensures current { IfOk result (λ v. option_map parts_of v.current
-        ≡ workspace_current (asked_of selection.now) (project_seen project.now)) }
+        ≡ workspace_current (selection_view selection.now) (project_view project.now)) }
     ensures next { IfOk result (λ v. option_map parts_of v.next
-        ≡ workspace_next (target_of target.now) (asked_of selection.now) (project_seen project.now)) }
+        ≡ workspace_next (target_of target.now) (selection_view selection.now) (project_view project.now)) }
     ensures excluded { OnOk result
-        (held_back (asked_of selection.now) (project_seen project.now).members ≡ []) }
+        (held_back (selection_view selection.now) (project_view project.now).members ≡ []) }
     ensures bumpable { OnOk result (All (λ v. IsBumpable (bump (target_of target.now)
-        (asked_of selection.now).metadata v))
-        (currents (asked_of selection.now) (project_seen project.now))) }
+        (selection_view selection.now).metadata v))
+        (currents (selection_view selection.now) (project_view project.now))) }
     ensures versions { IsReadableTarget (target_of target.now)
-        → All (λ m. IsReadable m.version) (chosen (asked_of selection.now) (project_seen project.now).members)
-        → IfOk result (λ v. AreVersions (bumps_seen v.bumps.items)) }
+        → All (λ m. IsReadable m.version) (chosen (selection_view selection.now) (project_view project.now).members)
+        → IfOk result (λ v. AreVersions (bumps_view v.bumps.items)) }
     ensures refused { IfErr result (λ e. IsMemory e
-        ⊎ StandsAgainst (target_of target.now) (asked_of selection.now) (project_seen project.now) e) }
+        ⊎ IsVersionError (target_of target.now) (selection_view selection.now) (project_view project.now) e) }
 {
     let choice = choose(alloc, selection, &project.members)?;
-    let current = shared_current(alloc, choice.workspace, project.root.manifest)?;
-    let next = shared_next(alloc, target, selection, current.as_ref())?;
+    let current = current_workspace_version(alloc, choice.workspace, project.root.manifest)?;
+    let next = next_workspace_version(alloc, target, selection, current.as_ref())?;
     let bumps = bumps_of(alloc, target, selection, &choice.crates)?;
     Ok(Versions {
         current,
@@ -92,29 +92,29 @@ fn plan_with(
     inputs: &[Input],
     read: &[Manifest],
 ) -> CargoResult<SetVersionPlan>
-    requires apart { AreApart (bumps_seen versions.now.bumps.items) }
+    requires apart { AreApart (bumps_view versions.now.bumps.items) }
     requires read { AllZip IsReadOf inputs.now read.now }
     requires distinct { HaveOwnPaths inputs.now }
-    requires shared { TellsShared inputs.now (project_seen project.now).path
+    requires shared { HasSharedVersion inputs.now (project_view project.now).path
         (option_map parts_of versions.now.next) }
-    ensures outputs { IfOk result (λ plan. All (HasOutputsBy (project_seen project.now).path
-        (option_map parts_of versions.now.next) (bumps_seen versions.now.bumps.items) plan.outputs.items)
+    ensures outputs { IfOk result (λ plan. All (HasOutputsBy (project_view project.now).path
+        (option_map parts_of versions.now.next) (bumps_view versions.now.bumps.items) plan.outputs.items)
         inputs.now) }
     ensures in_order { IfOk result (λ plan. OutputsInOrder inputs.now plan.outputs.items) }
-    ensures lines { IfOk result (λ plan. told_lines plan
+    ensures lines { IfOk result (λ plan. plan_lines_view plan
         ≡ shared_lines (option_map parts_of versions.now.current) (option_map parts_of versions.now.next)
-        ++ flat_map (lines_of (project_seen project.now)) (bumps_seen versions.now.bumps.items)) }
+        ++ flat_map (lines_of (project_view project.now)) (bumps_view versions.now.bumps.items)) }
     ensures changed { IfOk result (λ plan. plan.changed ≡ has_lines plan) }
-    ensures clear { OnOk result (All (IsInputClearBy (bumps_seen versions.now.bumps.items)) inputs.now) }
+    ensures clear { OnOk result (All (IsInputClearBy (bumps_view versions.now.bumps.items)) inputs.now) }
     ensures refused { IfErr result (λ e. IsMemory e
-        ⊎ (IsBehindLiterals (bumps_seen versions.now.bumps.items) inputs.now e
-        × (HasUnraised (bumps_seen versions.now.bumps.items) (manifests (project_seen project.now)) e
-        ⊎ HasBadInputBy (bumps_seen versions.now.bumps.items) inputs.now e))) }
+        ⊎ (IsBehindLiterals (bumps_view versions.now.bumps.items) inputs.now e
+        × (HasUnraised (bumps_view versions.now.bumps.items) (manifests (project_view project.now)) e
+        ⊎ HasBadInputBy (bumps_view versions.now.bumps.items) inputs.now e))) }
 {
-    let numbers = numbers_of(alloc, &versions.bumps)?;
+    let numbers = index_bumps(alloc, &versions.bumps)?;
     let old = versions.current.as_ref();
     let next = versions.next.as_ref();
-    let writing = Writing {
+    let writing = PlannedWrites {
         root: project.root.input.path.as_str(),
         shared: next,
         numbers: &numbers,
@@ -152,14 +152,14 @@ pub fn plan_set_version(
     inputs: &[Input],
 ) -> CargoResult<SetVersionPlan>
     // as `workspace_inputs` returns them, for a workspace that was read
-    requires inputs { AreInputsOf (workspace_said workspace.now) inputs.now }
-    requires folders { HasOwnFolders (workspace_said workspace.now) }
+    requires inputs { AreInputsOf (workspace_view workspace.now) inputs.now }
+    requires folders { HasOwnFolders (workspace_view workspace.now) }
     // the plan is that of the project which the workspace and the inputs make up
-    ensures planned { IfOk result (λ plan. HasProject (workspace_said workspace.now) inputs.now
-        (IsPlan (target_of target.now) (asked_of selection.now) inputs.now plan)) }
+    ensures planned { IfOk result (λ plan. HasProject (workspace_view workspace.now) inputs.now
+        (IsPlan (target_of target.now) (selection_view selection.now) inputs.now plan)) }
     // the first cause in the input, or out of memory
-    ensures refused { IfErr result (IsCauseOf (target_of target.now) (asked_of selection.now)
-        (workspace_said workspace.now) inputs.now) }
+    ensures refused { IfErr result (IsCauseOf (target_of target.now) (selection_view selection.now)
+        (workspace_view workspace.now) inputs.now) }
 {
     selection.check_names(alloc, workspace)?;
     let manifests = manifests_of(alloc, inputs)?;

@@ -4,10 +4,10 @@ ghost use Rattle.std.specs.List.{filter_map};
 ghost use Rattle.edit_base.specs.Errors.{IsMemory};
 ghost use Rattle.edit_tree.specs.Assertions.{at, key};
 ghost use Rattle.edit_document.specs.ItemViews.{document_of, place_of};
-ghost use Rattle.edit_document.specs.Items.{place_seen};
-ghost use Rattle.edit_tree.specs.Shown.{tree_of};
+ghost use Rattle.edit_document.specs.Items.{place_view};
+ghost use Rattle.edit_tree.specs.DocumentViews.{tree_of};
 ghost use Rattle.edit_set_version.specs.Entries.{requirement, text_at};
-ghost use Rattle.edit_set_version.specs.Pointed.{led, pointed, pointed_at, pointed_in, pointed_named, pointed_view, pointed_views, pointed_with};
+ghost use Rattle.edit_set_version.specs.PathDependency.{dependent_by_path, pointed, path_dependency_at, path_dependencies_in, path_dependency_named, path_dependency_view, path_dependency_views, path_dependency_with};
 ghost use Rattle.edit_set_version.specs.SetVersioned.{Bump, dependents};
 
 use edit_base::CargoResult;
@@ -54,7 +54,7 @@ fn entry_with(
     text: Option<&str>,
     path: Option<&str>,
 ) -> Result<Option<PathEntry>, AllocError>
-    ensures ok { IfOk result (λ o. option_map pointed_view o ≡ pointed_with (place_seen place.items)
+    ensures ok { IfOk result (λ o. option_map path_dependency_view o ≡ path_dependency_with (place_view place.items)
         (option_map (λ s. s.now) text.entry) (option_map (λ s. s.now) path.entry)) }
 {
     let Some(text) = text else {
@@ -75,9 +75,9 @@ fn entry_named(
     table: Item<'_>,
     name: &str,
 ) -> CargoResult<Option<PathEntry>>
-    requires { place_of table ≡ place_seen place.now }
-    ensures ok { IfOk result (λ o. option_map pointed_view o
-        ≡ pointed_at (tree_of (document_of table.entry)) (at (place_seen place.now) (key name.now))) }
+    requires { place_of table ≡ place_view place.now }
+    ensures ok { IfOk result (λ o. option_map path_dependency_view o
+        ≡ path_dependency_at (tree_of (document_of table.entry)) (at (place_view place.now) (key name.now))) }
     ensures refused { IfErr result IsMemory }
 {
     let Some(item) = table.get(name) else {
@@ -95,9 +95,9 @@ fn push_named(
     name: &str,
     entries: &mut Vec<PathEntry>,
 ) -> CargoResult<()>
-    requires { place_of table ≡ place_seen place.now }
-    ensures ok { OnOk result (pointed_views entries.new.items ≡ pointed_views entries.old.items
-        ++ pointed_named (tree_of (document_of table.entry)) (place_seen place.now) name.now) }
+    requires { place_of table ≡ place_view place.now }
+    ensures ok { OnOk result (path_dependency_views entries.new.items ≡ path_dependency_views entries.old.items
+        ++ path_dependency_named (tree_of (document_of table.entry)) (place_view place.now) name.now) }
     ensures refused { IfErr result IsMemory }
 {
     let entry = entry_named(alloc, place, table, name)?;
@@ -117,8 +117,8 @@ fn push_table(
     place: &[Step],
     entries: &mut Vec<PathEntry>,
 ) -> CargoResult<()>
-    ensures ok { OnOk result (pointed_views entries.new.items ≡ pointed_views entries.old.items
-        ++ pointed_in (tree_of document.now) (place_seen place.now)) }
+    ensures ok { OnOk result (path_dependency_views entries.new.items ≡ path_dependency_views entries.old.items
+        ++ path_dependencies_in (tree_of document.now) (place_view place.now)) }
     ensures refused { IfErr result IsMemory }
 {
     let Some(table) = document.item(place) else {
@@ -132,7 +132,7 @@ fn push_table(
 
 /// The entries of a document that have both a requirement and a path.
 fn entries_of(alloc: Global, document: &Document) -> CargoResult<Vec<PathEntry>>
-    ensures ok { IfOk result (λ es. pointed_views es.items ≡ pointed (tree_of document.now)) }
+    ensures ok { IfOk result (λ es. path_dependency_views es.items ≡ pointed (tree_of document.now)) }
     ensures refused { IfErr result IsMemory }
 {
     let tables = dependency_tables(alloc, document)?;
@@ -146,11 +146,11 @@ fn entries_of(alloc: Global, document: &Document) -> CargoResult<Vec<PathEntry>>
 /// The entries of a manifest that have both a requirement and a path, table by table in the order of a walk
 /// down its tree: those that are tables with a string `version` and a string `path`.
 pub fn path_entries(alloc: Global, document: &Document) -> CargoResult<Vec<PathEntry>>
-    ensures entries { IfOk result (λ es. pointed_views es.items ≡ pointed (tree_of document.now)) }
+    ensures entries { IfOk result (λ es. path_dependency_views es.items ≡ pointed (tree_of document.now)) }
     // whatever is bumped and wherever the manifest is, only these entries depend on a bumped crate
     ensures dependents { IfOk result (λ es. (bumps : List Bump) (file : List ℕ)
         → dependents bumps file (tree_of document.now)
-        ≡ filter_map (led bumps file) (pointed_views es.items)) }
+        ≡ filter_map (dependent_by_path bumps file) (path_dependency_views es.items)) }
     ensures refused { IfErr result IsMemory }
 {
     let entries = entries_of(alloc, document)?;

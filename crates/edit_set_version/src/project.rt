@@ -4,10 +4,10 @@ ghost use Rattle.std.specs.List.{AllZip};
 ghost use Rattle.edit_base.specs.Errors.{IsMemory};
 ghost use Rattle.edit_base.specs.Paths.{IsNormalOf};
 ghost use Rattle.edit_metadata.specs.Inputs.{input_paths, path_of, root_manifest};
-ghost use Rattle.edit_metadata.specs.Workspaces.{workspace_said};
-ghost use Rattle.edit_set_version.specs.Crates.{IsReadOf, project_seen};
+ghost use Rattle.edit_metadata.specs.Workspaces.{workspace_view};
+ghost use Rattle.edit_set_version.specs.Crates.{IsReadOf, project_view};
 ghost use Rattle.edit_set_version.specs.Projects.{AreInputsOf, IsProject, IsTreeAt};
-ghost use Rattle.edit_tree.specs.Shown.{tree_of};
+ghost use Rattle.edit_tree.specs.DocumentViews.{tree_of};
 
 use crate::crates::{Crate, crates_of};
 use edit_base::CargoResult;
@@ -32,7 +32,7 @@ pub(crate) struct ProjectRead<'a> {
 
 /// The normalized path of the root manifest.
 fn root_path(alloc: Global, workspace: &Workspace) -> CargoResult<String>
-    ensures path { IfOk result (λ s. IsNormalOf (root_manifest (workspace_said workspace.now)).path
+    ensures path { IfOk result (λ s. IsNormalOf (root_manifest (workspace_view workspace.now)).path
         (string_bytes s)) }
     ensures refused { IfErr result IsMemory }
 {
@@ -66,10 +66,10 @@ pub(crate) fn project_of<'a>(
     inputs: &'a [Input],
     manifests: &'a [Manifest],
 ) -> CargoResult<ProjectRead<'a>>
-    requires inputs { AreInputsOf (workspace_said workspace.now) inputs.now }
+    requires inputs { AreInputsOf (workspace_view workspace.now) inputs.now }
     requires manifests { AllZip IsReadOf inputs.now manifests.now }
-    ensures ok { IfOk result (λ p. IsProject (workspace_said workspace.entry.now) inputs.entry.now
-        (project_seen p)) }
+    ensures ok { IfOk result (λ p. IsProject (workspace_view workspace.entry.now) inputs.entry.now
+        (project_view p)) }
     ensures refused { IfErr result IsMemory }
 {
     let path = root_path(alloc, workspace)?;

@@ -4,14 +4,14 @@ ghost use Rattle.std.specs.List.{flat_map};
 ghost use Rattle.edit_base.specs.Errors.{IsMemory};
 ghost use Rattle.semver.specs.Identifiers.{parts_of};
 ghost use Rattle.edit_set_version.specs.Apart.{AreApart};
-ghost use Rattle.edit_set_version.specs.Crates.{bumps_seen, project_seen};
-ghost use Rattle.edit_set_version.specs.Numbers.{TellsFirst};
+ghost use Rattle.edit_set_version.specs.Crates.{bumps_view, project_view};
+ghost use Rattle.edit_set_version.specs.BumpsByFolder.{HasFirstBumps};
 ghost use Rattle.edit_set_version.specs.PlanLines.{lines_of, manifests, shared_lines};
-ghost use Rattle.edit_set_version.specs.ToldLines.{HasUnraised, line_told, lists_told};
+ghost use Rattle.edit_set_version.specs.ToldLines.{HasUnraised, report_line_view, line_lists_view};
 
 use crate::crates::Bump;
 use crate::lines::{Line, workspace_line};
-use crate::numbers::Numbers;
+use crate::numbers::BumpsByFolder;
 use crate::project::ProjectRead;
 use crate::walk::lists_of;
 use edit_base::CargoResult;
@@ -20,8 +20,8 @@ use std::alloc::{AllocError, Global};
 
 /// Appends lines.
 fn push_all(list: Vec<Line>, lines: &mut Vec<Line>) -> Result<(), AllocError>
-    ensures ok { OnOk result (map line_told lines.new.items
-        ≡ map line_told lines.old.items ++ map line_told list.items) }
+    ensures ok { OnOk result (map report_line_view lines.new.items
+        ≡ map report_line_view lines.old.items ++ map report_line_view list.items) }
 {
     'list: for line in list {
         lines.push(line)?;
@@ -35,8 +35,8 @@ fn in_a_row(
     first: Option<Line>,
     lists: Vec<Vec<Line>>,
 ) -> Result<Vec<Line>, AllocError>
-    ensures ok { IfOk result (λ v. map line_told v.items ≡ map line_told (option_to_list first)
-        ++ flat_map (λ l. l) (lists_told lists.items)) }
+    ensures ok { IfOk result (λ v. map report_line_view v.items ≡ map report_line_view (option_to_list first)
+        ++ flat_map (λ l. l) (line_lists_view lists.items)) }
 {
     let mut lines = Vec::new(alloc);
     if let Some(line) = first {
@@ -54,7 +54,7 @@ fn shared_line(
     old: Option<&Version>,
     new: Option<&Version>,
 ) -> Result<Option<Line>, AllocError>
-    ensures ok { IfOk result (λ o. map line_told (option_to_list o) ≡ shared_lines
+    ensures ok { IfOk result (λ o. map report_line_view (option_to_list o) ≡ shared_lines
         (option_map (λ v. parts_of v.now) old.entry) (option_map (λ v. parts_of v.now) new.entry)) }
 {
     let Some(old) = old else {
@@ -70,19 +70,19 @@ fn shared_line(
 /// The lines of a plan: that of the workspace's version where it changes, then those of the bumps.
 pub(crate) fn plan_lines(
     alloc: Global,
-    numbers: &Numbers<'_>,
+    numbers: &BumpsByFolder<'_>,
     project: &ProjectRead<'_>,
     bumps: &[Bump<'_>],
     old: Option<&Version>,
     new: Option<&Version>,
 ) -> CargoResult<Vec<Line>>
-    requires numbers { TellsFirst (bumps_seen bumps.now) numbers.now }
-    requires apart { AreApart (bumps_seen bumps.now) }
-    ensures ok { IfOk result (λ v. map line_told v.items ≡ shared_lines
+    requires numbers { HasFirstBumps (bumps_view bumps.now) numbers.now }
+    requires apart { AreApart (bumps_view bumps.now) }
+    ensures ok { IfOk result (λ v. map report_line_view v.items ≡ shared_lines
         (option_map (λ v. parts_of v.now) old.entry) (option_map (λ v. parts_of v.now) new.entry)
-        ++ flat_map (lines_of (project_seen project.now)) (bumps_seen bumps.now)) }
+        ++ flat_map (lines_of (project_view project.now)) (bumps_view bumps.now)) }
     ensures refused { IfErr result (λ e. IsMemory e
-        ⊎ HasUnraised (bumps_seen bumps.now) (manifests (project_seen project.now)) e) }
+        ⊎ HasUnraised (bumps_view bumps.now) (manifests (project_view project.now)) e) }
 {
     let lists = lists_of(alloc, numbers, project, bumps)?;
     let first = shared_line(alloc, old, new)?;

@@ -10,7 +10,7 @@ ghost use Rattle.edit_set_version.specs.Levels.{IsLevel};
 ghost use Rattle.edit_set_version.specs.declared.set_version.BumpLevel.TheVariants.{Release};
 ghost use Rattle.edit_set_version.specs.declared.set_version.TargetVersion.TheVariants.{Relative};
 
-use crate::bump::{raised, replaced};
+use crate::bump::{bump_to_version, raised};
 use edit_base::errors::CargoResult;
 use semver::Version;
 use std::alloc::Global;
@@ -107,7 +107,7 @@ impl TargetVersion {
     {
         match self {
             TargetVersion::Relative(level) => raised(alloc, *level, current, metadata),
-            TargetVersion::Absolute(version) => replaced(alloc, version, current, metadata),
+            TargetVersion::Absolute(version) => bump_to_version(alloc, version, current, metadata),
         }
     }
 }

@@ -7,8 +7,8 @@ ghost use Rattle.edit_manifest.specs.Versions.{workspace_version};
 ghost use Rattle.edit_set_version.specs.BumpCauses.{IsUnbumped};
 ghost use Rattle.edit_set_version.specs.Bumps.{bump, next_of, target_of};
 ghost use Rattle.edit_set_version.specs.PlanRefused.{IsBumpable};
-ghost use Rattle.edit_set_version.specs.Selections.{asked_of};
-ghost use Rattle.edit_tree.specs.Shown.{tree_of};
+ghost use Rattle.edit_set_version.specs.Selections.{selection_view};
+ghost use Rattle.edit_tree.specs.DocumentViews.{tree_of};
 
 use crate::bumps::metadata_of;
 use crate::plan::Selection;
@@ -19,7 +19,7 @@ use semver::Version;
 use std::alloc::Global;
 
 /// The version of the workspace in its root manifest, where `bumps` is set and there is a valid one.
-pub(crate) fn shared_current(
+pub(crate) fn current_workspace_version(
     alloc: Global,
     bumps: bool,
     root: &Manifest,
@@ -35,20 +35,20 @@ pub(crate) fn shared_current(
 }
 
 /// The next version of the workspace, `None` where it does not change.
-pub(crate) fn shared_next(
+pub(crate) fn next_workspace_version(
     alloc: Global,
     target: &TargetVersion,
     selection: &Selection,
     current: Option<&Version>,
 ) -> CargoResult<Option<Version>>
     ensures ok { IfOk result (λ o. option_map parts_of o
-        ≡ option_and_then (λ v. next_of (bump (target_of target.now) (asked_of selection.now).metadata v))
+        ≡ option_and_then (λ v. next_of (bump (target_of target.now) (selection_view selection.now).metadata v))
         (option_map (λ v. parts_of v.now) current.entry)) }
     ensures bumpable { OnOk result (IfSome current.entry (λ v. IsBumpable (bump (target_of target.now)
-        (asked_of selection.now).metadata (parts_of v.now)))) }
+        (selection_view selection.now).metadata (parts_of v.now)))) }
     ensures refused { IfErr result (λ e. (v : Parts)
         × (option_map (λ v. parts_of v.now) current.entry ≡ Some v)
-        × IsUnbumped (bump (target_of target.now) (asked_of selection.now).metadata v) v e) }
+        × IsUnbumped (bump (target_of target.now) (selection_view selection.now).metadata v) v e) }
 {
     let Some(current) = current else {
         return Ok(None);

@@ -1,18 +1,18 @@
 //! The lines of each bump, collected while the manifests are walked.
 ghost use Rattle.std.specs.Prelude.{◌≡◌, ◌∷◌, [], All, IfOk, OnOk, map};
-ghost use Rattle.edit_set_version.specs.Crates.{bumps_seen};
-ghost use Rattle.edit_set_version.specs.Dependents.{HasRisen, dependent_seen};
-ghost use Rattle.edit_set_version.specs.ToldLines.{bump_told, line_told, lists_told, with_line, with_updates};
+ghost use Rattle.edit_set_version.specs.Crates.{bumps_view};
+ghost use Rattle.edit_set_version.specs.Dependents.{HasRaisedText, numbered_dependent_view};
+ghost use Rattle.edit_set_version.specs.ToldLines.{bump_line_view, report_line_view, line_lists_view, with_line, with_updates};
 
 use crate::crates::Bump;
 use crate::dependents::DependentEntry;
-use crate::lines::{Line, bump_line, updating};
+use crate::lines::{Line, bump_line, updating_line};
 use std::alloc::{AllocError, Global};
 
 /// A list of lines for each bump, in the order of the bumps, which holds the bump's own line.
 pub(crate) fn bump_lists(alloc: Global, bumps: &[Bump<'_>]) -> Result<Vec<Vec<Line>>, AllocError>
-    ensures ok { IfOk result (λ ls. lists_told ls.items
-        ≡ map (λ b. bump_told b ∷ []) (bumps_seen bumps.now)) }
+    ensures ok { IfOk result (λ ls. line_lists_view ls.items
+        ≡ map (λ b. bump_line_view b ∷ []) (bumps_view bumps.now)) }
 {
     let mut lists = Vec::with_capacity(alloc, bumps.len())?;
     'bumps: for bump in bumps {
@@ -26,8 +26,8 @@ pub(crate) fn bump_lists(alloc: Global, bumps: &[Bump<'_>]) -> Result<Vec<Vec<Li
 
 /// Appends a line to the list at an index.
 fn push_line(lists: &mut Vec<Vec<Line>>, number: usize, line: Line) -> Result<(), AllocError>
-    ensures ok { OnOk result (lists_told lists.new.items
-        ≡ with_line number (line_told line) (lists_told lists.old.items)) }
+    ensures ok { OnOk result (line_lists_view lists.new.items
+        ≡ with_line number (report_line_view line) (line_lists_view lists.old.items)) }
 {
     if number >= lists.len() {
         return Ok(());
@@ -44,12 +44,12 @@ fn push_update(
     dependent: &DependentEntry<'_>,
     lists: &mut Vec<Vec<Line>>,
 ) -> Result<(), AllocError>
-    ensures ok { OnOk result (HasRisen dependent.now → lists_told lists.new.items
-        ≡ with_updates name.now (dependent_seen dependent.now ∷ []) 0 (lists_told lists.old.items)) }
+    ensures ok { OnOk result (HasRaisedText dependent.now → line_lists_view lists.new.items
+        ≡ with_updates name.now (numbered_dependent_view dependent.now ∷ []) 0 (line_lists_view lists.old.items)) }
 {
     match &dependent.risen {
         Some(new) => {
-            let line = updating(alloc, name, dependent.text.as_str(), new.as_str())?;
+            let line = updating_line(alloc, name, dependent.text.as_str(), new.as_str())?;
             push_line(lists, dependent.bump.number, line)?;
             Ok(())
         }
@@ -64,8 +64,8 @@ pub(crate) fn push_updates(
     dependents: &[DependentEntry<'_>],
     lists: &mut Vec<Vec<Line>>,
 ) -> Result<(), AllocError>
-    ensures ok { OnOk result (All HasRisen dependents.now → lists_told lists.new.items
-        ≡ with_updates name.now (map dependent_seen dependents.now) 0 (lists_told lists.old.items)) }
+    ensures ok { OnOk result (All HasRaisedText dependents.now → line_lists_view lists.new.items
+        ≡ with_updates name.now (map numbered_dependent_view dependents.now) 0 (line_lists_view lists.old.items)) }
 {
     'dependents: for dependent in dependents {
         push_update(alloc, name, dependent, lists)?;

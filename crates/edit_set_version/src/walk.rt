@@ -1,18 +1,18 @@
 //! A walk over the manifests of a project that collects the lines of raised requirements.
 ghost use Rattle.std.specs.Prelude.{◌≡◌, ◌⊎◌, ◌∷◌, [], List, IfErr, IfOk, OnOk, map};
 ghost use Rattle.edit_base.specs.Errors.{IsMemory};
-ghost use Rattle.edit_set_version.specs.Crates.{bumps_seen, member_of, members_of, project_seen};
-ghost use Rattle.edit_set_version.specs.Numbers.{TellsFirst};
+ghost use Rattle.edit_set_version.specs.Crates.{bumps_view, member_of, members_of, project_view};
+ghost use Rattle.edit_set_version.specs.BumpsByFolder.{HasFirstBumps};
 ghost use Rattle.edit_set_version.specs.PlanLines.{manifests};
 ghost use Rattle.edit_metadata.specs.Inputs.{path_of};
 ghost use Rattle.edit_set_version.specs.SetVersioned.{Bump as Bumped};
-ghost use Rattle.edit_set_version.specs.ToldLines.{HasUnraised, bump_told, lists_told, other_manifests, with_manifests};
-ghost use Rattle.edit_tree.specs.Shown.{tree_of};
+ghost use Rattle.edit_set_version.specs.ToldLines.{HasUnraised, bump_line_view, line_lists_view, other_manifests, with_manifests};
+ghost use Rattle.edit_tree.specs.DocumentViews.{tree_of};
 
 use crate::crates::{Bump, Crate};
 use crate::dependents::dependents_of;
 use crate::lines::Line;
-use crate::numbers::Numbers;
+use crate::numbers::BumpsByFolder;
 use crate::project::ProjectRead;
 use crate::told::{bump_lists, push_updates};
 use edit_base::CargoResult;
@@ -23,19 +23,19 @@ use std::alloc::Global;
 /// Appends the lines of a manifest, under the name of its package.
 fn push_manifest(
     alloc: Global,
-    numbers: &Numbers<'_>,
+    numbers: &BumpsByFolder<'_>,
     name: &str,
     input: &Input,
     manifest: &Manifest,
     lists: &mut Vec<Vec<Line>>,
 ) -> CargoResult<()>
-    ensures ok { OnOk result ((bs : List Bumped) → TellsFirst bs numbers.now
-        → lists_told lists.new.items ≡ with_manifests bs (record {
+    ensures ok { OnOk result ((bs : List Bumped) → HasFirstBumps bs numbers.now
+        → line_lists_view lists.new.items ≡ with_manifests bs (record {
           name = name.now;
           path = path_of input.now;
           tree = tree_of manifest.now.document;
-        } ∷ []) 0 (lists_told lists.old.items)) }
-    ensures refused { IfErr result (λ e. (bs : List Bumped) → TellsFirst bs numbers.now
+        } ∷ []) 0 (line_lists_view lists.old.items)) }
+    ensures refused { IfErr result (λ e. (bs : List Bumped) → HasFirstBumps bs numbers.now
         → HasUnraised bs (record {
           name = name.now;
           path = path_of input.now;
@@ -50,15 +50,15 @@ fn push_manifest(
 /// Appends the lines of a member's manifest, unless it is the root manifest, at path `root`.
 fn push_member(
     alloc: Global,
-    numbers: &Numbers<'_>,
+    numbers: &BumpsByFolder<'_>,
     root: &str,
     found: Crate<'_>,
     lists: &mut Vec<Vec<Line>>,
 ) -> CargoResult<()>
-    ensures ok { OnOk result ((bs : List Bumped) → TellsFirst bs numbers.now
-        → lists_told lists.new.items ≡ with_manifests bs
-        (other_manifests root.now (member_of found.entry ∷ [])) 0 (lists_told lists.old.items)) }
-    ensures refused { IfErr result (λ e. (bs : List Bumped) → TellsFirst bs numbers.now
+    ensures ok { OnOk result ((bs : List Bumped) → HasFirstBumps bs numbers.now
+        → line_lists_view lists.new.items ≡ with_manifests bs
+        (other_manifests root.now (member_of found.entry ∷ [])) 0 (line_lists_view lists.old.items)) }
+    ensures refused { IfErr result (λ e. (bs : List Bumped) → HasFirstBumps bs numbers.now
         → HasUnraised bs (other_manifests root.now (member_of found.entry ∷ [])) e) }
 {
     if found.input.path.as_str() == root {
@@ -78,15 +78,15 @@ fn push_member(
 /// Appends the lines of the members' manifests, but for the root manifest, at path `root`.
 fn push_members(
     alloc: Global,
-    numbers: &Numbers<'_>,
+    numbers: &BumpsByFolder<'_>,
     root: &str,
     crates: &[Crate<'_>],
     lists: &mut Vec<Vec<Line>>,
 ) -> CargoResult<()>
-    ensures ok { OnOk result ((bs : List Bumped) → TellsFirst bs numbers.now
-        → lists_told lists.new.items ≡ with_manifests bs
-        (other_manifests root.now (members_of crates.now)) 0 (lists_told lists.old.items)) }
-    ensures refused { IfErr result (λ e. (bs : List Bumped) → TellsFirst bs numbers.now
+    ensures ok { OnOk result ((bs : List Bumped) → HasFirstBumps bs numbers.now
+        → line_lists_view lists.new.items ≡ with_manifests bs
+        (other_manifests root.now (members_of crates.now)) 0 (line_lists_view lists.old.items)) }
+    ensures refused { IfErr result (λ e. (bs : List Bumped) → HasFirstBumps bs numbers.now
         → HasUnraised bs (other_manifests root.now (members_of crates.now)) e) }
 {
     'members: for found in crates {
@@ -98,15 +98,15 @@ fn push_members(
 /// Appends the lines of the manifests of a project: the root's, then those of the other members in order.
 fn push_project(
     alloc: Global,
-    numbers: &Numbers<'_>,
+    numbers: &BumpsByFolder<'_>,
     project: &ProjectRead<'_>,
     lists: &mut Vec<Vec<Line>>,
 ) -> CargoResult<()>
-    ensures ok { OnOk result ((bs : List Bumped) → TellsFirst bs numbers.now
-        → lists_told lists.new.items
-        ≡ with_manifests bs (manifests (project_seen project.now)) 0 (lists_told lists.old.items)) }
-    ensures refused { IfErr result (λ e. (bs : List Bumped) → TellsFirst bs numbers.now
-        → HasUnraised bs (manifests (project_seen project.now)) e) }
+    ensures ok { OnOk result ((bs : List Bumped) → HasFirstBumps bs numbers.now
+        → line_lists_view lists.new.items
+        ≡ with_manifests bs (manifests (project_view project.now)) 0 (line_lists_view lists.old.items)) }
+    ensures refused { IfErr result (λ e. (bs : List Bumped) → HasFirstBumps bs numbers.now
+        → HasUnraised bs (manifests (project_view project.now)) e) }
 {
     let root = project.root;
     push_manifest(
@@ -131,16 +131,16 @@ fn push_project(
 /// raised to its version.
 pub(crate) fn lists_of(
     alloc: Global,
-    numbers: &Numbers<'_>,
+    numbers: &BumpsByFolder<'_>,
     project: &ProjectRead<'_>,
     bumps: &[Bump<'_>],
 ) -> CargoResult<Vec<Vec<Line>>>
-    requires numbers { TellsFirst (bumps_seen bumps.now) numbers.now }
-    ensures ok { IfOk result (λ ls. lists_told ls.items
-        ≡ with_manifests (bumps_seen bumps.now) (manifests (project_seen project.now)) 0
-        (map (λ b. bump_told b ∷ []) (bumps_seen bumps.now))) }
+    requires numbers { HasFirstBumps (bumps_view bumps.now) numbers.now }
+    ensures ok { IfOk result (λ ls. line_lists_view ls.items
+        ≡ with_manifests (bumps_view bumps.now) (manifests (project_view project.now)) 0
+        (map (λ b. bump_line_view b ∷ []) (bumps_view bumps.now))) }
     ensures refused { IfErr result (λ e. IsMemory e
-        ⊎ HasUnraised (bumps_seen bumps.now) (manifests (project_seen project.now)) e) }
+        ⊎ HasUnraised (bumps_view bumps.now) (manifests (project_view project.now)) e) }
 {
     let mut lists = bump_lists(alloc, bumps)?;
     push_project(alloc, numbers, project, &mut lists)?;

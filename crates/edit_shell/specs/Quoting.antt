@@ -2,7 +2,7 @@
 use Rattle.std.specs.Prelude.{ℕ, List, [], ◌∷◌, ◌++◌, ◌==◌, if◌then◌else◌}
 use Rattle.std.specs.List.{flat_map}
 
--- a byte within single quotes: a single quote ends them, stands behind a backslash, and begins them anew
+-- a byte within single quotes: a single quote is written as `'\''`
 abbrev pub escape_of : ℕ → List ℕ
 escape_of b = if b == 39 then 39 ∷ 92 ∷ 39 ∷ 39 ∷ [] else b ∷ []
 
@@ -10,7 +10,7 @@ escape_of b = if b == 39 then 39 ∷ 92 ∷ 39 ∷ 39 ∷ [] else b ∷ []
 abbrev pub quoted : List ℕ → List ℕ
 quoted value = 39 ∷ (flat_map escape_of value ++ 39 ∷ [])
 
--- an argument behind a space
+-- an argument after a space
 abbrev pub argument_text : List ℕ → List ℕ
 argument_text argument = 32 ∷ quoted argument
 

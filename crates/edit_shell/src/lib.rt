@@ -76,7 +76,7 @@ mod tests {
     use std::test::Fail;
 
     #[test]
-    fn an_assignment(rt: HostRuntime) -> Result<(), Fail> {
+    fn quotes_an_assignment(rt: HostRuntime) -> Result<(), Fail> {
         let mut text = Vec::new(rt.alloc());
         push_assignment(&mut text, "manifest", "a b/$HOME/it's/`x`\n")?;
         assert_eq!(rt;

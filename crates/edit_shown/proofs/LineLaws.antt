@@ -10,10 +10,10 @@ use Rattle.std.proofs.lemmas.List.Elements.{filter-append}
 use Rattle.std.proofs.lemmas.Slice.Eq.{bytes_eq-Decides}
 use Rattle.edit_shown.proofs.MarkLemmas.{pieces_more}
 use Rattle.edit_shown.specs.Lines.{lines_of, onto}
-use Rattle.edit_shown.specs.Marks.{MarkedLine, lines_in, lines_with, marked, marked_at}
-use Rattle.edit_shown.specs.Shown.{is_new, is_old}
-use Rattle.edit_shown.specs.declared.diff.marks.Mark.{Mark}
-use Rattle.edit_shown.specs.declared.diff.marks.Mark.TheVariants.{Kept, Removed, Added}
+use Rattle.edit_shown.specs.LineKinds.{DiffLine, lines_in, lines_with, marked, compare_lines_at}
+use Rattle.edit_shown.specs.ShownLines.{is_new, is_old}
+use Rattle.edit_shown.specs.declared.diff.marks.LineKind.{LineKind}
+use Rattle.edit_shown.specs.declared.diff.marks.LineKind.TheVariants.{Context, Removed, Added}
 
 -- a byte before lines, joined
 joined_onto : (b : ℕ) (lines : List (List ℕ)) → concat (onto b lines) ≡ b ∷ concat lines
@@ -44,18 +44,18 @@ whole_front (x ∷ xs) zero le = absurd (omega arith)
 whole_front (x ∷ xs) (suc n) le = ap (λ t. x ∷ t) (whole_front xs n (omega arith))
 
 -- what one of two lists has with a mark
-with_append : (is : Mark → Bool) (xs ys : List MarkedLine)
+with_append : (is : LineKind → Bool) (xs ys : List DiffLine)
     → lines_with is (xs ++ ys) ≡ lines_with is xs ++ lines_with is ys
 with_append is xs ys = ap lines_in (filter-append (λ line. is line.0) xs ys)
-    ∙ map-append (λ (line : MarkedLine). line.1) _ _
+    ∙ map-append (λ (line : DiffLine). line.1) _ _
 
 -- the old line at a number
 old_both : (b : Bool) (old new : List ℕ)
-    → lines_with is_old (cond b ((Kept, old) ∷ []) ((Removed, old) ∷ (Added, new) ∷ [])) ≡ old ∷ []
+    → lines_with is_old (cond b ((Context, old) ∷ []) ((Removed, old) ∷ (Added, new) ∷ [])) ≡ old ∷ []
 old_both true old new = refl
 old_both false old new = refl
 
-old_at : (old new : Option (List ℕ)) → lines_with is_old (marked_at old new) ≡ option_to_list old
+old_at : (old new : Option (List ℕ)) → lines_with is_old (compare_lines_at old new) ≡ option_to_list old
 old_at None None = refl
 old_at None (Some new) = refl
 old_at (Some old) None = refl
@@ -63,18 +63,18 @@ old_at (Some old) (Some new) = old_both (bytes_eq old new) old new
 
 -- the new line at a number
 new_both : (b : Bool) (old new : List ℕ) → (b ≡ true → old ≡ new)
-    → lines_with is_new (cond b ((Kept, old) ∷ []) ((Removed, old) ∷ (Added, new) ∷ [])) ≡ new ∷ []
+    → lines_with is_new (cond b ((Context, old) ∷ []) ((Removed, old) ∷ (Added, new) ∷ [])) ≡ new ∷ []
 new_both true old new same = ap (λ l. l ∷ []) (same refl)
 new_both false old new same = refl
 
-new_at : (old new : Option (List ℕ)) → lines_with is_new (marked_at old new) ≡ option_to_list new
+new_at : (old new : Option (List ℕ)) → lines_with is_new (compare_lines_at old new) ≡ option_to_list new
 new_at None None = refl
 new_at None (Some new) = refl
 new_at (Some old) None = refl
 new_at (Some old) (Some new) = new_both (bytes_eq old new) old new (λ e. (bytes_eq-Decides old new).0 e)
 
 -- the lines with a mark at the first numbers, where those at each number are those of a list
-fronts : (is : Mark → Bool) (at : ℕ → List MarkedLine) (xs : List (List ℕ))
+fronts : (is : LineKind → Bool) (at : ℕ → List DiffLine) (xs : List (List ℕ))
     → ((k : ℕ) → lines_with is (at k) ≡ option_to_list (slice_get xs k)) → (n : ℕ)
     → lines_with is (flat_map at (range_with_len 0 n)) ≡ take n xs
 fronts is at xs each zero = refl
@@ -88,19 +88,19 @@ fronts is at xs each (suc n) =
     ∙ sym (front_more xs n)
 
 -- the lines of two lists by their numbers
-abbrev numbered : List (List ℕ) → List (List ℕ) → ℕ → List MarkedLine
-numbered olds news i = marked_at (slice_get olds i) (slice_get news i)
+abbrev numbered_lines : List (List ℕ) → List (List ℕ) → ℕ → List DiffLine
+numbered_lines olds news i = compare_lines_at (slice_get olds i) (slice_get news i)
 
 -- the lines that are kept or removed
 pub keeps_old : (olds news : List (List ℕ)) → lines_with is_old (marked olds news) ≡ olds
 keeps_old olds news =
-    fronts is_old (numbered olds news) olds (λ k. old_at (slice_get olds k) (slice_get news k))
+    fronts is_old (numbered_lines olds news) olds (λ k. old_at (slice_get olds k) (slice_get news k))
     (max (length olds) (length news))
     ∙ whole_front olds _ (omega arith)
 
 -- the lines that are kept or added
 pub keeps_new : (olds news : List (List ℕ)) → lines_with is_new (marked olds news) ≡ news
 keeps_new olds news =
-    fronts is_new (numbered olds news) news (λ k. new_at (slice_get olds k) (slice_get news k))
+    fronts is_new (numbered_lines olds news) news (λ k. new_at (slice_get olds k) (slice_get news k))
     (max (length olds) (length news))
     ∙ whole_front news _ (omega arith)

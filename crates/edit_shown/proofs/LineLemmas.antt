@@ -3,7 +3,7 @@ use Rattle.std.proofs.Common.{◌≡◌, ℕ, ◌+◌, ◌<◌, suc, List, [], �
 use Rattle.std.specs.Prelude.{◌==◌}
 use Rattle.std.proofs.lemmas.Bool.{cond-true, cond-false, cases_Bool}
 use Rattle.std.proofs.lemmas.List.{drop_more}
-use Rattle.edit_shown.specs.Lines.{IsCut, line_length, lines_of, onto}
+use Rattle.edit_shown.specs.Lines.{IsSplitAfterLine, line_length, lines_of, onto}
 
 -- the first line ends at a line feed
 line_length-feed : (b : ℕ) (text : List ℕ) → (b == 10) ≡ true → line_length (b ∷ text) ≡ 1
@@ -52,7 +52,7 @@ line_length-some (b ∷ text) some = ⊎_elim
 
 -- a text that is cut behind its first line
 pub is_cut : (text : List ℕ) (n : ℕ) (line rest : List ℕ) → 0 < length text → n ≡ line_length text
-    → line ≡ take n text → rest ≡ drop n text → IsCut text line rest
+    → line ≡ take n text → rest ≡ drop n text → IsSplitAfterLine text line rest
 is_cut text n line rest some long front back = record {
   lines = cuts text some ∙ ap (parts text) (sym long)
       ∙ ap (λ l. l ∷ lines_of (drop n text)) (sym front) ∙ ap (λ r. line ∷ lines_of r) (sym back);

@@ -8,8 +8,8 @@ use Rattle.std.proofs.lemmas.List.{append-nil, drop_more, map-append}
 use Rattle.std.proofs.lemmas.List.FromFn.{get_or-map-range_with_len, length-map-range_with_len, map-range_with_len_more}
 use Rattle.std.proofs.lemmas.List.Sums.{count_by_more_no, count_by_more_yes}
 use Rattle.edit_shown.specs.Hunks.{AreCounted}
-use Rattle.edit_shown.specs.Shown.{is_new, is_old, is_shown, leading, shown_lines}
-use Rattle.edit_shown.specs.declared.diff.marks.Mark.{Mark}
+use Rattle.edit_shown.specs.ShownLines.{is_new, is_old, is_shown, leading, shown_lines}
+use Rattle.edit_shown.specs.declared.diff.marks.LineKind.{LineKind}
 
 id-map : (xs : List ℕ) → map (λ x. x) xs ≡ xs
 id-map [] = refl
@@ -34,7 +34,7 @@ pub taken_more : {A B : Type 0} (g : A → B) (f : ℕ → List A) (n : ℕ)
 taken_more g f n = ap (map g) (pieces_more f n) ∙ map-append g (flat_map f (range_with_len 0 n)) (f n)
 
 -- the lines that are shown, from one on
-shown_from : (marks : List Mark) (j : ℕ) → j < length marks
+shown_from : (marks : List LineKind) (j : ℕ) → j < length marks
     → drop j (shown_lines marks) ≡ is_shown marks j ∷ drop (j + 1) (shown_lines marks)
 shown_from marks j within =
     let long = length-map-range_with_len (is_shown marks) 0 (length marks) in
@@ -43,19 +43,19 @@ shown_from marks j within =
     (get_or-map-range_with_len (is_shown marks) 0 (length marks) j j false within (omega arith))
 
 -- one line more that is shown
-pub shown_more : (marks : List Mark) (j : ℕ) → j < length marks → is_shown marks j ≡ true
+pub shown_more : (marks : List LineKind) (j : ℕ) → j < length marks → is_shown marks j ≡ true
     → leading (drop j (shown_lines marks)) ≡ suc (leading (drop (j + 1) (shown_lines marks)))
 shown_more marks j within is = ap leading (shown_from marks j within)
     ∙ ap (λ b. leading (b ∷ drop (j + 1) (shown_lines marks))) is
 
 -- a line that is not shown
-pub shown_end : (marks : List Mark) (j : ℕ) → j < length marks → is_shown marks j ≡ false
+pub shown_end : (marks : List LineKind) (j : ℕ) → j < length marks → is_shown marks j ≡ false
     → leading (drop j (shown_lines marks)) ≡ 0
 shown_end marks j within is = ap leading (shown_from marks j within)
     ∙ ap (λ b. leading (b ∷ drop (j + 1) (shown_lines marks))) is
 
 -- behind the last line
-pub shown_none : (marks : List Mark) (j : ℕ) → length marks ≤ j → leading (drop j (shown_lines marks)) ≡ 0
+pub shown_none : (marks : List LineKind) (j : ℕ) → length marks ≤ j → leading (drop j (shown_lines marks)) ≡ 0
 shown_none marks j past =
     let long = length-map-range_with_len (is_shown marks) 0 (length marks) in
     ap leading (drop_of_length-le (shown_lines marks) (omega (arith, long, past)))
@@ -70,7 +70,8 @@ one_more g f n piece old new added before is =
     ∙ sym (taken_more g f n)
 
 -- one line more, counted where it is one of those
-count_more : (is : Mark → Bool) (marks : List Mark) (i : ℕ) (end : Mark) (count more : ℕ) → i < length marks
+count_more : (is : LineKind → Bool) (marks : List LineKind) (i : ℕ) (end : LineKind) (count more : ℕ)
+    → i < length marks
     → count ≡ count_by is (take i marks)
     → more ≡ count + cond (is (get_or marks i end)) 1 0 → more ≡ count_by is (take (i + 1) marks)
 count_more is marks i end count more within before added = ⊎_elim
@@ -81,9 +82,10 @@ count_more is marks i end count more within before added = ⊎_elim
     (cases_Bool (is (get_or marks i end)))
 
 -- one line more, counted in both texts
-pub counted_more : (marks : List Mark) (i : ℕ) (end : Mark) (old new old' new' : ℕ) → i < length marks
+pub counted_more : (marks : List LineKind) (i : ℕ) (end : LineKind) (old new old' new' : ℕ) → i < length marks
     → AreCounted (take i marks) old new
-    → old' ≡ old + cond (is_old (get_or marks i end)) 1 0 → new' ≡ new + cond (is_new (get_or marks i end)) 1 0
+    → old' ≡ old + cond (is_old (get_or marks i end)) 1 0
+    → new' ≡ new + cond (is_new (get_or marks i end)) 1 0
     → AreCounted (take (i + 1) marks) old' new'
 counted_more marks i end old new old' new' within before older newer = record {
   old_lines = count_more is_old marks i end old old' within before.old_lines older;

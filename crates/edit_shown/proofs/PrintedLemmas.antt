@@ -12,7 +12,7 @@ use Rattle.edit_report.specs.declared.output.Output.{Output}
 use Rattle.edit_report.specs.declared.row.Row.{Row}
 use Rattle.edit_upgrade.specs.declared.upgrade.UpgradePlan.{UpgradePlan}
 use Rattle.edit_upgrade.specs.declared.upgrade.Warning.{Warning}
-use Rattle.edit_shown.specs.Messages.{change_message, changes, file_message, line_shown, messages, row_message, summary_message, warning_message}
+use Rattle.edit_shown.specs.Messages.{change_message, changes, file_message, line_texts, messages, row_message, summary_message, warning_message}
 
 -- a stream that has the texts of so many entries has those of one more
 pub printed_more : {A : Type 0} (show : A → List ℕ) (xs : List A) (i : ℕ) (x : A) (a b c : Option (List ℕ))
@@ -28,14 +28,14 @@ printed_more show xs i x a b c within is before one =
 -- and so with the lines of new versions
 pub changes_more : (lines : List (String Global × String Global)) (i : ℕ)
     (line : String Global × String Global) (a b c : Option (List ℕ)) → i < length lines
-    → line ≡ get_or lines i line → Appends a b (changes (map line_shown (take i lines)))
-    → Appends b c (change_message (line_shown line))
-    → Appends a c (changes (map line_shown (take (i + 1) lines)))
+    → line ≡ get_or lines i line → Appends a b (changes (map line_texts (take i lines)))
+    → Appends b c (change_message (line_texts line))
+    → Appends a c (changes (map line_texts (take (i + 1) lines)))
 changes_more lines i line a b c within is before one =
     subst (Appends a c)
-    (ap (λ l. changes (map line_shown (take i lines)) ++ change_message (line_shown l)) is
-    ∙ flat_map_more change_message [] (map line_shown (take i lines)) (line_shown (get_or lines i line))
-    ∙ sym (ap changes (map_more line_shown lines i line within)))
+    (ap (λ l. changes (map line_texts (take i lines)) ++ change_message (line_texts l)) is
+    ∙ flat_map_more change_message [] (map line_texts (take i lines)) (line_texts (get_or lines i line))
+    ∙ sym (ap changes (map_more line_texts lines i line within)))
     (Appends-trans a b c _ _ before one)
 
 -- an upgrade, from its parts

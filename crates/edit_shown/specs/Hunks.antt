@@ -2,13 +2,13 @@
 -- Output Format).
 use Rattle.std.specs.Prelude.{◌≡◌, ℕ, ◌+◌, ◌-◌, List, [], ◌∷◌, ◌++◌, Bool, not, ◌||◌, ◌==◌, codes, decimal, length, drop, take, slice_index, slice_index_or, if◌then◌else◌}
 use Rattle.std.specs.List.{count_by, flat_map, range_with_len}
-use Rattle.edit_shown.specs.declared.diff.marks.Mark.{Mark}
-use Rattle.edit_shown.specs.declared.diff.marks.Mark.TheVariants.{Kept, Removed, Added}
-use Rattle.edit_shown.specs.Shown.{is_new, is_old, is_shown, leading, shown_lines}
+use Rattle.edit_shown.specs.declared.diff.marks.LineKind.{LineKind}
+use Rattle.edit_shown.specs.declared.diff.marks.LineKind.TheVariants.{Context, Removed, Added}
+use Rattle.edit_shown.specs.ShownLines.{is_new, is_old, is_shown, leading, shown_lines}
 
 -- the character before a line (POSIX, "diff", Diff -u)
-abbrev pub sign : Mark → ℕ
-sign Kept = 32
+abbrev pub sign : LineKind → ℕ
+sign Context = 32
 sign Removed = 45
 sign Added = 43
 
@@ -21,7 +21,7 @@ abbrev pub note : List ℕ → List ℕ
 note line = if ends_with_feed line then [] else codes "\n\\ No newline at end of file\n"
 
 -- a line after its character (POSIX, "diff", Diff -u)
-abbrev pub line_text : Mark → List ℕ → List ℕ
+abbrev pub line_text : LineKind → List ℕ → List ℕ
 line_text mark line = sign mark ∷ (line ++ note line)
 
 -- the number of the first line of a range; for an empty range that of the line before it (POSIX, "diff",
@@ -36,40 +36,40 @@ range_text before count =
     else decimal (first_number before count) ++ (codes "," ++ decimal count)
 
 -- the numbers of lines of the old and of the new text among lines (own)
-pub record AreCounted (marks : List Mark) (old new : ℕ) : Type 0 where
+pub record AreCounted (marks : List LineKind) (old new : ℕ) : Type 0 where
   pub old_lines : old ≡ count_by is_old marks
   pub new_lines : new ≡ count_by is_new marks
 
 -- the header of a hunk, from the numbers of old and new lines before it (POSIX, "diff", Diff -u)
-abbrev pub head_behind : ℕ → ℕ → List Mark → List ℕ
-head_behind old new part =
+abbrev pub hunk_header_after : ℕ → ℕ → List LineKind → List ℕ
+hunk_header_after old new part =
     codes "@@ -" ++ (range_text old (count_by is_old part)
     ++ (codes " +" ++ (range_text new (count_by is_new part) ++ codes " @@\n")))
 
 -- the header of a hunk after some lines (POSIX, "diff", Diff -u)
-abbrev pub head_text : List Mark → List Mark → List ℕ
-head_text before part = head_behind (count_by is_old before) (count_by is_new before) part
+abbrev pub hunk_header_text : List LineKind → List LineKind → List ℕ
+hunk_header_text before part = hunk_header_after (count_by is_old before) (count_by is_new before) part
 
 -- the header of the hunk that begins at a line: the hunk has all consecutive lines that are shown (own)
-abbrev pub head_at : List Mark → ℕ → List ℕ
-head_at marks i =
-    head_text (take i marks) (take (leading (drop i (shown_lines marks))) (drop i marks))
+abbrev pub hunk_header_at : List LineKind → ℕ → List ℕ
+hunk_header_at marks i =
+    hunk_header_text (take i marks) (take (leading (drop i (shown_lines marks))) (drop i marks))
 
 -- whether a hunk begins at a line that is shown (own)
-abbrev pub begins : List Mark → ℕ → Bool
+abbrev pub begins : List LineKind → ℕ → Bool
 begins marks i = (i == 0) || not (is_shown marks (i - 1))
 
 -- the header before a line that is shown, where a hunk begins there (own)
-abbrev pub head_where : List Mark → ℕ → List ℕ
-head_where marks i = if begins marks i then head_at marks i else []
+abbrev pub hunk_header_before : List LineKind → ℕ → List ℕ
+hunk_header_before marks i = if begins marks i then hunk_header_at marks i else []
 
 -- the text of a line in a diff, where it is shown (own)
-abbrev pub text_at : List Mark → List (List ℕ) → ℕ → List ℕ
+abbrev pub text_at : List LineKind → List (List ℕ) → ℕ → List ℕ
 text_at marks lines i =
     if is_shown marks i
-    then head_where marks i ++ line_text (slice_index_or marks i Kept) (slice_index_or lines i [])
+    then hunk_header_before marks i ++ line_text (slice_index_or marks i Context) (slice_index_or lines i [])
     else []
 
 -- the hunks of a diff (own)
-abbrev pub parts_text : List Mark → List (List ℕ) → List ℕ
+abbrev pub parts_text : List LineKind → List (List ℕ) → List ℕ
 parts_text marks lines = flat_map (text_at marks lines) (range_with_len 0 (length marks))

@@ -33,22 +33,22 @@ abbrev pub message_text : MessageMembers → List ℕ
 message_text members = compact_text (message_data members) ++ 10 ∷ []
 
 -- the text of a reason (own)
-abbrev pub why_word : Option Reason → Option (List ℕ)
-why_word None = None
-why_word (Some reason.Latest) = Some (codes "latest")
-why_word (Some reason.Compatible) = Some (codes "compatible")
-why_word (Some reason.Incompatible) = Some (codes "incompatible")
-why_word (Some reason.Pinned) = Some (codes "pinned")
-why_word (Some reason.GitSource) = Some (codes "git")
-why_word (Some reason.PathSource) = Some (codes "local")
-why_word (Some reason.Excluded) = Some (codes "excluded")
+abbrev pub reason_name : Option Reason → Option (List ℕ)
+reason_name None = None
+reason_name (Some reason.Latest) = Some (codes "latest")
+reason_name (Some reason.Compatible) = Some (codes "compatible")
+reason_name (Some reason.Incompatible) = Some (codes "incompatible")
+reason_name (Some reason.Pinned) = Some (codes "pinned")
+reason_name (Some reason.GitSource) = Some (codes "git")
+reason_name (Some reason.PathSource) = Some (codes "local")
+reason_name (Some reason.Excluded) = Some (codes "excluded")
 
 -- the text of a kind of change (own)
-abbrev pub change_word : Option Change → Option (List ℕ)
-change_word None = None
-change_word (Some change.Explicit) = Some (codes "explicit")
-change_word (Some change.Latest) = Some (codes "latest")
-change_word (Some change.Compatible) = Some (codes "compatible")
+abbrev pub change_name : Option Change → Option (List ℕ)
+change_name None = None
+change_name (Some change.Explicit) = Some (codes "explicit")
+change_name (Some change.Latest) = Some (codes "latest")
+change_name (Some change.Compatible) = Some (codes "compatible")
 
 -- a row of a manifest's report (own)
 abbrev pub row_members : List ℕ → Row → MessageMembers
@@ -62,8 +62,8 @@ row_members manifest row =
     ∷ (codes "compatible", text_or_null (option_map string_bytes row.compatible))
     ∷ (codes "latest", text_or_null (option_map string_bytes row.latest))
     ∷ (codes "new", text_or_null (option_map string_bytes row.new))
-    ∷ (codes "why", text_or_null (why_word row.reason))
-    ∷ (codes "change", text_or_null (change_word row.change))
+    ∷ (codes "why", text_or_null (reason_name row.reason))
+    ∷ (codes "change", text_or_null (change_name row.change))
     ∷ []
 
 -- a warning about a manifest (own)

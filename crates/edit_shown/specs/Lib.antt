@@ -2,9 +2,9 @@ pub mod Diffs
 pub mod Messages
 pub mod Hunks
 pub mod Lines
-pub mod Marks
+pub mod LineKinds
 pub mod Names
-pub mod Shown
+pub mod ShownLines
 pub mod Unified
 pub mod Fields
 pub mod JsonMessages

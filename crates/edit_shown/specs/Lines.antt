@@ -17,6 +17,6 @@ line_length [] = 0
 line_length (b ∷ text) = if b == 10 then 1 else suc (line_length text)
 
 -- a text is split after its first line (own)
-pub record IsCut (text line rest : List ℕ) : Type 0 where
+pub record IsSplitAfterLine (text line rest : List ℕ) : Type 0 where
   pub lines : lines_of text ≡ line ∷ lines_of rest
   pub shorter : length rest < length text

@@ -30,8 +30,8 @@ abbrev pub file_message : Options → Output → List ℕ
 file_message o output = message_text (file_members (string_bytes output.path) (not (o.dry_run || o.locked)))
 
 -- calls of `cargo update`, each as its arguments (own)
-abbrev pub calls_shown : List (Vec (String Global) Global) → List (List (List ℕ))
-calls_shown calls = map (λ call. map string_bytes call.items) calls
+abbrev pub call_texts : List (Vec (String Global) Global) → List (List (List ℕ))
+call_texts calls = map (λ call. map string_bytes call.items) calls
 
 -- the members of the summary, with the calls of `cargo update` that follow (own)
 abbrev pub summary_members : UpgradePlan → Options → List (List (List ℕ)) → MessageMembers
@@ -59,8 +59,8 @@ messages plan inputs o calls =
     ++ summary_message plan o calls))
 
 -- a line of new versions: an action and its text (own)
-abbrev pub line_shown : String Global × String Global → List ℕ × List ℕ
-line_shown line = (string_bytes line.0, string_bytes line.1)
+abbrev pub line_texts : String Global × String Global → List ℕ × List ℕ
+line_texts line = (string_bytes line.0, string_bytes line.1)
 
 -- a line of new versions as a message (own)
 abbrev pub change_message : List ℕ × List ℕ → List ℕ

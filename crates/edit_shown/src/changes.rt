@@ -3,7 +3,7 @@ ghost use Rattle.std.specs.Prelude.{◌≡◌, ◌⊎◌, IfErr, OnOk, map};
 ghost use Rattle.std.specs.Io.KnownBytes.{Appends};
 ghost use Rattle.edit_base.specs.Errors.{IsMemory};
 ghost use Rattle.edit_base.specs.declared.errors.Error.TheVariants.{Output};
-ghost use Rattle.edit_shown.specs.Messages.{change_message, changes, line_shown};
+ghost use Rattle.edit_shown.specs.Messages.{change_message, changes, line_texts};
 
 use crate::json::change_message;
 use edit_base::CargoResult;
@@ -18,7 +18,7 @@ fn print_change<O: io::Write>(
     out: &mut O,
 ) -> CargoResult<()>
     ensures text { OnOk result (Appends (O.contents out.old) (O.contents out.new)
-        (change_message (line_shown line.now))) }
+        (change_message (line_texts line.now))) }
     ensures refused { IfErr result (λ e. IsMemory e ⊎ (e ≡ Output)) }
 {
     let text = change_message(alloc, line.0.as_str(), line.1.as_str())?;
@@ -32,7 +32,7 @@ pub fn print_changes<O: io::Write>(
     out: &mut O,
 ) -> CargoResult<()>
     ensures text { OnOk result (Appends (O.contents out.old) (O.contents out.new)
-        (changes (map line_shown lines.now))) }
+        (changes (map line_texts lines.now))) }
     ensures refused { IfErr result (λ e. IsMemory e ⊎ (e ≡ Output)) }
 {
     for line in lines {

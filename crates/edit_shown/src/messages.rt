@@ -126,7 +126,7 @@ fn print_files<O: io::Write>(
 /// The summary of a plan and its calls.
 fn summary_of<'a>(plan: &'a UpgradePlan, options: &Options, calls: &'a [Vec<String>]) -> Summary<'a>
     ensures { summary_members result
-        ≡ spec.summary_members plan.now options.now (spec.calls_shown calls.now) }
+        ≡ spec.summary_members plan.now options.now (spec.call_texts calls.now) }
 {
     Summary {
         dry_run: options.dry_run,
@@ -148,7 +148,7 @@ fn print_summary<O: io::Write>(
     out: &mut O,
 ) -> CargoResult<()>
     ensures text { OnOk result (Appends (O.contents out.old) (O.contents out.new)
-        (spec.summary_message plan.now options.now (spec.calls_shown calls.now))) }
+        (spec.summary_message plan.now options.now (spec.call_texts calls.now))) }
     ensures refused { IfErr result (λ e. IsMemory e ⊎ (e ≡ error.Output)) }
 {
     let line = summary_message(alloc, summary_of(plan, options, calls))?;
@@ -166,7 +166,7 @@ pub fn print_messages<O: io::Write>(
     out: &mut O,
 ) -> CargoResult<()>
     ensures text { OnOk result (Appends (O.contents out.old) (O.contents out.new)
-        (spec.messages plan.now inputs.now options.now (spec.calls_shown calls.now))) }
+        (spec.messages plan.now inputs.now options.now (spec.call_texts calls.now))) }
     ensures refused { IfErr result (λ e. IsMemory e ⊎ (e ≡ error.Output)) }
 {
     print_rows(alloc, inputs, plan.rows.as_slice(), out)?;

@@ -2,8 +2,12 @@
 use Rattle.std.proofs.Common.{◌≡◌, ℕ, List, [], ◌∷◌, ◌++◌, Option, Some, None, Result, Ok, refl, ap, sym, ◌∙◌, subst}
 use Rattle.url.specs.Parser.{parse_url}
 use Rattle.url.specs.Parts.{Parts}
-use Rattle.edit_sources.specs.Configuration.{Configuration, Source, Says, SaysNothing, configuration_of}
-use Rattle.edit_sources.specs.Configuration.SaysNothing.{not_utf8, not_toml, misshapen}
+use Rattle.edit_syntax.specs.Grammar.{Text}
+use Rattle.edit_tree.specs.Assertions.{IsDocument}
+use Rattle.edit_tree.specs.Tree.{view_at}
+use Rattle.edit_tree.proofs.Shallow.{one_form}
+use Rattle.edit_sources.specs.Configuration.{Configuration, Source, Says, IsMalformedConfig, configuration_of}
+use Rattle.edit_sources.specs.Configuration.IsMalformedConfig.{not_utf8, not_toml, misshapen}
 use Rattle.edit_sources.specs.Configured.{HasAddress, all_definitions}
 use Rattle.edit_sources.specs.SourceReplacement.{Address, Definition, EndsAt, Reaches, head_source, named}
 use Rattle.edit_sources.specs.SourceReplacement.Reaches.{head, next}
@@ -89,16 +93,18 @@ one_url configs registry a b x y =
     let text = one_address (all_definitions configs) registry x.text y.text x.address y.address in
     read_one (parse_url None x.text) a b x.reads (ap (parse_url None) text ∙ y.reads)
 
+-- the documents of a text have one tree
+one_tree : (bytes : List ℕ) (a b : Text) → IsDocument bytes a → IsDocument bytes b → view_at a ≡ view_at b
+one_tree bytes a b x y = ap view_at (one_form bytes a b x y)
+
 -- a file has a single configuration
 pub one_saying : (bytes : List ℕ) (a b : Configuration) → Says bytes a → Says bytes b → a ≡ b
 one_saying bytes a b x y =
-    let members = some_one x.members y.members (sym x.toml ∙ y.toml) in
-    some_one a b (sym x.reads ∙ ap configuration_of members ∙ y.reads)
+    some_one a b (sym x.reads ∙ ap configuration_of (one_tree bytes x.form y.form x.toml y.toml) ∙ y.reads)
 
 -- a file with a configuration is not malformed
-pub says_or_nothing : (bytes : List ℕ) (said : Configuration) → Says bytes said → SaysNothing bytes → ⊥
+pub says_or_nothing : (bytes : List ℕ) (said : Configuration) → Says bytes said → IsMalformedConfig bytes → ⊥
 says_or_nothing bytes said s (not_utf8 other) = other s.utf8
-says_or_nothing bytes said s (not_toml none) = some_none s.members (sym s.toml ∙ none)
-says_or_nothing bytes said s (misshapen members is none) =
-    let same = some_one s.members members (sym s.toml ∙ is) in
-    some_none said (sym s.reads ∙ ap configuration_of same ∙ none)
+says_or_nothing bytes said s (not_toml none) = none s.form s.toml
+says_or_nothing bytes said s (misshapen form is none) =
+    some_none said (sym s.reads ∙ ap configuration_of (one_tree bytes s.form form s.toml is) ∙ none)

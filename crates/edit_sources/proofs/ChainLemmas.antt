@@ -6,7 +6,7 @@ use Rattle.std.proofs.lemmas.Bool.{false_from_ne_true}
 use Rattle.std.proofs.lemmas.List.Folds.{list_any-append}
 use Rattle.std.proofs.lemmas.Slice.Eq.{bytes_eq-Decides}
 use Rattle.edit_sources.specs.Configuration as said
-use Rattle.edit_sources.specs.SourceReplacement.{Definition, first, is_used, is_default, addressed, named, with_default, head_source_of, head_key, crates_io_index, crates_io, Address, Reaches}
+use Rattle.edit_sources.specs.SourceReplacement.{Definition, first, is_used, is_default, with_address, named, with_default, head_source_of, head_key, crates_io_index, crates_io, Address, Reaches}
 use Rattle.edit_sources.specs.SourceReplacement.Reaches.{head, next}
 use Rattle.edit_sources.specs.Definitions.{Leads}
 
@@ -51,7 +51,7 @@ some_cond false x y = refl
 
 -- the first source of a chain and the source at its key have the same replacement
 alike : (registry : Option (List ℕ)) (key : List ℕ) (o : Option said.Source) (s u : said.Source)
-    → head_source_of registry o ≡ Some s → addressed key o ≡ Some u → u.replace_with ≡ s.replace_with
+    → head_source_of registry o ≡ Some s → with_address key o ≡ Some u → u.replace_with ≡ s.replace_with
 alike registry key None s u begins at = absurd (none_some u at)
 alike registry key (Some x) s u begins at =
     let c = bytes_eq key crates_io_index in
@@ -87,7 +87,7 @@ leads_too ds address (suc n) b c x h (key, names, rest) = (key, keeps b x ∙ sy
 -- if the source at the first key of a chain leads to a URL, the first source leads there
 pub head_leads : (ds : List Definition) (registry : Option (List ℕ)) (address : List ℕ) (n : ℕ)
     (o : Option said.Source) (u : said.Source)
-    → addressed (head_key registry) o ≡ Some u → Leads ds address n u
+    → with_address (head_key registry) o ≡ Some u → Leads ds address n u
     → (s : said.Source) × (head_source_of registry o ≡ Some s) × Leads ds address n s
 head_leads ds registry address n None u at leads = absurd (none_some u at)
 head_leads ds registry address n (Some x) u at leads =

@@ -1,32 +1,85 @@
--- The entries of a table, one at a time.
-use Rattle.std.proofs.Common.{◌≡◌, ℕ, List, [], ◌∷◌, ◌++◌, map, Option, Some, None, option_map, String, Global, string_bytes, ap, sym, ◌∙◌, refl}
-use Rattle.std.proofs.lemmas.List.{map_push, append_assoc}
-use Rattle.toml.specs.Data.{Data}
-use Rattle.toml.specs.View.{view, members_view}
-use Rattle.toml.specs.declared.value.Value.{Value}
-use Rattle.edit_sources.specs.Configuration.{both, entries_of}
+-- Reading a configuration: the keys of a table in order, entries of `source`, and whole documents.
+use Rattle.std.proofs.Common.{◌≡◌, ℕ, List, [], ◌∷◌, ◌++◌, true, Ordering, Less, Equal, Greater, Option, Some, None, Bor, ap, sym, subst, ◌∙◌, refl, codes}
+use Rattle.std.specs.BTreeSet.{insert_key}
+use Rattle.std.specs.Cmp.Lexicographic.{slice_cmp}
+use Rattle.std.specs.Ordering.{match_ordering, nat_cmp}
+use Rattle.std.specs.Str.{IsUtf8}
+use Rattle.std.proofs.lemmas.List.{map_push}
+use Rattle.std.proofs.lemmas.List.Sums.{fold-append}
+use Rattle.edit_base.specs.Paths.{texts}
+use Rattle.edit_syntax.specs.Grammar.{Text}
+use Rattle.edit_tree.specs.Assertions.{Place, assertions, IsDocument}
+use Rattle.edit_tree.specs.DocumentViews.{DocumentViews, ShowsTree, tree_of}
+use Rattle.edit_tree.specs.Tree.{View, members_of, table, view_at}
+use Rattle.edit_document.specs.Items.{is_tabular}
+use Rattle.edit_sources.specs.Configuration.{Configuration, Says, IsMalformedConfig, Tree, configuration_of, sort_keys, source_of, text_at}
+use Rattle.edit_sources.specs.Configuration.IsMalformedConfig.{misshapen}
 
--- the entries that were read so far, and one more
-pushed : {A : Type 0} (done : List (List ℕ × A)) (key : List ℕ) (x : A) (rest : Option (List (List ℕ × A)))
-    → option_map (λ r. done ++ r) (both (λ y ys. (key, y) ∷ ys) (Some x) rest)
-    ≡ option_map (λ r. (done ++ (key, x) ∷ []) ++ r) rest
-pushed done key x None = refl
-pushed done key x (Some rest) = ap (λ r. Some r) (sym (append_assoc done ((key, x) ∷ []) rest))
+-- ---- keys
 
-pub entry_more : {A X : Type 0} (read : Data → Option A) (shows : X → List ℕ × A)
-    (whole : Option (List (List ℕ × A))) (old new : List X) (e : X) (left rest : List (String Global × Value))
-    (k : String Global) (v : Value)
-    → whole ≡ option_map (λ r. map shows old ++ r) (entries_of read (members_view left))
-    → left ≡ (k, v) ∷ rest
-    → read (view v) ≡ Some (shows e).1
-    → (shows e).0 ≡ string_bytes k
-    → new ≡ old ++ e ∷ []
-    → whole ≡ option_map (λ r. map shows new ++ r) (entries_of read (members_view rest))
-entry_more read shows whole old new e left rest k v so_far next said named items =
-    let here : option_map (λ r. map shows old ++ r) (entries_of read (members_view ((k, v) ∷ rest)))
-    ≡ option_map (λ r. (map shows old ++ shows e ∷ []) ++ r) (entries_of read (members_view rest))
-    = rw (said, ← named)
-    (pushed (map shows old) (shows e).0 (shows e).1 (entries_of read (members_view rest))) in
-    so_far ∙ ap (λ xs. option_map (λ r. map shows old ++ r) (entries_of read (members_view xs))) next ∙ here
-    ∙ ap (λ xs. option_map (λ r. xs ++ r) (entries_of read (members_view rest)))
-    (sym (ap (map shows) items ∙ map_push shows old e))
+-- the order of keys by their bytes
+abbrev by_bytes : Bor (List ℕ) → Bor (List ℕ) → Ordering
+by_bytes x y = slice_cmp nat_cmp x.now y.now
+
+-- one key more in a set
+key_texts : (keys : List (Bor (List ℕ))) (name : Bor (List ℕ))
+    → texts (insert_key by_bytes keys name) ≡ insert_key (slice_cmp nat_cmp) (texts keys) name.now
+key_texts [] name = refl
+key_texts (x ∷ xs) name = by_order (by_bytes name x) (key_texts xs name)
+  where
+    by_order : (o : Ordering)
+        → texts (insert_key by_bytes xs name) ≡ insert_key (slice_cmp nat_cmp) (texts xs) name.now
+        → texts (match_ordering o (name ∷ x ∷ xs) (x ∷ xs) (x ∷ insert_key by_bytes xs name))
+        ≡ match_ordering o (name.now ∷ texts (x ∷ xs)) (texts (x ∷ xs))
+        (x.now ∷ insert_key (slice_cmp nat_cmp) (texts xs) name.now)
+    by_order Less rest = refl
+    by_order Equal rest = refl
+    by_order Greater rest = ap (λ ys. x.now ∷ ys) rest
+
+-- the set after one more key of a table
+pub sort_keys_more : (old new read : List (Bor (List ℕ))) (name : Bor (List ℕ))
+    → texts old ≡ sort_keys (texts read) → new ≡ insert_key by_bytes old name
+    → texts new ≡ sort_keys (texts (read ++ name ∷ []))
+sort_keys_more old new read name so_far is =
+    ap texts is ∙ key_texts old name ∙ ap (λ ks. insert_key (slice_cmp nat_cmp) ks name.now) so_far
+    ∙ sym (ap sort_keys (map_push (λ (x : Bor (List ℕ)). x.now) read name)
+    ∙ fold-append (insert_key (slice_cmp nat_cmp)) [] (texts read) (name.now ∷ []))
+
+-- ---- entries
+
+-- an entry of `source` that is read
+pub source_read : (t : Tree) (entry : Place) (v : View) (r w : Option (List ℕ)) → t entry ≡ Some v
+    → is_tabular v ≡ true → Some r ≡ text_at t entry (codes "registry")
+    → Some w ≡ text_at t entry (codes "replace-with")
+    → Some (record { registry = r; replace_with = w }) ≡ source_of t entry
+source_read t entry v r w there tabular first second = rw (there, tabular, ← first, ← second) refl
+
+-- ---- documents
+
+-- the tree of a document is that of its syntax tree
+same_tree : (d : DocumentViews) (form : Text) → ShowsTree d form → tree_of d ≡ view_at form
+same_tree d form shows = λ i place. shows place i
+
+-- a document has a root
+pub no_root : (d : DocumentViews) (form : Text) → ShowsTree d form → tree_of d [] ≡ None → ⊥
+no_root d form shows none =
+    let root : Some (table (members_of (assertions form) [])) ≡ None = sym (shows []) ∙ none in cc
+
+-- the configuration of a document that was read
+pub says_read : (bytes text : List ℕ) (d : DocumentViews) (said : Configuration) → IsUtf8 bytes
+    → text ≡ bytes → ((form : Text) × IsDocument text form × ShowsTree d form)
+    → configuration_of (tree_of d) ≡ Some said → Says bytes said
+says_read bytes text d said utf8 same (form, is, shows) reads = record {
+  utf8 = utf8;
+  form = form;
+  toml = subst (λ b. IsDocument b form) same is;
+  reads = sym (ap configuration_of (same_tree d form shows)) ∙ reads;
+}
+
+-- a document that was read and has a malformed entry
+pub misshapen_read : (bytes text : List ℕ) (d : DocumentViews) → text ≡ bytes
+    → ((form : Text) × IsDocument text form × ShowsTree d form)
+    → configuration_of (tree_of d) ≡ None → IsMalformedConfig bytes
+misshapen_read bytes text d same (form, is, shows) none =
+    misshapen form (subst (λ b. IsDocument b form) same is)
+    (sym (ap configuration_of (same_tree d form shows)) ∙ none)

@@ -7,11 +7,11 @@ use Rattle.edit_base.specs.Errors.{IsMemory}
 use Rattle.edit_base.specs.declared.errors.Error.{Error}
 use Rattle.edit_base.specs.declared.errors.Error.TheVariants.{RegistryNotFound, SourceNotFound}
 use Rattle.edit_sources.specs.Configuration as said
-use Rattle.edit_sources.specs.SourceReplacement.{first, is_used, addressed, head_source_of, head_key, crates_io_index, crates_io, Address, Reaches, HasNoHead, HasNoAddress, BreaksAt}
+use Rattle.edit_sources.specs.SourceReplacement.{first, is_used, with_address, head_source_of, head_key, crates_io_index, crates_io, Address, Reaches, HasNoHead, HasNoAddress, BreaksAt}
 use Rattle.edit_sources.specs.SourceReplacement.Reaches.{head, next}
 use Rattle.edit_sources.specs.Configured.{all_definitions, HasNoUrl}
 use Rattle.edit_sources.specs.Configured.HasNoUrl.{no_head, breaks}
-use Rattle.edit_sources.specs.Definitions.{Defines, Lacks, Leads, LeadsTo, Takes, end_at}
+use Rattle.edit_sources.specs.Definitions.{Defines, HasNoSourceLeft, Leads, LeadsTo, RemovesSource, end_at}
 use Rattle.edit_sources.specs.Sources.{source_texts, found}
 use Rattle.edit_sources.specs.declared.config.Config.{Config}
 use Rattle.edit_sources.specs.declared.registry.chain.Source.{Source}
@@ -35,7 +35,7 @@ pub record IsWalk (configs : List Config) (registry : Option (List ℕ)) (d : De
 
 -- a key whose definition is left was not used
 fresh : (key : List ℕ) (b : Bool) (o : Option said.Source) (s : said.Source)
-    → addressed key (cond b None o) ≡ Some s → (b ≡ false) × (addressed key o ≡ Some s)
+    → with_address key (cond b None o) ≡ Some s → (b ≡ false) × (with_address key o ≡ Some s)
 fresh key true o s h = absurd (some_none s (sym h))
 fresh key false o s h = (refl, h)
 
@@ -77,12 +77,12 @@ walk_start configs registry key d o s is defines unknown value got = record {
 pub walk_next : (configs : List Config) (registry : Option (List ℕ)) (beginning key : List ℕ)
     (old new : Definitions) (keys : List (List ℕ)) (s t : said.Source)
     → beginning ≡ head_key registry → IsWalk configs registry old keys s → s.replace_with ≡ Some key
-    → end_at old key ≡ None → Takes beginning key old new t
+    → end_at old key ≡ None → RemovesSource beginning key old new t
     → IsWalk configs registry new (keys ++ key ∷ []) t
 walk_next configs registry beginning key old new keys s t is w names unknown takes =
     let ds = all_definitions configs in
     let here = fresh key (is_used keys key) (first key ds) t
-    (ap (addressed key) (sym (w.left key unknown)) ∙ takes.source) in
+    (ap (with_address key) (sym (w.left key unknown)) ∙ takes.source) in
     let apart : bytes_eq (head_key registry) key ≡ false =
     ap (λ k. bytes_eq k key) (sym is) ∙ takes.apart in
     record {
@@ -185,7 +185,7 @@ walk_fails configs registry key d o is defines unknown value got =
 pub walk_breaks : (configs : List Config) (registry : Option (List ℕ)) (beginning key : List ℕ)
     (d : Definitions) (keys : List (List ℕ)) (s : said.Source)
     → beginning ≡ head_key registry → IsWalk configs registry d keys s → s.replace_with ≡ Some key
-    → end_at d key ≡ None → Lacks beginning key d → BreaksAt (all_definitions configs) registry key
+    → end_at d key ≡ None → HasNoSourceLeft beginning key d → BreaksAt (all_definitions configs) registry key
 walk_breaks configs registry beginning key d keys s is w names unknown lacks =
     let ds = all_definitions configs in
     let a = bytes_eq (head_key registry) key in
@@ -196,7 +196,7 @@ walk_breaks configs registry beginning key d keys s is w names unknown lacks =
       reaches = w.reaches;
       names = names;
       broken = ⊎_elim (λ same. inl (left_true a b (ap (λ k. bytes_eq k key) (sym is) ∙ same)))
-          (λ none. ⊎_elim (λ used. inl (right_true a b used)) (λ e. inr (ap (addressed key) e))
+          (λ none. ⊎_elim (λ used. inl (right_true a b used)) (λ e. inr (ap (with_address key) e))
           (missing b (first key ds) (sym (w.left key unknown) ∙ none))) lacks;
     }
 

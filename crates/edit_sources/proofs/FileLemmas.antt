@@ -1,5 +1,5 @@
 -- Configuration files that are read one after another.
-use Rattle.std.proofs.Common.{◌≡◌, ℕ, ◌+◌, ◌<◌, ◌≤◌, List, [], ◌∷◌, ◌++◌, length, map, take, drop, get_or, Bool, Option, Some, None, option_map, String, Global, string_bytes, refl, ap, sym, ◌∙◌, subst, inl, inr, ⊎_elim, arith}
+use Rattle.std.proofs.Common.{◌≡◌, ℕ, ◌+◌, ◌<◌, ◌≤◌, List, [], ◌∷◌, ◌++◌, length, map, take, drop, get_or, Bool, Option, Some, None, option_map, String, Global, string_bytes, refl, ap, sym, ◌∙◌, subst, inl, inr, ⊎_elim, arith, true}
 use Rattle.std.specs.Prelude.{codes}
 use Rattle.std.specs.List.{AllZip, cons_option}
 use Rattle.std.specs.Option.{option_to_list}
@@ -9,9 +9,9 @@ use Rattle.std.proofs.lemmas.List.Elements.{filter_map-append}
 use Rattle.std.proofs.lemmas.Slice.Zip.{all_zipped_more}
 use Rattle.edit_base.specs.Paths.{joined}
 use Rattle.edit_base.specs.declared.errors.Error.{Error}
-use Rattle.edit_store.specs.Store.{Files, SameFiles, raised}
+use Rattle.edit_store.specs.Store.{Files, SameFiles, StoreView, raised}
 use Rattle.edit_sources.specs.Sources.{or_else}
-use Rattle.edit_sources.specs.ConfigurationFiles.{standing, file_in, files_in, IsReadFrom, IsReadOf, HasFailed, FileFails, IsConfigPath, PlaceFails}
+use Rattle.edit_sources.specs.ConfigurationFiles.{standing, file_in, files_in, IsReadFrom, IsReadOf, HasFailed, FileFails, IsConfigPath, IsFirstMalformed, PlaceFails}
 use Rattle.edit_sources.specs.declared.config.Config.{Config}
 
 raised_later : (a b c : ℕ) → a ≤ b → raised b c → raised a c
@@ -81,6 +81,29 @@ files_more files places i place found old new within is all read items =
     (file_in files (string_bytes place)) []) cs) (sym items)
     (zip_more (file_in files (string_bytes place)) found _ old all read))
 
+-- the places before one of them, and those behind it
+around : (places : List (String Global)) (i : ℕ) (place : String Global) (text : List ℕ)
+    → i < length places → place ≡ get_or places i place → text ≡ string_bytes place
+    → map string_bytes places
+    ≡ map string_bytes (take i places) ++ text ∷ map string_bytes (drop (i + 1) places)
+around places i place text within is said =
+    ap (map string_bytes) (sym (take-append-drop i places) ∙
+    ap (λ xs. take i places ++ xs) (drop_more places i place within ∙
+    ap (λ p. p ∷ drop (i + 1) places) (sym is)))
+    ∙ map-append string_bytes (take i places) (place ∷ drop (i + 1) places)
+    ∙ ap (λ t. map string_bytes (take i places) ++ t ∷ map string_bytes (drop (i + 1) places)) (sym said)
+
+-- a file that fails failed before more reads
+failed_before : (tells told : Bool) (old new : Files) (text : List ℕ) (e : Error) → told ≡ tells
+    → SameFiles old new → FileFails told (IsConfigPath text) (file_in new text) e
+    → FileFails tells (IsConfigPath text) (file_in old text) e
+failed_before tells told old new text e same_told same fails = record {
+  file = fails.file;
+  at = fails.at;
+  stands = λ t. sym (file_in-same old new text same) ∙ fails.stands (same_told ∙ t);
+  unread = fails.unread;
+}
+
 -- a folder whose file fails
 pub place_fails : (tells told : Bool) (old new : Files) (places : List (String Global)) (i : ℕ)
     (place : String Global) (text : List ℕ) (e : Error)
@@ -91,16 +114,24 @@ place_fails tells told old new places i place text e within is said same_told sa
   place = text;
   before = map string_bytes (take i places);
   after = map string_bytes (drop (i + 1) places);
-  within =
-      ap (map string_bytes) (sym (take-append-drop i places) ∙
-      ap (λ xs. take i places ++ xs) (drop_more places i place within ∙
-      ap (λ p. p ∷ drop (i + 1) places) (sym is)))
-      ∙ map-append string_bytes (take i places) (place ∷ drop (i + 1) places)
-      ∙ ap (λ t. map string_bytes (take i places) ++ t ∷ map string_bytes (drop (i + 1) places)) (sym said);
-  fails = record {
-    file = fails.file;
-    at = fails.at;
-    stands = λ t. sym (file_in-same old new text same) ∙ fails.stands (same_told ∙ t);
-    unread = fails.unread;
-  };
+  within = around places i place text within is said;
+  fails = failed_before tells told old new text e same_told same fails;
+}
+
+-- the first file that fails, behind places that are read
+pub first_malformed : (old new : StoreView) (places : List (String Global)) (i : ℕ) (place : String Global)
+    (text : List ℕ) (configs : List Config) (e : Error)
+    → i < length places → place ≡ get_or places i place → text ≡ string_bytes place → new.tells ≡ old.tells
+    → SameFiles old.file_at new.file_at
+    → AllZip IsReadFrom (files_in old.file_at (map string_bytes (take i places))) configs
+    → FileFails new.tells (IsConfigPath text) (file_in new.file_at text) e → old.tells ≡ true
+    → IsFirstMalformed old.file_at (map string_bytes places) e
+first_malformed old new places i place text configs e within is said tells same read fails t = record {
+  place = text;
+  before = map string_bytes (take i places);
+  after = map string_bytes (drop (i + 1) places);
+  within = around places i place text within is said;
+  configs = configs;
+  read = read;
+  fails = failed_before true new.tells old.file_at new.file_at text e (tells ∙ t) same fails;
 }

@@ -4,7 +4,7 @@ use Rattle.url.specs.Parts.{Parts}
 use Rattle.edit_version.specs.IndexEntry.{IndexEntry}
 use Rattle.edit_sources.proofs.OutcomeLemmas.{none_said, one_bad_line, one_reading}
 use Rattle.edit_sources.specs.Index.{LookupError, Outcome, bad_line, bad_name}
-use Rattle.edit_sources.specs.IndexLines.{IsBadLine, LinesSay, lines_of}
+use Rattle.edit_sources.specs.IndexLines.{IsBadLine, HaveEntriesInOrder, lines_of}
 use Rattle.edit_sources.specs.Names.{is_crate_name}
 use Rattle.edit_store.specs.Store.{StoreView}
 use Rattle.edit_sources.specs.DirIndex.{DirGives, HasBadLine, HasEntries}
@@ -21,7 +21,7 @@ not_both : (folder : List ℕ) (store : StoreView) (address : Parts) (name : Lis
 not_both folder store address name es line tells x y =
     let h : Some x.bytes ≡ Some y.bytes = sym (x.stands tells) ∙ y.stands tells in
     let same : x.bytes ≡ y.bytes = cc in
-    none_said (lines_of y.bytes) es line (subst (λ t. LinesSay (lines_of t) es) same x.say) y.bad
+    none_said (lines_of y.bytes) es line (subst (λ t. HaveEntriesInOrder (lines_of t) es) same x.say) y.bad
 
 -- the first malformed line is unique
 pub one_dir_line : (folder : List ℕ) (store : StoreView) (address : Parts) (name : List ℕ) (m n : ℕ)
@@ -48,7 +48,7 @@ one_dir_outcome folder store address name (Ok (Some es)) (Ok (Some fs)) tells x 
     let h : Some x.bytes ≡ Some y.bytes = sym (x.stands tells) ∙ y.stands tells in
     let same : x.bytes ≡ y.bytes = cc in
     ap (λ t. Ok (Some t))
-    (one_reading (lines_of y.bytes) es fs (subst (λ t. LinesSay (lines_of t) es) same x.say) y.say)
+    (one_reading (lines_of y.bytes) es fs (subst (λ t. HaveEntriesInOrder (lines_of t) es) same x.say) y.say)
 one_dir_outcome folder store address name (Ok (Some es)) (Err n) tells x (inl why) =
     not_named name n x.named why
 one_dir_outcome folder store address name (Ok (Some es)) (Err n) tells x (inr (line, told, y)) =

@@ -5,7 +5,7 @@ pub mod DefinitionLemmas
 pub mod FileLemmas
 pub mod FolderLemmas
 pub mod FolderOutcomes
-pub mod KeptLemmas
+pub mod CachedConfigLemmas
 pub mod KeyLemmas
 pub mod LineLemmas
 pub mod NameLemmas

@@ -13,8 +13,8 @@ use Rattle.url.specs.Parts.{Parts}
 use Rattle.edit_version.specs.IndexEntry.{IndexEntry}
 use Rattle.edit_sources.specs.FileIndex.{FileGives}
 use Rattle.edit_sources.specs.Index.{LookupError, Outcome, bad_line}
-use Rattle.edit_sources.specs.IndexLines.{LinesSay, IsBadLine, IsIndexLine, SaysEntry, is_blank, lines_of, yanked_of, rust_version_of}
-use Rattle.edit_sources.specs.IndexLines.LinesSay.{none, blank, entry}
+use Rattle.edit_sources.specs.IndexLines.{HaveEntriesInOrder, IsBadLine, IsIndexLine, IsEntryValue, is_blank, lines_of, yanked_of, rust_version_of}
+use Rattle.edit_sources.specs.IndexLines.HaveEntriesInOrder.{none, blank, entry}
 use Rattle.edit_sources.specs.LocalIndex.{HasBadLine, HasEntries, HasNoIndexPath, IsIndexPath, LocalGives, below}
 use Rattle.edit_sources.specs.Names.{layout}
 use Rattle.edit_store.specs.Store.{Files, StoreView}
@@ -35,7 +35,7 @@ entry_in d = entry_by (option_and_then as_str (get (codes "name") d))
     (option_and_then as_str (get (codes "vers") d)) (yanked_of (get (codes "yanked") d))
     (rust_version_of (get (codes "rust_version") d))
 
-entry_is : (d : Data) (e : IndexEntry) → SaysEntry d e → entry_in d ≡ Some e
+entry_is : (d : Data) (e : IndexEntry) → IsEntryValue d e → entry_in d ≡ Some e
 entry_is d e h = λ i. entry_by (h.name i) (h.version i) (h.yanked i) (h.rust_version i)
 
 -- the entries of a line, as a function: none if it is blank
@@ -53,7 +53,7 @@ said-entry line e is h =
     λ i. cond (is i) [] (option_to_list (reads i)) ++ []
 
 -- lines have the entries of each of them, in order
-all_said : (lines : List (List ℕ)) (entries : List IndexEntry) → LinesSay lines entries
+all_said : (lines : List (List ℕ)) (entries : List IndexEntry) → HaveEntriesInOrder lines entries
     → flat_map said lines ≡ entries
 all_said lines entries none = refl
 all_said lines entries (blank ls es line h is) =
@@ -63,7 +63,8 @@ all_said lines entries (entry ls es line e h is says) =
     flat_map-append said ls (line ∷ []) ∙ ap (λ t. flat_map said ls ++ t) (said-entry line e is says) ∙
     ap (λ t. t ++ e ∷ []) (all_said ls es h)
 
-pub one_reading : (lines : List (List ℕ)) (a b : List IndexEntry) → LinesSay lines a → LinesSay lines b
+pub one_reading : (lines : List (List ℕ)) (a b : List IndexEntry) → HaveEntriesInOrder lines a
+    → HaveEntriesInOrder lines b
     → a ≡ b
 one_reading lines a b x y = sym (all_said lines a x) ∙ all_said lines b y
 
@@ -73,7 +74,8 @@ one_reading lines a b x y = sym (all_said lines a x) ∙ all_said lines b y
 abbrev IsGood : List ℕ → Type 0
 IsGood line = (is_blank line ≡ true) ⊎ ((e : IndexEntry) × IsIndexLine line e)
 
-each_good : (lines : List (List ℕ)) (entries : List IndexEntry) → LinesSay lines entries → All IsGood lines
+each_good : (lines : List (List ℕ)) (entries : List IndexEntry) → HaveEntriesInOrder lines entries
+    → All IsGood lines
 each_good lines entries none = All-nil IsGood
 each_good lines entries (blank ls es line h is) = All-push IsGood ls line (each_good ls es h) (inl is)
 each_good lines entries (entry ls es line e h is says) =
@@ -112,7 +114,7 @@ one_bad_line lines m n a b =
     a.place ∙ ap (λ k. k + 1) same ∙ sym b.place
 
 -- lines with a malformed one have no entries
-pub none_said : (lines : List (List ℕ)) (entries : List IndexEntry) (n : ℕ) → LinesSay lines entries
+pub none_said : (lines : List (List ℕ)) (entries : List IndexEntry) (n : ℕ) → HaveEntriesInOrder lines entries
     → IsBadLine lines n → ⊥
 none_said lines entries n says b =
     let within : length b.before < length lines =
@@ -162,7 +164,7 @@ not_both store address name es line tells x y =
     let h : Some x.bytes ≡ Some y.bytes = one_text store.file_at address name x.path y.path (Some x.bytes)
     (Some y.bytes) x.at y.at (x.stands tells) (y.stands tells) in
     let same : x.bytes ≡ y.bytes = cc in
-    none_said (lines_of y.bytes) es line (subst (λ t. LinesSay (lines_of t) es) same x.say) y.bad
+    none_said (lines_of y.bytes) es line (subst (λ t. HaveEntriesInOrder (lines_of t) es) same x.say) y.bad
 
 -- the first malformed line is unique
 pub one_line : (store : StoreView) (address : Parts) (name : List ℕ) (m n : ℕ) → store.tells ≡ true
@@ -195,7 +197,7 @@ one_local_outcome store address name (Ok (Some es)) (Ok (Some fs)) tells x y =
     (Some y.bytes) x.at y.at (x.stands tells) (y.stands tells) in
     let same : x.bytes ≡ y.bytes = cc in
     ap (λ t. Ok (Some t))
-    (one_reading (lines_of y.bytes) es fs (subst (λ t. LinesSay (lines_of t) es) same x.say) y.say)
+    (one_reading (lines_of y.bytes) es fs (subst (λ t. HaveEntriesInOrder (lines_of t) es) same x.say) y.say)
 one_local_outcome store address name (Ok (Some es)) (Err n) tells x (inl why) =
     absurd (no_path address name x.path n x.at why)
 one_local_outcome store address name (Ok (Some es)) (Err n) tells x (inr (line, named, y)) =

@@ -9,7 +9,7 @@ use Rattle.edit_base.specs.declared.errors.Error.{Error}
 use Rattle.edit_base.specs.declared.errors.Error.TheVariants.{Device}
 use Rattle.edit_base.specs.declared.errors.DeviceCall.TheVariants.{Read}
 use Rattle.edit_store.specs.Store.{Files, raised}
-use Rattle.edit_sources.specs.Configuration.{Says, SaysNothing}
+use Rattle.edit_sources.specs.Configuration.{Says, IsMalformedConfig}
 use Rattle.url.specs.Parts.{Parts}
 use Rattle.edit_sources.specs.Configured.{configuration, IsConfigRefusal, HasAddress, HasNoUrl}
 use Rattle.edit_sources.specs.Sources.{or_else}
@@ -56,9 +56,9 @@ IsReadOf (Some file) (Some config) = IsReadFrom file config
 IsReadOf _ _ = ⊥
 
 -- the error of a malformed file (own)
-pub record IsUnread (file : List ℕ × List ℕ) (e : Error) : Type 0 where
+pub record IsBadConfig (file : List ℕ × List ℕ) (e : Error) : Type 0 where
   pub named : IsConfigRefusal file.0 e
-  pub nothing : SaysNothing file.1
+  pub nothing : IsMalformedConfig file.1
 
 -- the device failed while a file was read (own)
 pub record HasFailed (before now : ℕ) (e : Error) : Type 0 where
@@ -76,7 +76,7 @@ pub record FileFails (tells : Bool) (IsAt : List ℕ → Type 0) (counts : Optio
   pub file : List ℕ × List ℕ
   pub at : IsAt file.0
   pub stands : tells ≡ true → counts ≡ Some file
-  pub unread : IsUnread file e
+  pub unread : IsBadConfig file e
 
 -- the configurations of a manifest: that of each file that is found, in order (own)
 pub record AreConfigs (files : Files) (manifest : List ℕ) (home : Option (List ℕ))
@@ -99,6 +99,22 @@ pub record ConfigsFail (tells : Bool) (files : Files) (manifest : List ℕ) (hom
   pub places : List (List ℕ)
   pub searched : IsSearched manifest home places
   pub fails : PlaceFails tells files places e
+
+-- the first malformed file in these folders: those before it are configurations (own)
+pub record IsFirstMalformed (files : Files) (places : List (List ℕ)) (e : Error) : Type 0 where
+  pub place : List ℕ
+  pub before : List (List ℕ)
+  pub after : List (List ℕ)
+  pub within : places ≡ before ++ place ∷ after
+  pub configs : List Config
+  pub read : AllZip IsReadFrom (files_in files before) configs
+  pub fails : FileFails true (IsConfigPath place) (file_in files place) e
+
+-- the first malformed file of a manifest's configurations (own)
+pub record StopsAtConfig (files : Files) (manifest : List ℕ) (home : Option (List ℕ)) (e : Error) : Type 0 where
+  pub places : List (List ℕ)
+  pub searched : IsSearched manifest home places
+  pub first : IsFirstMalformed files places e
 
 -- the URL of a registry with the configurations of a manifest (own)
 pub record ConfiguredUrl (files : Files) (manifest : List ℕ) (home registry : Option (List ℕ))

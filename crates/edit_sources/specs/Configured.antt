@@ -7,10 +7,17 @@ use Rattle.std.specs.Borrow.{Bor}
 use Rattle.url.specs.Parser.{parse_url}
 use Rattle.url.specs.Parts.{Parts}
 use Rattle.url.specs.declared.error.ParseError.{ParseError}
+use Rattle.edit_document.specs.ItemViews.{document_of}
+use Rattle.edit_document.specs.declared.item.Item.{Item}
+use Rattle.edit_tree.specs.DocumentViews.{tree_of}
 use Rattle.edit_sources.specs.Configuration as said
 use Rattle.edit_sources.specs.SourceReplacement as chain
 use Rattle.edit_sources.specs.declared.config.Config.{Config}
 use Rattle.edit_sources.specs.declared.config.ConfigSource.{ConfigSource}
+
+-- the tree of an item's document (own)
+abbrev pub item_tree : Item → said.Tree
+item_tree item = tree_of (document_of item)
 
 -- the model of a source (own)
 abbrev pub source_view : ConfigSource → said.Source

@@ -6,7 +6,7 @@ use Rattle.std.specs.BTreeMap.{get_by}
 use Rattle.std.specs.Cmp.Lexicographic.{slice_cmp}
 use Rattle.std.specs.Str.{bytes_eq}
 use Rattle.edit_sources.specs.Configuration as said
-use Rattle.edit_sources.specs.SourceReplacement.{Definition, addressed, first, named}
+use Rattle.edit_sources.specs.SourceReplacement.{Definition, with_address, first, named}
 use Rattle.edit_sources.specs.Configured.{all_definitions}
 use Rattle.edit_sources.specs.Sources.{found}
 use Rattle.edit_sources.specs.declared.config.Config.{Config}
@@ -37,12 +37,12 @@ pub record Defines (configs : List Config) (d : Definitions) : Type 0 where
   pub left : (key : List ℕ) → end_at d key ≡ None → found d.left key ≡ first key (all_definitions configs)
 
 -- the source of a key, which is not the first key of the chain, is removed (own)
-pub record Takes (beginning key : List ℕ) (old new : Definitions) (s : said.Source) : Type 0 where
+pub record RemovesSource (beginning key : List ℕ) (old new : Definitions) (s : said.Source) : Type 0 where
   pub apart : bytes_eq beginning key ≡ false
-  pub source : addressed key (found old.left key) ≡ Some s
+  pub source : with_address key (found old.left key) ≡ Some s
   pub left : (q : List ℕ) → found new.left q ≡ cond (bytes_eq key q) None (found old.left q)
   pub ends : new.ends ≡ old.ends
 
 -- a key is the first one of the chain, or has no definition left (own)
-abbrev pub Lacks : List ℕ → List ℕ → Definitions → Type 0
-Lacks beginning key d = (bytes_eq beginning key ≡ true) ⊎ (found d.left key ≡ None)
+abbrev pub HasNoSourceLeft : List ℕ → List ℕ → Definitions → Type 0
+HasNoSourceLeft beginning key d = (bytes_eq beginning key ≡ true) ⊎ (found d.left key ≡ None)

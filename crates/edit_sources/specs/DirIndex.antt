@@ -3,8 +3,8 @@ use Rattle.std.specs.Prelude.{◌≡◌, ℕ, List, Some, None, Ok, Err, true, f
 use Rattle.url.specs.Parts.{Parts}
 use Rattle.edit_version.specs.IndexEntry.{IndexEntry}
 use Rattle.edit_sources.specs.Index.{IndexView, Outcome, bad_line, bad_name}
-use Rattle.edit_sources.specs.IndexLines.{LinesSay, IsBadLine, lines_of}
-use Rattle.edit_sources.specs.LocalIndex.{StandsIn}
+use Rattle.edit_sources.specs.IndexLines.{HaveEntriesInOrder, IsBadLine, lines_of}
+use Rattle.edit_sources.specs.LocalIndex.{HasBytesIn}
 use Rattle.edit_sources.specs.Names.{is_crate_name}
 use Rattle.edit_store.specs.Store.{StoreView}
 use Rattle.edit_sources.specs.Folders.{entry_path}
@@ -28,15 +28,15 @@ pub record HasEntries (folder : List ℕ) (store : StoreView) (address : Parts) 
     (entries : List IndexEntry) : Type 0 where
   pub bytes : List ℕ
   pub named : is_crate_name name ≡ true
-  pub stands : StandsIn store (entry_path folder address name) bytes
-  pub say : LinesSay (lines_of bytes) entries
+  pub stands : HasBytesIn store (entry_path folder address name) bytes
+  pub say : HaveEntriesInOrder (lines_of bytes) entries
 
 -- this is the number of the first malformed line of the crate's file (own)
 pub record HasBadLine (folder : List ℕ) (store : StoreView) (address : Parts) (name : List ℕ) (line : ℕ)
     : Type 0 where
   pub bytes : List ℕ
   pub named : is_crate_name name ≡ true
-  pub stands : StandsIn store (entry_path folder address name) bytes
+  pub stands : HasBytesIn store (entry_path folder address name) bytes
   pub bad : IsBadLine (lines_of bytes) line
 
 -- the results of a lookup: no file, the entries of its lines, an invalid crate name, or the number of the

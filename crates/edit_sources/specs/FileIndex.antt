@@ -8,7 +8,7 @@ use Rattle.std.specs.declared.alloc.Global.{Global}
 use Rattle.edit_version.specs.declared.fetch.IndexVersion.{IndexVersion}
 use Rattle.edit_version.specs.IndexEntry.{IndexEntry, entry_of}
 use Rattle.edit_sources.specs.Index.{IndexView, Outcome, bad_name}
-use Rattle.edit_sources.specs.IndexLines.{LinesSay, lines_of}
+use Rattle.edit_sources.specs.IndexLines.{HaveEntriesInOrder, lines_of}
 use Rattle.edit_sources.specs.Names.{is_crate_name}
 use Rattle.edit_sources.specs.declared.file_index.FileIndex.{FileIndex}
 
@@ -19,7 +19,7 @@ named index name = map entry_of (option_map_or (λ g. g.items) (get_by_text inde
 -- the lines of a file have entries, and each name has those of that name, in order (own)
 pub record HoldsLines (index : FileIndex) (bytes : List ℕ) : Type 0 where
   pub entries : List IndexEntry
-  pub say : LinesSay (lines_of bytes) entries
+  pub say : HaveEntriesInOrder (lines_of bytes) entries
   pub groups : (name : List ℕ) → named index name ≡ filter (λ e. bytes_eq name e.name) entries
 
 -- each name has its entries, in order (own)

@@ -47,8 +47,8 @@ pub record IndexView : Type 1 where
   pub faults : ℕ
 
 -- the numbers of the errors `Scheme`, `IndexPath`, `BadCrateName` and `IndexLine` (own)
-abbrev pub IsLookRefusal : ℕ → Type 0
-IsLookRefusal n = (27 ≤ n) × (n ≤ 30)
+abbrev pub IsLookupErrorNumber : ℕ → Type 0
+IsLookupErrorNumber n = (27 ≤ n) × (n ≤ 30)
 
 -- the same possible results for each address and name (own)
 abbrev pub SameOutcomes : Outcomes → Outcomes → Type 0
@@ -58,17 +58,17 @@ SameOutcomes old new =
 
 -- an error that depends only on the arguments of the lookup and the contents of the index (own)
 abbrev pub IsGivenRefusal : Outcomes → Parts → List ℕ → Error → Type 0
-IsGivenRefusal gives address name e = IsLookRefusal (number_of e) × gives address name (Err (lookup_error e))
+IsGivenRefusal gives address name e = IsLookupErrorNumber (number_of e) × gives address name (Err (lookup_error e))
 
 -- the errors of a lookup: lack of memory, one that the index gives, or a fault of the device, which is
 -- counted (own)
-abbrev pub RefusesLook : IndexView → IndexView → Parts → List ℕ → Error → Type 0
-RefusesLook old new address name e =
+abbrev pub IsLookupError : IndexView → IndexView → Parts → List ℕ → Error → Type 0
+IsLookupError old new address name e =
     IsMemory e
     ⊎ (IsGivenRefusal old.gives address name e ⊎ ((number_of e ≡ 3) × raised old.faults new.faults))
 
 -- the count of faults never falls, and a lookup fails only for one of these reasons (own)
-pub record HasLookCause {T : Type 0} (old new : IndexView) (address : Parts) (name : List ℕ)
+pub record HasLookupCause {T : Type 0} (old new : IndexView) (address : Parts) (name : List ℕ)
     (result : Result T Error) : Type 0 where
   pub later : old.faults ≤ new.faults
-  pub refused : IfErr result (RefusesLook old new address name)
+  pub refused : IfErr result (IsLookupError old new address name)

@@ -35,7 +35,7 @@ rust_version_of (Some (array ds)) = None
 rust_version_of (Some (object ms)) = None
 
 -- the entry of a JSON value (Cargo reference, "Registries", name, vers)
-pub record SaysEntry (d : Data) (e : IndexEntry) : Type 0 where
+pub record IsEntryValue (d : Data) (e : IndexEntry) : Type 0 where
   pub name : option_and_then as_str (get (codes "name") d) ≡ Some e.name
   pub version : option_and_then as_str (get (codes "vers") d) ≡ Some e.version
   pub yanked : yanked_of (get (codes "yanked") d) ≡ Some e.yanked
@@ -46,20 +46,21 @@ pub record IsIndexLine (line : List ℕ) (e : IndexEntry) : Type 0 where
   pub value : Data
   pub utf8 : IsUtf8 line
   pub reads : read line ≡ Some value
-  pub says : SaysEntry value e
+  pub says : IsEntryValue value e
 
 -- whether a line consists of spaces, tabs and carriage returns (own)
 abbrev pub is_blank : List ℕ → Bool
 is_blank line = list_all (λ b. (b == 32) || ((b == 9) || (b == 13))) line
 
 -- lines with their entries in order; blank lines have none (own)
-pub data LinesSay : List (List ℕ) → List IndexEntry → Type 0 where
-  none : LinesSay [] []
+pub data HaveEntriesInOrder : List (List ℕ) → List IndexEntry → Type 0 where
+  none : HaveEntriesInOrder [] []
   blank : (lines : List (List ℕ)) (entries : List IndexEntry) (line : List ℕ)
-      → LinesSay lines entries → is_blank line ≡ true → LinesSay (lines ++ line ∷ []) entries
+      → HaveEntriesInOrder lines entries → is_blank line ≡ true
+      → HaveEntriesInOrder (lines ++ line ∷ []) entries
   entry : (lines : List (List ℕ)) (entries : List IndexEntry) (line : List ℕ) (e : IndexEntry)
-      → LinesSay lines entries → is_blank line ≡ false → IsIndexLine line e
-      → LinesSay (lines ++ line ∷ []) (entries ++ e ∷ [])
+      → HaveEntriesInOrder lines entries → is_blank line ≡ false → IsIndexLine line e
+      → HaveEntriesInOrder (lines ++ line ∷ []) (entries ++ e ∷ [])
 
 -- the lines of a file, separated by line feeds (own)
 abbrev pub lines_of : List ℕ → List (List ℕ)
@@ -81,18 +82,18 @@ pub record IsBadLine (lines : List (List ℕ)) (number : ℕ) : Type 0 where
   pub entries : List IndexEntry
   pub whole : lines ≡ before ++ line ∷ after
   pub place : number ≡ length before + 1
-  pub good : LinesSay before entries
+  pub good : HaveEntriesInOrder before entries
   pub some : is_blank line ≡ false
   pub bad : (e : IndexEntry) → IsIndexLine line e → ⊥
 
 -- the errors of a line: lack of memory, or `IndexLine` with its number where it is malformed (own)
-abbrev pub RefusesLine : List ℕ → ℕ → Error → Type 0
-RefusesLine line n e = IsMemory e ⊎ ((e ≡ IndexLine n) × ((x : IndexEntry) → IsIndexLine line x → ⊥))
+abbrev pub IsLineError : List ℕ → ℕ → Error → Type 0
+IsLineError line n e = IsMemory e ⊎ ((e ≡ IndexLine n) × ((x : IndexEntry) → IsIndexLine line x → ⊥))
 
 -- the model of a value that may be absent (own)
 abbrev pub shown : Option (Bor Value) → Option Data
 shown value = option_map (λ v. view v.now) value
 
 -- the errors of a file: lack of memory, or `IndexLine` for the first malformed line (own)
-abbrev pub RefusesLines : List (List ℕ) → Error → Type 0
-RefusesLines lines e = IsMemory e ⊎ ((n : ℕ) × (e ≡ IndexLine n) × IsBadLine lines n)
+abbrev pub IsLinesError : List (List ℕ) → Error → Type 0
+IsLinesError lines e = IsMemory e ⊎ ((n : ℕ) × (e ≡ IndexLine n) × IsBadLine lines n)

@@ -5,7 +5,7 @@ pub mod Definitions
 pub mod FileIndex
 pub mod Index
 pub mod IndexLines
-pub mod KeptConfigs
+pub mod CachedConfigs
 pub mod LocalIndex
 pub mod Names
 pub mod SourceReplacement

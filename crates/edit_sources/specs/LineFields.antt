@@ -6,7 +6,7 @@ use Rattle.edit_sources.specs.IndexLines.{yanked_of, rust_version_of}
 use Rattle.edit_sources.specs.declared.line_reader.Fields.{Fields}
 
 -- the fields are those of the members that were read so far
-pub record Shows (f : Fields) (ms : Members) : Type 0 where
+pub record HasFields (f : Fields) (ms : Members) : Type 0 where
   pub name : option_and_then as_str (get_member (codes "name") ms) ≡ option_map (λ s. s.now) f.name
   pub version : option_and_then as_str (get_member (codes "vers") ms) ≡ option_map (λ s. s.now) f.version
   pub yanked : yanked_of (get_member (codes "yanked") ms) ≡ Some f.yanked

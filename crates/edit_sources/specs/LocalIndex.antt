@@ -6,7 +6,7 @@ use Rattle.percent_encoding.specs.Percent.{percent_decode}
 use Rattle.url.specs.Parts.{Parts, has_host, serialize}
 use Rattle.edit_version.specs.IndexEntry.{IndexEntry}
 use Rattle.edit_sources.specs.Index.{IndexView, LookupError, Outcome, bad_scheme, bad_address, bad_name, bad_line}
-use Rattle.edit_sources.specs.IndexLines.{LinesSay, IsBadLine, lines_of}
+use Rattle.edit_sources.specs.IndexLines.{HaveEntriesInOrder, IsBadLine, lines_of}
 use Rattle.edit_sources.specs.Names.{is_crate_name, layout}
 use Rattle.edit_store.specs.Store.{StoreView}
 use Rattle.edit_sources.specs.declared.local_index.LocalIndex.{LocalIndex}
@@ -62,8 +62,8 @@ HasNoIndexPath address name e =
     ⊎ ((e ≡ bad_name name) × IsFileAddress address × HasNoName address name))
 
 -- the file at a path holds these bytes, if the contents of the store's files are known (own)
-abbrev pub StandsIn : StoreView → List ℕ → List ℕ → Type 0
-StandsIn store path bytes = store.tells ≡ true → store.file_at path ≡ Some bytes
+abbrev pub HasBytesIn : StoreView → List ℕ → List ℕ → Type 0
+HasBytesIn store path bytes = store.tells ≡ true → store.file_at path ≡ Some bytes
 
 -- the crate has no file in the index at a URL (own)
 pub record HasNoFile (store : StoreView) (address : Parts) (name : List ℕ) : Type 0 where
@@ -77,15 +77,15 @@ pub record HasEntries (store : StoreView) (address : Parts) (name : List ℕ) (e
   pub path : List ℕ
   pub bytes : List ℕ
   pub at : IsIndexPath address name path
-  pub stands : StandsIn store path bytes
-  pub say : LinesSay (lines_of bytes) entries
+  pub stands : HasBytesIn store path bytes
+  pub say : HaveEntriesInOrder (lines_of bytes) entries
 
 -- this is the number of the first malformed line of the crate's file (own)
 pub record HasBadLine (store : StoreView) (address : Parts) (name : List ℕ) (line : ℕ) : Type 0 where
   pub path : List ℕ
   pub bytes : List ℕ
   pub at : IsIndexPath address name path
-  pub stands : StandsIn store path bytes
+  pub stands : HasBytesIn store path bytes
   pub bad : IsBadLine (lines_of bytes) line
 
 -- the results of a lookup: no file, the entries of its lines, an error of the path, or the number of the

@@ -71,13 +71,13 @@ head_source ds registry = head_source_of registry (first (head_key registry) ds)
 
 -- the source found at a key: where the key is the default registry's URL itself, it has that URL unless it
 -- sets one (own)
-abbrev pub addressed : List ℕ → Option Source → Option Source
-addressed key None = None
-addressed key (Some s) = Some (cond (bytes_eq key crates_io_index) (with_default s) s)
+abbrev pub with_address : List ℕ → Option Source → Option Source
+with_address key None = None
+with_address key (Some s) = Some (cond (bytes_eq key crates_io_index) (with_default s) s)
 
 -- the source that a `replace-with` refers to (own)
 abbrev pub named : List Definition → List ℕ → Option Source
-named ds key = addressed key (first key ds)
+named ds key = with_address key (first key ds)
 
 -- whether a key was used (own)
 abbrev pub is_used : List (List ℕ) → List ℕ → Bool

@@ -1,16 +1,20 @@
 //! Reads the registries and sources of cargo's configuration files (Cargo reference, "Configuration").
-ghost use Rattle.std.specs.Prelude.{◌≡◌, ◌⊎◌, IfOk, IfErr, IfSome, map, option_map, string_bytes};
+ghost use Rattle.std.specs.Prelude.{◌≡◌, ◌⊎◌, IfOk, IfErr, IfSome, codes, map, option_map, string_bytes};
 ghost use Rattle.edit_base.specs.Errors.{IsMemory};
-ghost use Rattle.toml.specs.Data.{get_member};
-ghost use Rattle.toml.specs.View.{view, table_view};
+ghost use Rattle.edit_base.specs.Paths.{texts};
+ghost use Rattle.edit_document.specs.ItemViews.{place_of, view_of};
+ghost use Rattle.edit_document.specs.Items.{names_in};
+ghost use Rattle.edit_tree.specs.Assertions.{at, key as key_step};
+ghost use Rattle.edit_tree.specs.DocumentViews.{tree_of};
 ghost use Rattle.edit_sources.specs.Configuration as said;
-ghost use Rattle.edit_sources.specs.Configuration.{Configuration, Says, SaysNothing, configuration_of, entries_of, table_of};
-ghost use Rattle.edit_sources.specs.Configured.{IsConfigRefusal, configuration, registry_entry, source_entry, source_view};
+ghost use Rattle.edit_sources.specs.Configuration.{Configuration, Says, IsMalformedConfig, configuration_of, entries_of, sort_keys, table_of};
+ghost use Rattle.edit_sources.specs.Configured.{IsConfigRefusal, configuration, item_tree, registry_entry, source_entry, source_view};
 
 use crate::index_lines::copied;
 use edit_base::{CargoResult, Error};
+use edit_document::{Document, Item};
 use std::alloc::{AllocError, Global};
-use toml::{Table, Value};
+use std::collections::BTreeSet;
 
 mod cache;
 mod copies;
@@ -38,18 +42,13 @@ pub struct ConfigSource {
     pub replace_with: Option<String>,
 }
 
-/// Returns the value of a key in a table.
-fn value_at<'a>(table: &'a Table, key: &str) -> Option<&'a Value>
-    ensures { option_map (λ v. view v.now) result ≡ get_member key.now (table_view table.now) }
+/// Returns the string of a key of a table: `Some(None)` where the key is absent, and `None` where it holds no
+/// string.
+fn text_at<'a>(table: Item<'a>, key: &str) -> Option<Option<&'a str>>
+    ensures { option_map (option_map (λ t. t.now)) result
+        ≡ said.text_at (item_tree table.entry) (place_of table.entry) key.now }
 {
-    table.get(key)
-}
-
-/// Returns the string of a key: `Some(None)` where the key is absent, and `None` where it holds no string.
-fn text_at<'a>(table: &'a Table, key: &str) -> Option<Option<&'a str>>
-    ensures { option_map (option_map (λ t. t.now)) result ≡ said.text_at key.now (table_view table.now) }
-{
-    let Some(value) = value_at(table, key) else {
+    let Some(value) = table.get(key) else {
         return Some(None);
     };
     let text = value.as_str()?;
@@ -57,24 +56,30 @@ fn text_at<'a>(table: &'a Table, key: &str) -> Option<Option<&'a str>>
 }
 
 /// The `index` of an entry of `registries`; `None` where the entry is malformed.
-fn index_of<'a>(value: &'a Value) -> Option<Option<&'a str>>
-    ensures { option_map (option_map (λ t. t.now)) result ≡ said.index_of (view value.now) }
+fn index_of(entry: Item<'_>) -> Option<Option<&str>>
+    ensures { option_map (option_map (λ t. t.now)) result
+        ≡ said.index_of (item_tree entry.entry) (place_of entry.entry) }
 {
-    let table = value.as_table()?;
-    text_at(table, "index")
+    entry.stands();
+    if !entry.is_table_like() {
+        return None;
+    }
+    text_at(entry, "index")
 }
 
 /// The source of an entry of `source`; `None` where the entry is malformed.
-fn source_of(alloc: Global, value: &Value) -> Result<Option<ConfigSource>, AllocError>
-    ensures { IfOk result (λ found. option_map source_view found ≡ said.source_of (view value.now)) }
+fn source_of(alloc: Global, entry: Item<'_>) -> Result<Option<ConfigSource>, AllocError>
+    ensures { IfOk result (λ found. option_map source_view found
+        ≡ said.source_of (item_tree entry.entry) (place_of entry.entry)) }
 {
-    let Some(table) = value.as_table() else {
+    entry.stands();
+    if !entry.is_table_like() {
+        return Ok(None);
+    }
+    let Some(registry) = text_at(entry, "registry") else {
         return Ok(None);
     };
-    let Some(registry) = text_at(table, "registry") else {
-        return Ok(None);
-    };
-    let Some(replace_with) = text_at(table, "replace-with") else {
+    let Some(replace_with) = text_at(entry, "replace-with") else {
         return Ok(None);
     };
     Ok(Some(ConfigSource {
@@ -83,39 +88,60 @@ fn source_of(alloc: Global, value: &Value) -> Result<Option<ConfigSource>, Alloc
     }))
 }
 
-/// The entries of `registries`, each key with its index; `None` where one of them is malformed.
+/// The keys of a table, in the order of their bytes.
+fn sorted_keys<'a>(alloc: Global, table: Item<'a>) -> Result<Vec<&'a str>, AllocError>
+    ensures { IfOk result (λ v. texts v.items ≡ sort_keys (names_in (view_of table.entry))) }
+{
+    let mut keys = BTreeSet::new(alloc);
+    'keys: for key in table.keys() {
+        keys.insert(key)?;
+    }
+    keys.into_iter().collect(alloc)
+}
+
+/// The entries of a table `registries`, each key with its index; `None` where one of them is malformed.
 fn registry_entries(
     alloc: Global,
-    table: &Table,
+    table: Item<'_>,
 ) -> Result<Option<Vec<(String, Option<String>)>>, AllocError>
     ensures { IfOk result (λ found. option_map (λ v. map registry_entry v.items) found
-        ≡ entries_of said.index_of (table_view table.now)) }
+        ≡ entries_of (said.index_of (item_tree table.entry)) (place_of table.entry)
+        (sort_keys (names_in (view_of table.entry)))) }
 {
-    let mut registries = Vec::new(alloc);
-    for (key, value) in table {
-        let Some(index) = index_of(value) else {
+    let keys = sorted_keys(alloc, table)?;
+    let mut registries = Vec::with_capacity(alloc, keys.len())?;
+    'keys: for key in &keys {
+        let Some(entry) = table.get(key) else {
+            return Ok(None);
+        };
+        let Some(index) = index_of(entry) else {
             return Ok(None);
         };
         let index = copied(alloc, index)?;
-        registries.push((String::from_str(alloc, key.as_str())?, index))?;
+        registries.push((String::from_str(alloc, key)?, index))?;
     }
     Ok(Some(registries))
 }
 
-/// The entries of `source`, each key with its source; `None` where one of them is malformed.
+/// The entries of a table `source`, each key with its source; `None` where one of them is malformed.
 fn source_entries(
     alloc: Global,
-    table: &Table,
+    table: Item<'_>,
 ) -> Result<Option<Vec<(String, ConfigSource)>>, AllocError>
     ensures { IfOk result (λ found. option_map (λ v. map source_entry v.items) found
-        ≡ entries_of said.source_of (table_view table.now)) }
+        ≡ entries_of (said.source_of (item_tree table.entry)) (place_of table.entry)
+        (sort_keys (names_in (view_of table.entry)))) }
 {
-    let mut sources = Vec::new(alloc);
-    for (key, value) in table {
-        let Some(source) = source_of(alloc, value)? else {
+    let keys = sorted_keys(alloc, table)?;
+    let mut sources = Vec::with_capacity(alloc, keys.len())?;
+    'keys: for key in &keys {
+        let Some(entry) = table.get(key) else {
             return Ok(None);
         };
-        sources.push((String::from_str(alloc, key.as_str())?, source))?;
+        let Some(source) = source_of(alloc, entry)? else {
+            return Ok(None);
+        };
+        sources.push((String::from_str(alloc, key)?, source))?;
     }
     Ok(Some(sources))
 }
@@ -133,47 +159,61 @@ fn unreadable(alloc: Global, path: &str) -> Error
 /// The entries of `registries`, none where it is absent; `None` where it is malformed.
 fn registries_in(
     alloc: Global,
-    table: &Table,
+    root: Item<'_>,
 ) -> Result<Option<Vec<(String, Option<String>)>>, AllocError>
     ensures { IfOk result (λ found. option_map (λ v. map registry_entry v.items) found
-        ≡ said.registries_in (table_view table.now)) }
+        ≡ table_of (said.index_of (item_tree root.entry))
+        (at (place_of root.entry) (key_step (codes "registries")))
+        (item_tree root.entry (at (place_of root.entry) (key_step (codes "registries"))))) }
 {
-    let Some(value) = value_at(table, "registries") else {
+    let Some(table) = root.get("registries") else {
         return Ok(Some(Vec::new(alloc)));
     };
-    match value.as_table() {
-        Some(entries) => registry_entries(alloc, entries),
-        None => Ok(None),
+    if table.is_table_like() {
+        return registry_entries(alloc, table);
     }
+    Ok(None)
 }
 
 /// The entries of `source`, none where it is absent; `None` where it is malformed.
 fn sources_in(
     alloc: Global,
-    table: &Table,
+    root: Item<'_>,
 ) -> Result<Option<Vec<(String, ConfigSource)>>, AllocError>
     ensures { IfOk result (λ found. option_map (λ v. map source_entry v.items) found
-        ≡ said.sources_in (table_view table.now)) }
+        ≡ table_of (said.source_of (item_tree root.entry))
+        (at (place_of root.entry) (key_step (codes "source")))
+        (item_tree root.entry (at (place_of root.entry) (key_step (codes "source"))))) }
 {
-    let Some(value) = value_at(table, "source") else {
+    let Some(table) = root.get("source") else {
         return Ok(Some(Vec::new(alloc)));
     };
-    match value.as_table() {
-        Some(entries) => source_entries(alloc, entries),
-        None => Ok(None),
+    if table.is_table_like() {
+        return source_entries(alloc, table);
     }
+    Ok(None)
 }
 
 /// The configuration of a document; `None` where `registries` or `source` is malformed.
-fn configuration_in(alloc: Global, path: &str, table: &Table) -> Result<Option<Config>, AllocError>
+fn configuration_in(
+    alloc: Global,
+    path: &str,
+    document: &Document,
+) -> Result<Option<Config>, AllocError>
     ensures named { IfOk result (λ found. IfSome found (λ c. string_bytes c.path ≡ path.now)) }
     ensures said { IfOk result (λ found. option_map configuration found
-        ≡ configuration_of (table_view table.now)) }
+        ≡ configuration_of (tree_of document.now)) }
 {
-    let Some(registries) = registries_in(alloc, table)? else {
+    document.lemma_form();
+    let root = match document.item(&[]) {
+        Some(root) => root,
+        // never: each document has a root
+        None => return Ok(None),
+    };
+    let Some(registries) = registries_in(alloc, root)? else {
         return Ok(None);
     };
-    let Some(sources) = sources_in(alloc, table)? else {
+    let Some(sources) = sources_in(alloc, root)? else {
         return Ok(None);
     };
     let path = String::from_str(alloc, path)?;
@@ -196,23 +236,19 @@ impl Config {
         // the bytes have no other configuration, and never both a configuration and none
         ensures only { IfOk result (λ c. (other : Configuration) → Says bytes.now other
             → other ≡ configuration c) }
-        ensures something { IfOk result (λ c. SaysNothing bytes.now → ⊥) }
+        ensures something { IfOk result (λ c. IsMalformedConfig bytes.now → ⊥) }
         ensures refused { IfErr result (λ e. IsMemory e
-            ⊎ (IsConfigRefusal path.now e × SaysNothing bytes.now)) }
+            ⊎ (IsConfigRefusal path.now e × IsMalformedConfig bytes.now)) }
     {
         let Ok(text) = std::str::from_utf8(bytes) else {
             return Err(unreadable(alloc, path));
         };
-        let table = match toml::table_from_str(alloc, text) {
-            Ok(table) => table,
-            Err(error) => {
-                if error.is_memory() {
-                    return Err(Error::Memory);
-                }
-                return Err(unreadable(alloc, path));
-            }
+        let document = match Document::read(alloc, text) {
+            Ok(document) => document,
+            Err(Error::Memory) => return Err(Error::Memory),
+            Err(_) => return Err(unreadable(alloc, path)),
         };
-        match configuration_in(alloc, path, &table)? {
+        match configuration_in(alloc, path, &document)? {
             Some(config) => Ok(config),
             None => Err(unreadable(alloc, path)),
         }

@@ -3,7 +3,7 @@ ghost use Rattle.std.specs.Prelude.{◌≡◌, ℕ, List, false, IfOk, IfErr, sl
 ghost use Rattle.std.specs.Option.{option_map_or};
 ghost use Rattle.std.specs.Str.{bytes_eq};
 ghost use Rattle.edit_sources.specs.FileIndex.{AreNamed, GroupsByName, IsAdded, HoldsLines, file_view};
-ghost use Rattle.edit_sources.specs.IndexLines.{RefusesLines, lines_of};
+ghost use Rattle.edit_sources.specs.IndexLines.{IsLinesError, lines_of};
 
 use crate::crate_name::is_crate_name;
 use crate::index::{Index, IndexKrate, copied};
@@ -25,7 +25,7 @@ impl FileIndex {
     /// Parses the lines of an index; `Error::IndexLine` with the number of the first malformed line.
     pub fn read(alloc: Global, bytes: &[u8]) -> CargoResult<FileIndex>
         ensures entries { IfOk result (λ i. HoldsLines i bytes.now) }
-        ensures refused { IfErr result (RefusesLines (lines_of bytes.now)) }
+        ensures refused { IfErr result (IsLinesError (lines_of bytes.now)) }
     {
         let entries = read_lines(alloc, bytes)?;
         Ok(FileIndex {
@@ -44,7 +44,7 @@ fn grouped(
     let mut groups = BTreeMap::new(alloc);
     let mut run: Vec<IndexVersion> = Vec::new(alloc);
     for entry in entries {
-        if !continues(&run, &entry) {
+        if !is_same_crate(&run, &entry) {
             let ended = mem::replace(&mut run, Vec::new(alloc));
             add_run(&mut groups, ended)?;
             run.reserve_exact(1)?;
@@ -56,7 +56,7 @@ fn grouped(
 }
 
 /// Whether an entry has the same name as the first entry of a run.
-fn continues(run: &[IndexVersion], entry: &IndexVersion) -> bool
+fn is_same_crate(run: &[IndexVersion], entry: &IndexVersion) -> bool
     ensures { result ≡ option_map_or
         (λ e. bytes_eq (string_bytes e.name) (string_bytes entry.now.name))
         (slice_get run.now 0)

@@ -2,7 +2,7 @@
 ghost use Rattle.std.specs.Prelude.{◌≡◌, Ok, IfOk, IfErr, map};
 ghost use Rattle.edit_base.specs.Errors.{IsMemory};
 ghost use Rattle.edit_version.specs.IndexEntry.{entry_of};
-ghost use Rattle.edit_sources.specs.Index.{HasLookCause, IndexView, SameOutcomes, answer_of, entries_of};
+ghost use Rattle.edit_sources.specs.Index.{HasLookupCause, IndexView, SameOutcomes, answer_of, entries_of};
 
 use edit_base::errors::CargoResult;
 use edit_version::fetch::IndexVersion;
@@ -52,7 +52,7 @@ pub trait Index {
     fn look(&mut self, alloc: Global, registry: &Url, name: &str) -> CargoResult<Option<IndexKrate>>
         ensures same { SameOutcomes (view self.old).gives (view self.new).gives }
         ensures given { IfOk result (λ k. (view self.old).gives registry.now name.now (Ok (answer_of k))) }
-        ensures cause { HasLookCause (view self.old) (view self.new) registry.now name.now result };
+        ensures cause { HasLookupCause (view self.old) (view self.new) registry.now name.now result };
 
     /// How often the device below the index has failed.
     fn faults(&self) -> u64

@@ -3,7 +3,7 @@ ghost use Rattle.std.specs.Prelude.{◌≡◌, ◌==◌, ◌+◌, Ok, Err, IfOk,
 ghost use Rattle.edit_base.specs.declared.errors.Error.TheVariants.{IndexLine};
 ghost use Rattle.edit_base.specs.Errors.{IsMemory};
 ghost use Rattle.edit_version.specs.IndexEntry.{entry_of};
-ghost use Rattle.edit_sources.specs.IndexLines.{IsIndexLine, LinesSay, RefusesLine, RefusesLines, is_blank, length_left, lines_left, lines_of, rust_version_of, shown, yanked_of};
+ghost use Rattle.edit_sources.specs.IndexLines.{IsIndexLine, HaveEntriesInOrder, IsLineError, IsLinesError, is_blank, length_left, lines_left, lines_of, rust_version_of, shown, yanked_of};
 ghost use Rattle.memchr.specs.Find.{IsFirstByte, is_byte};
 ghost use Rattle.serde_json.specs.Find.{as_str};
 
@@ -101,7 +101,7 @@ fn read_line(
     line: usize,
     scratch: &mut Scratch,
 ) -> CargoResult<IndexVersion>
-    ensures { MatchResult result (λ v. IsIndexLine bytes.now (entry_of v)) (RefusesLine bytes.now line) }
+    ensures { MatchResult result (λ v. IsIndexLine bytes.now (entry_of v)) (IsLineError bytes.now line) }
 {
     match entry_from_tokens(alloc, bytes, scratch) {
         Ok(Some(entry)) => Ok(entry),
@@ -112,7 +112,7 @@ fn read_line(
 
 /// Parses a line by way of a tree; `Error::IndexLine` where it is malformed.
 fn entry_from_tree(alloc: Global, bytes: &[u8], line: usize) -> CargoResult<IndexVersion>
-    ensures { MatchResult result (λ v. IsIndexLine bytes.now (entry_of v)) (RefusesLine bytes.now line) }
+    ensures { MatchResult result (λ v. IsIndexLine bytes.now (entry_of v)) (IsLineError bytes.now line) }
 {
     let value = match Value::from_slice(alloc, bytes) {
         Ok(value) => value,
@@ -165,8 +165,8 @@ fn split_line(text: &[u8]) -> (&[u8], Option<&[u8]>)
 /// A line is a JSON object with the strings `name` and `vers`, `yanked` absent or a boolean, and
 /// `rust_version` absent, null or a string. `Error::IndexLine` with the number of the first malformed line.
 pub fn read_lines(alloc: Global, bytes: &[u8]) -> CargoResult<Vec<IndexVersion>>
-    ensures entries { IfOk result (λ v. LinesSay (lines_of bytes.now) (map entry_of v.items)) }
-    ensures refused { IfErr result (RefusesLines (lines_of bytes.now)) }
+    ensures entries { IfOk result (λ v. HaveEntriesInOrder (lines_of bytes.now) (map entry_of v.items)) }
+    ensures refused { IfErr result (IsLinesError (lines_of bytes.now)) }
 {
     let mut scratch = Scratch::new(alloc);
     let mut entries = Vec::new(alloc);

@@ -3,7 +3,7 @@ ghost use Rattle.std.specs.Prelude.{◌≡◌, [], ◌∷◌, ◌++◌, ◌-◌,
 ghost use Rattle.std.specs.List.{list_any};
 ghost use Rattle.percent_encoding.specs.Percent.{percent_decode};
 ghost use Rattle.edit_base.specs.Errors.{IsMemory, number_of};
-ghost use Rattle.edit_sources.specs.Index.{IsLookRefusal, lookup_error};
+ghost use Rattle.edit_sources.specs.Index.{IsLookupErrorNumber, lookup_error};
 ghost use Rattle.edit_sources.specs.LocalIndex.{HasNoFolder, HasNoIndexPath, IsFolderOf, IsFolderText, IsIndexPath, below, ends_with_slash};
 ghost use Rattle.edit_sources.specs.Names.{folders, is_crate_name, layout};
 
@@ -19,7 +19,7 @@ use url::Url;
 /// `Error::IndexPath` where the URL names no folder, else `Error::BadCrateName`.
 pub(crate) fn index_path(alloc: Global, registry: &Url, name: &str) -> CargoResult<String>
     ensures ok { IfOk result (λ p. IsIndexPath registry.now name.now (string_bytes p)) }
-    ensures refused { IfErr result (λ e. IsMemory e ⊎ (IsLookRefusal (number_of e)
+    ensures refused { IfErr result (λ e. IsMemory e ⊎ (IsLookupErrorNumber (number_of e)
         × HasNoIndexPath registry.now name.now (lookup_error e))) }
 {
     if registry.scheme() != "file" {

@@ -4,7 +4,7 @@
 //! line is malformed.
 ghost use Rattle.std.specs.Prelude.{◌≡◌, ◌<◌, length, IfSome, Some};
 ghost use Rattle.edit_json.specs.Reads.{ReadsMembers, ReadsValue};
-ghost use Rattle.edit_sources.specs.LineFields.{Shows};
+ghost use Rattle.edit_sources.specs.LineFields.{HasFields};
 ghost use Rattle.serde_json.specs.Data.{Data, Members, object, put};
 ghost use Rattle.serde_json.specs.Read.{read};
 
@@ -25,7 +25,7 @@ fn read_member<'a>(reader: &mut Reader<'a>, key: &str, fields: Fields<'a>) -> Op
     ensures shorter { IfSome result (λ _. length reader.new < length reader.old) }
     ensures value { IfSome result (λ f. (d : Data)
         × ReadsValue 126 reader.old d reader.new
-        × ((ms : Members) → Shows fields.entry ms → Shows f (put key.now d ms))) }
+        × ((ms : Members) → HasFields fields.entry ms → HasFields f (put key.now d ms))) }
 {
     if key == "name" {
         let text = read_text(reader)?;
@@ -61,7 +61,7 @@ fn read_member<'a>(reader: &mut Reader<'a>, key: &str, fields: Fields<'a>) -> Op
 
 /// Reads the members of a line after its opening brace, up to and including the closing one.
 fn read_members<'a>(reader: &mut Reader<'a>) -> Option<Fields<'a>>
-    ensures value { IfSome result (λ f. (ms : Members) × ReadsMembers 126 reader.old ms reader.new × Shows f ms) }
+    ensures value { IfSome result (λ f. (ms : Members) × ReadsMembers 126 reader.old ms reader.new × HasFields f ms) }
 {
     let mut fields = Fields {
         name: None,
@@ -78,7 +78,7 @@ fn read_members<'a>(reader: &mut Reader<'a>) -> Option<Fields<'a>>
 /// Parses a line; `None` where it has to be parsed by way of a tree.
 pub(crate) fn read_fields<'a>(text: &'a str, scratch: &'a mut Scratch) -> Option<Fields<'a>>
     ensures value { IfSome result (λ f. (ms : Members)
-        × (read text.now ≡ Some (object ms)) × Shows f ms) }
+        × (read text.now ≡ Some (object ms)) × HasFields f ms) }
 {
     let mut reader = Reader::new(text, scratch).ok()?;
     let Some(Token::BeginObject) = reader.next() else {

@@ -1,7 +1,7 @@
 //! An index of one file per crate.
 ghost use Rattle.std.specs.Prelude.{◌≡◌, Ok, IfOk};
 ghost use Rattle.edit_store.specs.Store.{OnlyReads};
-ghost use Rattle.edit_sources.specs.Index.{HasLookCause, SameOutcomes, answer_of};
+ghost use Rattle.edit_sources.specs.Index.{HasLookupCause, SameOutcomes, answer_of};
 ghost use Rattle.edit_sources.specs.LocalIndex.{LocalGives, local_view, store_of};
 
 use crate::index::{Index, IndexKrate};
@@ -36,7 +36,7 @@ impl<S: Store> Index for LocalIndex<S> {
             (LocalGives (S.view (store_of self.new))) }
         ensures given { IfOk result (λ k. LocalGives (S.view (store_of self.old)) registry.now name.now
             (Ok (answer_of k))) }
-        ensures cause { HasLookCause (local_view (S.view (store_of self.old)))
+        ensures cause { HasLookupCause (local_view (S.view (store_of self.old)))
             (local_view (S.view (store_of self.new))) registry.now name.now result }
         // no file changes
         ensures reads { OnlyReads (S.view (store_of self.old)) (S.view (store_of self.new)) }

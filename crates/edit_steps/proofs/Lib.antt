@@ -1,6 +1,6 @@
 pub mod DistinctPaths
 pub mod NormalPaths
-pub mod Refusals
+pub mod ErrorFields
 pub mod WorkspaceLemmas
 pub mod Written
 pub mod FoundLemmas
@@ -8,3 +8,5 @@ pub mod ReadLemmas
 pub mod NamedLemmas
 pub mod SharedLemmas
 pub mod TargetLemmas
+pub mod ErrorLemmas
+pub mod FirstLemmas

@@ -6,15 +6,15 @@ use Rattle.std.specs.Prelude.{◌⊎◌, option_copied, option_map, string_bytes
 use Rattle.edit_base.specs.Errors.{IsMemory}
 use Rattle.edit_base.specs.declared.errors.DeviceCall.TheVariants as call
 use Rattle.edit_base.specs.declared.errors.Error.{Error}
-use Rattle.edit_sources.specs.Configuration.{SaysNothing}
+use Rattle.edit_sources.specs.Configuration.{IsMalformedConfig}
 use Rattle.edit_sources.specs.ConfigurationFiles.{AreConfigs}
 use Rattle.edit_sources.specs.Configured.{IsConfigRefusal}
 use Rattle.edit_sources.specs.declared.config.Config.{Config}
-use Rattle.edit_store.specs.Store.{Files, OnlyReads, RefusesCall, StoreView}
+use Rattle.edit_store.specs.Store.{Files, OnlyReads, IsCallError, StoreView}
 use Rattle.edit_steps.proofs.ReadLemmas.{before, refused_on}
-use Rattle.edit_steps.specs.Asking.{Asking}
+use Rattle.edit_steps.specs.RequestView.{RequestView}
 use Rattle.edit_steps.specs.Causes.{LacksNamed}
-use Rattle.edit_steps.specs.Named.{AreGathered, AreSaid, HasNoFile, IsUnreadFile, Pair, PathAndBytes, path_and_bytes, seen}
+use Rattle.edit_steps.specs.Named.{AreGathered, AreConfigsIn, HasNoFile, IsUnreadFile, Pair, PathAndBytes, path_and_bytes, seen}
 use Rattle.edit_steps.specs.declared.upgrade_read.named.NamedFile.{NamedFile}
 
 -- a borrowed file is seen as the file is
@@ -31,19 +31,20 @@ seen_of file whole is = seen_copied file ∙ ap (option_map path_and_bytes) is
 -- a file that is no configuration
 pub unread_said : (file : Option (Bor NamedFile)) (there : Bor NamedFile) (path bytes : List ℕ) (e : Error)
     → file ≡ Some there → path ≡ string_bytes there.now.path → bytes ≡ there.now.bytes.items
-    → IsMemory e ⊎ (IsConfigRefusal path e × SaysNothing bytes) → IsMemory e ⊎ IsUnreadFile (seen file) e
+    → IsMemory e ⊎ (IsConfigRefusal path e × IsMalformedConfig bytes)
+    → IsMemory e ⊎ IsUnreadFile (seen file) e
 unread_said file there path bytes e is named holds (inl memory) = inl memory
 unread_said file there path bytes e is named holds (inr (names, nothing)) =
     inr (subst (λ f. IsUnreadFile (seen f) e) (sym is) (record {
       named = subst (λ p. IsConfigRefusal p e) named names;
-      nothing = subst SaysNothing holds nothing;
+      nothing = subst IsMalformedConfig holds nothing;
     }))
 
 -- the second file that is named is not there
-pub last_lacks : (old mid new : StoreView) (current : List ℕ) (asking : Asking) (e : Error)
-    → OnlyReads old mid → RefusesCall call.Read mid new e
+pub last_lacks : (old mid new : StoreView) (current : List ℕ) (asking : RequestView) (e : Error)
+    → OnlyReads old mid → IsCallError call.Read mid new e
     ⊎ (mid.tells ≡ true → HasNoFile mid.file_at current asking.default_config e)
-    → RefusesCall call.Read old new e ⊎ (old.tells ≡ true → LacksNamed old.file_at current asking e)
+    → IsCallError call.Read old new e ⊎ (old.tells ≡ true → LacksNamed old.file_at current asking e)
 last_lacks old mid new current asking e reads (inl refused) =
     inl (refused_on call.Read old mid new e reads refused)
 last_lacks old mid new current asking e reads (inr lacks) = inr (λ t. inr
@@ -52,15 +53,15 @@ last_lacks old mid new current asking e reads (inr lacks) = inr (λ t. inr
 -- the configurations of a manifest, one list after another
 pub gathered : (files : Files) (home : Option (List ℕ)) (pair : Pair) (manifest : List ℕ)
     (first own last both all : List Config) (f l : Option PathAndBytes) → f ≡ pair.first → l ≡ pair.last
-    → AreSaid f first → AreConfigs files manifest home own → AreSaid l last
+    → AreConfigsIn f first → AreConfigs files manifest home own → AreConfigsIn l last
     → both ≡ first ++ own → all ≡ both ++ last → AreGathered files home pair manifest all
 gathered files home pair manifest first own last both all f l is_first is_last said read behind one two =
     record {
       before = first;
       own = own;
       behind = last;
-      first = subst (λ x. AreSaid x first) is_first said;
+      first = subst (λ x. AreConfigsIn x first) is_first said;
       read = read;
-      last = subst (λ x. AreSaid x last) is_last behind;
+      last = subst (λ x. AreConfigsIn x last) is_last behind;
       all = two ∙ ap (λ xs. xs ++ last) one ∙ append_assoc first own last;
     }

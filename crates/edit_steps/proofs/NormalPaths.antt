@@ -5,7 +5,7 @@ use Rattle.std.specs.Str.{bytes_eq}
 use Rattle.std.proofs.lemmas.Bool.{cases_Bool, eqb-true}
 use Rattle.std.proofs.lemmas.List.{reverse-append, reverse-reverse}
 use Rattle.std.proofs.lemmas.Slice.Eq.{bytes_eq-Decides}
-use Rattle.edit_base.specs.Paths.{HasNoSlash, IsFolderOf, IsIdle, IsName, IsNormalOf, Normal, absolute, parts_of}
+use Rattle.edit_base.specs.Paths.{HasNoSlash, IsFolderOf, IsEmptyOrDot, IsName, IsNormalOf, Normal, absolute, parts_of}
 use Rattle.edit_base.specs.Paths.IsFolderOf.{above, bare, below_root}
 use Rattle.edit_base.specs.Paths.Normal.{back, keep, root, skip, stay}
 
@@ -40,7 +40,7 @@ differs a b h = elim (cases_Bool (bytes_eq a b)) [
   | inr other ↦ other
 ]
 
-further_idle : (names : List (List ℕ)) (part : List ℕ) → IsIdle part → further names part ≡ names
+further_idle : (names : List (List ℕ)) (part : List ℕ) → IsEmptyOrDot part → further names part ≡ names
 further_idle names part (inl none) = ap (further names) none
 further_idle names part (inr dot) = ap (further names) dot
 

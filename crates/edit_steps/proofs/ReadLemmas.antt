@@ -10,14 +10,14 @@ use Rattle.edit_base.specs.declared.errors.DeviceCall.{DeviceCall}
 use Rattle.edit_base.specs.declared.errors.DeviceCall.TheVariants as call
 use Rattle.edit_base.specs.declared.errors.Error.{Error}
 use Rattle.edit_manifest.proofs.Faults.{fault_later}
-use Rattle.edit_manifest.proofs.PassedWords.{as_before}
+use Rattle.edit_manifest.proofs.SearchLemmas.{as_before}
 use Rattle.edit_metadata.proofs.InputLemmas.{reads-on}
 use Rattle.edit_metadata.specs.declared.input.Input.{Input}
 use Rattle.edit_metadata.specs.declared.workspace.Workspace.{Workspace}
-use Rattle.edit_sources.specs.ConfigurationFiles.{ConfigsFail, HasFailed, IsUnread}
+use Rattle.edit_sources.specs.ConfigurationFiles.{ConfigsFail, HasFailed, IsBadConfig}
 use Rattle.edit_sources.specs.declared.config.Config.{Config}
-use Rattle.edit_store.specs.Store.{Files, OnlyReads, RefusesCall, StoreView, raised}
-use Rattle.edit_steps.specs.Asking.{Asking}
+use Rattle.edit_store.specs.Store.{Files, OnlyReads, IsCallError, StoreView, raised}
+use Rattle.edit_steps.specs.RequestView.{RequestView}
 use Rattle.edit_steps.specs.Causes.{HasNoIndex, HasNoTarget, IsFailure, IsReadCause, IsUnconfigured, LacksNamed}
 use Rattle.edit_steps.specs.Causes.IsUnconfigured.{of_input, of_named}
 use Rattle.edit_steps.specs.Named.{AreConfigured, AreGathered, ArePairRead, IsUnreadFile, Pair, PathAndBytes}
@@ -30,13 +30,13 @@ before P old mid reads h t = as_before P old.file_at mid.file_at reads.files (h 
 
 -- a refusal of the device behind reads
 pub refused_on : (of : DeviceCall) (old mid new : StoreView) (e : Error) → OnlyReads old mid
-    → RefusesCall of mid new e → RefusesCall of old new e
+    → IsCallError of mid new e → IsCallError of old new e
 refused_on of old mid new e reads refused =
     fault_later of old.faults mid.faults new.faults e reads.later refused
 
 -- a refusal of the device before more reads
 pub refused_before : (of : DeviceCall) (old mid new : StoreView) (e : Error) → OnlyReads mid new
-    → new.faults < 2 ^ 64 → RefusesCall of old mid e → RefusesCall of old new e
+    → new.faults < 2 ^ 64 → IsCallError of old mid e → IsCallError of old new e
 refused_before of old mid new e reads bound (inl memory) = inl memory
 refused_before of old mid new e reads bound (inr failed) = inr (failed.0, later failed.1)
   where
@@ -47,14 +47,14 @@ refused_before of old mid new e reads bound (inr failed) = inr (failed.0, later 
 -- configurations that are not read, before more reads
 pub unconfigured_before : (old mid new : StoreView) (home : Option (List ℕ)) (pair : Pair) (inputs : List Input)
     (e told : Error) → OnlyReads mid new → new.faults < 2 ^ 64 → told ≡ e
-    → RefusesCall call.Read old mid e ⊎ (old.tells ≡ true → IsUnconfigured old.file_at home pair inputs e)
-    → RefusesCall call.Read old new told ⊎ (old.tells ≡ true → IsUnconfigured old.file_at home pair inputs told)
+    → IsCallError call.Read old mid e ⊎ (old.tells ≡ true → IsUnconfigured old.file_at home pair inputs e)
+    → IsCallError call.Read old new told ⊎ (old.tells ≡ true → IsUnconfigured old.file_at home pair inputs told)
 unconfigured_before old mid new home pair inputs e told reads bound same why =
-    subst (λ x. RefusesCall call.Read old new x
+    subst (λ x. IsCallError call.Read old new x
     ⊎ (old.tells ≡ true → IsUnconfigured old.file_at home pair inputs x)) (sym same) (later why)
   where
-    later : RefusesCall call.Read old mid e ⊎ (old.tells ≡ true → IsUnconfigured old.file_at home pair inputs e)
-        → RefusesCall call.Read old new e ⊎ (old.tells ≡ true → IsUnconfigured old.file_at home pair inputs e)
+    later : IsCallError call.Read old mid e ⊎ (old.tells ≡ true → IsUnconfigured old.file_at home pair inputs e)
+        → IsCallError call.Read old new e ⊎ (old.tells ≡ true → IsUnconfigured old.file_at home pair inputs e)
     later (inl refused) = inl (refused_before call.Read old mid new e reads bound refused)
     later (inr none) = inr none
 
@@ -83,7 +83,7 @@ configured_more files home pair inputs i input all more own path within is here 
 
 -- a file that is no configuration is there
 pub unread_there : (file : Option PathAndBytes) (e : Error) → IsUnreadFile file e
-    → (there : PathAndBytes) × (file ≡ Some there) × IsUnread there e
+    → (there : PathAndBytes) × (file ≡ Some there) × IsBadConfig there e
 unread_there None e unread = elim unread [ ]
 unread_there (Some there) e unread = (there, refl, unread)
 
@@ -93,7 +93,7 @@ pub unconfigured : (old mid new : StoreView) (home : Option (List ℕ)) (pair : 
     → Contains inputs input
     → IsMemory e ⊎ (HasFailed mid.faults new.faults e ⊎ (IsUnreadFile pair.first e
     ⊎ (IsUnreadFile pair.last e ⊎ ConfigsFail mid.tells mid.file_at path home e)))
-    → RefusesCall call.Read old new e ⊎ (old.tells ≡ true → IsUnconfigured old.file_at home pair inputs e)
+    → IsCallError call.Read old new e ⊎ (old.tells ≡ true → IsUnconfigured old.file_at home pair inputs e)
 unconfigured old mid new home pair inputs input path e reads here has (inl memory) = inl (inl memory)
 unconfigured old mid new home pair inputs input path e reads here has (inr (inl failed)) =
     inl (refused_on call.Read old mid new e reads (inr (failed.is, failed.counted)))
@@ -110,17 +110,17 @@ unconfigured old mid new home pair inputs input path e reads here has (inr (inr 
 -- ---- causes
 
 -- the manifests that are not read
-pub target_cause : (current : List ℕ) (home : Option (List ℕ)) (asking : Asking) (old new : StoreView)
+pub target_cause : (current : List ℕ) (home : Option (List ℕ)) (asking : RequestView) (old new : StoreView)
     (e : Error) → IsFailure old new e ⊎ (old.tells ≡ true → HasNoTarget old.file_at current asking e)
     → IsReadCause current home asking old new e
 target_cause current home asking old new e (inl failed) = inl failed
 target_cause current home asking old new e (inr wrong) = inr (λ t. inl (wrong t))
 
 -- a configuration file that is named and is not there
-pub named_cause : (current : List ℕ) (home : Option (List ℕ)) (asking : Asking) (old mid new : StoreView)
+pub named_cause : (current : List ℕ) (home : Option (List ℕ)) (asking : RequestView) (old mid new : StoreView)
     (w : Option Workspace) (inputs : List Input) (e : Error) → OnlyReads old mid
     → (old.tells ≡ true → AreInputsRead old.file_at current asking w inputs)
-    → RefusesCall call.Read mid new e ⊎ (mid.tells ≡ true → LacksNamed mid.file_at current asking e)
+    → IsCallError call.Read mid new e ⊎ (mid.tells ≡ true → LacksNamed mid.file_at current asking e)
     → IsReadCause current home asking old new e
 named_cause current home asking old mid new w inputs e reads read (inl refused) =
     inl (inr (refused_on call.Read old mid new e reads refused))
@@ -133,11 +133,11 @@ named_cause current home asking old mid new w inputs e reads read (inr wrong) =
     })))
 
 -- a configuration that is not read after them
-pub config_cause : (current : List ℕ) (home : Option (List ℕ)) (asking : Asking) (old mid now new : StoreView)
+pub config_cause : (current : List ℕ) (home : Option (List ℕ)) (asking : RequestView) (old mid now new : StoreView)
     (w : Option Workspace) (inputs : List Input) (pair : Pair) (e : Error) → OnlyReads old mid
     → OnlyReads mid now → (old.tells ≡ true → AreInputsRead old.file_at current asking w inputs)
     → (mid.tells ≡ true → ArePairRead mid.file_at current asking pair)
-    → RefusesCall call.Read now new e ⊎ (now.tells ≡ true → IsUnconfigured now.file_at home pair inputs e)
+    → IsCallError call.Read now new e ⊎ (now.tells ≡ true → IsUnconfigured now.file_at home pair inputs e)
     → IsReadCause current home asking old new e
 config_cause current home asking old mid now new w inputs pair e first second read named (inl refused) =
     inl (inr (refused_on call.Read old now new e (reads-on old mid now first second) refused))
@@ -153,13 +153,13 @@ config_cause current home asking old mid now new w inputs pair e first second re
     }))))
 
 -- an index that is not read after all of these
-pub index_cause : (current : List ℕ) (home : Option (List ℕ)) (asking : Asking)
+pub index_cause : (current : List ℕ) (home : Option (List ℕ)) (asking : RequestView)
     (old mid now then new : StoreView) (w : Option Workspace) (inputs : List Input) (pair : Pair)
     (configs : List (Vec Config)) (e : Error) → OnlyReads old mid → OnlyReads mid now → OnlyReads now then
     → (old.tells ≡ true → AreInputsRead old.file_at current asking w inputs)
     → (mid.tells ≡ true → ArePairRead mid.file_at current asking pair)
     → (now.tells ≡ true → AreConfigured now.file_at home pair inputs configs)
-    → RefusesCall call.Read then new e ⊎ (then.tells ≡ true → HasNoIndex then.file_at current asking.index e)
+    → IsCallError call.Read then new e ⊎ (then.tells ≡ true → HasNoIndex then.file_at current asking.index e)
     → IsReadCause current home asking old new e
 index_cause current home asking old mid now then new w inputs pair configs e first second third read named
     configured (inl refused) =

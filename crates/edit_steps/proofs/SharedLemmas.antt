@@ -63,8 +63,8 @@ same_files files (x ∷ xs) (y ∷ ys) all others e =
     let tails : map (λ (f : PathAndBytes). f.0) xs ≡ map (λ (f : PathAndBytes). f.0) ys = cc e in
     let bytes : x.1 ≡ y.1 = one_value x.1 y.1 (sym (All-head (Stands files) x xs all) ∙ ap files path
     ∙ All-head (Stands files) y ys others) in
-    let heads : x ≡ y = ap (λ (p : List ℕ). (p, x.1)) path ∙ ap (λ (b : List ℕ). (y.0, b)) bytes in
-    ap (λ (f : PathAndBytes). f ∷ xs) heads ∙ ap (λ (fs : List PathAndBytes). y ∷ fs)
+    let header_walk : x ≡ y = ap (λ (p : List ℕ). (p, x.1)) path ∙ ap (λ (b : List ℕ). (y.0, b)) bytes in
+    ap (λ (f : PathAndBytes). f ∷ xs) header_walk ∙ ap (λ (fs : List PathAndBytes). y ∷ fs)
     (same_files files xs ys (All-tail (Stands files) x xs all) (All-tail (Stands files) y ys others) tails)
 
 -- the paths of configurations are those of the files that they are read from
@@ -97,11 +97,11 @@ parts_same [] b [] d long e = (refl, e)
 parts_same [] b (y ∷ c) d long e = cc long
 parts_same (x ∷ a) b [] d long e = cc long
 parts_same {A} (x ∷ a) b (y ∷ c) d long e =
-    let heads : x ≡ y = cc e in
+    let header_walk : x ≡ y = cc e in
     let tails : a ++ b ≡ c ++ d = cc e in
     let shorter : length a ≡ length c = cc long in
     let rest = parts_same a b c d shorter tails in
-    (ap (λ (z : A). z ∷ a) heads ∙ ap (λ (zs : List A). y ∷ zs) rest.0, rest.1)
+    (ap (λ (z : A). z ∷ a) header_walk ∙ ap (λ (zs : List A). y ∷ zs) rest.0, rest.1)
 
 paths_joined : (a b c : List Config) → paths_of (a ++ (b ++ c)) ≡ paths_of a ++ (paths_of b ++ paths_of c)
 paths_joined a b c =

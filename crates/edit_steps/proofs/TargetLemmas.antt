@@ -3,17 +3,17 @@ use Rattle.std.proofs.Common.{◌≡◌, ◌∷◌, [], ℕ, Bool, Bor, List, Op
 use Rattle.std.specs.Prelude.{◌⊎◌}
 use Rattle.edit_base.specs.declared.errors.DeviceCall.TheVariants as call
 use Rattle.edit_base.specs.declared.errors.Error.{Error}
-use Rattle.edit_metadata.specs.Inputs.{RustAsked}
-use Rattle.edit_metadata.specs.Workspaces.{workspace_said}
+use Rattle.edit_metadata.specs.Inputs.{RustOptions}
+use Rattle.edit_metadata.specs.Workspaces.{workspace_view}
 use Rattle.edit_metadata.specs.declared.input.Input.{Input}
 use Rattle.edit_metadata.specs.declared.workspace.Workspace.{Workspace}
 use Rattle.edit_sources.specs.Configured.{given}
 use Rattle.edit_steps.specs.Workspaces.{HasNoWorkspace, IsWorkspaceRead}
-use Rattle.edit_store.specs.Store.{Files, RefusesCall, StoreView}
+use Rattle.edit_store.specs.Store.{Files, IsCallError, StoreView}
 use Rattle.edit_version.specs.RustVersions.{Numbers}
-use Rattle.edit_steps.specs.Asking.{asked_rust, asking_of}
-use Rattle.edit_steps.specs.Causes.{HasNoTarget, IsFailure}
-use Rattle.edit_steps.specs.Causes.HasNoTarget.{no_workspace}
+use Rattle.edit_steps.specs.RequestView.{rust_request, request_view}
+use Rattle.edit_steps.specs.Causes.{HasNoTarget, IsFailure, IsManifestCause}
+use Rattle.edit_steps.specs.Causes.HasNoTarget.{no_manifest, no_workspace}
 use Rattle.edit_steps.specs.Own.{IsManifestRead}
 use Rattle.edit_steps.specs.Sources.{AreInputsRead, IsTargetRead}
 use Rattle.edit_steps.specs.Sources.AreInputsRead.{found, members}
@@ -25,42 +25,51 @@ use Rattle.edit_steps.specs.declared.upgrade_read.target.Target.{Target}
 -- the manifest that is found
 pub found_read : (files : Files) (current : List ℕ) (asked : Asked) (m : Input) (t : Target)
     → asked.metadata_json ≡ None → t.workspace ≡ None → t.inputs.items ≡ m ∷ []
-    → IsManifestRead files current (given asked.manifest_path) (asked_rust asked.rust) m
-    → IsTargetRead files current (asking_of asked) t
+    → IsManifestRead files current (given asked.manifest_path) (rust_request asked.rust) m
+    → IsTargetRead files current (request_view asked) t
 found_read files current asked m t none alone one read =
-    subst (λ (w : Option Workspace). AreInputsRead files current (asking_of asked) w t.inputs.items) (sym alone)
-    (subst (λ (is : List Input). AreInputsRead files current (asking_of asked) None is) (sym one)
+    subst (λ (w : Option Workspace). AreInputsRead files current (request_view asked) w t.inputs.items) (sym alone)
+    (subst (λ (is : List Input). AreInputsRead files current (request_view asked) None is) (sym one)
     (found m (ap given none) read))
 
-same_rust : (choice : RustChoice) (g : Option Numbers) (i : Bool) → g ≡ (asked_rust choice).given
-    → i ≡ (asked_rust choice).ignored → (P : RustAsked → Type 0) → P (record { given = g; ignored = i })
-    → P (asked_rust choice)
+same_rust : (choice : RustChoice) (g : Option Numbers) (i : Bool) → g ≡ (rust_request choice).given
+    → i ≡ (rust_request choice).ignored → (P : RustOptions → Type 0) → P (record { given = g; ignored = i })
+    → P (rust_request choice)
 same_rust Own g i same kept P h =
-    subst (λ (b : Bool). P (record { given = (asked_rust Own).given; ignored = b })) kept
+    subst (λ (b : Bool). P (record { given = (rust_request Own).given; ignored = b })) kept
     (subst (λ (o : Option Numbers). P (record { given = o; ignored = i })) same h)
 same_rust Ignored g i same kept P h =
-    subst (λ (b : Bool). P (record { given = (asked_rust Ignored).given; ignored = b })) kept
+    subst (λ (b : Bool). P (record { given = (rust_request Ignored).given; ignored = b })) kept
     (subst (λ (o : Option Numbers). P (record { given = o; ignored = i })) same h)
 same_rust (Given v) g i same kept P h =
-    subst (λ (b : Bool). P (record { given = (asked_rust (Given v)).given; ignored = b })) kept
+    subst (λ (b : Bool). P (record { given = (rust_request (Given v)).given; ignored = b })) kept
     (subst (λ (o : Option Numbers). P (record { given = o; ignored = i })) same h)
 
 -- those of the workspace that is named
 pub members_read : (files : Files) (current : List ℕ) (asked : Asked) (named : Bor (List ℕ)) (w : Workspace)
     (inputs : List Input) (g : Option Numbers) (i : Bool) → asked.metadata_json ≡ Some named
-    → g ≡ (asked_rust asked.rust).given → i ≡ (asked_rust asked.rust).ignored
-    → IsWorkspaceRead files current named.now (record { given = g; ignored = i }) (workspace_said w) inputs
-    → AreInputsRead files current (asking_of asked) (Some w) inputs
+    → g ≡ (rust_request asked.rust).given → i ≡ (rust_request asked.rust).ignored
+    → IsWorkspaceRead files current named.now (record { given = g; ignored = i }) (workspace_view w) inputs
+    → AreInputsRead files current (request_view asked) (Some w) inputs
 members_read files current asked named w inputs g i some same kept read =
     members named.now w inputs (ap given some)
     (same_rust asked.rust g i same kept
-    (λ a. IsWorkspaceRead files current named.now a (workspace_said w) inputs) read)
+    (λ a. IsWorkspaceRead files current named.now a (workspace_view w) inputs) read)
 
 -- a workspace that is not read
 pub workspace_cause : (old new : StoreView) (current : List ℕ) (asked : Asked) (named : Bor (List ℕ))
     (e : Error) → asked.metadata_json ≡ Some named
-    → RefusesCall call.Read old new e ⊎ (old.tells ≡ true → HasNoWorkspace old.file_at current named.now e)
-    → IsFailure old new e ⊎ (old.tells ≡ true → HasNoTarget old.file_at current (asking_of asked) e)
+    → IsCallError call.Read old new e ⊎ (old.tells ≡ true → HasNoWorkspace old.file_at current named.now e)
+    → IsFailure old new e ⊎ (old.tells ≡ true → HasNoTarget old.file_at current (request_view asked) e)
 workspace_cause old new current asked named e some (inl refused) = inl (inr refused)
 workspace_cause old new current asked named e some (inr wrong) =
     inr (λ t. no_workspace named.now (ap given some) (wrong t))
+
+-- a manifest that is not read
+pub manifest_cause : (old new : StoreView) (current : List ℕ) (asked : Asked) (e : Error)
+    → asked.metadata_json ≡ None
+    → IsFailure old new e ⊎ (old.tells ≡ true
+    → IsManifestCause old.file_at current (given asked.manifest_path) e)
+    → IsFailure old new e ⊎ (old.tells ≡ true → HasNoTarget old.file_at current (request_view asked) e)
+manifest_cause old new current asked e none (inl failed) = inl failed
+manifest_cause old new current asked e none (inr wrong) = inr (λ t. no_manifest (ap given none) (wrong t))

@@ -8,15 +8,15 @@ use Rattle.edit_base.specs.Paths.{IsFolderOf, IsNormalOf}
 use Rattle.edit_base.specs.declared.errors.DeviceCall.TheVariants as call
 use Rattle.edit_base.specs.declared.errors.Error.{Error}
 use Rattle.edit_metadata.specs.Folders.{IsManifestFolder}
-use Rattle.edit_metadata.specs.Inputs.{AreInputs, HaveOwnPaths, IsInputOf, IsNoInput, IsReadFrom, RustAsked, input_paths, manifest_of, manifests}
+use Rattle.edit_metadata.specs.Inputs.{AreInputs, HaveOwnPaths, IsInputOf, IsNoInput, IsReadFrom, RustOptions, input_paths, manifest_of, manifests}
 use Rattle.edit_metadata.specs.Inputs.AreInputs.{of_members, with_root}
-use Rattle.edit_metadata.specs.Metadata.{PackageSaid, WorkspaceSaid, members}
+use Rattle.edit_metadata.specs.Metadata.{PackageModel, WorkspaceModel, members}
 use Rattle.edit_metadata.specs.Workspaces.{HasOwnFolders, IsNoWorkspace}
 use Rattle.edit_metadata.specs.declared.input.Input.{Input}
 use Rattle.edit_metadata.proofs.InputLemmas.{no-input-later}
-use Rattle.edit_store.specs.Store.{Files, OnlyReads, RefusesCall, StoreView}
+use Rattle.edit_store.specs.Store.{Files, OnlyReads, IsCallError, StoreView}
 use Rattle.edit_steps.specs.Absolute.{IsAbsoluteOf}
-use Rattle.edit_steps.specs.Workspaces.{AreMetadataRead, HasNoMetadata, HasNoWorkspace, IsUnsaid, IsWorkspaceRead}
+use Rattle.edit_steps.specs.Workspaces.{AreMetadataRead, HasNoMetadata, HasNoWorkspace, HasBadMetadataBytes, IsWorkspaceRead}
 use Rattle.edit_steps.proofs.DistinctPaths.{Differ, first_differs, none_differ, others_differ}
 use Rattle.edit_steps.proofs.NormalPaths.{one_folder, one_normal}
 use Rattle.edit_steps.proofs.ReadLemmas.{refused_before}
@@ -38,9 +38,9 @@ apart_paths p q f g s t differ at_f at_g normal_s normal_t same =
     (folder_at q g t at_g normal_t))
 
 -- one from each of the others
-from_others : (asked : RustAsked) (p f s : List ℕ) → IsManifestFolder p f → IsNormalOf p s
-    → (ps : List PackageSaid) (folders : List (List ℕ)) (is : List Input)
-    → AllZip IsManifestFolder (map (λ (q : PackageSaid). q.manifest_path) ps) folders
+from_others : (asked : RustOptions) (p f s : List ℕ) → IsManifestFolder p f → IsNormalOf p s
+    → (ps : List PackageModel) (folders : List (List ℕ)) (is : List Input)
+    → AllZip IsManifestFolder (map (λ (q : PackageModel). q.manifest_path) ps) folders
     → AllZip (IsInputOf asked) (map manifest_of ps) is
     → ((j : ℕ) (d : List ℕ) → j < length folders → f ≢ slice_index_or folders j d)
     → All (λ (i : Input). s ≢ string_bytes i.path) is
@@ -55,8 +55,8 @@ from_others asked p f s at normal (q ∷ qs) (g ∷ gs) (i ∷ is) stand are apa
     (from_others asked p f s at normal qs gs is stand.1 are.1
     (λ j d within. apart (suc j) d (omega (arith, within))))
 
-members_apart : (asked : RustAsked) (ps : List PackageSaid) (folders : List (List ℕ)) (is : List Input)
-    → AllZip IsManifestFolder (map (λ (q : PackageSaid). q.manifest_path) ps) folders
+members_apart : (asked : RustOptions) (ps : List PackageModel) (folders : List (List ℕ)) (is : List Input)
+    → AllZip IsManifestFolder (map (λ (q : PackageModel). q.manifest_path) ps) folders
     → AllZip (IsInputOf asked) (map manifest_of ps) is → Differ folders → HaveOwnPaths is
 members_apart asked [] folders [] stand are differ =
     none_differ (λ (a b : Input). string_bytes a.path ≢ string_bytes b.path)
@@ -79,7 +79,7 @@ none_has (i ∷ is) path none =
     (none_has is path (λ has. none (suc has.0, omega (arith, has.1), has.2)))
 
 -- the inputs of a workspace have paths of their own
-pub own_paths : (asked : RustAsked) (w : WorkspaceSaid) (is : List Input) → HasOwnFolders w
+pub own_paths : (asked : RustOptions) (w : WorkspaceModel) (is : List Input) → HasOwnFolders w
     → AreInputs asked w is → HaveOwnPaths is
 own_paths asked w _ own (of_members root is are normal among) =
     members_apart asked (members w.packages) own.folders is own.stand are own.apart
@@ -91,7 +91,7 @@ own_paths asked w _ own (with_root i is are root none) =
 -- ---- a workspace that was read
 
 -- its metadata, and then its manifests
-pub is_read : (asked : RustAsked) (old mid : StoreView) (current named : List ℕ) (w : WorkspaceSaid)
+pub is_read : (asked : RustOptions) (old mid : StoreView) (current named : List ℕ) (w : WorkspaceModel)
     (is : List Input) → OnlyReads old mid
     → (old.tells ≡ true → AreMetadataRead old.file_at current named w) → AreInputs asked w is
     → (mid.tells ≡ true → All (IsReadFrom mid.file_at) is)
@@ -109,26 +109,26 @@ pub unsaid_at : (files : Files) (current named path at bytes : List ℕ) (e : Er
 unsaid_at files current named path at bytes e absolute here there cause = record {
   path = path;
   at = absolute;
-  unsaid = subst (λ o. IsUnsaid o e) (there ∙ ap files here) cause;
+  unsaid = subst (λ o. HasBadMetadataBytes o e) (there ∙ ap files here) cause;
 }
 
 -- metadata that are not read
 pub metadata_cause : (old new : StoreView) (current named : List ℕ) (e : Error)
-    → RefusesCall call.Read old new e ⊎ (old.tells ≡ true → HasNoMetadata old.file_at current named e)
-    → RefusesCall call.Read old new e ⊎ (old.tells ≡ true → HasNoWorkspace old.file_at current named e)
+    → IsCallError call.Read old new e ⊎ (old.tells ≡ true → HasNoMetadata old.file_at current named e)
+    → IsCallError call.Read old new e ⊎ (old.tells ≡ true → HasNoWorkspace old.file_at current named e)
 metadata_cause old new current named e (inl refused) = inl refused
 metadata_cause old new current named e (inr none) = inr (λ t. inl (none t))
 
 -- a manifest that is not read behind the metadata
-pub manifest_cause : (old mid new : StoreView) (current named : List ℕ) (w : WorkspaceSaid) (e : Error)
+pub manifest_cause : (old mid new : StoreView) (current named : List ℕ) (w : WorkspaceModel) (e : Error)
     → OnlyReads old mid → (old.tells ≡ true → AreMetadataRead old.file_at current named w)
     → IsNoInput mid new (manifests w) e
-    → RefusesCall call.Read old new e ⊎ (old.tells ≡ true → HasNoWorkspace old.file_at current named e)
+    → IsCallError call.Read old new e ⊎ (old.tells ≡ true → HasNoWorkspace old.file_at current named e)
 manifest_cause old mid new current named w e reads metadata cause =
     told (no-input-later old mid new (manifests w) (manifests w) e reads (λ m has. has) cause)
   where
     told : IsNoInput old new (manifests w) e
-        → RefusesCall call.Read old new e ⊎ (old.tells ≡ true → HasNoWorkspace old.file_at current named e)
+        → IsCallError call.Read old new e ⊎ (old.tells ≡ true → HasNoWorkspace old.file_at current named e)
     told (inl refused) = inl refused
     told (inr none) = inr (λ t. inr (record {
       workspace = w;
@@ -138,16 +138,16 @@ manifest_cause old mid new current named w e reads metadata cause =
     }))
 
 -- a manifest that is not read, before more reads
-pub manifest_before : (old mid read new : StoreView) (current named : List ℕ) (w : WorkspaceSaid) (e told : Error)
+pub manifest_before : (old mid read new : StoreView) (current named : List ℕ) (w : WorkspaceModel) (e told : Error)
     → OnlyReads old mid → OnlyReads read new → new.faults < 2 ^ 64 → told ≡ e
     → (old.tells ≡ true → AreMetadataRead old.file_at current named w)
     → IsNoInput mid read (manifests w) e
-    → RefusesCall call.Read old new told ⊎ (old.tells ≡ true → HasNoWorkspace old.file_at current named told)
+    → IsCallError call.Read old new told ⊎ (old.tells ≡ true → HasNoWorkspace old.file_at current named told)
 manifest_before old mid read new current named w e told before reads bound same metadata cause =
-    subst (λ x. RefusesCall call.Read old new x ⊎ (old.tells ≡ true → HasNoWorkspace old.file_at current named x))
+    subst (λ x. IsCallError call.Read old new x ⊎ (old.tells ≡ true → HasNoWorkspace old.file_at current named x))
     (sym same) (later (manifest_cause old mid read current named w e before metadata cause))
   where
-    later : RefusesCall call.Read old read e ⊎ (old.tells ≡ true → HasNoWorkspace old.file_at current named e)
-        → RefusesCall call.Read old new e ⊎ (old.tells ≡ true → HasNoWorkspace old.file_at current named e)
+    later : IsCallError call.Read old read e ⊎ (old.tells ≡ true → HasNoWorkspace old.file_at current named e)
+        → IsCallError call.Read old new e ⊎ (old.tells ≡ true → HasNoWorkspace old.file_at current named e)
     later (inl refused) = inl (refused_before call.Read old read new e reads bound refused)
     later (inr none) = inr none

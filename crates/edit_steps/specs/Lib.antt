@@ -1,6 +1,7 @@
 pub mod Absolute
-pub mod Asking
+pub mod RequestView
 pub mod Causes
+pub mod Errors
 pub mod Faults
 pub mod Named
 pub mod Own

@@ -7,11 +7,11 @@ use Rattle.std.specs.Option.{option_to_list}
 use Rattle.edit_base.specs.declared.errors.Error.{Error}
 use Rattle.edit_base.specs.declared.errors.Error.TheVariants.{NoPath}
 use Rattle.edit_metadata.specs.declared.input.Input.{Input}
-use Rattle.edit_sources.specs.ConfigurationFiles.{AreConfigs, IsReadFrom, IsUnread}
+use Rattle.edit_sources.specs.ConfigurationFiles.{AreConfigs, IsReadFrom, IsBadConfig}
 use Rattle.edit_sources.specs.declared.config.Config.{Config}
 use Rattle.edit_store.specs.Store.{Files}
 use Rattle.edit_steps.specs.Absolute.{IsAbsoluteOf}
-use Rattle.edit_steps.specs.Asking.{Asking}
+use Rattle.edit_steps.specs.RequestView.{RequestView}
 use Rattle.edit_steps.specs.declared.upgrade_read.named.NamedFile.{NamedFile}
 use Rattle.edit_steps.specs.declared.upgrade_read.named.NamedFiles.{NamedFiles}
 
@@ -47,18 +47,18 @@ pair_of named = record {
 }
 
 -- both files were read, where they are given
-pub record ArePairRead (files : Files) (current : List ℕ) (asking : Asking) (pair : Pair) : Type 0 where
+pub record ArePairRead (files : Files) (current : List ℕ) (asking : RequestView) (pair : Pair) : Type 0 where
   pub first : IsNamedRead files current asking.config pair.first
   pub last : IsNamedRead files current asking.default_config pair.last
 
 -- the configurations in a file, none without a file
-abbrev pub AreSaid : Option PathAndBytes → List Config → Type 0
-AreSaid file configs = AllZip IsReadFrom (option_to_list file) configs
+abbrev pub AreConfigsIn : Option PathAndBytes → List Config → Type 0
+AreConfigsIn file configs = AllZip IsReadFrom (option_to_list file) configs
 
 -- a file that is no configuration, and the error
 abbrev pub IsUnreadFile : Option PathAndBytes → Error → Type 0
 IsUnreadFile None e = ⊥
-IsUnreadFile (Some file) e = IsUnread file e
+IsUnreadFile (Some file) e = IsBadConfig file e
 
 -- the configurations of a manifest in order of precedence: that of the first file, its own, and that of the
 -- last file
@@ -67,9 +67,9 @@ pub record AreGathered (files : Files) (home : Option (List ℕ)) (pair : Pair) 
   pub before : List Config
   pub own : List Config
   pub behind : List Config
-  pub first : AreSaid pair.first before
+  pub first : AreConfigsIn pair.first before
   pub read : AreConfigs files manifest home own
-  pub last : AreSaid pair.last behind
+  pub last : AreConfigsIn pair.last behind
   pub all : configs ≡ before ++ (own ++ behind)
 
 -- each input has the configurations of its manifest

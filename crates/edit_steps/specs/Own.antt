@@ -3,7 +3,7 @@ use Rattle.std.specs.Prelude.{◌≡◌, ℕ, List, [], Option, Some, None, code
 use Rattle.edit_document.specs.Items.{string_in}
 use Rattle.edit_manifest.specs.Located.{IsManifestPath}
 use Rattle.edit_manifest.specs.Tables.{Tree}
-use Rattle.edit_metadata.specs.Inputs.{IsReadFrom, RustAsked, rust_version_for}
+use Rattle.edit_metadata.specs.Inputs.{IsReadFrom, RustOptions, rust_version_for}
 use Rattle.edit_metadata.specs.declared.input.Input.{Input}
 use Rattle.edit_store.specs.Store.{Files}
 use Rattle.edit_syntax.specs.Grammar.{Text}
@@ -25,24 +25,24 @@ package_text t name =
     (option_and_then string_in (t (at (at [] package_place) (key name)))))
 
 -- the name of the manifest in reports
-abbrev pub own_name : Tree → List ℕ
-own_name t = unwrap_or (package_text t (codes "name")) (codes "virtual workspace")
+abbrev pub report_name : Tree → List ℕ
+report_name t = unwrap_or (package_text t (codes "name")) (codes "virtual workspace")
 
 -- the manifest's own Rust version, where it has a valid one
-abbrev pub own_rust : Tree → Option Numbers
-own_rust t = option_and_then rust_of (package_text t (codes "rust-version"))
+abbrev pub declared_rust : Tree → Option Numbers
+declared_rust t = option_and_then rust_of (package_text t (codes "rust-version"))
 
 -- an input has the name in its bytes, and the requested Rust version, else the one in its bytes
-pub record SaysOfItself (asked : RustAsked) (input : Input) : Type 0 where
+pub record HasOwnNameAndRust (asked : RustOptions) (input : Input) : Type 0 where
   pub form : Text
   pub manifest : IsDocument input.bytes.items form
-  pub name : string_bytes input.name ≡ own_name (view_at form)
+  pub name : string_bytes input.name ≡ report_name (view_at form)
   pub rust_version : option_map numbers_of input.rust_version
-      ≡ rust_version_for asked (own_rust (view_at form))
+      ≡ rust_version_for asked (declared_rust (view_at form))
 
 -- the given manifest was read, or the nearest one where none is given
-pub record IsManifestRead (files : Files) (current : List ℕ) (named : Option (List ℕ)) (asked : RustAsked)
+pub record IsManifestRead (files : Files) (current : List ℕ) (named : Option (List ℕ)) (asked : RustOptions)
     (input : Input) : Type 0 where
   pub at : IsManifestPath files current named (string_bytes input.path)
   pub is : IsReadFrom files input
-  pub says : SaysOfItself asked input
+  pub says : HasOwnNameAndRust asked input

@@ -21,23 +21,23 @@ abbrev pub EndsWith : List ℕ → Option (List ℕ) → Type 0
 EndsWith text new = (before : Option (List ℕ)) × Appends before new text
 
 -- whether a byte continues a UTF-8 sequence, so that it begins no character (RFC 3629, section 3)
-abbrev pub is_later : ℕ → Bool
-is_later b = nat_le 0x80 b && nat_le b 0xBF
+abbrev pub is_continuation_byte : ℕ → Bool
+is_continuation_byte b = nat_le 0x80 b && nat_le b 0xBF
 
 -- line and column after one more byte: a line end begins the next line, and a character counts as one
 -- column, whatever its length in bytes
-abbrev pub past : ℕ × ℕ → ℕ → ℕ × ℕ
-past place b =
+abbrev pub advance_position : ℕ × ℕ → ℕ → ℕ × ℕ
+advance_position place b =
     if b == 10 then (place.0 + 1, 1)
-    else if is_later b then place
+    else if is_continuation_byte b then place
     else (place.0, place.1 + 1)
 
 -- the line and the column of the end of some bytes, each from 1
-abbrev pub place_behind : List ℕ → ℕ × ℕ
-place_behind before = fold past (1, 1) before
+abbrev pub position_after : List ℕ → ℕ × ℕ
+position_after before = fold advance_position (1, 1) before
 
 -- the place of the byte at this offset: path, line and column
 abbrev pub position_text : List ℕ → List ℕ → ℕ → List ℕ
 position_text path bytes at =
-    let place = place_behind (take (min at (length bytes)) bytes) in
+    let place = position_after (take (min at (length bytes)) bytes) in
     path ++ (codes ":" ++ (decimal place.0 ++ (codes ":" ++ decimal place.1)))

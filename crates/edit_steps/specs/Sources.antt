@@ -1,6 +1,6 @@
 -- The files that an upgrade depends on, as they were read.
 use Rattle.std.specs.Prelude.{◌≡◌, ◌⊎◌, ℕ, List, [], ◌∷◌, Option, Some, None, ⊤, length, map, string_bytes}
-use Rattle.edit_metadata.specs.Workspaces.{workspace_said}
+use Rattle.edit_metadata.specs.Workspaces.{workspace_view}
 use Rattle.edit_metadata.specs.declared.input.Input.{Input}
 use Rattle.edit_metadata.specs.declared.workspace.Workspace.{Workspace}
 use Rattle.edit_sources.specs.FileIndex.{HoldsLines}
@@ -9,8 +9,8 @@ use Rattle.edit_steps.specs.Absolute.{IsAbsoluteOf}
 use Rattle.edit_metadata.specs.Inputs.{HaveOwnPaths}
 use Rattle.edit_steps.specs.Workspaces.{IsWorkspaceRead}
 use Rattle.edit_store.specs.Store.{Files}
-use Rattle.edit_tree.specs.Shown.{Shown}
-use Rattle.edit_steps.specs.Asking.{Asking}
+use Rattle.edit_tree.specs.DocumentViews.{DocumentViews}
+use Rattle.edit_steps.specs.RequestView.{RequestView}
 use Rattle.edit_steps.specs.Named.{AreConfigured, ArePairRead, Pair}
 use Rattle.edit_steps.specs.Own.{IsManifestRead}
 use Rattle.edit_steps.specs.Shared.{HasLists, lists_for}
@@ -20,22 +20,22 @@ use Rattle.edit_steps.specs.declared.upgrade_read.sources.Sources.{Sources}
 use Rattle.edit_steps.specs.declared.upgrade_read.target.Target.{Target}
 
 -- the manifests to plan for were read: the nearest one, or those of the workspace whose metadata are given
-pub data AreInputsRead (files : Files) (current : List ℕ) (asking : Asking)
+pub data AreInputsRead (files : Files) (current : List ℕ) (asking : RequestView)
     : Option Workspace → List Input → Type 0 where
   found : (input : Input) → asking.metadata ≡ None
       → IsManifestRead files current asking.manifest asking.rust input
       → AreInputsRead files current asking None (input ∷ [])
   members : (named : List ℕ) (w : Workspace) (inputs : List Input) → asking.metadata ≡ Some named
-      → IsWorkspaceRead files current named asking.rust (workspace_said w) inputs
+      → IsWorkspaceRead files current named asking.rust (workspace_view w) inputs
       → AreInputsRead files current asking (Some w) inputs
 
 -- the manifests of a target were read
-abbrev pub IsTargetRead : Files → List ℕ → Asking → Target → Type 0
+abbrev pub IsTargetRead : Files → List ℕ → RequestView → Target → Type 0
 IsTargetRead files current asking target =
     AreInputsRead files current asking target.workspace target.inputs.items
 
 -- the documents are empty, or those parsed from the inputs' bytes
-abbrev pub AreDocuments : List Shown → List Input → Type 0
+abbrev pub AreDocuments : List DocumentViews → List Input → Type 0
 AreDocuments documents inputs =
     (documents ≡ []) ⊎ (map (λ d. d.bytes) documents ≡ map (λ input. input.bytes.items) inputs)
 
@@ -56,12 +56,12 @@ IsIndexOf files current None None source.Files = ⊤
 IsIndexOf files current _ _ _ = ⊥
 
 -- the requested index was read
-abbrev pub IsIndexRead : Files → List ℕ → Asking → IndexSource → Type 0
+abbrev pub IsIndexRead : Files → List ℕ → RequestView → IndexSource → Type 0
 IsIndexRead files current asking index = IsIndexOf files current asking.index asking.index_dir index
 
 -- all files that an upgrade depends on were read: its manifests, the given configuration files, the
 -- configurations of each manifest, and the index
-pub record AreRead (files : Files) (current : List ℕ) (home : Option (List ℕ)) (asking : Asking)
+pub record AreRead (files : Files) (current : List ℕ) (home : Option (List ℕ)) (asking : RequestView)
     (s : Sources) : Type 0 where
   pub target : IsTargetRead files current asking s.target
   pub pair : Pair

@@ -2,7 +2,7 @@
 ghost use Rattle.std.specs.Prelude.{◌≡◌, ◌≢◌, ◌<◌, ◌≤◌, IfErr, OnErr, OnOk, length, true};
 ghost use Rattle.edit_base.specs.declared.errors.DeviceCall.TheVariants as call;
 ghost use Rattle.edit_report.specs.Applied.{AreWritten, HasStopped, HaveDistinctPaths, IsWhole, path_of};
-ghost use Rattle.edit_store.specs.Store.{IsWrittenAtMostOnce, IsWrittenOnce, OnlyReads, RefusesCall, SameBut, SameFiles};
+ghost use Rattle.edit_store.specs.Store.{IsWrittenAtMostOnce, IsWrittenOnce, OnlyReads, IsCallError, SameBut, SameFiles};
 
 use crate::refusal::{Refusal, RunResult, at_file};
 use edit_report::Output;
@@ -17,7 +17,7 @@ fn stage_output<S: Store>(alloc: Global, output: &Output, files: &mut S) -> RunR
     ensures writes { (S.view files.new).writes ≡ (S.view files.old).writes }
     ensures ready { OnOk result ((S.view files.new).stage_errors ≡ (S.view files.old).stage_errors) }
     ensures refused { IfErr result
-        (λ r. RefusesCall call.Write (S.view files.old) (S.view files.new) r.error) }
+        (λ r. IsCallError call.Write (S.view files.old) (S.view files.new) r.error) }
 {
     let path = output.path.as_str();
     match files.stage(alloc, path, output.bytes.as_slice()) {
@@ -34,7 +34,7 @@ fn flush_output<S: Store>(alloc: Global, output: &Output, files: &mut S) -> RunR
     ensures writes { (S.view files.new).writes ≡ (S.view files.old).writes }
     ensures ready { OnOk result ((S.view files.new).stage_errors ≡ (S.view files.old).stage_errors) }
     ensures refused { IfErr result
-        (λ r. RefusesCall call.Write (S.view files.old) (S.view files.new) r.error) }
+        (λ r. IsCallError call.Write (S.view files.old) (S.view files.new) r.error) }
 {
     let path = output.path.as_str();
     match files.flush(alloc, path) {
@@ -51,7 +51,7 @@ fn verify_output<S: Store>(alloc: Global, output: &Output, files: &mut S) -> Run
     ensures writes { (S.view files.new).writes ≡ (S.view files.old).writes }
     ensures ready { OnOk result ((S.view files.new).stage_errors ≡ (S.view files.old).stage_errors) }
     ensures refused { IfErr result
-        (λ r. RefusesCall call.Write (S.view files.old) (S.view files.new) r.error) }
+        (λ r. IsCallError call.Write (S.view files.old) (S.view files.new) r.error) }
 {
     let path = output.path.as_str();
     match files.verify(alloc, path) {
@@ -69,7 +69,7 @@ fn stage_all<S: Store>(alloc: Global, outputs: &[Output], files: &mut S) -> RunR
     ensures ready { OnOk result ((S.view files.new).stage_errors ≡ (S.view files.old).stage_errors) }
     ensures some { OnErr result (0 < length outputs.now) }
     ensures refused { IfErr result
-        (λ r. RefusesCall call.Write (S.view files.old) (S.view files.new) r.error) }
+        (λ r. IsCallError call.Write (S.view files.old) (S.view files.new) r.error) }
 {
     for output in outputs {
         stage_output(alloc, output, files)?;
@@ -86,7 +86,7 @@ fn flush_all<S: Store>(alloc: Global, outputs: &[Output], files: &mut S) -> RunR
     ensures ready { OnOk result ((S.view files.new).stage_errors ≡ (S.view files.old).stage_errors) }
     ensures some { OnErr result (0 < length outputs.now) }
     ensures refused { IfErr result
-        (λ r. RefusesCall call.Write (S.view files.old) (S.view files.new) r.error) }
+        (λ r. IsCallError call.Write (S.view files.old) (S.view files.new) r.error) }
 {
     for output in outputs {
         flush_output(alloc, output, files)?;
@@ -103,7 +103,7 @@ fn make_ready<S: Store>(alloc: Global, outputs: &[Output], files: &mut S) -> Run
     ensures ready { OnOk result ((S.view files.new).stage_errors ≡ (S.view files.old).stage_errors) }
     ensures some { OnErr result (0 < length outputs.now) }
     ensures refused { IfErr result
-        (λ r. RefusesCall call.Write (S.view files.old) (S.view files.new) r.error) }
+        (λ r. IsCallError call.Write (S.view files.old) (S.view files.new) r.error) }
 {
     stage_all(alloc, outputs, files)?;
     flush_all(alloc, outputs, files)
@@ -118,7 +118,7 @@ fn verify_all<S: Store>(alloc: Global, outputs: &[Output], files: &mut S) -> Run
     ensures ready { OnOk result ((S.view files.new).stage_errors ≡ (S.view files.old).stage_errors) }
     ensures some { OnErr result (0 < length outputs.now) }
     ensures refused { IfErr result
-        (λ r. RefusesCall call.Write (S.view files.old) (S.view files.new) r.error) }
+        (λ r. IsCallError call.Write (S.view files.old) (S.view files.new) r.error) }
 {
     for output in outputs {
         verify_output(alloc, output, files)?;
@@ -138,7 +138,7 @@ fn write_output<S: Store>(alloc: Global, output: &Output, files: &mut S) -> RunR
         (IsWrittenAtMostOnce (path_of output.now) (S.view files.old) (S.view files.new)) }
     ensures ready { (S.view files.new).stage_errors ≡ (S.view files.old).stage_errors }
     ensures refused { IfErr result
-        (λ r. RefusesCall call.Write (S.view files.old) (S.view files.new) r.error) }
+        (λ r. IsCallError call.Write (S.view files.old) (S.view files.new) r.error) }
 {
     let path = output.path.as_str();
     match files.write(alloc, path, output.bytes.as_slice()) {
@@ -201,7 +201,7 @@ fn write_all<S: Store>(alloc: Global, outputs: &[Output], files: &mut S) -> RunR
     ensures stopped { OnErr result (HasStopped outputs.now (S.view files.old) (S.view files.new)) }
     ensures ready { (S.view files.new).stage_errors ≡ (S.view files.old).stage_errors }
     ensures refused { IfErr result
-        (λ r. RefusesCall call.Write (S.view files.old) (S.view files.new) r.error) }
+        (λ r. IsCallError call.Write (S.view files.old) (S.view files.new) r.error) }
 {
     let mut done = 0usize;
     for output in outputs {
@@ -223,7 +223,7 @@ fn stage_and_write<S: Store>(alloc: Global, outputs: &[Output], files: &mut S) -
     ensures staged { OnErr result ((S.view files.new).stage_errors ≢ (S.view files.old).stage_errors
         → SameFiles (S.view files.old).file_at (S.view files.new).file_at) }
     ensures refused { IfErr result
-        (λ r. RefusesCall call.Write (S.view files.old) (S.view files.new) r.error) }
+        (λ r. IsCallError call.Write (S.view files.old) (S.view files.new) r.error) }
 {
     make_ready(alloc, outputs, files)?;
     verify_all(alloc, outputs, files)?;
@@ -241,7 +241,7 @@ pub fn write_outputs<S: Store>(alloc: Global, outputs: &[Output], files: &mut S)
     ensures staged { OnErr result ((S.view files.new).stage_errors ≢ (S.view files.old).stage_errors
         → SameFiles (S.view files.old).file_at (S.view files.new).file_at) }
     ensures refused { IfErr result
-        (λ r. RefusesCall call.Write (S.view files.old) (S.view files.new) r.error) }
+        (λ r. IsCallError call.Write (S.view files.old) (S.view files.new) r.error) }
 {
     match stage_and_write(alloc, outputs, files) {
         Ok(()) => Ok(()),
@@ -257,7 +257,7 @@ pub fn stage_outputs<S: Store>(alloc: Global, outputs: &[Output], files: &mut S)
     ensures reads { OnlyReads (S.view files.old) (S.view files.new) }
     ensures ready { OnOk result ((S.view files.new).stage_errors ≡ (S.view files.old).stage_errors) }
     ensures refused { IfErr result
-        (λ r. RefusesCall call.Write (S.view files.old) (S.view files.new) r.error) }
+        (λ r. IsCallError call.Write (S.view files.old) (S.view files.new) r.error) }
 {
     match make_ready(alloc, outputs, files) {
         Ok(()) => Ok(()),

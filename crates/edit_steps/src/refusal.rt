@@ -2,7 +2,7 @@
 ghost use Rattle.std.specs.Prelude.{◌≡◌, IfSome, OnOk, option_map, string_bytes};
 ghost use Rattle.std.specs.Io.KnownBytes.{Appends};
 ghost use Rattle.edit_base.specs.declared.errors.Error.TheVariants.{Memory};
-ghost use Rattle.edit_steps.specs.Printed.{EndsWith, is_later, known_line, known_lines, place_behind, position_text};
+ghost use Rattle.edit_steps.specs.Printed.{EndsWith, is_continuation_byte, known_line, known_lines, position_after, position_text};
 
 use crate::excerpt::excerpt;
 use crate::toml_fault::toml_fault;
@@ -120,7 +120,7 @@ pub fn at_file(alloc: Global, error: Error, path: &str, reason: Option<String>) 
 pub fn position(alloc: Global, path: &str, bytes: &[u8], at: usize) -> Option<String>
     ensures { IfSome result (λ s. string_bytes s ≡ position_text path.now bytes.now at) }
 {
-    let behind = place_behind(&bytes[..at.min(bytes.len())]);
+    let behind = position_after(&bytes[..at.min(bytes.len())]);
     let (line, column) = (behind.line, behind.column);
     format!(in alloc; "{path}:{line}:{column}").ok()
 }
@@ -128,7 +128,7 @@ pub fn position(alloc: Global, path: &str, bytes: &[u8], at: usize) -> Option<St
 /// The place of a byte in a file, and an excerpt of its line.
 pub(crate) fn shown_position(alloc: Global, path: &str, bytes: &[u8], at: usize) -> Option<String> {
     let place = position(alloc, path, bytes, at)?;
-    let behind = place_behind(&bytes[..at.min(bytes.len())]);
+    let behind = position_after(&bytes[..at.min(bytes.len())]);
     match excerpt(alloc, bytes, behind.line, behind.column) {
         Some(excerpt) => format!(in alloc; "{place}\n{excerpt}").ok(),
         None => Some(place),
@@ -167,22 +167,22 @@ struct LineColumn {
 }
 
 /// Whether a byte continues a UTF-8 sequence, so that it does not begin a character.
-fn is_later(byte: u8) -> bool
-    ensures { result ≡ is_later byte }
+fn is_continuation_byte(byte: u8) -> bool
+    ensures { result ≡ is_continuation_byte byte }
 {
     0x80 <= byte && byte <= 0xbf
 }
 
 /// The line and the column of the end of these bytes.
-fn place_behind(before: &[u8]) -> LineColumn
-    ensures { (result.line, result.column) ≡ place_behind before.now }
+fn position_after(before: &[u8]) -> LineColumn
+    ensures { (result.line, result.column) ≡ position_after before.now }
 {
     let mut behind = LineColumn { line: 1, column: 1 };
     for byte in before {
         if *byte == b'\n' {
             behind.line += 1;
             behind.column = 1;
-        } else if !is_later(*byte) {
+        } else if !is_continuation_byte(*byte) {
             behind.column += 1;
         }
     }

@@ -32,7 +32,7 @@ fn gives<S: Store>(alloc: Global, error: &Error, path: &str, files: &mut S) -> b
 }
 
 /// The first of these paths for which reading the file fails with this error.
-fn first_giving<S: Store>(
+fn find_file_with_error<S: Store>(
     alloc: Global,
     error: &Error,
     paths: &[String],
@@ -57,7 +57,7 @@ pub fn at_first<S: Store>(alloc: Global, error: Error, paths: &[String], files: 
     ensures reads { OnlyReads (S.view files.old) (S.view files.new) }
     ensures counted { (S.view files.new).faults < 2 ^ 64 }
 {
-    let first = first_giving(alloc, &error, paths, files);
+    let first = find_file_with_error(alloc, &error, paths, files);
     let _faults = files.faults();
     match first {
         Some(i) => at_file(alloc, error, paths[i].as_str(), files.reason(alloc)),

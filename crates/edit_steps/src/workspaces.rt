@@ -2,11 +2,12 @@
 ghost use Rattle.std.specs.Prelude.{◌≡◌, ◌<◌, ◌^◌, ◌⊎◌, All, IfErr, IfOk, option_map, true};
 ghost use Rattle.edit_base.specs.declared.errors.DeviceCall.TheVariants as call;
 ghost use Rattle.edit_metadata.specs.Inputs.{AreInputs, HaveOwnPaths};
-ghost use Rattle.edit_metadata.specs.Workspaces.{HasOwnFolders, workspace_said};
-ghost use Rattle.edit_store.specs.Store.{OnlyReads, RefusesCall};
+ghost use Rattle.edit_metadata.specs.Workspaces.{HasOwnFolders, workspace_view};
+ghost use Rattle.edit_store.specs.Store.{OnlyReads, IsCallError};
 ghost use Rattle.edit_version.specs.Laws.{IsReadable};
 ghost use Rattle.edit_version.specs.RustVersions.{numbers_of};
 ghost use Rattle.semver.specs.Identifiers.{parts_of};
+ghost use Rattle.edit_steps.specs.Errors.{IsMetadataError, IsWorkspaceError};
 ghost use Rattle.edit_steps.specs.Faults.{CountsFault};
 ghost use Rattle.edit_steps.specs.Workspaces.{AreMetadataRead, HasNoMetadata, HasNoWorkspace, IsWorkspaceRead};
 
@@ -39,13 +40,16 @@ fn read_metadata<S: Store>(
 ) -> RunResult<Workspace>
     ensures reads { OnlyReads (S.view files.old) (S.view files.new) }
     ensures metadata { IfOk result (λ w. (S.view files.old).tells ≡ true
-        → AreMetadataRead (S.view files.old).file_at current.now named.now (workspace_said w)) }
-    ensures folders { IfOk result (λ w. HasOwnFolders (workspace_said w)) }
+        → AreMetadataRead (S.view files.old).file_at current.now named.now (workspace_view w)) }
+    ensures folders { IfOk result (λ w. HasOwnFolders (workspace_view w)) }
     ensures readable { IfOk result (λ w. All (λ p. IsReadable (parts_of p.version)) w.packages.items) }
-    ensures refused { IfErr result (λ r. RefusesCall call.Read (S.view files.old) (S.view files.new) r.error
+    ensures refused { IfErr result (λ r. IsCallError call.Read (S.view files.old) (S.view files.new) r.error
         ⊎ ((S.view files.old).tells ≡ true
         → HasNoMetadata (S.view files.old).file_at current.now named.now r.error)) }
     ensures counted { IfErr result (λ r. CountsFault (S.view files.old) (S.view files.new) r.error) }
+    // over any store
+    ensures only { IfErr result (λ r. IsCallError call.Read (S.view files.old) (S.view files.new) r.error
+        ⊎ IsMetadataError r.error) }
 {
     let path = absolute(alloc, current, named)?;
     let bytes = match files.read_stream(alloc, path.as_str()) {
@@ -119,19 +123,22 @@ pub fn read_workspace<S: Store>(
     ensures workspace { IfOk result (λ r. (S.view files.old).tells ≡ true
         → IsWorkspaceRead (S.view files.old).file_at current.now named.now
         (record { given = option_map numbers_of rust_version; ignored = ignore })
-        (workspace_said r.workspace) r.inputs.items) }
+        (workspace_view r.workspace) r.inputs.items) }
     // and what plans require, over any store
     ensures inputs { IfOk result (λ r.
         AreInputs (record { given = option_map numbers_of rust_version; ignored = ignore })
-        (workspace_said r.workspace) r.inputs.items) }
+        (workspace_view r.workspace) r.inputs.items) }
     ensures paths { IfOk result (λ r. HaveOwnPaths r.inputs.items) }
-    ensures folders { IfOk result (λ r. HasOwnFolders (workspace_said r.workspace)) }
+    ensures folders { IfOk result (λ r. HasOwnFolders (workspace_view r.workspace)) }
     ensures readable { IfOk result (λ r.
         All (λ p. IsReadable (parts_of p.version)) r.workspace.packages.items) }
-    ensures refused { IfErr result (λ r. RefusesCall call.Read (S.view files.old) (S.view files.new) r.error
+    ensures refused { IfErr result (λ r. IsCallError call.Read (S.view files.old) (S.view files.new) r.error
         ⊎ ((S.view files.old).tells ≡ true
         → HasNoWorkspace (S.view files.old).file_at current.now named.now r.error)) }
     ensures counted { IfErr result (λ r. CountsFault (S.view files.old) (S.view files.new) r.error) }
+    // over any store
+    ensures only { IfErr result (λ r. IsCallError call.Read (S.view files.old) (S.view files.new) r.error
+        ⊎ IsWorkspaceError r.error) }
 {
     let workspace = read_metadata(alloc, named, current, writes, files)?;
     let inputs = match workspace_inputs(alloc, files, &workspace, rust_version, ignore) {

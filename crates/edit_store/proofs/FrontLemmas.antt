@@ -1,4 +1,4 @@
--- A path is a front of a map's keys exactly where some key lies below it.
+-- A path is a proper prefix of a key of a map exactly if some key lies below the path.
 use Rattle.std.proofs.Common.{◌≡◌, ℕ, ◌<◌, List, ◌∷◌, ◌++◌, length, Bool, true, Option, Some, None, IsSome, IsTrue, MatchBool, false, refl, [], subst, sym, ap, ◌∙◌, get_or, arith}
 use Rattle.std.specs.Prelude.{String, string_bytes, option_map, slice_get}
 use Rattle.std.specs.BTreeMap.{BTreeMap, get_by_text, is_at, keys, ContainsKey}
@@ -13,7 +13,7 @@ use Rattle.std.proofs.lemmas.Option.{slice_get-map, slice_get_within, get_or_fro
 use Rattle.std.proofs.lemmas.Slice.Eq.{bytes_eq-Decides}
 use Rattle.edit_store.specs.Memory.{IsBelow}
 
--- a key of a map that lies below a path makes the path a front
+-- a key of a map that lies below a path makes the path a proper prefix of a key
 pub front_from_key : {X Y : Type 0} (m : BTreeMap (String Y) X) (path : List ℕ) (key : String Y)
     → IsBelow (string_bytes key) path → ContainsKey string_cmp m key → (rest : List ℕ)
     × IsSome (get_by_text m (path ++ 47 ∷ rest))
@@ -34,7 +34,7 @@ value_of : {X : Type 0} (o : Option X) → IsSome o → (v : X) × (o ≡ Some v
 value_of None h = cc
 value_of (Some v) h = (v, refl)
 
--- where no key lies below a path, it is no front
+-- if no key lies below a path, it is not a proper prefix of one
 pub no_front : {X Y : Type 0} (m : BTreeMap (String Y) X) (path : List ℕ)
     → AllWithin (λ k. IsBelow (string_bytes k) path → ⊥) (keys m) 0 (length (keys m)) → (rest : List ℕ)
     → IsSome (get_by_text m (path ++ 47 ∷ rest)) → ⊥
@@ -59,7 +59,7 @@ unmapped : {A B : Type 0} (f : A → B) (o : Option A) → IsSome (option_map f 
 unmapped f None h = cc
 unmapped f (Some v) h = refl
 
--- the answer of a search among the keys tells whether a path is a front
+-- the result of a search among the keys decides whether a path is a proper prefix of one
 pub front_from_search : {X Y B : Type 0} (f : X → B) (m : BTreeMap (String Y) X) (path : List ℕ) (r : Bool)
     → All (ContainsKey string_cmp m) (keys m)
     → MatchBool r ((k : ℕ) × (k < length (keys m)) × HoldsAt (λ n. IsBelow (string_bytes n) path) (keys m) k)

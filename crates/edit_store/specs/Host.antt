@@ -1,4 +1,4 @@
--- What a store of the machine's files counts (own).
+-- The model of the store of the machine's files (own).
 use Rattle.std.specs.Prelude.{◌≡◌, ◌⊎◌, ℕ, List, None, false, map, string_bytes}
 use Rattle.edit_base.specs.declared.errors.DeviceCall.{DeviceCall}
 use Rattle.edit_base.specs.declared.errors.Error.{Error}
@@ -11,7 +11,7 @@ use Rattle.edit_store.specs.declared.host_store.HostStore.{HostStore}
 abbrev pub host_faults : {R : Type 0} → HostStore R → ℕ
 host_faults store = store.failed
 
--- how often a write could not be made ready (own)
+-- how often a write could not be staged, flushed or verified (own)
 abbrev pub host_stage_errors : {R : Type 0} → HostStore R → ℕ
 host_stage_errors store = store.stage_errors
 
@@ -19,7 +19,7 @@ host_stage_errors store = store.stage_errors
 abbrev pub host_writes : {R : Type 0} → HostStore R → List (List ℕ)
 host_writes store = map string_bytes store.writes.items
 
--- the machine's files are not told, but which of them were written (own)
+-- the contents of the machine's files are not modelled, only which of them were written (own)
 abbrev pub host_view : {R : Type 0} → HostStore R → StoreView
 host_view store = record {
   tells = false;
@@ -29,6 +29,6 @@ host_view store = record {
   stage_errors = host_stage_errors store;
 }
 
--- a refusal of a call: want of memory, which is not counted, or a fault of the device, which is (own)
+-- the error of a call: lack of memory, which is not counted, or a fault of the device, which is (own)
 abbrev pub IsRefusal : DeviceCall → ℕ → ℕ → Error → Type 0
 IsRefusal call before now e = (IsMemory e × (now ≡ before)) ⊎ ((e ≡ Device call) × raised before now)

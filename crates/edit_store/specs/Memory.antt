@@ -1,4 +1,4 @@
--- The files that a store in memory holds (own).
+-- The model of the store in memory (own).
 use Rattle.std.specs.Prelude.{◌≡◌, ℕ, ◌++◌, List, ◌∷◌, true, IsSome, map, option_map, string_bytes}
 use Rattle.std.specs.BTreeMap.{get_by_text}
 use Rattle.edit_store.specs.Store.{Files, StoreView}
@@ -12,7 +12,7 @@ files_in store path = option_map (λ v. v.items) (get_by_text store.files path)
 abbrev pub writes_in : MemoryStore → List (List ℕ)
 writes_in store = map string_bytes store.writes.items
 
--- a store in memory tells its files, and never fails (own)
+-- the contents of the files are modelled, and no call fails (own)
 abbrev pub memory_view : MemoryStore → StoreView
 memory_view store = record {
   tells = true;
@@ -22,10 +22,10 @@ memory_view store = record {
   stage_errors = 0;
 }
 
--- a file's path is this one, a `/`, and more (own)
-abbrev pub IsFrontOf : MemoryStore → List ℕ → Type 0
-IsFrontOf store path = (rest : List ℕ) × IsSome (files_in store (path ++ 47 ∷ rest))
+-- the path followed by `/` is a proper prefix of the path of a file (own)
+abbrev pub IsFolderOfStore : MemoryStore → List ℕ → Type 0
+IsFolderOfStore store path = (rest : List ℕ) × IsSome (files_in store (path ++ 47 ∷ rest))
 
--- a path, a `/`, and more (own)
+-- the name is the path followed by `/` and more (own)
 abbrev pub IsBelow : List ℕ → List ℕ → Type 0
 IsBelow name path = (rest : List ℕ) × (name ≡ path ++ 47 ∷ rest)

@@ -1,6 +1,6 @@
 //! How a write that is ready is made.
 use crate::reason::{Answer, Reason};
-use crate::staged::{Staged, Way, keep_copy};
+use crate::staged::{Staged, WriteMethod, make_backup};
 use crate::temporary::Temporary;
 use std::alloc::Global;
 use std::env::Env;
@@ -18,15 +18,15 @@ pub(crate) fn commit<R: Files<File = File> + Alloc<A = Global> + Env>(
 ) -> Answer<()> {
     let target = staged.target.as_str();
     match &staged.way {
-        Way::Rename(file) => {
+        WriteMethod::Rename(file) => {
             let done = rename(rt, alloc, file, target, bytes, process);
             if done.is_err() {
                 file.remove(rt);
             }
             done
         }
-        Way::InPlace(copy) => overwrite_beside(rt, alloc, target, copy, bytes),
-        Way::Append => Ok(append(rt, target, bytes)?),
+        WriteMethod::InPlace(copy) => overwrite_beside(rt, alloc, target, copy, bytes),
+        WriteMethod::Append => Ok(append(rt, target, bytes)?),
     }
 }
 
@@ -42,7 +42,7 @@ fn rename<R: Files<File = File> + Alloc<A = Global> + Env>(
     match fs::rename(rt, file.path.as_str(), target) {
         Ok(()) => Ok(()),
         Err(error) if is_refused(error.kind()) => {
-            let copy = keep_copy(rt, alloc, target, process)?;
+            let copy = make_backup(rt, alloc, target, process)?;
             overwrite_beside(rt, alloc, target, &copy, bytes)?;
             file.remove(rt);
             Ok(())

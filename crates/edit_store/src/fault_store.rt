@@ -1,8 +1,8 @@
 //! Files in memory, one call of which fails.
 ghost use Rattle.std.specs.Prelude.{◌≡◌, ◌↔◌, Some, true, IsTrue, IfOk, IfErr, OnErr, OnOk, option_map};
-ghost use Rattle.edit_store.specs.Store.{HasCause, IsWrittenAtMostOnce, IsWrittenOnce, SameFiles, SameBut, StandsAt, raised};
+ghost use Rattle.edit_store.specs.Store.{HasCause, IsWrittenAtMostOnce, IsWrittenOnce, SameFiles, SameBut, HasKindAt, raised};
 ghost use Rattle.edit_store.specs.Memory.{files_in, writes_in};
-ghost use Rattle.edit_store.specs.Turns.{LeavesFront, TakesTurn, bytes_left, calls_left, fault_view, faults_of, one_less};
+ghost use Rattle.edit_store.specs.Turns.{LeavesPrefix, TakesTurn, bytes_left, calls_left, fault_view, faults_of, one_less};
 
 use crate::memory_store::MemoryStore;
 use crate::store::{Kind, Store};
@@ -71,7 +71,7 @@ impl Store for FaultStore {
     fn kind(&mut self, alloc: Global, path: &str) -> CargoResult<Kind>
         ensures files { SameFiles (files_in self.old.inner) (files_in self.new.inner) }
         ensures writes { writes_in self.new.inner ≡ writes_in self.old.inner }
-        ensures stands { IfOk result (λ k. StandsAt (files_in self.old.inner) path.now k) }
+        ensures stands { IfOk result (λ k. HasKindAt (files_in self.old.inner) path.now k) }
         ensures cause { HasCause DeviceCall.Kind (fault_view self.old) (fault_view self.new) result }
         ensures turn { TakesTurn DeviceCall.Kind self.old self.new result }
     {
@@ -113,7 +113,7 @@ impl Store for FaultStore {
         ensures cause { HasCause DeviceCall.Write (fault_view self.old) (fault_view self.new) result }
         ensures turn { TakesTurn DeviceCall.Write self.old self.new result }
         ensures torn { calls_left self.old ≡ Some 0
-            → IfErr result (LeavesFront self.old self.new path.now bytes.now) }
+            → IfErr result (LeavesPrefix self.old self.new path.now bytes.now) }
     {
         if self.is_due() {
             let end = bytes.len().min(self.cut);

@@ -6,7 +6,7 @@ ghost use Rattle.edit_store.specs.Store.{raised};
 use crate::reading::{read_regular, read_stream};
 use crate::reason::{Answer, Reason};
 use crate::store::{Kind, Store};
-use crate::temporary::remove_leavings;
+use crate::temporary::remove_abandoned_files;
 use crate::work::Work;
 use edit_base::errors::{CargoResult, DeviceCall, Error};
 use edit_base::paths::folder;
@@ -72,7 +72,7 @@ impl<R: Files<File = File> + Alloc<A = Global> + Drop> HostStore<R> {
     }
 
     /// The error of a write that cannot be made ready.
-    fn not_ready(&mut self, reason: Reason) -> Error
+    fn stage_error(&mut self, reason: Reason) -> Error
         ensures cause { IsRefusal DeviceCall.Write self.old.failed self.new.failed result }
         ensures counted { raised (host_stage_errors self.old) (host_stage_errors self.new) }
         ensures writes { host_writes self.new ≡ host_writes self.old }
@@ -83,7 +83,7 @@ impl<R: Files<File = File> + Alloc<A = Global> + Drop> HostStore<R> {
 }
 
 /// The bytes of a file, where one stands: what the machine says of a path at which none stands is no error.
-fn where_found(answer: Answer<Vec<u8>>) -> Answer<Option<Vec<u8>>> {
+fn absent_as_none(answer: Answer<Vec<u8>>) -> Answer<Option<Vec<u8>>> {
     match answer {
         Ok(bytes) => Ok(Some(bytes)),
         Err(Reason::Machine(error)) if is_absent(error.kind()) => Ok(None),
@@ -114,7 +114,7 @@ impl<R: Files<File = File> + Alloc<A = Global> + Env + Eprint + Clone + Drop> St
     }
 
     fn read(&mut self, alloc: Global, path: &str) -> CargoResult<Option<Vec<u8>>> {
-        match where_found(read_regular(&self.rt, alloc, path)) {
+        match absent_as_none(read_regular(&self.rt, alloc, path)) {
             Ok(Some(bytes)) => {
                 self.work.remember(alloc, path, &bytes)?;
                 Ok(Some(bytes))
@@ -125,7 +125,7 @@ impl<R: Files<File = File> + Alloc<A = Global> + Env + Eprint + Clone + Drop> St
     }
 
     fn read_stream(&mut self, alloc: Global, path: &str) -> CargoResult<Option<Vec<u8>>> {
-        match where_found(read_stream(&self.rt, alloc, path)) {
+        match absent_as_none(read_stream(&self.rt, alloc, path)) {
             Ok(bytes) => Ok(bytes),
             Err(reason) => Err(self.refused(DeviceCall::Read, reason)),
         }
@@ -134,21 +134,21 @@ impl<R: Files<File = File> + Alloc<A = Global> + Env + Eprint + Clone + Drop> St
     fn stage(&mut self, alloc: Global, path: &str, bytes: &[u8]) -> CargoResult<()> {
         match self.work.stage(&self.rt, alloc, path, bytes) {
             Ok(()) => Ok(()),
-            Err(reason) => Err(self.not_ready(reason)),
+            Err(reason) => Err(self.stage_error(reason)),
         }
     }
 
     fn flush(&mut self, _alloc: Global, path: &str) -> CargoResult<()> {
         match self.work.flush(&self.rt, path) {
             Ok(()) => Ok(()),
-            Err(reason) => Err(self.not_ready(reason)),
+            Err(reason) => Err(self.stage_error(reason)),
         }
     }
 
     fn verify(&mut self, alloc: Global, path: &str) -> CargoResult<()> {
         match self.work.verify(&self.rt, alloc, path) {
             Ok(()) => Ok(()),
-            Err(reason) => Err(self.not_ready(reason)),
+            Err(reason) => Err(self.stage_error(reason)),
         }
     }
 
@@ -171,7 +171,7 @@ impl<R: Files<File = File> + Alloc<A = Global> + Env + Eprint + Clone + Drop> St
     fn tidy(&mut self, alloc: Global, path: &str) {
         if let Ok(target) = fs::canonicalize(&self.rt, path) {
             let folder = folder(target.as_path().as_str());
-            remove_leavings(&self.rt, alloc, folder, self.work.process());
+            remove_abandoned_files(&self.rt, alloc, folder, self.work.process());
         }
     }
 

@@ -1,6 +1,6 @@
 //! Files in memory.
 ghost use Rattle.std.specs.Prelude.{◌≡◌, ◌↔◌, ℕ, List, [], Option, Some, None, IsTrue};
-ghost use Rattle.edit_store.specs.Memory.{files_in, memory_view, writes_in, IsBelow, IsFrontOf};
+ghost use Rattle.edit_store.specs.Memory.{files_in, memory_view, writes_in, IsBelow, IsFolderOfStore};
 
 use crate::store::{Kind, Store};
 use edit_base::errors::CargoResult;
@@ -30,8 +30,8 @@ impl MemoryStore {
     }
 
     /// Whether a file's path is this path, a `/`, and more.
-    fn is_front(&self, path: &str) -> bool
-        ensures { IsTrue result ↔ IsFrontOf self.now path.now }
+    fn is_folder_path(&self, path: &str) -> bool
+        ensures { IsTrue result ↔ IsFolderOfStore self.now path.now }
     {
         self.files.keys().any(|name| is_below(name.as_str(), path))
     }
@@ -54,7 +54,7 @@ impl Store for MemoryStore {
         if self.files.contains_key(path) {
             return Ok(Kind::File);
         }
-        if path == "/" || self.is_front(path) {
+        if path == "/" || self.is_folder_path(path) {
             return Ok(Kind::Folder);
         }
         Ok(Kind::Absent)

@@ -1,4 +1,4 @@
-//! How a file of the machine is read.
+//! Reads files of the machine.
 use crate::reason::{Answer, found};
 use std::alloc::Global;
 use std::fs;
@@ -7,10 +7,10 @@ use std::hash::{DefaultHasher, Hasher};
 use std::io::{IsTerminal, Read};
 use std::os::unix::fs::FileTypeExt;
 
-/// How many bytes of a file are read at most.
+/// The greatest number of bytes that are read of one file.
 const LIMIT: u64 = 1_000_000_000;
 
-/// The length of a text and a hash of it, by which two texts are compared.
+/// The length and the hash of a text, to compare two texts without storing them.
 #[derive(Clone, Copy, Debug, PartialEq, Eq)]
 pub(crate) struct Fingerprint {
     length: usize,
@@ -18,7 +18,7 @@ pub(crate) struct Fingerprint {
 }
 
 impl Fingerprint {
-    /// The fingerprint of a text.
+    /// Returns the fingerprint of a text.
     pub(crate) fn of(bytes: &[u8]) -> Fingerprint {
         let mut hasher = DefaultHasher::new();
         hasher.write(bytes);
@@ -29,8 +29,8 @@ impl Fingerprint {
     }
 }
 
-/// The bytes of a regular file. A device is read where it has none, as `/dev/null`; what else is no regular
-/// file is an error.
+/// Returns the bytes of a regular file. A character device is read only if it is empty, as `/dev/null` is;
+/// any other kind of file is an error.
 pub(crate) fn read_regular<R: Files<File = File>>(
     rt: &R,
     alloc: Global,
@@ -47,7 +47,7 @@ pub(crate) fn read_regular<R: Files<File = File>>(
     Err(found(alloc, "it is not a regular file"))
 }
 
-/// The bytes of a regular file, or what a pipe or a terminal gives up to its end.
+/// Returns the bytes of a regular file, or of a pipe or a terminal up to its end.
 pub(crate) fn read_stream<R: Files<File = File>>(
     rt: &R,
     alloc: Global,
@@ -62,7 +62,7 @@ pub(crate) fn read_stream<R: Files<File = File>>(
     read_within(alloc, file, &metadata)
 }
 
-/// The bytes of an open file, up to the limit.
+/// Returns the bytes of an open file; more than `LIMIT` bytes are an error.
 fn read_within(alloc: Global, file: File, metadata: &Metadata) -> Answer<Vec<u8>> {
     if metadata.is_file() && metadata.len() > LIMIT {
         return Err(found(alloc, "it is larger than 1 GB"));
@@ -75,7 +75,7 @@ fn read_within(alloc: Global, file: File, metadata: &Metadata) -> Answer<Vec<u8>
     Ok(bytes)
 }
 
-/// The bytes of a device that has none.
+/// Returns no bytes for a device that yields none; any byte is an error.
 fn read_device(alloc: Global, mut file: File) -> Answer<Vec<u8>> {
     let mut first = [0u8; 1];
     if file.read(&mut first)? > 0 {

@@ -12,7 +12,7 @@ use std::{env, fs, io};
 
 /// How a write that is ready is made.
 #[derive(Debug, Drop)]
-pub(crate) enum Way {
+pub(crate) enum WriteMethod {
     /// The temporary file takes the place of the file.
     Rename(Temporary),
     /// The file is overwritten, while this copy of its old text stands.
@@ -28,7 +28,7 @@ pub(crate) struct Staged {
     pub(crate) path: String,
     /// The real path of the file.
     pub(crate) target: String,
-    pub(crate) way: Way,
+    pub(crate) way: WriteMethod,
     /// The device and the number of the file that stands there.
     pub(crate) identity: Option<(u64, u64)>,
     /// The fingerprint of the new text.
@@ -49,7 +49,7 @@ pub(crate) fn prepare<R: Files<File = File> + Alloc<A = Global> + Env>(
     let name = String::from_str(alloc, path)?;
     if is_descriptor(path) {
         let same = String::from_str(alloc, path)?;
-        return Ok(make_staged(name, same, Way::Append, None, bytes));
+        return Ok(make_staged(name, same, WriteMethod::Append, None, bytes));
     }
     let target = match fs::canonicalize(rt, path) {
         Ok(target) => target,
@@ -65,9 +65,9 @@ pub(crate) fn prepare<R: Files<File = File> + Alloc<A = Global> + Env>(
     }
     let real = String::from_str(alloc, target)?;
     let way = if old.is_file() {
-        way_over(rt, alloc, target, &old, bytes, process)?
+        choose_method(rt, alloc, target, &old, bytes, process)?
     } else {
-        Way::Append
+        WriteMethod::Append
     };
     let identity = Some((old.dev(), old.ino()));
     Ok(make_staged(name, real, way, identity, bytes))
@@ -86,7 +86,7 @@ fn is_descriptor(path: &str) -> bool {
 fn make_staged(
     path: String,
     target: String,
-    way: Way,
+    way: WriteMethod,
     identity: Option<(u64, u64)>,
     bytes: &[u8],
 ) -> Staged {
@@ -112,7 +112,7 @@ fn prepare_new<R: Files<File = File>>(
     let name = String::from_str(alloc, path)?;
     let same = String::from_str(alloc, path)?;
     if fs::symlink_metadata(rt, path).is_ok() {
-        return Ok(make_staged(name, same, Way::Append, None, bytes));
+        return Ok(make_staged(name, same, WriteMethod::Append, None, bytes));
     }
     let Some((mut file, mut temporary)) = make_temporary(
         rt,
@@ -130,7 +130,7 @@ fn prepare_new<R: Files<File = File>>(
         return Err(Reason::from(error));
     }
     temporary.hold(file);
-    Ok(make_staged(name, same, Way::Rename(temporary), None, bytes))
+    Ok(make_staged(name, same, WriteMethod::Rename(temporary), None, bytes))
 }
 
 /// Writes bytes to the disk.
@@ -142,21 +142,21 @@ fn fill(file: &mut File, bytes: &[u8]) -> io::Result<()> {
 /// How a regular file is to be written, made ready. It is overwritten where no file may be made in its
 /// folder, and where a new file could not have its owner and its group, which might take the access to it
 /// from somebody.
-fn way_over<R: Files<File = File> + Alloc<A = Global> + Env>(
+fn choose_method<R: Files<File = File> + Alloc<A = Global> + Env>(
     rt: &R,
     alloc: Global,
     target: &str,
     old: &Metadata,
     bytes: &[u8],
     process: u32,
-) -> Answer<Way> {
+) -> Answer<WriteMethod> {
     may_write(rt, target, old)?;
     let made = make_temporary(rt, alloc, folder(target), process, 0o600, "tmp")?;
     if let Some((mut file, mut temporary)) = made {
         match fill_like(&mut file, old, bytes) {
             Ok(true) => {
                 temporary.hold(file);
-                return Ok(Way::Rename(temporary));
+                return Ok(WriteMethod::Rename(temporary));
             }
             Ok(false) => temporary.remove(rt),
             Err(error) => {
@@ -165,7 +165,7 @@ fn way_over<R: Files<File = File> + Alloc<A = Global> + Env>(
             }
         }
     }
-    Ok(Way::InPlace(keep_copy(rt, alloc, target, process)?))
+    Ok(WriteMethod::InPlace(make_backup(rt, alloc, target, process)?))
 }
 
 /// An error for a file that may not be written.
@@ -194,7 +194,7 @@ fn fill_like(file: &mut File, old: &Metadata, bytes: &[u8]) -> io::Result<bool> 
 
 /// A copy of a file's text on the disk: in its folder, or in the folder for temporary files where none may be
 /// made there.
-pub(crate) fn keep_copy<R: Files<File = File> + Alloc<A = Global> + Env>(
+pub(crate) fn make_backup<R: Files<File = File> + Alloc<A = Global> + Env>(
     rt: &R,
     alloc: Global,
     target: &str,
@@ -232,32 +232,32 @@ impl Staged {
     /// Whether the files that were made for the write stand as they were made.
     pub(crate) fn stands<R: Files<File = File>>(&self, rt: &R) -> bool {
         match &self.way {
-            Way::Rename(file) | Way::InPlace(file) => file.stands(rt),
-            Way::Append => true,
+            WriteMethod::Rename(file) | WriteMethod::InPlace(file) => file.stands(rt),
+            WriteMethod::Append => true,
         }
     }
 
     /// Whether the bytes are still to be flushed to the disk.
     pub(crate) fn is_open(&self) -> bool {
         match &self.way {
-            Way::Rename(file) => file.is_open(),
-            Way::InPlace(_) | Way::Append => false,
+            WriteMethod::Rename(file) => file.is_open(),
+            WriteMethod::InPlace(_) | WriteMethod::Append => false,
         }
     }
 
     /// Flushes the bytes to the disk, where that is still to be done.
     pub(crate) fn flush(&mut self) -> io::Result<()> {
         match &mut self.way {
-            Way::Rename(file) => file.flush(),
-            Way::InPlace(_) | Way::Append => Ok(()),
+            WriteMethod::Rename(file) => file.flush(),
+            WriteMethod::InPlace(_) | WriteMethod::Append => Ok(()),
         }
     }
 
     /// Removes the files that were made for the write.
     pub(crate) fn give_up<R: Files<File = File>>(&self, rt: &R) {
         match &self.way {
-            Way::Rename(file) | Way::InPlace(file) => file.remove(rt),
-            Way::Append => {}
+            WriteMethod::Rename(file) | WriteMethod::InPlace(file) => file.remove(rt),
+            WriteMethod::Append => {}
         }
     }
 }

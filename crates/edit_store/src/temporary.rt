@@ -156,7 +156,7 @@ fn read_name(name: &str) -> Option<Name> {
 }
 
 /// Removes the temporary files in a folder whose runs were killed.
-pub(crate) fn remove_leavings<R: Files<File = File> + Alloc<A = Global> + Clone + Drop>(
+pub(crate) fn remove_abandoned_files<R: Files<File = File> + Alloc<A = Global> + Clone + Drop>(
     rt: &R,
     alloc: Global,
     folder: &str,
@@ -167,13 +167,13 @@ pub(crate) fn remove_leavings<R: Files<File = File> + Alloc<A = Global> + Clone 
     };
     for entry in entries {
         if let Ok(entry) = entry {
-            remove_left(rt, alloc, &entry, process);
+            remove_abandoned_file(rt, alloc, &entry, process);
         }
     }
 }
 
 /// Removes what a folder holds under a name, where it is a temporary file whose run was killed.
-fn remove_left<R: Files<File = File> + Alloc<A = Global>>(
+fn remove_abandoned_file<R: Files<File = File> + Alloc<A = Global>>(
     rt: &R,
     alloc: Global,
     entry: &DirEntry<R>,

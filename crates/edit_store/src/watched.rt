@@ -14,7 +14,7 @@ pub(crate) const WATCHED: usize = 400;
 
 /// The file that stood at a path before the write, still open.
 #[derive(Debug, Drop)]
-pub(crate) struct Watched {
+pub(crate) struct ReplacedFile {
     path: String,
     file: File,
     /// The fingerprint of its text as it was read for the plan.
@@ -23,7 +23,7 @@ pub(crate) struct Watched {
     new: Fingerprint,
 }
 
-impl Watched {
+impl ReplacedFile {
     /// Opens the file at a path; none where it does not hold the old text.
     pub(crate) fn open<R: Files<File = File>>(
         rt: &R,
@@ -31,8 +31,8 @@ impl Watched {
         path: &str,
         old: Fingerprint,
         new: Fingerprint,
-    ) -> Answer<Option<Watched>> {
-        let mut watched = Watched {
+    ) -> Answer<Option<ReplacedFile>> {
+        let mut watched = ReplacedFile {
             path: String::from_str(alloc, path)?,
             file: File::open(rt, path)?,
             old,
@@ -88,7 +88,7 @@ impl Watched {
 pub(crate) fn settle<R: Files<File = File> + Alloc<A = Global> + Env>(
     rt: &R,
     alloc: Global,
-    watched: &mut [Watched],
+    watched: &mut [ReplacedFile],
     process: u32,
 ) -> Answer<()> {
     let mut changed = None;

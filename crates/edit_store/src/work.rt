@@ -2,8 +2,8 @@
 use crate::commit::commit;
 use crate::reading::Fingerprint;
 use crate::reason::{Answer, Reason, found};
-use crate::staged::{Staged, Way, prepare};
-use crate::watched::{WATCHED, Watched, settle};
+use crate::staged::{Staged, WriteMethod, prepare};
+use crate::watched::{ReplacedFile, WATCHED, settle};
 use edit_base::paths::folder;
 use std::alloc::{AllocError, Global};
 use std::collections::BTreeMap;
@@ -30,7 +30,7 @@ pub(crate) struct Work {
     /// The path that is staged for each file, by the file's device and number.
     paths: BTreeMap<(u64, u64), String>,
     /// The files that were replaced since the last flush, and their folders.
-    watched: Vec<Watched>,
+    watched: Vec<ReplacedFile>,
     folders: Vec<String>,
     /// Locked folders, which stay so while they are open.
     locked: Vec<File>,
@@ -131,7 +131,7 @@ impl Work {
     /// same file is staged.
     fn put(&mut self, alloc: Global, path: &str, staged: &Staged) -> Answer<String> {
         if let Some(identity) = staged.identity
-            && matches!(staged.way, Way::Rename(_) | Way::InPlace(_))
+            && matches!(staged.way, WriteMethod::Rename(_) | WriteMethod::InPlace(_))
         {
             if let Some(other) = self.paths.get(&identity)
                 && other.as_str() != path
@@ -193,10 +193,10 @@ impl Work {
             return Err(found(alloc, "another program moved its temporary file"));
         }
         if let Some(old) = self.texts.get(path) {
-            let Some(watched) = Watched::open(rt, alloc, path, *old, staged.text)? else {
+            let Some(watched) = ReplacedFile::open(rt, alloc, path, *old, staged.text)? else {
                 return Err(found(alloc, "the file was changed while cargo-edit ran"));
             };
-            if matches!(staged.way, Way::Rename(_)) && self.watched.len() < WATCHED {
+            if matches!(staged.way, WriteMethod::Rename(_)) && self.watched.len() < WATCHED {
                 self.watched.push(watched)?;
             }
         }
@@ -236,7 +236,7 @@ impl Work {
     fn note(&mut self, alloc: Global, staged: &Staged) -> Answer<()> {
         let path = String::from_str(alloc, staged.path.as_str())?;
         self.texts.insert(path, staged.text)?;
-        if matches!(staged.way, Way::Rename(_)) {
+        if matches!(staged.way, WriteMethod::Rename(_)) {
             self.folders
                 .push(String::from_str(alloc, folder(staged.target.as_str()))?)?;
         }

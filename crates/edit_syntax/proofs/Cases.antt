@@ -1,4 +1,4 @@
--- What follows from tests.
+-- Case distinctions on tests.
 use Rattle.std.proofs.Common.{◌≡◌, Bool, true, false, ◌||◌, refl}
 
 pub by_test : {P : Type 0} (c : Bool) → (c ≡ true → P) → (c ≡ false → P) → P

@@ -1,4 +1,4 @@
--- The scalar value that hexadecimal digits name, digit by digit.
+-- The value of hexadecimal digits, digit by digit.
 use Rattle.std.proofs.Common.{◌≡◌, ℕ, suc, ◌+◌, ◌*◌, ◌^◌, ◌<◌, ◌≤◌, true, false, cond, ◌&&◌, eqb, List, ◌∷◌, length, take, drop, get_or, Option, Some, None, refl, sym, ap, ◌∙◌, arith, drop-cons, add-one, eq-eqb}
 use Rattle.std.specs.List.{list_all}
 use Rattle.std.specs.Char.{digit_value}
@@ -8,7 +8,7 @@ use Rattle.std.proofs.Math.Nat.{pow-le-pow_right}
 use Rattle.std.proofs.lemmas.Grind.{pow_more}
 use Rattle.std.proofs.lemmas.List.{length-take, length-take-le}
 use Rattle.edit_syntax.specs.Strings.{Piece, is_hex, is_scalar}
-use Rattle.edit_syntax.specs.Reading.{◌>>=◌, scalar, coded_at}
+use Rattle.edit_syntax.specs.Reading.{◌>>=◌, scalar, scalar_escape_at}
 use Rattle.edit_syntax.proofs.Loops.{rest_of}
 
 -- what these digits name behind those of a number
@@ -44,28 +44,28 @@ code_step code i d lt le = let p : 16 ^ (i + 1) ≡ 16 ^ i * 16 = pow_more 16 i 
 -- ---- codes of n digits
 
 coded_too_few : (made : List ℕ → Piece) (n : ℕ) (text : List ℕ) → length text < n
-    → rest_of (coded_at made n text) ≡ None
-unfolding coded_at
+    → rest_of (scalar_escape_at made n text) ≡ None
+unfolding scalar_escape_at
 coded_too_few made n text lt =
     let other : eqb (length (take n text)) n ≡ false = rw (length-take n text) (grind (arith, nat_tests)) in
     rw other refl
 
 coded_enough : (made : List ℕ → Piece) (n : ℕ) (text : List ℕ) → n ≤ length text
-    → coded_at made n text ≡ (scalar (take n text) >>= λ c. Some (made (take n text), drop n text))
-unfolding coded_at
+    → scalar_escape_at made n text ≡ (scalar (take n text) >>= λ c. Some (made (take n text), drop n text))
+unfolding scalar_escape_at
 coded_enough made n text le =
     let same : eqb (length (take n text)) n ≡ true = eq-eqb (length (take n text)) n
     (length-take-le n text le) in
     rw same refl
 
 pub few_coded : (made : List ℕ → Piece) (n : ℕ) (text : List ℕ) → length text < n
-    → None ≡ rest_of (coded_at made n text)
+    → None ≡ rest_of (scalar_escape_at made n text)
 few_coded made n text lt = sym (coded_too_few made n text lt)
 
 pub none_coded : (made : List ℕ → Piece) (n : ℕ) (text : List ℕ) → n ≤ length text
-    → None ≡ scalar (take n text) → None ≡ rest_of (coded_at made n text)
+    → None ≡ scalar (take n text) → None ≡ rest_of (scalar_escape_at made n text)
 none_coded made n text le e = sym (ap (rest_of) (coded_enough made n text le) ∙ rw (← e) refl)
 
 pub some_coded : (made : List ℕ → Piece) (n : ℕ) (text : List ℕ) (c : ℕ) → n ≤ length text
-    → Some c ≡ scalar (take n text) → Some (drop n text) ≡ rest_of (coded_at made n text)
+    → Some c ≡ scalar (take n text) → Some (drop n text) ≡ rest_of (scalar_escape_at made n text)
 some_coded made n text c le e = sym (ap (rest_of) (coded_enough made n text le) ∙ rw (← e) refl)

@@ -1,4 +1,4 @@
--- Dates and times that are spelled so are read, under what may follow a value.
+-- Parsing the text of a date or time gives it back, if what follows may follow a value.
 use Rattle.std.proofs.Common.{◌≡◌, ℕ, ◌<◌, ◌≤◌, nat_le, Bool, true, false, ◌&&◌, ◌||◌, eqb, eq-eqb, List, [], ◌∷◌, ◌++◌, length, Option, Some, None, IfSome, refl, ◌∙◌, arith}
 use Rattle.std.proofs.lemmas.Bool.Decides.{nat_tests}
 use Rattle.std.proofs.lemmas.List.{take_at, drop_at}
@@ -7,7 +7,7 @@ use Rattle.edit_syntax.specs.Characters.{All}
 use Rattle.edit_syntax.specs.Numbers.{is_decimal, Date, date, IsDate, Time, time, IsTime, HasDigits, fraction_text, Offset, local, zulu, shift, offset, IsOffset, DateTime, only_date, only_time, both, datetime_text, IsDateTime}
 use Rattle.edit_syntax.specs.Grammar.{datetime}
 use Rattle.edit_syntax.specs.ReadingSteps.{first}
-use Rattle.edit_syntax.specs.ReadingNumbers.{count_at, group_at, date_at, second_at, time_at, offset_at, joins, dated_at, timed_at, unsigned_at, number_at}
+use Rattle.edit_syntax.specs.ReadingNumbers.{count_at, group_at, date_at, second_at, time_at, offset_at, joins, date_time_at, local_time_at, unsigned_at, number_at}
 use Rattle.edit_syntax.proofs.TokenLaws.{front_again, after_again}
 use Rattle.edit_syntax.proofs.NumberReadAgain.{number_unsigned, is_start, start_digit}
 use Rattle.edit_syntax.proofs.NumberEnds.{is_word, EndsValue}
@@ -145,14 +145,14 @@ does_join b text h digit = rw digit (with_true (eqb b 84) (eqb b 116) (eqb b 32)
     with_true false false false e = e
 
 dated_alone : (d : Date) (rest : List ℕ) → IsDate d → EndsValue rest
-    → dated_at (date d rest) ≡ Some (datetime (only_date d), rest)
-unfolding dated_at
+    → date_time_at (date d rest) ≡ Some (datetime (only_date d), rest)
+unfolding date_time_at
 dated_alone d rest h ends = rw (date_again d rest h, no_join rest ends) refl
 
 dated_both : (d : Date) (b : ℕ) (t : Time) (o : Offset) (rest : List ℕ) → IsDateTime (both d b t o)
-    → is_word (first rest) ≡ false → dated_at (date d (b ∷ time t (offset o rest)))
+    → is_word (first rest) ≡ false → date_time_at (date d (b ∷ time t (offset o rest)))
     ≡ Some (datetime (both d b t o), rest)
-unfolding dated_at
+unfolding date_time_at
 dated_both d b t o rest h ends =
     let tail = time t (offset o rest) in
     rw (
@@ -163,16 +163,16 @@ dated_both d b t o rest h ends =
     ) refl
 
 timed_again : (t : Time) (rest : List ℕ) → IsTime t → is_word (first rest) ≡ false
-    → timed_at (time t rest) ≡ Some (datetime (only_time t), rest)
-unfolding timed_at
+    → local_time_at (time t rest) ≡ Some (datetime (only_time t), rest)
+unfolding local_time_at
 timed_again t rest h ends = rw (time_again t rest h (word_time (first rest) ends)) refl
 
-number_dated : (d : Date) (more : List ℕ) → IsDate d → number_at (date d more) ≡ dated_at (date d more)
+number_dated : (d : Date) (more : List ℕ) → IsDate d → number_at (date d more) ≡ date_time_at (date d more)
 unfolding unsigned_at
 number_dated d more h = number_unsigned (date d more) (date_first d more h) ∙
     rw (after_again is_decimal d.year (45 ∷ (d.month ++ (45 ∷ (d.day ++ more)))) h.0.1 refl) refl
 
-number_timed : (t : Time) (more : List ℕ) → IsTime t → number_at (time t more) ≡ timed_at (time t more)
+number_timed : (t : Time) (more : List ℕ) → IsTime t → number_at (time t more) ≡ local_time_at (time t more)
 unfolding unsigned_at
 number_timed t more h = number_unsigned (time t more) (time_first t more h) ∙
     rw (after_again is_decimal t.hour (58 ∷ (t.minute ++ (58 ∷ (t.second ++ fraction_text t.fraction more))))

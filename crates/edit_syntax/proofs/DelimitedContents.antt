@@ -1,4 +1,4 @@
--- What stands between delimiters may be cut out of a text, and what it says.
+-- The content between delimiters is at character boundaries of the text; its decoded value.
 use Rattle.std.proofs.Common.{◌≡◌, ℕ, ◌+◌, ◌-◌, ◌<◌, ◌≤◌, true, List, [], ◌∷◌, ◌++◌, length, get_or, Option, Some, None, refl, sym, ap, subst, ◌∙◌, append_assoc, arith}
 use Rattle.std.specs.Borrow.{Bor}
 use Rattle.std.specs.Prelude.{slice_range, unwrap_or}
@@ -13,7 +13,7 @@ use Rattle.edit_syntax.specs.declared.read.marks.MarkKind.TheVariants.{BarePart,
 use Rattle.edit_syntax.specs.Characters.{quote, apostrophe, is_bare, is_ascii, All}
 use Rattle.edit_syntax.specs.Strings.{said}
 use Rattle.edit_syntax.specs.Decoding as decoding
-use Rattle.edit_syntax.specs.Decoding.{delimited, BasicSays, Says}
+use Rattle.edit_syntax.specs.Decoding.{delimited, HasBasicValue, HasDecodedValue}
 use Rattle.edit_syntax.specs.Reading.{front}
 use Rattle.edit_syntax.proofs.ListElements.{get_seam}
 
@@ -88,7 +88,7 @@ word_utf8 before (b ∷ content) rest some h u =
     let one = utf8_from before (content ++ rest) b u (ascii_byte b h.0) in
     (one, utf8_behind (b ∷ content) rest (ascii_bytes (b ∷ content) h) one)
 
-parts_utf8 : (kind : MarkKind) (before content rest said : List ℕ) → Says kind content said
+parts_utf8 : (kind : MarkKind) (before content rest said : List ℕ) → HasDecodedValue kind content said
     → IsUtf8 (before ++ delimited kind content rest) → PartsUtf8 kind content rest
 parts_utf8 BarePart before content rest said h u = bare_utf8 before content rest h.0 h.1 u
 parts_utf8 BasicPart before content rest said h u = quoted_utf8 quote before content rest (omega arith) u
@@ -133,7 +133,7 @@ content_at xs content ys i j u v e f =
     }
 
 pub content_found : (kind : MarkKind) (bytes before content rest said : List ℕ) (i j : ℕ) → IsUtf8 bytes
-    → bytes ≡ before ++ delimited kind content rest → Says kind content said
+    → bytes ≡ before ++ delimited kind content rest → HasDecodedValue kind content said
     → i ≡ length before + length (decoding.delimiter kind) → j ≡ i + length content
     → IsContentAt bytes content i j
 content_found kind bytes before content rest said i j u spelled h e f =

@@ -1,9 +1,9 @@
--- Digits and numbers that are read are spelled so.
+-- Digits and numbers that the parser accepts are written as its result says.
 use Rattle.std.proofs.Common.{◌≡◌, ℕ, ◌<◌, Bool, true, false, eqb, List, ◌∷◌, ◌++◌, slice_index, drop, Some, refl, ap, subst, ◌∙◌, inl, inr, arith}
 use Rattle.edit_syntax.specs.Numbers.{Sign, sign, is_decimal, are_digits, is_whole, Base, base_letter, base_digit, Exponent, exponent, IsExponent}
 use Rattle.edit_syntax.specs.Grammar.{Value, integer, float, datetime, value, IsValue}
 use Rattle.edit_syntax.specs.ReadingSteps.{first, front}
-use Rattle.edit_syntax.specs.ReadingNumbers.{is_marked, digits_at, whole_at, sign_of, past_sign, is_power, exponent_at, fraction_read, whole_read, begins, decimal_at, based_at}
+use Rattle.edit_syntax.specs.ReadingNumbers.{is_marked, digits_at, whole_at, sign_of, past_sign, is_exponent_letter, exponent_at, fraction_read, whole_read, begins, decimal_at, based_at}
 use Rattle.edit_syntax.proofs.TokenLaws.{bind_some, chosen, tested, some_is, first_is, first_of, at_drop, run_parts}
 use Rattle.std.proofs.lemmas.Bool.{and_parts}
 
@@ -47,14 +47,14 @@ sign_sound text = go (eqb (first text) 43) (eqb (first text) 45) refl refl
 
 -- ---- numbers
 
-exponent_sound : (text : List ℕ) (x : Exponent × List ℕ) → is_power (first text) ≡ true
+exponent_sound : (text : List ℕ) (x : Exponent × List ℕ) → is_exponent_letter (first text) ≡ true
     → exponent_at text ≡ Some x → (text ≡ exponent x.0 x.1) × IsExponent x.0
 unfolding exponent_at
 exponent_sound text x h e =
     let a = bind_some (digits_at is_decimal (past_sign (drop 1 text))) _ x e in
     let d = digits_sound is_decimal (past_sign (drop 1 text)) a.0 a.1 in
     subst (λ (y : Exponent × List ℕ). (text ≡ exponent y.0 y.1) × IsExponent y.0) (some_is _ x a.2) (
-      first_of is_power text refl h ∙ ap (λ (r : List ℕ). first text ∷ r)
+      first_of is_exponent_letter text refl h ∙ ap (λ (r : List ℕ). first text ∷ r)
           (sign_sound (drop 1 text) ∙ ap (sign (sign_of (drop 1 text))) d.0),
       (h, d.1),
     )
@@ -65,7 +65,7 @@ fraction_sound : (s : Sign) (whole fraction text : List ℕ) (x : Value × List 
 unfolding fraction_read
 fraction_sound s whole fraction text x hw hf e =
     let P : Value × List ℕ → Type 0 = Spelled (sign s (whole ++ (46 ∷ (fraction ++ text)))) in
-    elim (chosen (is_power (first text)) _ _ (Some x) e) [
+    elim (chosen (is_exponent_letter (first text)) _ _ (Some x) e) [
       | inl h ↦
           let a = bind_some (exponent_at text) _ x h.1 in
           let p = exponent_sound text a.0 h.0 a.1 in
@@ -87,7 +87,7 @@ behind_sound s whole text x hw e =
           let same : text ≡ 46 ∷ (a.0.0 ++ a.0.1) = first_is 46 text (omega arith) h.0 ∙
           ap (λ (r : List ℕ). 46 ∷ r) d.0 in
           (ap (λ (r : List ℕ). sign s (whole ++ r)) same ∙ f.0, f.1, f.2)
-      | inr h ↦ elim (chosen (is_power (first text)) _ _ (Some x) h.1) [
+      | inr h ↦ elim (chosen (is_exponent_letter (first text)) _ _ (Some x) h.1) [
         | inl k ↦
             let a = bind_some (exponent_at text) _ x k.1 in
             let p = exponent_sound text a.0 k.0 a.1 in

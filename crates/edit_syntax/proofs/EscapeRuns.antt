@@ -1,4 +1,4 @@
--- The codes, the runs of plain bytes and the folds of a basic string.
+-- Escapes, runs of unescaped bytes and line folds of a basic string.
 use Rattle.std.proofs.Common.{◌≡◌, ℕ, suc, ◌+◌, ◌<◌, ◌≤◌, Bool, true, false, cond, List, [], ◌∷◌, ◌++◌, length, take, drop, get_or, Option, Some, refl, ap, ◌∙◌, arith}
 use Rattle.std.specs.Prelude.{unwrap_or}
 use Rattle.std.specs.List.{prefix_len, AllByRecursion}
@@ -7,26 +7,26 @@ use Rattle.std.specs.Str.Parse.{digits_value}
 use Rattle.std.proofs.lemmas.Bool.Decides.{nat_tests}
 use Rattle.std.proofs.lemmas.List.{take_at, length-append}
 use Rattle.edit_syntax.specs.Characters.{quote, backslash, is_blank, is_basic_ch, is_unescaped, All}
-use Rattle.edit_syntax.specs.Strings.{LineEnd, lf, crlf, line_end, Space, spaces, IsSpace, Piece, plain, letter, short, long, feed, fold, delimiter, piece, pieces, is_escape, is_hex, NamesScalar, IsBasicPiece, IsMultiPiece, IsRawPiece, FoldsAreWhole, begins_with_space, said, says, says_multi}
+use Rattle.edit_syntax.specs.Strings.{LineEnd, lf, crlf, line_end, Space, spaces, IsSpace, Piece, plain, letter, short, long, feed, fold, delimiter, piece, pieces, is_escape, is_hex, IsScalarCode, IsBasicPiece, IsMultiPiece, IsRawPiece, FoldsAreWhole, begins_with_space, said, says, decoded_multi}
 use Rattle.edit_syntax.specs.Strings as strings
-use Rattle.edit_syntax.specs.Decoding.{IsMarked, is_spacing}
+use Rattle.edit_syntax.specs.Decoding.{BeginsWithBackslash, is_spacing}
 use Rattle.edit_syntax.specs.Reading.{scalar}
 use Rattle.edit_syntax.proofs.TokenLaws.{list_of_all, basic_ch_not}
 use Rattle.edit_syntax.proofs.DelimitedContents.{Ascii}
 
 -- ---- codes
 
-scalar_of : (n : ℕ) (digits : List ℕ) → NamesScalar n digits → scalar digits ≡ Some (digits_value 16 digits)
+scalar_of : (n : ℕ) (digits : List ℕ) → IsScalarCode n digits → scalar digits ≡ Some (digits_value 16 digits)
 scalar_of n digits h = rw (list_of_all is_hex digits h.1, h.2) refl
 
 pub coded_says : (n : ℕ) (bytes digits rest : List ℕ) (d : ℕ) (r : Option ℕ) → bytes ≡ digits ++ rest
-    → NamesScalar n digits → r ≡ scalar (take n bytes) → unwrap_or r d ≡ digits_value 16 digits
+    → IsScalarCode n digits → r ≡ scalar (take n bytes) → unwrap_or r d ≡ digits_value 16 digits
 coded_says n bytes digits rest d r spelled h e =
     let k : take n bytes ≡ digits = ap (take n) spelled ∙ take_at digits rest n h.0 in
     let f : r ≡ Some (digits_value 16 digits) = e ∙ ap scalar k ∙ scalar_of n digits h in
     ap (λ (o : Option ℕ). unwrap_or o d) f
 
-pub coded_enough : (n : ℕ) (bytes digits rest : List ℕ) → bytes ≡ digits ++ rest → NamesScalar n digits
+pub coded_enough : (n : ℕ) (bytes digits rest : List ℕ) → bytes ≡ digits ++ rest → IsScalarCode n digits
     → n ≤ length bytes
 coded_enough n bytes digits rest spelled h = omega (arith, ap length spelled, length-append digits rest, h.0)
 
@@ -40,7 +40,7 @@ pub record AreLine (ps : List Piece) : Type 0 where
 -- nothing, or a backslash first
 abbrev pub BeginsMarked : List Piece → Type 0
 BeginsMarked [] = Unit {0}
-BeginsMarked (p ∷ ps) = IsMarked p
+BeginsMarked (p ∷ ps) = BeginsWithBackslash p
 
 -- the pieces behind the run of plain bytes, of a text that says this
 pub record Behind (bytes said : List ℕ) (rs : List Piece) : Type 0 where
@@ -64,7 +64,7 @@ byte_behind b bytes said rs h more =
       begins = more.begins;
     }
 
-marked_behind : (p : Piece) (qs : List Piece) (bytes : List ℕ) → AreLine (p ∷ qs) → IsMarked p
+marked_behind : (p : Piece) (qs : List Piece) (bytes : List ℕ) → AreLine (p ∷ qs) → BeginsWithBackslash p
     → pieces quote (p ∷ qs) [] ≡ backslash ∷ bytes
     → Behind (pieces quote (p ∷ qs) []) (says quote (p ∷ qs)) (p ∷ qs)
 marked_behind p qs bytes line marked e =

@@ -1,4 +1,4 @@
--- What a basic string says, run by run and escape by escape.
+-- The decoded value of a basic string, by runs of bytes and escapes.
 use Rattle.std.proofs.Common.{◌≡◌, ℕ, ◌+◌, ◌<◌, true, false, List, [], ◌∷◌, ◌++◌, length, take, drop, get_or, refl, sym, ap, subst, ◌∙◌, append_assoc, true≢false, arith}
 use Rattle.std.specs.Prelude.{encode_utf8}
 use Rattle.std.specs.List.{prefix_len, AllByRecursion}
@@ -8,7 +8,7 @@ use Rattle.std.proofs.lemmas.List.{drop_at, append-nil, nil_from_length}
 use Rattle.std.proofs.lemmas.Str.{IsCharBoundary-at_seam}
 use Rattle.edit_syntax.specs.Characters.{quote, is_blank, is_basic_ch, is_unescaped, All}
 use Rattle.edit_syntax.specs.Strings.{LineEnd, lf, crlf, line_end, Space, spaces, Piece, plain, letter, short, long, feed, fold, delimiter, piece, pieces, is_escape, IsBasicPiece, IsMultiPiece, begins_with_space, said, says}
-use Rattle.edit_syntax.specs.Decoding.{IsEscape, IsMarked, FoldStops, is_spacing}
+use Rattle.edit_syntax.specs.Decoding.{IsEscape, BeginsWithBackslash, IsFoldEnd, is_spacing}
 use Rattle.edit_syntax.specs.Reading.{first}
 use Rattle.edit_syntax.proofs.TokenLaws.{prefix_len_run}
 use Rattle.edit_syntax.proofs.PutBefore.{piece_rest}
@@ -17,7 +17,7 @@ use Rattle.edit_syntax.proofs.EscapeRuns.{AreLine, BeginsMarked, run_behind, hex
 
 -- ---- one turn
 
-marked_bytes : (p : Piece) → IsMarked p → IsMultiPiece p → Ascii (piece quote p [])
+marked_bytes : (p : Piece) → BeginsWithBackslash p → IsMultiPiece p → Ascii (piece quote p [])
 marked_bytes (plain b) marked fine = absurd marked
 marked_bytes (letter c) marked fine = (omega arith, (letter_ascii c fine, tt))
 marked_bytes (short digits) marked fine = (omega arith, (omega arith, hexes_ascii digits fine.1))
@@ -28,7 +28,8 @@ marked_bytes (fold ws e more) marked fine =
 marked_bytes delimiter marked fine = absurd marked
 
 -- a text may be cut behind an escape and behind a fold
-behind_piece : (p : Piece) (rest bytes : List ℕ) (len : ℕ) → IsMarked p → IsMultiPiece p → IsUtf8 bytes
+behind_piece : (p : Piece) (rest bytes : List ℕ) (len : ℕ) → BeginsWithBackslash p → IsMultiPiece p
+    → IsUtf8 bytes
     → bytes ≡ piece quote p rest → len ≡ length (piece quote p []) → IsCharBoundary bytes len
     × (drop len bytes ≡ rest)
 behind_piece p rest bytes len marked fine u spelled e =
@@ -61,7 +62,7 @@ escape_alone : (c : ℕ) → is_escape c ≡ true → is_spacing c ≡ false
 escape_alone c h = grind (arith, nat_tests)
 
 -- behind its backslash white space or a newline comes in a fold alone
-pub marked_next : (p : Piece) (rest : List ℕ) → IsMarked p → IsMultiPiece p
+pub marked_next : (p : Piece) (rest : List ℕ) → BeginsWithBackslash p → IsMultiPiece p
     → (is_spacing (get_or (piece quote p rest) 1 0) ≡ true → (ws : List ℕ) × (e : LineEnd)
     × (more : List Space) × (p ≡ fold ws e more))
     × (is_spacing (get_or (piece quote p rest) 1 0) ≡ false → IsEscape p × IsBasicPiece p)
@@ -90,7 +91,7 @@ spacing_over (feed end ∷ ps) h e = absurd (true≢false e)
 spacing_over (fold ws end more ∷ ps) h e = refl
 spacing_over (delimiter ∷ ps) h e = refl
 
-fold_stops : (p : Piece) (ps : List Piece) → AreLine (p ∷ ps) → FoldStops p (first (pieces quote ps []))
+fold_stops : (p : Piece) (ps : List Piece) → AreLine (p ∷ ps) → IsFoldEnd p (first (pieces quote ps []))
     × AreLine ps
 fold_stops (plain b) ps h = (tt, record { all = h.all.1; folds = h.folds })
 fold_stops (letter c) ps h = (tt, record { all = h.all.1; folds = h.folds })
@@ -110,7 +111,7 @@ pub record Left (ps : List Piece) (rest out : List ℕ) : Type 0 where
 
 -- what the function that takes a piece promises of it
 abbrev pub Takes : List ℕ → List ℕ → List ℕ → ℕ → Type 0
-Takes tail out new len = (p : Piece) (r : List ℕ) → IsMarked p → IsMultiPiece p → FoldStops p (first r)
+Takes tail out new len = (p : Piece) (r : List ℕ) → BeginsWithBackslash p → IsMultiPiece p → IsFoldEnd p (first r)
     → tail ≡ piece quote p r → (new ≡ out ++ said quote p) × (len ≡ length (piece quote p []))
 
 piece_turn : (ps rs : List Piece) (tail out new next : List ℕ) (len : ℕ) → AreLine rs → BeginsMarked rs
@@ -179,20 +180,21 @@ done ps rest out run tail l front back over =
     sym (append-nil (out ++ run)) ∙ ap (λ (t : List ℕ). (out ++ run) ++ t) (sym none) ∙ r.4
 
 -- a fold was taken
-pub fold_taken : (p : Piece) (rest bytes out : List ℕ) (n : ℕ) → IsMarked p → IsMultiPiece p
-    → FoldStops p (first rest) → bytes ≡ piece quote p rest → is_spacing (get_or bytes 1 0) ≡ true
+pub fold_taken : (p : Piece) (rest bytes out : List ℕ) (n : ℕ) → BeginsWithBackslash p → IsMultiPiece p
+    → IsFoldEnd p (first rest) → bytes ≡ piece quote p rest → is_spacing (get_or bytes 1 0) ≡ true
     → n ≡ prefix_len is_spacing (drop 1 bytes)
     → (out ≡ out ++ said quote p) × (1 + n ≡ length (piece quote p []))
 fold_taken p rest bytes out n marked fine stops spelled here is =
     let f = (marked_next p rest marked fine).0 (rw spelled at here) in
     let q = fold f.0 f.1 f.2 in
     let fine2 : IsMultiPiece q = subst IsMultiPiece f.3 fine in
-    let stops2 : FoldStops q (first rest) = subst (λ (x : Piece). FoldStops x (first rest)) f.3 stops in
+    let stops2 : IsFoldEnd q (first rest) = subst (λ (x : Piece). IsFoldEnd x (first rest)) f.3 stops in
     let spelled2 : bytes ≡ piece quote q rest = spelled ∙ ap (λ (x : Piece). piece quote x rest) f.3 in
     rw f.3 (sym (append-nil out), fold_length f.0 f.1 f.2 rest bytes n fine2 stops2 spelled2 is)
 
 -- an escape was taken
-pub escape_taken : (p : Piece) (rest bytes out new : List ℕ) (named n : ℕ) → IsMarked p → IsMultiPiece p
+pub escape_taken : (p : Piece) (rest bytes out new : List ℕ) (named n : ℕ) → BeginsWithBackslash p
+    → IsMultiPiece p
     → bytes ≡ piece quote p rest → is_spacing (get_or bytes 1 0) ≡ false → new ≡ out ++ encode_utf8 named
     → (IsEscape p → IsBasicPiece p → (encode_utf8 named ≡ said quote p) × (n ≡ length (piece quote p [])))
     → (new ≡ out ++ said quote p) × (n ≡ length (piece quote p []))

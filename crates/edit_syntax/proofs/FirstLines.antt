@@ -1,12 +1,12 @@
--- The first of lines is read again.
+-- Parsing the text of lines gives back the first line.
 use Rattle.std.proofs.Common.{◌≡◌, ℕ, ◌≤◌, ◌++◌, List, [], Some, None, refl, sym, ap, ◌∙◌}
 use Rattle.std.proofs.lemmas.Option.{same_Some}
 use Rattle.edit_syntax.specs.declared.read.marks.Mark.{Mark}
 use Rattle.edit_syntax.specs.Strings.{LineEnd, line_end}
 use Rattle.edit_syntax.specs.Grammar.{Line, Lines, one_line, more_lines, lines, AreLines}
 use Rattle.edit_syntax.specs.Depth.{lines_depth}
-use Rattle.edit_syntax.specs.Marks.{line_marks}
-use Rattle.edit_syntax.specs.FirstLine.{after_first, first_marks}
+use Rattle.edit_syntax.specs.SyntaxTokens.{tokens_of_line}
+use Rattle.edit_syntax.specs.FirstLine.{after_first, tokens_of_first_line}
 use Rattle.edit_syntax.specs.Reading.{line_at, line_end_at}
 use Rattle.edit_syntax.proofs.Loops.{rest_of}
 use Rattle.edit_syntax.proofs.FoldLaws.{line_end_again}
@@ -24,20 +24,21 @@ first_again bytes (more_lines l e ls) same h d =
     ap (line_at 80) same ∙ line_again 80 l (line_end e (lines ls))
     (first_good 80 l e ls (record { valid = h; shallow = d })) (end_of_line e (lines ls))
 
-marks_are : (form : Lines) → line_marks (the_first form) (after_first form) ≡ first_marks form
+marks_are : (form : Lines) → tokens_of_line (the_first form) (after_first form) ≡ tokens_of_first_line form
 marks_are (one_line l) = refl
 marks_are (more_lines l e ls) = refl
 
 -- what was read is the first line
 pub first_is : (bytes rest : List ℕ) (x : Line) (old new : List Mark) (form : Lines)
-    → line_at 80 bytes ≡ Some (x, rest) → new ≡ old ++ line_marks x rest → bytes ≡ lines form → AreLines form
+    → line_at 80 bytes ≡ Some (x, rest) → new ≡ old ++ tokens_of_line x rest → bytes ≡ lines form
+    → AreLines form
     → lines_depth form ≤ 80
-    → (rest ≡ after_first form) × (new ≡ old ++ first_marks form)
+    → (rest ≡ after_first form) × (new ≡ old ++ tokens_of_first_line form)
 first_is bytes rest x old new form e noted same h d =
     let both : (x, rest) ≡ (the_first form, after_first form) =
     same_Some _ _ (sym e ∙ first_again bytes form same h d) in (
       ap (λ p. p.1) both,
-      noted ∙ ap (λ (p : Line × List ℕ). old ++ line_marks p.0 p.1) both ∙
+      noted ∙ ap (λ (p : Line × List ℕ). old ++ tokens_of_line p.0 p.1) both ∙
           ap (λ (m : List Mark). old ++ m) (marks_are form),
     )
 

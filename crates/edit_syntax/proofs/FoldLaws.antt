@@ -1,4 +1,4 @@
--- Newlines and folds that are read are spelled so, and those that are spelled so are read.
+-- Newlines and line folds: the parser accepts exactly what is written as its result says.
 use Rattle.std.proofs.Common.{◌≡◌, ℕ, zero, suc, ◌<◌, ◌≤◌, true, false, ◌&&◌, eqb, List, [], ◌∷◌, length, slice_index, Some, refl, ap, subst, ◌∙◌, inl, inr, arith}
 use Rattle.std.specs.List.{AllByRecursion}
 use Rattle.edit_syntax.specs.Characters.{line_feed, carriage_return, is_blank}

@@ -1,9 +1,8 @@
--- The laws of the gaps in arrays and inline tables: what is read is spelled so, and what is spelled so is
--- read.
+-- Gaps in arrays and inline tables: the parser accepts exactly what is written as its result says.
 use Rattle.std.proofs.Common.{◌≡◌, ℕ, zero, suc, ◌+◌, ◌≤◌, Bool, true, false, ◌||◌, ◌==◌, eqb, List, [], ◌∷◌, ◌++◌, length, drop, Some, None, refl, ap, subst, ◌∙◌, inl, inr, arith}
 use Rattle.std.proofs.lemmas.Bool.Decides.{nat_tests}
 use Rattle.std.proofs.lemmas.List.{length-append}
-use Rattle.edit_syntax.specs.Characters.{line_feed, carriage_return, hash, is_blank, is_ch}
+use Rattle.edit_syntax.specs.Characters.{line_feed, carriage_return, hash, is_blank, is_comment_byte}
 use Rattle.edit_syntax.specs.Strings.{LineEnd, lf, crlf, line_end}
 use Rattle.edit_syntax.specs.Numbers.{is_decimal}
 use Rattle.edit_syntax.specs.Grammar.{Between, blank, break, remark, gap, IsBetween, IsGap}
@@ -24,11 +23,11 @@ between_sound text x e =
       | inr h ↦ elim (chosen (eqb (first text) hash) _ _ (Some x) h.1) [
         | inl k ↦
             let inner = drop 1 text in
-            let a = bind_some (line_end_at (after is_ch inner)) _ x k.1 in
-            let tail : inner ≡ front is_ch inner ++ line_end a.0.0 a.0.1 = run_parts is_ch inner ∙
-            ap (λ (r : List ℕ). front is_ch inner ++ r) (line_end_sound (after is_ch inner) a.0 a.1) in
+            let a = bind_some (line_end_at (after is_comment_byte inner)) _ x k.1 in
+            let tail : inner ≡ front is_comment_byte inner ++ line_end a.0.0 a.0.1 = run_parts is_comment_byte inner ∙
+            ap (λ (r : List ℕ). front is_comment_byte inner ++ r) (line_end_sound (after is_comment_byte inner) a.0 a.1) in
             subst P (some_is _ x a.2)
-            (first_is hash text (omega arith) k.0 ∙ ap (λ (r : List ℕ). hash ∷ r) tail, run_all is_ch inner)
+            (first_is hash text (omega arith) k.0 ∙ ap (λ (r : List ℕ). hash ∷ r) tail, run_all is_comment_byte inner)
         | inr k ↦
             let a = bind_some (line_end_at text) _ x k.1 in
             subst P (some_is _ x a.2) (line_end_sound text a.0 a.1, tt)
@@ -65,7 +64,7 @@ front_gap text = (gap_sound (length text) text).1
 
 -- ---- what is spelled so is read
 
-end_no_ch : (e : LineEnd) (rest : List ℕ) → is_ch (first (line_end e rest)) ≡ false
+end_no_ch : (e : LineEnd) (rest : List ℕ) → is_comment_byte (first (line_end e rest)) ≡ false
 end_no_ch lf rest = refl
 end_no_ch crlf rest = refl
 
@@ -77,8 +76,8 @@ between_again (break crlf) rest h = refl
 between_again (remark text e) rest h =
     let tail = line_end e rest in
     rw (
-      after_again is_ch text tail h (end_no_ch e rest),
-      front_again is_ch text tail h (end_no_ch e rest),
+      after_again is_comment_byte text tail h (end_no_ch e rest),
+      front_again is_comment_byte text tail h (end_no_ch e rest),
       line_end_again e rest,
     ) refl
 

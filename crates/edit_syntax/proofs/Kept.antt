@@ -1,4 +1,4 @@
--- Strings, numbers, dates and times that a text says as they are written, and where they stand in it.
+-- Strings, numbers, dates and times whose decoded value is their text, and the span of that text.
 use Rattle.std.proofs.Common.{◌≡◌, ℕ, ◌+◌, ◌-◌, ◌<◌, ◌≤◌, Bool, true, false, ◌&&◌, cond, List, [], ◌++◌, length, drop, length-append, get_or, refl, sym, ap, subst, ◌∙◌, ◌⊎◌, inl, inr, arith}
 use Rattle.std.specs.Prelude.{nat_le, slice_range, IsUtf8}
 use Rattle.std.specs.List.{prefix_len}
@@ -12,7 +12,7 @@ use Rattle.edit_syntax.specs.declared.read.marks.MarkKind.{MarkKind}
 use Rattle.edit_syntax.specs.declared.read.marks.MarkKind.TheVariants.{BasicPart, BasicString}
 use Rattle.edit_syntax.specs.Characters.{is_unescaped}
 use Rattle.edit_syntax.specs.Decoding as decoding
-use Rattle.edit_syntax.specs.Decoding.{delimited, LineSays, Says}
+use Rattle.edit_syntax.specs.Decoding.{delimited, HasLineValue, HasDecodedValue}
 use Rattle.edit_syntax.specs.Spans.{is_boundary, cut_from, bytes_at}
 use Rattle.edit_syntax.proofs.DelimitedContents.{content_found}
 use Rattle.edit_syntax.proofs.Escapes.{done}
@@ -89,7 +89,7 @@ unequal a b r long off = go (bytes_eq a b) refl
 pub content_kept : (kind : MarkKind) (bytes before content rest said : List ℕ) (from width : ℕ) (span : Span)
     → IsUtf8 bytes → bytes ≡ before ++ delimited kind content rest
     → from ≡ length (delimited kind content rest)
-    → Says kind content said → width ≡ length (decoding.delimiter kind) → span.from ≡ from - width
+    → HasDecodedValue kind content said → width ≡ length (decoding.delimiter kind) → span.from ≡ from - width
     → span.to ≡ length rest + width → bytes_at bytes span ≡ content
 unfolding bytes_at
 content_kept kind bytes before content rest said from width span u spelled start says wide first last =
@@ -106,7 +106,7 @@ content_kept kind bytes before content rest said from width span u spelled start
     cut_is bytes i j at.ordered at.from at.to ∙ at.cut
 
 -- a content without a backslash says itself
-pub plain_line : (content said : List ℕ) → LineSays content said
+pub plain_line : (content said : List ℕ) → HasLineValue content said
     → length content ≤ prefix_len is_unescaped content → content ≡ said
 plain_line content said (ps, all, folds, spelled, says) le =
     let n = prefix_len is_unescaped content in
@@ -116,8 +116,8 @@ plain_line content said (ps, all, folds, spelled, says) le =
 
 -- the content of a basic string without a backslash
 pub plain_basic : (kind : MarkKind) (content said : List ℕ) → (kind ≡ BasicPart) ⊎ (kind ≡ BasicString)
-    → Says kind content said → length content ≤ prefix_len is_unescaped content → content ≡ said
+    → HasDecodedValue kind content said → length content ≤ prefix_len is_unescaped content → content ≡ said
 plain_basic kind content said (inl e) h le = plain_line content said
-    (basic_line content said (subst (λ (k : MarkKind). Says k content said) e h)) le
+    (basic_line content said (subst (λ (k : MarkKind). HasDecodedValue k content said) e h)) le
 plain_basic kind content said (inr e) h le = plain_line content said
-    (basic_line content said (subst (λ (k : MarkKind). Says k content said) e h)) le
+    (basic_line content said (subst (λ (k : MarkKind). HasDecodedValue k content said) e h)) le

@@ -29,12 +29,12 @@ pub mod LineSound
 pub mod ValueEdges
 pub mod StepLaws
 pub mod PutBefore
--- The marks that the code notes
+-- The tokens that the code appends
 pub mod NotedTokens
 pub mod NotedValues
 pub mod NotedElements
 pub mod NotedLines
--- What tokens say
+-- The decoded values of tokens
 pub mod EscapeRuns
 pub mod Escapes
 pub mod LineContents

@@ -1,12 +1,12 @@
--- What contents of strings say, as the pieces of a basic string over several lines.
+-- The decoded values of strings, by the pieces of a multi-line basic string.
 use Rattle.std.proofs.Common.{◌≡◌, ℕ, true, false, eqb, List, [], ◌∷◌, drop, get_or, refl, sym, ap, ◌∙◌, arith}
 use Rattle.std.specs.List.{AllByRecursion}
 use Rattle.std.specs.Str.{IsUtf8, IsCharBoundary}
 use Rattle.std.proofs.lemmas.Bool.Decides.{nat_tests}
 use Rattle.std.proofs.lemmas.Str.{IsCharBoundary-after_ascii}
 use Rattle.edit_syntax.specs.Characters.{apostrophe, is_basic_ch, is_literal_ch}
-use Rattle.edit_syntax.specs.Strings.{lf, crlf, Piece, plain, letter, short, long, feed, fold, delimiter, pieces, IsRawPiece, said, says, says_multi}
-use Rattle.edit_syntax.specs.Decoding.{BasicSays, LineSays, RawSays, past_break}
+use Rattle.edit_syntax.specs.Strings.{lf, crlf, Piece, plain, letter, short, long, feed, fold, delimiter, pieces, IsRawPiece, said, says, decoded_multi}
+use Rattle.edit_syntax.specs.Decoding.{HasBasicValue, HasLineValue, HasRawValue, past_break}
 use Rattle.edit_syntax.specs.Reading.{first}
 use Rattle.edit_syntax.proofs.TokenLaws.{AreBasic}
 use Rattle.edit_syntax.proofs.EscapeRuns.{AreLine}
@@ -25,7 +25,7 @@ basic_folds (feed e ∷ ps) h = absurd h.0
 basic_folds (fold ws e more ∷ ps) h = absurd h.0
 basic_folds (delimiter ∷ ps) h = absurd h.0
 
-pub basic_line : (content said : List ℕ) → BasicSays content said → LineSays content said
+pub basic_line : (content said : List ℕ) → HasBasicValue content said → HasLineValue content said
 basic_line content said h = let l = basic_folds h.0 h.1 in (h.0, l.all, l.folds, h.2, h.3)
 
 basic_no_break : (b : ℕ) → is_basic_ch b ≡ true → (eqb b 10 ≡ false) × (eqb b 13 ≡ false)
@@ -45,11 +45,11 @@ raw_says (feed crlf ∷ ps) h = ap (λ (r : List ℕ). 13 ∷ (10 ∷ r)) (raw_s
 raw_says (fold ws e more ∷ ps) h = absurd h.0
 raw_says (delimiter ∷ ps) h = ap (λ (r : List ℕ). apostrophe ∷ r) (raw_says ps h.1)
 
-pub raw_content : (content said : List ℕ) → RawSays content said → past_break content ≡ said
+pub raw_content : (content said : List ℕ) → HasRawValue content said → past_break content ≡ said
 raw_content content said (ps, all, spelled, says) = ap past_break spelled ∙ go ps all ∙ sym says
   where
     go : (qs : List Piece) → AllByRecursion IsRawPiece qs
-        → past_break (pieces apostrophe qs []) ≡ says_multi apostrophe qs
+        → past_break (pieces apostrophe qs []) ≡ decoded_multi apostrophe qs
     go [] all = refl
     go (plain b ∷ qs) all = let k = literal_no_break b all.0 in
         rw (k.0, k.1) (sym (raw_says (plain b ∷ qs) all))

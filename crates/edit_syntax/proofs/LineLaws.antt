@@ -1,8 +1,8 @@
--- The laws of lines.
+-- Lines: the parser accepts exactly what is written as its result says.
 use Rattle.std.proofs.Common.{◌≡◌, ℕ, zero, suc, ◌+◌, ◌≤◌, true, false, eqb, List, [], ◌∷◌, ◌++◌, length, slice_index, Option, Some, None, refl, arith}
 use Rattle.std.proofs.lemmas.Bool.Decides.{nat_tests}
 use Rattle.std.proofs.lemmas.List.{length-append}
-use Rattle.edit_syntax.specs.Characters.{line_feed, carriage_return, hash, equals, left_bracket, right_bracket, is_blank, is_bare, is_ch, All}
+use Rattle.edit_syntax.specs.Characters.{line_feed, carriage_return, hash, equals, left_bracket, right_bracket, is_blank, is_bare, is_comment_byte, All}
 use Rattle.edit_syntax.specs.Strings.{LineEnd, lf, crlf, line_end, Part, bare, basic_part, literal_part, part, IsPart, Key, key, dotted, IsKey}
 use Rattle.edit_syntax.specs.Grammar.{value, Statement, pair, header, element_header, statement, IsStatement, comment, IsComment, Line, empty_line, full_line, line, Lines, one_line, more_lines, lines, text}
 use Rattle.edit_syntax.specs.Reading.{first, Pair, value_at, header_at, element_header_at, statement_at, comment_front, past_comment, is_line_over, line_at, lines_at}
@@ -19,7 +19,7 @@ use Rattle.edit_syntax.proofs.LineSound.{IsGoodStatement, IsGoodLine, AreGoodLin
 
 -- what may follow a line
 pub record EndsLine (rest : List ℕ) : Type 0 where
-  pub no_ch : is_ch (first rest) ≡ false
+  pub no_ch : is_comment_byte (first rest) ≡ false
   pub no_comment : eqb (first rest) hash ≡ false
   pub no_blank : is_blank (first rest) ≡ false
   pub over : is_line_over (first rest) ≡ true
@@ -35,7 +35,7 @@ comment_again : (c : Option (List ℕ)) (rest : List ℕ) → IsComment c → En
     → (comment_front (comment c rest) ≡ c) × (past_comment (comment c rest) ≡ rest)
 comment_again None rest h ends = (rw ends.no_comment refl, rw ends.no_comment refl)
 comment_again (Some text) rest h ends =
-    (rw (front_again is_ch text rest h ends.no_ch) refl, after_again is_ch text rest h ends.no_ch)
+    (rw (front_again is_comment_byte text rest h ends.no_ch) refl, after_again is_comment_byte text rest h ends.no_ch)
 
 comment_first : (c : Option (List ℕ)) (rest : List ℕ) → EndsLine rest
     → (is_blank (first (comment c rest)) ≡ false) × (is_line_over (first (comment c rest)) ≡ true)

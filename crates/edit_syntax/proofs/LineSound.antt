@@ -1,8 +1,8 @@
--- What is read of lines is spelled so.
+-- A line that the parser accepts is written as its syntax tree says.
 use Rattle.std.proofs.Common.{◌≡◌, ℕ, zero, suc, ◌≤◌, Bool, true, false, eqb, List, [], ◌∷◌, ◌++◌, length, slice_index, drop, Some, refl, ap, subst, ◌∙◌, inl, inr, arith}
 use Rattle.std.proofs.lemmas.Bool.{eqb-true}
 use Rattle.std.proofs.lemmas.List.{nil_from_length}
-use Rattle.edit_syntax.specs.Characters.{hash, left_bracket, right_bracket, is_blank, is_ch, All}
+use Rattle.edit_syntax.specs.Characters.{hash, left_bracket, right_bracket, is_blank, is_comment_byte, All}
 use Rattle.edit_syntax.specs.Strings.{LineEnd, line_end, Key, key, IsKey}
 use Rattle.edit_syntax.specs.Grammar.{Statement, pair, header, element_header, statement, IsStatement, comment, IsComment, Line, line, IsLine, Lines, one_line, more_lines, lines, AreLines}
 use Rattle.edit_syntax.specs.Depth.{statement_depth, line_depth, lines_depth}
@@ -108,8 +108,8 @@ comment_sound bytes = go (eqb (first bytes) hash) refl
         → (bytes ≡ comment (comment_front bytes) (past_comment bytes)) × IsComment (comment_front bytes)
     go true e = rw e (
       first_is hash bytes (omega arith) e ∙
-          ap (λ (r : List ℕ). hash ∷ r) (run_parts is_ch (drop 1 bytes)),
-      run_all is_ch (drop 1 bytes),
+          ap (λ (r : List ℕ). hash ∷ r) (run_parts is_comment_byte (drop 1 bytes)),
+      run_all is_comment_byte (drop 1 bytes),
     )
     go false e = rw e (refl, tt)
 

@@ -1,4 +1,4 @@
--- The steps of the loops.
+-- One turn of each loop of the tokenizer.
 use Rattle.std.proofs.Common.{◌≡◌, ℕ, suc, ◌+◌, ◌-◌, ◌<◌, true, false, eqb, List, ◌∷◌, drop, Option, Some, None, refl, arith}
 use Rattle.std.specs.Prelude.{option_map}
 use Rattle.edit_syntax.specs.Characters.{quote}

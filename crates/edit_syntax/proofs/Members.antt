@@ -1,4 +1,4 @@
--- Members of lists.
+-- Membership in lists.
 use Rattle.std.proofs.Common.{◌≡◌, ℕ, zero, suc, ◌<◌, List, [], ◌∷◌, ◌++◌, map, length, get_or, Option, None, Some, refl, sym, ap, ◌∙◌, subst, ◌⊎◌, inl, inr, ⊎_elim, arith}
 use Rattle.std.specs.List.{AllByRecursion, Contains, filter_map, cons_option}
 

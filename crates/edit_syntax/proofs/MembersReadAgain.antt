@@ -1,4 +1,4 @@
--- Pairs, members and elements that are spelled so are read, where their values are.
+-- Parsing the text of pairs, members and elements gives them back, if it does so for their values.
 use Rattle.std.proofs.Common.{◌≡◌, ℕ, zero, suc, ◌+◌, ◌≤◌, not, true, false, ◌&&◌, ◌==◌, eqb, Bool, List, [], ◌∷◌, ◌++◌, length, Some, refl, ap, arith}
 use Rattle.std.proofs.lemmas.Bool.Decides.{nat_tests}
 use Rattle.std.proofs.lemmas.List.{length-append}

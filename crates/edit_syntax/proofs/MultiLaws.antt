@@ -1,10 +1,10 @@
--- Strings over several lines that are read are spelled so, and those that are spelled so are read.
+-- Multi-line strings: the parser accepts exactly what is written as its result says.
 use Rattle.std.proofs.Common.{◌≡◌, ℕ, zero, suc, ◌+◌, ◌<◌, Bool, true, false, eqb, List, [], ◌∷◌, ◌++◌, length, slice_index, drop, Some, refl, sym, ap, subst, ◌∙◌, inl, inr, true≢false, arith}
 use Rattle.std.specs.List.{AllByRecursion}
 use Rattle.edit_syntax.specs.Characters.{quote, apostrophe, backslash, is_blank, is_basic_ch, is_literal_ch}
 use Rattle.edit_syntax.specs.Strings.{LineEnd, lf, crlf, line_end, Piece, plain, letter, short, long, feed, fold, delimiter, piece, pieces, IsBasicPiece, IsMultiPiece, IsRawPiece, RunsFit, FoldsAreWhole, begins_with_space}
 use Rattle.edit_syntax.specs.Grammar.{three}
-use Rattle.edit_syntax.specs.Reading.{first, blanks, past_blanks, line_end_at, begins_space, spaces_at, fold_at, feed_at, is_line_break, spot_at, raw_at, line_piece_at, closes, delimiter_at, body_at, multi_at}
+use Rattle.edit_syntax.specs.Reading.{first, blanks, past_blanks, line_end_at, begins_space, spaces_at, fold_at, text_newline_at, is_line_break, basic_piece_at, literal_piece_at, line_piece_at, closes, delimiter_at, body_at, multi_at}
 use Rattle.edit_syntax.specs.ReadingNumbers.{begins}
 use Rattle.edit_syntax.proofs.TokenLaws.{bind_some, chosen, tested, some_is, first_is, first_of, at_drop, run_parts, run_all, escape_sound}
 use Rattle.std.proofs.lemmas.Bool.{and_parts}
@@ -30,8 +30,8 @@ pub record IsRead (mark : ℕ) (valid : Piece → Type 0) (text : List ℕ) (x :
   pub ends : FoldEnds x.0 x.1
 
 feed_sound : (mark : ℕ) (valid : Piece → Type 0) → ((e : LineEnd) → valid (feed e))
-    → (text : List ℕ) (x : Piece × List ℕ) → feed_at text ≡ Some x → IsRead mark valid text x
-unfolding feed_at
+    → (text : List ℕ) (x : Piece × List ℕ) → text_newline_at text ≡ Some x → IsRead mark valid text x
+unfolding text_newline_at
 feed_sound mark valid all text x e =
     let a = bind_some (line_end_at text) _ x e in
     subst (IsRead mark valid text) (some_is _ x a.2)
@@ -64,8 +64,9 @@ basic_multi (feed e) h = absurd h
 basic_multi (fold ws e more) h = absurd h
 basic_multi delimiter h = absurd h
 
-spot_sound : (text : List ℕ) (x : Piece × List ℕ) → spot_at text ≡ Some x → IsRead quote IsMultiPiece text x
-unfolding spot_at
+spot_sound : (text : List ℕ) (x : Piece × List ℕ) → basic_piece_at text ≡ Some x
+    → IsRead quote IsMultiPiece text x
+unfolding basic_piece_at
 spot_sound text x e = elim (chosen (is_line_break (first text)) _ _ (Some x) e) [
   | inl h ↦ feed_sound quote IsMultiPiece (λ e. tt) text x h.1
   | inr h ↦ elim (chosen (eqb (first text) backslash) _ _ (Some x) h.1) [
@@ -83,8 +84,9 @@ spot_sound text x e = elim (chosen (is_line_break (first text)) _ _ (Some x) e) 
   ]
 ]
 
-raw_sound : (text : List ℕ) (x : Piece × List ℕ) → raw_at text ≡ Some x → IsRead apostrophe IsRawPiece text x
-unfolding raw_at
+raw_sound : (text : List ℕ) (x : Piece × List ℕ) → literal_piece_at text ≡ Some x
+    → IsRead apostrophe IsRawPiece text x
+unfolding literal_piece_at
 raw_sound text x e = elim (chosen (is_line_break (first text)) _ _ (Some x) e) [
   | inl h ↦ feed_sound apostrophe IsRawPiece (λ e. tt) text x h.1
   | inr h ↦

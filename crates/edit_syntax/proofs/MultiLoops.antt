@@ -1,4 +1,4 @@
--- The steps of the loops over strings of several lines.
+-- One turn of each loop over a multi-line string.
 use Rattle.std.proofs.Common.{◌≡◌, ℕ, suc, true, false, eqb, List, ◌∷◌, drop, Some, None, refl}
 use Rattle.edit_syntax.specs.Strings.{delimiter}
 use Rattle.edit_syntax.specs.Reading.{◌>>=◌, Read, first, begins_space, space_at, spaces_at, line_piece_at, closes, body_at}

@@ -1,4 +1,4 @@
--- Strings over several lines that are spelled so are read.
+-- Parsing the text of a multi-line string gives it back.
 use Rattle.std.proofs.Common.{◌≡◌, ℕ, zero, suc, ◌<◌, ◌≤◌, true, false, eqb, eq-eqb, List, [], ◌∷◌, length, Some, refl, subst, ◌⊎◌, inl, inr, true≢false, arith}
 use Rattle.std.proofs.lemmas.Bool.Decides.{nat_tests}
 use Rattle.std.specs.List.{AllByRecursion}

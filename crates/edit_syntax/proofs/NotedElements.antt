@@ -1,4 +1,4 @@
--- What the functions that read arrays note down.
+-- The tokens that the functions for arrays append.
 use Rattle.std.proofs.Common.{◌≡◌, ℕ, suc, true, false, eqb, List, [], ◌∷◌, ◌++◌, length, drop, Some, None, Result, Ok, Err, refl, sym, ap, subst, ◌∙◌, append_assoc, arith}
 use Rattle.std.specs.Borrow.{Bor}
 use Rattle.std.specs.Global.{Vec}
@@ -9,8 +9,8 @@ use Rattle.edit_syntax.specs.declared.read.marks.ReadError.TheVariants.{Memory}
 use Rattle.edit_syntax.specs.Characters.{comma, left_bracket, right_bracket}
 use Rattle.edit_syntax.specs.Grammar.{gap, Value, array, Elements, no_elements, last_element, element, value, elements}
 use Rattle.edit_syntax.specs.Reading.{◌>>=◌, Read, first, gap_front, past_gap, past, elements_at, value_at}
-use Rattle.edit_syntax.specs.Marks.{mark, value_marks, elements_marks}
-use Rattle.edit_syntax.specs.Noting.{Notes, array_marks}
+use Rattle.edit_syntax.specs.SyntaxTokens.{mark, tokens_of_value, tokens_of_elements}
+use Rattle.edit_syntax.specs.AppendedTokens.{AppendsTokens, tokens_of_array}
 use Rattle.edit_syntax.proofs.TokenLaws.{first_is, past_some}
 use Rattle.edit_syntax.proofs.ValueLaws.{elements_sound, value_sound}
 use Rattle.edit_syntax.proofs.ScalarLaws.{Sound}
@@ -21,7 +21,7 @@ use Rattle.edit_syntax.proofs.GapLaws.{front_parts}
 pub record Fills (read : List ℕ → Read Value) (total : Read Elements) (count : ℕ) (text : List ℕ)
     (old out : List Mark) : Type 0 where
   pub some : (x : Elements × List ℕ) → elements_at read count text ≡ Some x → (es : Elements)
-      × (total ≡ Some (es, x.1)) × (out ++ array_marks x.0 x.1 ≡ old ++ array_marks es x.1)
+      × (total ≡ Some (es, x.1)) × (out ++ tokens_of_array x.0 x.1 ≡ old ++ tokens_of_array es x.1)
   pub none : elements_at read count text ≡ None → total ≡ None
 
 -- an element before others
@@ -39,7 +39,7 @@ put_marks : (n : ℕ) (read : List ℕ → Read Value) → Sound n read
     → (count : ℕ) (r : List ℕ) (v : Value) (es : Elements) (after : List ℕ)
     → eqb (first (past_gap r)) comma ≡ true
     → elements_at read count (past_gap (drop 1 (past_gap r))) ≡ Some (es, after)
-    → array_marks (put v r es) after ≡ value_marks v r ++ array_marks es after
+    → tokens_of_array (put v r es) after ≡ tokens_of_value v r ++ tokens_of_array es after
 put_marks n read sound count r v es after sign e =
     let next = drop 1 (past_gap r) in
     let more = elements es (right_bracket ∷ after) in
@@ -49,16 +49,16 @@ put_marks n read sound count r v es after sign e =
     let whole : r ≡ gap (gap_front r) tail = front_parts r tail
     (first_is comma (past_gap r) (omega arith) sign ∙ ap (λ (t : List ℕ). comma ∷ t) two) in
     let close = mark kinds.CloseArray (right_bracket ∷ after) after ∷ [] in
-    let one : array_marks (put v r es) after
-    ≡ (value_marks v (gap (gap_front r) tail) ++ elements_marks es (right_bracket ∷ after)) ++ close = refl in
-    one ∙ append_assoc (value_marks v (gap (gap_front r) tail))
-    (elements_marks es (right_bracket ∷ after)) close ∙
-    ap (λ (t : List ℕ). value_marks v t ++ array_marks es after) (sym whole)
+    let one : tokens_of_array (put v r es) after
+    ≡ (tokens_of_value v (gap (gap_front r) tail) ++ tokens_of_elements es (right_bracket ∷ after)) ++ close = refl in
+    one ∙ append_assoc (tokens_of_value v (gap (gap_front r) tail))
+    (tokens_of_elements es (right_bracket ∷ after)) close ∙
+    ap (λ (t : List ℕ). tokens_of_value v t ++ tokens_of_array es after) (sym whole)
 
 pub elements_turn : (n : ℕ) (read : List ℕ → Read Value) → Sound n read
     → (total : Read Elements) (count : ℕ) (text r : List ℕ) (v : Value) (old out new : List Mark)
     → eqb (first text) right_bracket ≡ false → read text ≡ Some (v, r) → eqb (first (past_gap r)) comma ≡ true
-    → new ≡ out ++ value_marks v r → Fills read total (suc count) text old out
+    → new ≡ out ++ tokens_of_value v r → Fills read total (suc count) text old out
     → Fills read total count (past_gap (drop 1 (past_gap r))) old new
 elements_turn n read sound total count text r v old out new unclosed e sign noted before =
     let step = elements_more read count text r v unclosed e sign in
@@ -68,8 +68,8 @@ elements_turn n read sound total count text r v old out new unclosed e sign note
           let b = before.some (put v r x.0, x.1) here in (
             b.0,
             b.1,
-            ap (λ (m : List Mark). m ++ array_marks x.0 x.1) noted ∙
-                append_assoc out (value_marks v r) (array_marks x.0 x.1) ∙
+            ap (λ (m : List Mark). m ++ tokens_of_array x.0 x.1) noted ∙
+                append_assoc out (tokens_of_value v r) (tokens_of_array x.0 x.1) ∙
                 ap (λ (m : List Mark). out ++ m) (sym (put_marks n read sound count r v x.0 x.1 sign h)) ∙
                 b.2,
           );
@@ -95,7 +95,7 @@ pub elements_end : (read : List ℕ → Read Value) (total : Read Elements) (cou
     (old out new : List Mark) → eqb (first text) right_bracket ≡ true
     → new ≡ out ++ (mark kinds.CloseArray text (drop 1 text) ∷ [])
     → Fills read total (suc count) text old out → (es : Elements) × (total ≡ Some (es, drop 1 text))
-    × (new ≡ old ++ array_marks es (drop 1 text))
+    × (new ≡ old ++ tokens_of_array es (drop 1 text))
 elements_end read total count text old out new closed ended before =
     let b = before.some (no_elements, drop 1 text) (elements_closed read count text closed) in
     let bracket : text ≡ right_bracket ∷ drop 1 text = first_is right_bracket text (omega arith) closed in
@@ -105,9 +105,9 @@ elements_end read total count text old out new closed ended before =
 pub elements_done : (read : List ℕ → Read Value) (total : Read Elements) (count : ℕ) (text r after : List ℕ)
     (v : Value) (old out mid new : List Mark) → eqb (first text) right_bracket ≡ false
     → read text ≡ Some (v, r) → eqb (first (past_gap r)) comma ≡ false
-    → Some after ≡ past right_bracket (past_gap r) → mid ≡ out ++ value_marks v r
+    → Some after ≡ past right_bracket (past_gap r) → mid ≡ out ++ tokens_of_value v r
     → new ≡ mid ++ (mark kinds.CloseArray (past_gap r) after ∷ []) → Fills read total (suc count) text old out
-    → (es : Elements) × (total ≡ Some (es, after)) × (new ≡ old ++ array_marks es after)
+    → (es : Elements) × (total ≡ Some (es, after)) × (new ≡ old ++ tokens_of_array es after)
 elements_done read total count text r after v old out mid new unclosed e sign closed noted ended before =
     let g = gap_front r in
     let m = last_element v g in
@@ -118,14 +118,14 @@ elements_done read total count text r after v old out mid new unclosed e sign cl
     (omega arith) (sym closed) in
     let whole : r ≡ gap g (right_bracket ∷ after) = front_parts r (right_bracket ∷ after) bracket in
     let close = mark kinds.CloseArray (right_bracket ∷ after) after ∷ [] in
-    let one : array_marks m after ≡ value_marks v (gap g (right_bracket ∷ after)) ++ close = refl in
-    let all : array_marks m after ≡ value_marks v r ++ (mark kinds.CloseArray (past_gap r) after ∷ []) =
-    one ∙ ap (λ (t : List ℕ). value_marks v t ++ close) (sym whole) ∙
-    ap (λ (t : List ℕ). value_marks v r ++ (mark kinds.CloseArray t after ∷ [])) (sym bracket) in (
+    let one : tokens_of_array m after ≡ tokens_of_value v (gap g (right_bracket ∷ after)) ++ close = refl in
+    let all : tokens_of_array m after ≡ tokens_of_value v r ++ (mark kinds.CloseArray (past_gap r) after ∷ []) =
+    one ∙ ap (λ (t : List ℕ). tokens_of_value v t ++ close) (sym whole) ∙
+    ap (λ (t : List ℕ). tokens_of_value v r ++ (mark kinds.CloseArray t after ∷ [])) (sym bracket) in (
       b.0,
       b.1,
       ended ∙ ap (λ (t : List Mark). t ++ (mark kinds.CloseArray (past_gap r) after ∷ [])) noted ∙
-          append_assoc out (value_marks v r) (mark kinds.CloseArray (past_gap r) after ∷ []) ∙
+          append_assoc out (tokens_of_value v r) (mark kinds.CloseArray (past_gap r) after ∷ []) ∙
           ap (λ (t : List Mark). out ++ t) (sym all) ∙ b.2,
     )
 
@@ -151,9 +151,9 @@ pub elements_failed : (read : List ℕ → Read Value) (total : Read Elements) (
     (old new : Vec Mark) (out : List Mark) (e e2 : ReadError) (r : Result (Bor (List ℕ)) ReadError)
     → r ≡ Err e2 → e2 ≡ e → eqb (first text) right_bracket ≡ false
     → ((e ≡ Memory → ⊥) → read text ≡ None) → Fills read total (suc count) text old.items out
-    → Notes array_marks old new r total
+    → AppendsTokens tokens_of_array old new r total
 elements_failed read total count text old new out e e2 r was same unclosed h before =
-    subst (λ (x : Result (Bor (List ℕ)) ReadError). Notes array_marks old new x total) (sym was)
+    subst (λ (x : Result (Bor (List ℕ)) ReadError). AppendsTokens tokens_of_array old new x total) (sym was)
     (λ other. elements_fail read total count text old.items out unclosed (h (λ m. other (same ∙ m))) before)
 
 -- ---- arrays
@@ -161,8 +161,8 @@ elements_failed read total count text old new out e e2 r was same unclosed h bef
 pub array_noted : (n : ℕ) (old mid new : Vec Mark) (text : List ℕ) (r : Result (Bor (List ℕ)) ReadError)
     → eqb (first text) left_bracket ≡ true
     → mid.items ≡ old.items ++ (mark kinds.OpenArray text (drop 1 text) ∷ [])
-    → Notes array_marks mid new r (elements_at (value_at n) (length text) (past_gap (drop 1 text)))
-    → Notes value_marks old new r (value_at (suc n) text)
+    → AppendsTokens tokens_of_array mid new r (elements_at (value_at n) (length text) (past_gap (drop 1 text)))
+    → AppendsTokens tokens_of_value old new r (value_at (suc n) text)
 unfolding value_at
 array_noted n old mid new text (Ok after) opened noted h =
     let inner = drop 1 text in
@@ -179,8 +179,8 @@ array_noted n old mid new text (Ok after) opened noted h =
     ap (λ (t : List ℕ). mark kinds.OpenArray (value v after.now) t) tail in (
       v,
       here,
-      h.2 ∙ ap (λ (m : List Mark). m ++ array_marks h.0 after.now)
+      h.2 ∙ ap (λ (m : List Mark). m ++ tokens_of_array h.0 after.now)
           (noted ∙ ap (λ (m : Mark). old.items ++ (m ∷ [])) same) ∙
-          append_assoc old.items _ (array_marks h.0 after.now),
+          append_assoc old.items _ (tokens_of_array h.0 after.now),
     )
 array_noted n old mid new text (Err e) opened noted h = λ refused. rw (opened, h refused) refl

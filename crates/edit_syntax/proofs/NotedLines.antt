@@ -1,4 +1,4 @@
--- What the functions that read lines note down.
+-- The tokens that the functions for lines append.
 use Rattle.std.proofs.Common.{◌≡◌, ℕ, suc, ◌+◌, ◌≤◌, true, false, eqb, List, [], ◌∷◌, ◌++◌, length, drop, slice_index, Option, Some, None, Result, Err, refl, sym, ap, subst, ◌∙◌, append_assoc, arith}
 use Rattle.std.specs.Prelude.{MatchResult}
 use Rattle.std.specs.Borrow.{Bor}
@@ -14,8 +14,8 @@ use Rattle.edit_syntax.specs.Strings.{LineEnd, line_end, Key, key}
 use Rattle.edit_syntax.specs.Grammar.{Statement, header, statement, comment, Line, empty_line, full_line, Lines, one_line, more_lines, lines, element_header, AreLines}
 use Rattle.edit_syntax.specs.Depth.{lines_depth}
 use Rattle.edit_syntax.specs.Reading.{◌>>=◌, first, blanks, past_blanks, past, key_at, header_at, element_header_at, statement_at, comment_front, past_comment, is_line_over, line_at, line_end_at, lines_at}
-use Rattle.edit_syntax.specs.Marks.{mark, key_marks, statement_marks, line_marks, lines_marks}
-use Rattle.edit_syntax.specs.Noting.{Notes}
+use Rattle.edit_syntax.specs.SyntaxTokens.{mark, tokens_of_key, tokens_of_statement, tokens_of_line, tokens_of_lines}
+use Rattle.edit_syntax.specs.AppendedTokens.{AppendsTokens}
 use Rattle.edit_syntax.proofs.TokenLaws.{past_some, run_parts}
 use Rattle.edit_syntax.proofs.ScalarLaws.{blank_parts}
 use Rattle.edit_syntax.proofs.TextLaws.{lines_read, lines_read_again}
@@ -32,20 +32,20 @@ header_here bytes key_end rest k key closed = rw (key, ← closed) refl
 
 -- the marks of a key and of the header behind it
 header_marks : (kind : MarkKind) (old mid new : List Mark) (bytes key_end rest tail : List ℕ) (k : Key)
-    (s : Statement) → mid ≡ old ++ key_marks k key_end → new ≡ mid ++ (mark kind bytes rest ∷ [])
+    (s : Statement) → mid ≡ old ++ tokens_of_key k key_end → new ≡ mid ++ (mark kind bytes rest ∷ [])
     → key_end ≡ tail → bytes ≡ statement s rest
-    → new ≡ old ++ (key_marks k tail ++ (mark kind (statement s rest) rest ∷ []))
+    → new ≡ old ++ (tokens_of_key k tail ++ (mark kind (statement s rest) rest ∷ []))
 header_marks kind old mid new bytes key_end rest tail k s noted ended e f =
     ended ∙ ap (λ (m : List Mark). m ++ (mark kind bytes rest ∷ [])) noted ∙
-    append_assoc old (key_marks k key_end) (mark kind bytes rest ∷ [])
-    ∙ ap (λ (t : List ℕ). old ++ (key_marks k t ++ (mark kind bytes rest ∷ []))) e ∙
-    ap (λ (t : List ℕ). old ++ (key_marks k tail ++ (mark kind t rest ∷ []))) f
+    append_assoc old (tokens_of_key k key_end) (mark kind bytes rest ∷ [])
+    ∙ ap (λ (t : List ℕ). old ++ (tokens_of_key k t ++ (mark kind bytes rest ∷ []))) e ∙
+    ap (λ (t : List ℕ). old ++ (tokens_of_key k tail ++ (mark kind t rest ∷ []))) f
 
 pub header_noted : (old mid new : List Mark) (bytes key_end rest : List ℕ) (k : Key)
     → eqb (first bytes) left_bracket ≡ true → key_at (past_blanks (drop 1 bytes)) ≡ Some (k, key_end)
-    → mid ≡ old ++ key_marks k key_end → Some rest ≡ past right_bracket (past_blanks key_end)
+    → mid ≡ old ++ tokens_of_key k key_end → Some rest ≡ past right_bracket (past_blanks key_end)
     → new ≡ mid ++ (mark kinds.Header bytes rest ∷ [])
-    → (s : Statement) × (header_at bytes ≡ Some (s, rest)) × (new ≡ old ++ statement_marks s rest)
+    → (s : Statement) × (header_at bytes ≡ Some (s, rest)) × (new ≡ old ++ tokens_of_statement s rest)
 header_noted old mid new bytes key_end rest k opened key noted closed ended =
     let s = header (blanks (drop 1 bytes)) k (blanks key_end) in
     let here = header_here bytes key_end rest k key closed in
@@ -71,9 +71,9 @@ element_here bytes key_end inner rest k key one two = rw (key, ← one, ← two)
 pub element_noted : (old mid new : List Mark) (bytes key_end inner rest : List ℕ) (k : Key)
     → eqb (first bytes) left_bracket ≡ true → eqb (slice_index bytes 1) left_bracket ≡ true
     → key_at (past_blanks (drop 2 bytes)) ≡ Some (k, key_end)
-    → mid ≡ old ++ key_marks k key_end → Some inner ≡ past right_bracket (past_blanks key_end)
+    → mid ≡ old ++ tokens_of_key k key_end → Some inner ≡ past right_bracket (past_blanks key_end)
     → Some rest ≡ past right_bracket inner → new ≡ mid ++ (mark kinds.ElementHeader bytes rest ∷ [])
-    → (s : Statement) × (element_header_at bytes ≡ Some (s, rest)) × (new ≡ old ++ statement_marks s rest)
+    → (s : Statement) × (element_header_at bytes ≡ Some (s, rest)) × (new ≡ old ++ tokens_of_statement s rest)
 element_noted old mid new bytes key_end inner rest k opened again key noted one two ended =
     let s = element_header (blanks (drop 2 bytes)) k (blanks key_end) in
     let here = element_here bytes key_end inner rest k key one two in
@@ -91,16 +91,16 @@ element_noted old mid new bytes key_end inner rest k opened again key noted one 
 
 pub empty_noted : (n : ℕ) (old : List Mark) (bytes : List ℕ) → is_line_over (first (past_blanks bytes)) ≡ true
     → (l : Line) × (line_at n bytes ≡ Some (l, past_comment (past_blanks bytes)))
-    × (old ≡ old ++ line_marks l (past_comment (past_blanks bytes)))
+    × (old ≡ old ++ tokens_of_line l (past_comment (past_blanks bytes)))
 unfolding line_at
 empty_noted n old bytes over =
     (empty_line (blanks bytes) (comment_front (past_blanks bytes)), rw over refl, sym (append-nil old))
 
 pub full_noted : (n : ℕ) (old new : List Mark) (bytes rest : List ℕ) (s : Statement)
     → is_line_over (first (past_blanks bytes)) ≡ false → statement_at n (past_blanks bytes) ≡ Some (s, rest)
-    → new ≡ old ++ statement_marks s rest
+    → new ≡ old ++ tokens_of_statement s rest
     → (l : Line) × (line_at n bytes ≡ Some (l, past_comment (past_blanks rest)))
-    × (new ≡ old ++ line_marks l (past_comment (past_blanks rest)))
+    × (new ≡ old ++ tokens_of_line l (past_comment (past_blanks rest)))
 unfolding line_at
 full_noted n old new bytes rest s over e noted =
     let tail : rest ≡ blanks rest ++ comment (comment_front (past_blanks rest))
@@ -109,7 +109,7 @@ full_noted n old new bytes rest s over e noted =
       full_line (blanks bytes) s (blanks rest) (comment_front (past_blanks rest)),
       rw (over, e) refl,
       noted ∙
-          ap (λ (t : List ℕ). old ++ statement_marks s t) tail,
+          ap (λ (t : List ℕ). old ++ tokens_of_statement s t) tail,
     )
 
 pub line_refused : (n : ℕ) (bytes : List ℕ) → is_line_over (first (past_blanks bytes)) ≡ false
@@ -121,15 +121,15 @@ pub line_failed : (n : ℕ) (old new : Vec Mark) (bytes : List ℕ) (e e2 : Read
     (r : Result (Bor (List ℕ)) ReadError) → r ≡ Err e2 → e2 ≡ e
     → is_line_over (first (past_blanks bytes)) ≡ false
     → ((e ≡ Memory → ⊥) → statement_at n (past_blanks bytes) ≡ None)
-    → Notes line_marks old new r (line_at n bytes)
+    → AppendsTokens tokens_of_line old new r (line_at n bytes)
 line_failed n old new bytes e e2 r was same over h =
-    subst (λ (x : Result (Bor (List ℕ)) ReadError). Notes line_marks old new x (line_at n bytes)) (sym was)
+    subst (λ (x : Result (Bor (List ℕ)) ReadError). AppendsTokens tokens_of_line old new x (line_at n bytes)) (sym was)
     (λ other. line_refused n bytes over (h (λ m. other (same ∙ m))))
 
 -- whatever is read from here on completes what is read from the start
 pub record Completes (total : Option Lines) (n : ℕ) (bytes : List ℕ) (out : List Mark) : Type 0 where
   pub some : (ls : Lines) → lines_at 80 n bytes ≡ Some ls → (us : Lines) × (total ≡ Some us)
-      × (out ++ lines_marks ls ≡ lines_marks us)
+      × (out ++ tokens_of_lines ls ≡ tokens_of_lines us)
   pub none : lines_at 80 n bytes ≡ None → total ≡ None
 
 lines_last : (n : ℕ) (bytes rest : List ℕ) (l : Line) → line_at 80 bytes ≡ Some (l, rest) → length rest ≡ 0
@@ -153,16 +153,16 @@ unfolding lines_at
 lines_without n bytes e = rw e refl
 
 pub lines_done : (total : Option Lines) (n : ℕ) (bytes rest : List ℕ) (l : Line) (out new : List Mark)
-    → line_at 80 bytes ≡ Some (l, rest) → length rest ≡ 0 → new ≡ out ++ line_marks l rest
+    → line_at 80 bytes ≡ Some (l, rest) → length rest ≡ 0 → new ≡ out ++ tokens_of_line l rest
     → Completes total (suc n) bytes out
-    → (us : Lines) × (total ≡ Some us) × (new ≡ lines_marks us)
+    → (us : Lines) × (total ≡ Some us) × (new ≡ tokens_of_lines us)
 lines_done total n bytes rest l out new e over noted before =
     let b = before.some (one_line l) (lines_last n bytes rest l e over) in
-    (b.0, b.1, noted ∙ ap (λ (t : List ℕ). out ++ line_marks l t) (nil_from_length rest over) ∙ b.2)
+    (b.0, b.1, noted ∙ ap (λ (t : List ℕ). out ++ tokens_of_line l t) (nil_from_length rest over) ∙ b.2)
 
 pub lines_turn : (total : Option Lines) (n : ℕ) (bytes rest next : List ℕ) (l : Line) (out new : List Mark)
     → line_at 80 bytes ≡ Some (l, rest) → eqb (length rest) 0 ≡ false → Some next ≡ rest_of (line_end_at rest)
-    → new ≡ out ++ line_marks l rest
+    → new ≡ out ++ tokens_of_line l rest
     → Completes total (suc n) bytes out → Completes total n next new
 lines_turn total n bytes rest next l out new e more ends noted before =
     let end = mapped (line_end_at rest) next ends in
@@ -174,9 +174,9 @@ lines_turn total n bytes rest next l out new e more ends noted before =
           ap (line_end end.0) (lines_sound 80 n next ls h).0 in (
             b.0,
             b.1,
-            ap (λ (m : List Mark). m ++ lines_marks ls) noted ∙
-                append_assoc out (line_marks l rest) (lines_marks ls) ∙
-                ap (λ (x : List ℕ). out ++ (line_marks l x ++ lines_marks ls)) here ∙ b.2,
+            ap (λ (m : List Mark). m ++ tokens_of_lines ls) noted ∙
+                append_assoc out (tokens_of_line l rest) (tokens_of_lines ls) ∙
+                ap (λ (x : List ℕ). out ++ (tokens_of_line l x ++ tokens_of_lines ls)) here ∙ b.2,
           );
       none = λ h. before.none (step ∙ rw h refl);
     }
@@ -201,22 +201,22 @@ lines_none total bytes out before = before.none refl
 -- the form of lines that were read, with its marks
 abbrev pub Found : List ℕ → List Mark → Type 0
 Found bytes new = (form : Lines) × (bytes ≡ lines form) × AreLines form × (lines_depth form ≤ 80)
-    × (new ≡ lines_marks form)
+    × (new ≡ tokens_of_lines form)
 
 pub found : (bytes : List ℕ) (us : Lines) (new : List Mark) → lines_at 80 (length bytes + 1) bytes ≡ Some us
-    → new ≡ lines_marks us → Found bytes new
+    → new ≡ tokens_of_lines us → Found bytes new
 found bytes us new e noted = let h = lines_read 80 bytes us e in (us, h.0, h.1.valid, h.1.shallow, noted)
 
 good : (form : Lines) → AreLines form → lines_depth form ≤ 80 → AreGoodLines 80 form
 good form valid le = record { valid = valid; shallow = le }
 
 pub only : (bytes : List ℕ) (us : Lines) (new : List Mark) → lines_at 80 (length bytes + 1) bytes ≡ Some us
-    → new ≡ lines_marks us → (form : Lines) → bytes ≡ lines form → AreLines form → lines_depth form ≤ 80
-    → new ≡ lines_marks form
+    → new ≡ tokens_of_lines us → (form : Lines) → bytes ≡ lines form → AreLines form → lines_depth form ≤ 80
+    → new ≡ tokens_of_lines form
 only bytes us new e noted form has valid le =
     let same : Some us ≡ Some form = sym e ∙ lines_read_again 80 bytes form has (good form valid le) in
     let one : us ≡ form = cc in
-    noted ∙ ap lines_marks one
+    noted ∙ ap tokens_of_lines one
 
 pub refused : (bytes : List ℕ) (form : Lines) → lines_at 80 (length bytes + 1) bytes ≡ None
     → bytes ≡ lines form → AreLines form → lines_depth form ≤ 80 → ⊥
@@ -231,9 +231,9 @@ not_memory left e = cc
 pub exit_only : (bytes : List ℕ) (e e2 : ReadError) (r : Result (Vec Mark) ReadError) → r ≡ Err e2 → e2 ≡ e
     → ((e ≡ Memory → ⊥) → lines_at 80 (length bytes + 1) bytes ≡ None)
     → (form : Lines) → bytes ≡ lines form → AreLines form → lines_depth form ≤ 80
-    → MatchResult r (λ v. v.items ≡ lines_marks form) (λ x. x ≡ Memory)
+    → MatchResult r (λ v. v.items ≡ tokens_of_lines form) (λ x. x ≡ Memory)
 exit_only bytes Memory e2 r was same h form has valid le =
-    subst (λ (x : Result (Vec Mark) ReadError). MatchResult x (λ v. v.items ≡ lines_marks form)
+    subst (λ (x : Result (Vec Mark) ReadError). MatchResult x (λ v. v.items ≡ tokens_of_lines form)
     (λ y. y ≡ Memory)) (sym was) same
 exit_only bytes (NotToml left) e2 r was same h form has valid le =
     absurd (refused bytes form (h (not_memory left)) has valid le)

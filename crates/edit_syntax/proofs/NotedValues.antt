@@ -1,4 +1,4 @@
--- What the functions that read keys and values note down.
+-- The tokens that the functions for keys and values append.
 use Rattle.std.proofs.Common.{◌≡◌, ℕ, suc, true, false, eqb, List, [], ◌∷◌, ◌++◌, length, drop, Some, None, Result, Ok, Err, refl, sym, ap, subst, ◌∙◌, append_assoc, arith}
 use Rattle.std.specs.Borrow.{Bor}
 use Rattle.std.proofs.lemmas.Bool.Decides.{nat_tests}
@@ -11,8 +11,8 @@ use Rattle.edit_syntax.specs.Characters.{comma, equals, left_bracket, left_brace
 use Rattle.edit_syntax.specs.Strings.{Key, key}
 use Rattle.edit_syntax.specs.Grammar.{gap, Value, inline, Members, no_members, last_member, member, value, members}
 use Rattle.edit_syntax.specs.Reading.{◌>>=◌, Read, first, blanks, past_blanks, past, key_at, Pair, pair_at, members_at, value_at, gap_front, past_gap}
-use Rattle.edit_syntax.specs.Marks.{mark, key_marks, value_marks, members_marks}
-use Rattle.edit_syntax.specs.Noting.{Notes, pair_marks, inner_marks}
+use Rattle.edit_syntax.specs.SyntaxTokens.{mark, tokens_of_key, tokens_of_value, tokens_of_members}
+use Rattle.edit_syntax.specs.AppendedTokens.{AppendsTokens, tokens_of_pair, tokens_of_inline_table}
 use Rattle.edit_syntax.proofs.TokenLaws.{first_is, past_some}
 use Rattle.edit_syntax.proofs.GapLaws.{front_parts}
 use Rattle.edit_syntax.proofs.ValueLaws.{members_sound, value_sound}
@@ -55,21 +55,22 @@ pair_keyless read text key = rw key refl
 pub pair_noted : (n : ℕ) (read : List ℕ → Read Value) → Sound n read
     → (old mid new : Vec Mark) (text key_end rest : List ℕ) (k : Key) (r : Result (Bor (List ℕ)) ReadError)
     → key_at text ≡ Some (k, key_end)
-    → mid.items ≡ old.items ++ key_marks k key_end → Some rest ≡ past equals (past_blanks key_end)
-    → Notes value_marks mid new r (read (past_blanks rest)) → Notes pair_marks old new r (pair_at read text)
+    → mid.items ≡ old.items ++ tokens_of_key k key_end → Some rest ≡ past equals (past_blanks key_end)
+    → AppendsTokens tokens_of_value mid new r (read (past_blanks rest))
+    → AppendsTokens tokens_of_pair old new r (pair_at read text)
 pair_noted n read sound old mid new text key_end rest k (Ok after) key noted eq h =
     let v = h.0 in
     let p : Pair = record { key = k; before = blanks key_end; behind = blanks rest; value = v } in
     let tail = pair_tail n read key_end rest after.now v sound eq h.1 in
-    let same : key_marks k key_end
-    ≡ key_marks k (blanks key_end ++ (equals ∷ (blanks rest ++ value v after.now))) = ap (key_marks k) tail
+    let same : tokens_of_key k key_end
+    ≡ tokens_of_key k (blanks key_end ++ (equals ∷ (blanks rest ++ value v after.now))) = ap (tokens_of_key k) tail
     in (
       p,
       pair_here read text key_end rest after.now k v key eq h.1,
       h.2 ∙
-          ap (λ (m : List Mark). m ++ value_marks v after.now)
+          ap (λ (m : List Mark). m ++ tokens_of_value v after.now)
           (noted ∙ ap (λ (m : List Mark). old.items ++ m) same) ∙
-          append_assoc old.items _ (value_marks v after.now),
+          append_assoc old.items _ (tokens_of_value v after.now),
     )
 pair_noted n read sound old mid new text key_end rest k (Err e) key noted eq h =
     λ other. pair_stops read text key_end rest k key eq (h other)
@@ -77,9 +78,9 @@ pair_noted n read sound old mid new text key_end rest k (Err e) key noted eq h =
 -- the exit of a key that was not read
 pub pair_failed : (read : List ℕ → Read Value) (text : List ℕ) (old new : Vec Mark) (e e2 : ReadError)
     (r : Result (Bor (List ℕ)) ReadError) → r ≡ Err e2 → e2 ≡ e
-    → ((e ≡ Memory → ⊥) → key_at text ≡ None) → Notes pair_marks old new r (pair_at read text)
+    → ((e ≡ Memory → ⊥) → key_at text ≡ None) → AppendsTokens tokens_of_pair old new r (pair_at read text)
 pair_failed read text old new e e2 r was same h =
-    subst (λ (x : Result (Bor (List ℕ)) ReadError). Notes pair_marks old new x (pair_at read text)) (sym was)
+    subst (λ (x : Result (Bor (List ℕ)) ReadError). AppendsTokens tokens_of_pair old new x (pair_at read text)) (sym was)
     (λ other. pair_keyless read text (h (λ m. other (same ∙ m))))
 
 -- ---- members
@@ -100,7 +101,7 @@ made_marks : (n : ℕ) (read : List ℕ → Read Value) → Sound n read
     → (count : ℕ) (r : List ℕ) (p : Pair) (ms : Members) (after : List ℕ)
     → eqb (first (past_gap r)) comma ≡ true
     → members_at read count (past_gap (drop 1 (past_gap r))) ≡ Some (ms, after)
-    → inner_marks (made p r ms) after ≡ pair_marks p r ++ inner_marks ms after
+    → tokens_of_inline_table (made p r ms) after ≡ tokens_of_pair p r ++ tokens_of_inline_table ms after
 made_marks n read sound count r p ms after sign e =
     let next = drop 1 (past_gap r) in
     let more = members ms (right_brace ∷ after) in
@@ -110,24 +111,24 @@ made_marks n read sound count r p ms after sign e =
     let whole : r ≡ gap (gap_front r) tail = front_parts r tail
     (first_is comma (past_gap r) (omega arith) sign ∙ ap (λ (t : List ℕ). comma ∷ t) two) in
     let close = mark kinds.CloseTable (right_brace ∷ after) after ∷ [] in
-    let one : inner_marks (made p r ms) after
-    ≡ (pair_marks p (gap (gap_front r) tail) ++ members_marks ms (right_brace ∷ after)) ++ close = refl in
-    one ∙ append_assoc (pair_marks p (gap (gap_front r) tail))
-    (members_marks ms (right_brace ∷ after)) close ∙
-    ap (λ (t : List ℕ). pair_marks p t ++ inner_marks ms after) (sym whole)
+    let one : tokens_of_inline_table (made p r ms) after
+    ≡ (tokens_of_pair p (gap (gap_front r) tail) ++ tokens_of_members ms (right_brace ∷ after)) ++ close = refl in
+    one ∙ append_assoc (tokens_of_pair p (gap (gap_front r) tail))
+    (tokens_of_members ms (right_brace ∷ after)) close ∙
+    ap (λ (t : List ℕ). tokens_of_pair p t ++ tokens_of_inline_table ms after) (sym whole)
 
 -- whatever is read from here on, behind these marks, completes what is read from the start behind the old
 -- ones
 pub record Completes (read : List ℕ → Read Value) (total : Read Members) (count : ℕ) (text : List ℕ)
     (old out : List Mark) : Type 0 where
   pub some : (x : Members × List ℕ) → members_at read count text ≡ Some x → (ms : Members)
-      × (total ≡ Some (ms, x.1)) × (out ++ inner_marks x.0 x.1 ≡ old ++ inner_marks ms x.1)
+      × (total ≡ Some (ms, x.1)) × (out ++ tokens_of_inline_table x.0 x.1 ≡ old ++ tokens_of_inline_table ms x.1)
   pub none : members_at read count text ≡ None → total ≡ None
 
 pub members_turn : (n : ℕ) (read : List ℕ → Read Value) → Sound n read
     → (total : Read Members) (count : ℕ) (text r : List ℕ) (p : Pair) (old out new : List Mark)
     → eqb (first text) right_brace ≡ false → pair_at read text ≡ Some (p, r)
-    → eqb (first (past_gap r)) comma ≡ true → new ≡ out ++ pair_marks p r
+    → eqb (first (past_gap r)) comma ≡ true → new ≡ out ++ tokens_of_pair p r
     → Completes read total (suc count) text old out
     → Completes read total count (past_gap (drop 1 (past_gap r))) old new
 members_turn n read sound total count text r p old out new unclosed e sign noted before =
@@ -138,8 +139,8 @@ members_turn n read sound total count text r p old out new unclosed e sign noted
           let b = before.some (made p r x.0, x.1) here in (
             b.0,
             b.1,
-            ap (λ (m : List Mark). m ++ inner_marks x.0 x.1) noted ∙
-                append_assoc out (pair_marks p r) (inner_marks x.0 x.1) ∙
+            ap (λ (m : List Mark). m ++ tokens_of_inline_table x.0 x.1) noted ∙
+                append_assoc out (tokens_of_pair p r) (tokens_of_inline_table x.0 x.1) ∙
                 ap (λ (m : List Mark). out ++ m) (sym (made_marks n read sound count r p x.0 x.1 sign h)) ∙
                 b.2,
           );
@@ -165,7 +166,7 @@ pub members_end : (read : List ℕ → Read Value) (total : Read Members) (count
     (old out new : List Mark) → eqb (first text) right_brace ≡ true
     → new ≡ out ++ (mark kinds.CloseTable text (drop 1 text) ∷ [])
     → Completes read total (suc count) text old out → (ms : Members) × (total ≡ Some (ms, drop 1 text))
-    × (new ≡ old ++ inner_marks ms (drop 1 text))
+    × (new ≡ old ++ tokens_of_inline_table ms (drop 1 text))
 members_end read total count text old out new closed ended before =
     let b = before.some (no_members, drop 1 text) (members_closed read count text closed) in
     let brace : text ≡ right_brace ∷ drop 1 text = first_is right_brace text (omega arith) closed in
@@ -175,10 +176,10 @@ members_end read total count text old out new closed ended before =
 pub members_done : (read : List ℕ → Read Value) (total : Read Members) (count : ℕ) (text r after : List ℕ)
     (p : Pair) (old out mid new : List Mark) → eqb (first text) right_brace ≡ false
     → pair_at read text ≡ Some (p, r) → eqb (first (past_gap r)) comma ≡ false
-    → Some after ≡ past right_brace (past_gap r) → mid ≡ out ++ pair_marks p r
+    → Some after ≡ past right_brace (past_gap r) → mid ≡ out ++ tokens_of_pair p r
     → new ≡ mid ++ (mark kinds.CloseTable (past_gap r) after ∷ [])
     → Completes read total (suc count) text old out
-    → (ms : Members) × (total ≡ Some (ms, after)) × (new ≡ old ++ inner_marks ms after)
+    → (ms : Members) × (total ≡ Some (ms, after)) × (new ≡ old ++ tokens_of_inline_table ms after)
 members_done read total count text r after p old out mid new unclosed e sign closed noted ended before =
     let c = gap_front r in
     let m = last_member p.key p.before p.behind p.value c in
@@ -189,14 +190,14 @@ members_done read total count text r after p old out mid new unclosed e sign clo
     (sym closed) in
     let whole : r ≡ gap c (right_brace ∷ after) = front_parts r (right_brace ∷ after) brace in
     let close = mark kinds.CloseTable (right_brace ∷ after) after ∷ [] in
-    let one : inner_marks m after ≡ pair_marks p (gap c (right_brace ∷ after)) ++ close = refl in
-    let all : inner_marks m after ≡ pair_marks p r ++ (mark kinds.CloseTable (past_gap r) after ∷ []) =
-    one ∙ ap (λ (t : List ℕ). pair_marks p t ++ close) (sym whole) ∙
-    ap (λ (t : List ℕ). pair_marks p r ++ (mark kinds.CloseTable t after ∷ [])) (sym brace) in (
+    let one : tokens_of_inline_table m after ≡ tokens_of_pair p (gap c (right_brace ∷ after)) ++ close = refl in
+    let all : tokens_of_inline_table m after ≡ tokens_of_pair p r ++ (mark kinds.CloseTable (past_gap r) after ∷ []) =
+    one ∙ ap (λ (t : List ℕ). tokens_of_pair p t ++ close) (sym whole) ∙
+    ap (λ (t : List ℕ). tokens_of_pair p r ++ (mark kinds.CloseTable t after ∷ [])) (sym brace) in (
       b.0,
       b.1,
       ended ∙ ap (λ (t : List Mark). t ++ (mark kinds.CloseTable (past_gap r) after ∷ [])) noted ∙
-          append_assoc out (pair_marks p r) (mark kinds.CloseTable (past_gap r) after ∷ []) ∙
+          append_assoc out (tokens_of_pair p r) (mark kinds.CloseTable (past_gap r) after ∷ []) ∙
           ap (λ (t : List Mark). out ++ t) (sym all) ∙ b.2,
     )
 
@@ -222,9 +223,9 @@ pub members_failed : (read : List ℕ → Read Value) (total : Read Members) (co
     (old new : Vec Mark) (out : List Mark) (e e2 : ReadError) (r : Result (Bor (List ℕ)) ReadError)
     → r ≡ Err e2 → e2 ≡ e → eqb (first text) right_brace ≡ false
     → ((e ≡ Memory → ⊥) → pair_at read text ≡ None) → Completes read total (suc count) text old.items out
-    → Notes inner_marks old new r total
+    → AppendsTokens tokens_of_inline_table old new r total
 members_failed read total count text old new out e e2 r was same unclosed h before =
-    subst (λ (x : Result (Bor (List ℕ)) ReadError). Notes inner_marks old new x total) (sym was)
+    subst (λ (x : Result (Bor (List ℕ)) ReadError). AppendsTokens tokens_of_inline_table old new x total) (sym was)
     (λ other. members_fail read total count text old.items out unclosed (h (λ m. other (same ∙ m))) before)
 
 -- ---- inline tables
@@ -235,8 +236,8 @@ brace_no_bracket b h = grind (arith, nat_tests)
 pub inline_noted : (n : ℕ) (old mid new : Vec Mark) (text : List ℕ) (r : Result (Bor (List ℕ)) ReadError)
     → eqb (first text) left_brace ≡ true
     → mid.items ≡ old.items ++ (mark kinds.OpenTable text (drop 1 text) ∷ [])
-    → Notes inner_marks mid new r (members_at (value_at n) (length text) (past_gap (drop 1 text)))
-    → Notes value_marks old new r (value_at (suc n) text)
+    → AppendsTokens tokens_of_inline_table mid new r (members_at (value_at n) (length text) (past_gap (drop 1 text)))
+    → AppendsTokens tokens_of_value old new r (value_at (suc n) text)
 unfolding value_at
 inline_noted n old mid new text (Ok after) opened noted h =
     let inner = drop 1 text in
@@ -254,9 +255,9 @@ inline_noted n old mid new text (Ok after) opened noted h =
     ap (λ (t : List ℕ). mark kinds.OpenTable (value v after.now) t) tail in (
       v,
       here,
-      h.2 ∙ ap (λ (m : List Mark). m ++ inner_marks h.0 after.now)
+      h.2 ∙ ap (λ (m : List Mark). m ++ tokens_of_inline_table h.0 after.now)
           (noted ∙ ap (λ (m : Mark). old.items ++ (m ∷ [])) same) ∙
-          append_assoc old.items _ (inner_marks h.0 after.now),
+          append_assoc old.items _ (tokens_of_inline_table h.0 after.now),
     )
 inline_noted n old mid new text (Err e) opened noted h =
     λ refused. rw (brace_no_bracket (first text) opened, opened, h refused) refl

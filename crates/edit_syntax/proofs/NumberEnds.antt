@@ -1,11 +1,11 @@
--- What may follow numbers, dates and times, and the digits that they are made of.
+-- What may follow numbers, dates and times, and the digits in them.
 use Rattle.std.proofs.Common.{◌≡◌, ℕ, nat_le, cond, not, Bool, true, false, ◌&&◌, ◌||◌, ◌==◌, eqb, List, [], ◌∷◌, ◌++◌, drop, Some, refl, sym, ap, ◌∙◌, true≢false, arith}
 use Rattle.std.proofs.lemmas.Bool.{and_parts}
 use Rattle.std.proofs.lemmas.Bool.Decides.{nat_tests}
 use Rattle.edit_syntax.specs.Characters.{is_blank, is_bare, All}
 use Rattle.edit_syntax.specs.Numbers.{is_decimal, are_digits, are_more_digits, is_whole}
 use Rattle.edit_syntax.specs.ReadingSteps.{first}
-use Rattle.edit_syntax.specs.ReadingNumbers.{is_marked, digits_at, whole_at, is_power}
+use Rattle.edit_syntax.specs.ReadingNumbers.{is_marked, digits_at, whole_at, is_exponent_letter}
 use Rattle.edit_syntax.proofs.TokenLaws.{front_again, after_again}
 use Rattle.edit_syntax.proofs.Cases.{by_test}
 
@@ -80,7 +80,7 @@ word_whole b h = record {
   no_b = grind (arith, nat_tests);
 }
 
-pub power_whole : (b : ℕ) → is_power b ≡ true → EndsWhole b
+pub power_whole : (b : ℕ) → is_exponent_letter b ≡ true → EndsWhole b
 power_whole b h = record {
   no_mark = grind (arith, nat_tests);
   no_digit = grind (arith, nat_tests);

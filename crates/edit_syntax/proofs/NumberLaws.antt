@@ -1,4 +1,4 @@
--- Dates and times that are read are spelled so, and with them all numbers.
+-- A date, a time or a number that the parser accepts is written as its result says.
 use Rattle.std.proofs.Common.{◌≡◌, ℕ, zero, suc, ◌+◌, ◌<◌, ◌≤◌, nat_le, cond, Bool, true, false, ◌&&◌, ◌||◌, ◌==◌, eqb, List, [], ◌∷◌, ◌++◌, length, slice_index, take, drop, Option, Some, IfSome, refl, sym, ap, subst, ◌∙◌, inl, inr, arith}
 use Rattle.std.proofs.lemmas.Bool.Decides.{nat_tests}
 use Rattle.std.proofs.lemmas.List.{take-append-drop}
@@ -7,7 +7,7 @@ use Rattle.edit_syntax.specs.Characters.{All}
 use Rattle.edit_syntax.specs.Numbers.{no_sign, plus, minus, is_decimal, Base, hexadecimal, octal, binary, base_letter, Date, date, IsDate, Time, time, IsTime, HasDigits, fraction_text, Offset, offset, IsOffset}
 use Rattle.edit_syntax.specs.Grammar.{Value}
 use Rattle.edit_syntax.specs.ReadingSteps.{first, after, past}
-use Rattle.edit_syntax.specs.ReadingNumbers.{based_at, count_at, group_at, date_at, second_at, time_at, offset_at, joins, dated_at, timed_at, unsigned_at, number_at}
+use Rattle.edit_syntax.specs.ReadingNumbers.{based_at, count_at, group_at, date_at, second_at, time_at, offset_at, joins, date_time_at, local_time_at, unsigned_at, number_at}
 use Rattle.edit_syntax.proofs.TokenLaws.{bind_some, chosen, tested, some_is, first_is, first_of, at_drop, past_some, run_parts, run_all}
 use Rattle.edit_syntax.proofs.KeyLaws.{length_front}
 use Rattle.std.proofs.lemmas.Bool.{and_parts}
@@ -132,8 +132,8 @@ offset_sound text x e =
 joins_between : (text : List ℕ) → joins text ≡ true → is_between (first text) ≡ true
 joins_between text h = grind (arith, nat_tests)
 
-dated_sound : (text : List ℕ) (x : Value × List ℕ) → dated_at text ≡ Some x → Spelled text x
-unfolding dated_at
+dated_sound : (text : List ℕ) (x : Value × List ℕ) → date_time_at text ≡ Some x → Spelled text x
+unfolding date_time_at
 dated_sound text x e =
     let a = bind_some (date_at text) _ x e in
     let d = date_sound text a.0 a.1 in
@@ -153,8 +153,8 @@ dated_sound text x e =
       | inr h ↦ subst (Spelled text) (some_is _ x h.1) (d.0, d.1, tt)
     ]
 
-timed_sound : (text : List ℕ) (x : Value × List ℕ) → timed_at text ≡ Some x → Spelled text x
-unfolding timed_at
+timed_sound : (text : List ℕ) (x : Value × List ℕ) → local_time_at text ≡ Some x → Spelled text x
+unfolding local_time_at
 timed_sound text x e =
     let a = bind_some (time_at text) _ x e in
     let t = time_sound text a.0 a.1 in

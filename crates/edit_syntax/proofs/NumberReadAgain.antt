@@ -1,4 +1,4 @@
--- Numbers, dates and times that are spelled so are read, under what may follow a value.
+-- Parsing the text of a number, date or time gives it back, if what follows may follow a value.
 use Rattle.std.proofs.Common.{◌≡◌, ℕ, suc, ◌+◌, nat_le, Bool, true, false, ◌&&◌, ◌||◌, ◌==◌, eqb, List, [], ◌∷◌, ◌++◌, slice_index, Option, Some, None, IfSome, refl, sym, ap, ◌∙◌, true≢false, arith}
 use Rattle.std.proofs.lemmas.Bool.{and_parts}
 use Rattle.std.proofs.lemmas.Bool.Decides.{nat_tests}
@@ -7,7 +7,7 @@ use Rattle.edit_syntax.specs.Characters.{All}
 use Rattle.edit_syntax.specs.Numbers.{Sign, no_sign, plus, minus, sign, is_decimal, are_digits, is_whole, Base, hexadecimal, octal, binary, base_letter, base_digit, Integer, decimal, based, integer_text, IsInteger, Exponent, exponent, IsExponent, optional_exponent, Float, with_fraction, with_exponent, infinite, not_a_number, float_text, IsFloat}
 use Rattle.edit_syntax.specs.Grammar.{integer, float}
 use Rattle.edit_syntax.specs.ReadingSteps.{first, after}
-use Rattle.edit_syntax.specs.ReadingNumbers.{is_marked, sign_of, past_sign, is_power, exponent_at, fraction_read, whole_read, decimal_at, based_at, unsigned_at, number_at}
+use Rattle.edit_syntax.specs.ReadingNumbers.{is_marked, sign_of, past_sign, is_exponent_letter, exponent_at, fraction_read, whole_read, decimal_at, based_at, unsigned_at, number_at}
 use Rattle.edit_syntax.proofs.TokenLaws.{after_again}
 use Rattle.edit_syntax.proofs.NumberEnds.{is_word, EndsValue, EndsWhole, word_whole, power_whole, dot_whole, whole_marked, digits_again, whole_again, digits_first, whole_first, digit_alone}
 
@@ -32,13 +32,13 @@ optional_whole : (e : Option Exponent) (rest : List ℕ) → IfSome e IsExponent
 optional_whole None rest h ends = word_whole (first rest) ends
 optional_whole (Some e) rest h ends = power_whole e.letter h.0
 
-no_power : (b : ℕ) → is_word b ≡ false → is_power b ≡ false
+no_power : (b : ℕ) → is_word b ≡ false → is_exponent_letter b ≡ false
 no_power b h = grind (arith, nat_tests)
 
 no_dot : (b : ℕ) → is_word b ≡ false → eqb b 46 ≡ false
 no_dot b h = grind (arith, nat_tests)
 
-power_no_dot : (b : ℕ) → is_power b ≡ true → eqb b 46 ≡ false
+power_no_dot : (b : ℕ) → is_exponent_letter b ≡ true → eqb b 46 ≡ false
 power_no_dot b h = grind (arith, nat_tests)
 
 fraction_again : (s : Sign) (whole fraction : List ℕ) (e : Option Exponent) (rest : List ℕ)

@@ -8,7 +8,7 @@ use Rattle.edit_syntax.specs.declared.read.marks.MarkKind.{MarkKind}
 use Rattle.edit_syntax.specs.declared.read.marks.MarkKind.TheVariants.{BasicPart, BasicString}
 use Rattle.edit_syntax.specs.Characters.{quote, is_unescaped}
 use Rattle.edit_syntax.specs.Strings.{Piece, plain, letter, short, long, feed, fold, delimiter, pieces, IsBasicPiece, says}
-use Rattle.edit_syntax.specs.Decoding.{BasicSays, Says}
+use Rattle.edit_syntax.specs.Decoding.{HasBasicValue, HasDecodedValue}
 use Rattle.edit_syntax.proofs.EscapeRuns.{basic_unescaped}
 
 -- a code says fewer bytes than it has
@@ -64,7 +64,7 @@ all_plain (feed e ∷ ps) all le = absurd all.0
 all_plain (fold ws e more ∷ ps) all le = absurd all.0
 all_plain (delimiter ∷ ps) all le = absurd all.0
 
-own_plain : (content : List ℕ) → BasicSays content content
+own_plain : (content : List ℕ) → HasBasicValue content content
     → length content ≤ prefix_len is_unescaped content
 own_plain content (ps, all, spelled, said) =
     let le : length (pieces quote ps []) ≤ length (says quote ps) =
@@ -73,8 +73,8 @@ own_plain content (ps, all, spelled, said) =
 
 -- the content of a basic string that says itself has no backslash
 pub own_basic : (kind : MarkKind) (content : List ℕ) → (kind ≡ BasicPart) ⊎ (kind ≡ BasicString)
-    → Says kind content content → length content ≤ prefix_len is_unescaped content
+    → HasDecodedValue kind content content → length content ≤ prefix_len is_unescaped content
 own_basic kind content (inl e) h = own_plain content
-    (subst (λ (k : MarkKind). Says k content content) e h)
+    (subst (λ (k : MarkKind). HasDecodedValue k content content) e h)
 own_basic kind content (inr e) h = own_plain content
-    (subst (λ (k : MarkKind). Says k content content) e h)
+    (subst (λ (k : MarkKind). HasDecodedValue k content content) e h)

@@ -1,10 +1,10 @@
--- A piece of a string over several lines that is spelled so is read.
+-- Parsing the text of a piece of a multi-line string gives it back.
 use Rattle.std.proofs.Common.{◌≡◌, ℕ, ◌+◌, ◌<◌, true, false, eqb, List, [], ◌∷◌, ◌++◌, length, Some, refl, arith}
 use Rattle.std.proofs.lemmas.Bool.Decides.{nat_tests}
 use Rattle.std.specs.List.{AllByRecursion}
 use Rattle.edit_syntax.specs.Characters.{quote, apostrophe, backslash, is_blank, is_basic_ch, is_literal_ch, All}
 use Rattle.edit_syntax.specs.Strings.{LineEnd, lf, crlf, line_end, Space, spaces, IsSpace, Piece, plain, letter, short, long, feed, fold, delimiter, piece, IsMultiPiece, IsRawPiece, is_escape}
-use Rattle.edit_syntax.specs.Reading.{◌>>=◌, first, begins_space, fold_at, feed_at, is_line_break, escape_at, spot_at, raw_at, line_piece_at, closes, delimiter_at, body_at, multi_at}
+use Rattle.edit_syntax.specs.Reading.{◌>>=◌, first, begins_space, fold_at, text_newline_at, is_line_break, escape_at, basic_piece_at, literal_piece_at, line_piece_at, closes, delimiter_at, body_at, multi_at}
 use Rattle.edit_syntax.specs.Reading as reading
 use Rattle.edit_syntax.proofs.TokenLaws.{front_again, after_again, piece_again, basic_ch_not}
 use Rattle.edit_syntax.proofs.MultiLaws.{IsOther, FoldEnds}
@@ -25,8 +25,8 @@ end_not_blank : (e : LineEnd) (rest : List ℕ) → is_blank (first (line_end e 
 end_not_blank lf rest = refl
 end_not_blank crlf rest = refl
 
-feed_again : (e : LineEnd) (rest : List ℕ) → feed_at (line_end e rest) ≡ Some (feed e, rest)
-unfolding feed_at
+feed_again : (e : LineEnd) (rest : List ℕ) → text_newline_at (line_end e rest) ≡ Some (feed e, rest)
+unfolding text_newline_at
 feed_again e rest = rw (line_end_again e rest) refl
 
 fold_again : (ws : List ℕ) (e : LineEnd) (more : List Space) (rest : List ℕ) → All is_blank ws
@@ -46,8 +46,8 @@ fold_again ws e more rest hw hm ends =
     refl
 
 pub escape_again : (p : Piece) (rest : List ℕ) → IsMultiPiece p → IsOther p → FoldEnds p rest
-    → spot_at (piece quote p rest) ≡ Some (p, rest)
-unfolding spot_at reading.piece_at
+    → basic_piece_at (piece quote p rest) ≡ Some (p, rest)
+unfolding basic_piece_at reading.piece_at
 escape_again (plain b) rest h o ends = rw (basic_no_break b h, h, (basic_ch_not b h).1) refl
 escape_again (letter c) rest h o ends =
     let a = escape_alone c h in
@@ -64,8 +64,8 @@ escape_again (fold ws e more) rest h o ends =
 escape_again delimiter rest h o ends = absurd o
 
 pub raw_again : (p : Piece) (rest : List ℕ) → IsRawPiece p → IsOther p → FoldEnds p rest
-    → raw_at (piece apostrophe p rest) ≡ Some (p, rest)
-unfolding raw_at
+    → literal_piece_at (piece apostrophe p rest) ≡ Some (p, rest)
+unfolding literal_piece_at
 raw_again (plain b) rest h o ends = rw (literal_no_break b h, h) refl
 raw_again (letter c) rest h o ends = absurd h
 raw_again (short digits) rest h o ends = absurd h

@@ -1,5 +1,5 @@
--- What holds of two texts and stays true where one byte is put before both, stays true where any part of the
--- grammar is.
+-- A relation of two texts that is preserved when one byte is put before both is preserved when any part of
+-- the grammar is.
 use Rattle.std.proofs.Common.{ℕ, Bool, true, false, List, [], ◌∷◌, ◌++◌, Option, None, Some, ◌≡◌, refl, ap}
 use Rattle.edit_syntax.specs.Characters.{comma, equals, left_bracket, right_bracket, left_brace, right_brace, hash}
 use Rattle.edit_syntax.specs.Strings.{LineEnd, lf, crlf, line_end, Space, spaces, Piece, plain, letter, short, long, feed, fold, delimiter, piece, pieces, Part, bare, basic_part, literal_part, part, Dotted, dotted, Key, key}

@@ -1,4 +1,4 @@
--- The laws of values that are one token, and of the white space before them.
+-- Values of a single token, and the white space before them: what the parser accepts.
 use Rattle.std.proofs.Common.{◌≡◌, ℕ, if◌then◌else◌, ◌<◌, ◌≤◌, true, false, ◌&&◌, eqb, List, ◌∷◌, ◌++◌, slice_index, drop, Some, refl, ap, subst, ◌∙◌, inl, inr, arith}
 use Rattle.edit_syntax.specs.Characters.{quote, apostrophe, is_blank}
 use Rattle.edit_syntax.specs.Grammar.{three, Value, basic, literal, multi_basic, multi_literal, boolean, integer, float, datetime, array, inline, Elements, Members, value, IsValue, AreElements, AreMembers}

@@ -1,4 +1,4 @@
--- The escapes of TOML 1.0.0, as the standard says.
+-- The escapes of TOML 1.0.0 ("String"), as examples.
 use Rattle.std.proofs.Common.{◌≡◌, List, [], ◌∷◌, refl}
 use Rattle.std.specs.Prelude.{codes}
 use Rattle.edit_syntax.specs.Characters.{quote}

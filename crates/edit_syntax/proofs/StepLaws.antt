@@ -1,11 +1,11 @@
--- Steps over the values and the keys of arrays and inline tables read what is spelled there.
+-- The steps over values and keys of arrays and inline tables end where these end.
 use Rattle.std.proofs.Common.{◌≡◌, ℕ, true, false, List, ◌∷◌, ◌++◌, Option, Some, None, refl, sym, ap, ◌∙◌, arith}
 use Rattle.std.proofs.lemmas.Bool.Decides.{nat_tests}
 use Rattle.edit_syntax.specs.Characters.{equals, is_blank}
 use Rattle.edit_syntax.specs.Strings.{Key, key}
 use Rattle.edit_syntax.specs.Grammar.{Between, gap, Value, value}
 use Rattle.edit_syntax.specs.Reading.{first, past_blanks, past, key_at, value_at}
-use Rattle.edit_syntax.specs.Steps.{ends_item, IsItem, IsNaming}
+use Rattle.edit_syntax.specs.Steps.{ends_item, IsItem, IsKeyAndSign}
 use Rattle.edit_base.specs.Errors.{IsMemory}
 use Rattle.edit_base.specs.declared.errors.Error.{Error}
 use Rattle.edit_syntax.specs.declared.read.marks.ReadError.{ReadError}
@@ -30,18 +30,18 @@ item_again v g rest h = value_again v 80 h.valid h.shallow (gap g rest)
     (gap_ends g rest h.between (item_stops (first rest) h.ends))
 
 -- the key is read
-pub naming_again : (k : Key) (a b more : List ℕ) → IsNaming k a b more
+pub naming_again : (k : Key) (a b more : List ℕ) → IsKeyAndSign k a b more
     → key_at (key k (a ++ (equals ∷ (b ++ more)))) ≡ Some (k, a ++ (equals ∷ (b ++ more)))
 naming_again k a b more h = key_again k (a ++ (equals ∷ (b ++ more))) h.key
     (ends_key a equals (b ++ more) h.before refl refl refl)
 
 -- the white space before the equals sign
-pub naming_sign : (k : Key) (a b more : List ℕ) → IsNaming k a b more
+pub naming_sign : (k : Key) (a b more : List ℕ) → IsKeyAndSign k a b more
     → past_blanks (a ++ (equals ∷ (b ++ more))) ≡ equals ∷ (b ++ more)
 naming_sign k a b more h = after_again is_blank a (equals ∷ (b ++ more)) h.before refl
 
 -- the white space behind it
-pub naming_value : (k : Key) (a b more : List ℕ) → IsNaming k a b more → past_blanks (b ++ more) ≡ more
+pub naming_value : (k : Key) (a b more : List ℕ) → IsKeyAndSign k a b more → past_blanks (b ++ more) ≡ more
 naming_value k a b more h = after_again is_blank b more h.behind h.begins
 
 some_none : {A : Type 0} (o : Option A) (x : A) → o ≡ Some x → o ≡ None → ⊥
@@ -63,7 +63,7 @@ item_read s r x v g rest h e read = ap (λ (p : Value × List ℕ). p.1)
     (some_is (x, r) (v, gap g rest) (sym read ∙ ap (value_at 80) e ∙ item_again v g rest h))
 
 -- what is read there is the key
-pub naming_read : (s r : List ℕ) (x k : Key) (a b more : List ℕ) → IsNaming k a b more
+pub naming_read : (s r : List ℕ) (x k : Key) (a b more : List ℕ) → IsKeyAndSign k a b more
     → s ≡ key k (a ++ (equals ∷ (b ++ more))) → key_at s ≡ Some (x, r) → (x ≡ k)
     × (r ≡ a ++ (equals ∷ (b ++ more)))
 naming_read s r x k a b more h e read =
@@ -72,11 +72,11 @@ naming_read s r x k a b more h e read =
     (ap (λ (p : Key × List ℕ). p.0) same, ap (λ (p : Key × List ℕ). p.1) same)
 
 -- what follows the equals sign
-pub sign_read : (s : List ℕ) (k : Key) (a b more : List ℕ) → IsNaming k a b more
+pub sign_read : (s : List ℕ) (k : Key) (a b more : List ℕ) → IsKeyAndSign k a b more
     → s ≡ a ++ (equals ∷ (b ++ more)) → past equals (past_blanks s) ≡ Some (b ++ more)
 sign_read s k a b more h e = rw (e, naming_sign k a b more h) refl
 
 -- there is an equals sign
-pub sign_there : (s : List ℕ) (k : Key) (a b more : List ℕ) → IsNaming k a b more
+pub sign_there : (s : List ℕ) (k : Key) (a b more : List ℕ) → IsKeyAndSign k a b more
     → s ≡ a ++ (equals ∷ (b ++ more)) → past equals (past_blanks s) ≡ None → ⊥
 sign_there s k a b more h e n = some_none _ (b ++ more) (sign_read s k a b more h e) n

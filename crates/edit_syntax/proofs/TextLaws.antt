@@ -1,4 +1,4 @@
--- The laws of texts.
+-- Texts: the parser accepts exactly what is written as its result says.
 use Rattle.std.proofs.Common.{◌≡◌, ℕ, ◌+◌, ◌≤◌, Bool, true, false, eqb, List, [], ◌∷◌, ◌++◌, length, slice_index, drop, Option, Some, None, refl, ap, ◌∙◌, arith, cond}
 use Rattle.std.proofs.lemmas.Bool.{and_parts}
 use Rattle.std.proofs.lemmas.Bool.Decides.{nat_tests}

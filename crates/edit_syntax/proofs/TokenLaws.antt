@@ -1,4 +1,4 @@
--- The laws of the tokens: what is read is spelled so, and what is spelled so is read.
+-- Tokens: the parser accepts exactly what is written as its result says.
 use Rattle.std.proofs.Common.{◌≡◌, ℕ, zero, suc, ◌+◌, ◌<◌, ◌≤◌, Bool, true, false, cond, ◌&&◌, eqb, List, [], ◌∷◌, ◌++◌, length, slice_index, take, drop, Option, Some, None, refl, sym, ap, subst, ◌∙◌, ◌⊎◌, inl, inr, arith, eq-eqb}
 use Rattle.std.specs.List.{prefix_len, AllByRecursion, list_all}
 use Rattle.std.proofs.lemmas.Bool.{eqb-true, and_parts}
@@ -6,8 +6,8 @@ use Rattle.std.proofs.lemmas.Bool.Decides.{nat_tests}
 use Rattle.std.proofs.lemmas.List.{take_at, drop_at, take-append-drop, length-append}
 use Rattle.edit_syntax.specs.Characters.{quote, apostrophe, backslash, is_basic_ch, is_literal_ch, All}
 use Rattle.std.specs.Str.Parse.{digits_value}
-use Rattle.edit_syntax.specs.Strings.{LineEnd, lf, crlf, line_end, Space, blank, break, spaces, Piece, plain, letter, short, long, feed, fold, delimiter, piece, IsBasicPiece, pieces, is_escape, is_hex, is_scalar, NamesScalar}
-use Rattle.edit_syntax.specs.Reading.{◌>>=◌, first, front, after, past, scalar, coded_at, escape_at, piece_at, pieces_at, basic_at, literal_at}
+use Rattle.edit_syntax.specs.Strings.{LineEnd, lf, crlf, line_end, Space, blank, break, spaces, Piece, plain, letter, short, long, feed, fold, delimiter, piece, IsBasicPiece, pieces, is_escape, is_hex, is_scalar, IsScalarCode}
+use Rattle.edit_syntax.specs.Reading.{◌>>=◌, first, front, after, past, scalar, scalar_escape_at, escape_at, piece_at, pieces_at, basic_at, literal_at}
 
 -- ---- steps that did not fail
 
@@ -109,8 +109,9 @@ list_of_all class (b ∷ bytes) h = rw (h.0, list_of_all class bytes h.1) refl
 -- ---- codes
 
 coded_sound : (made : List ℕ → Piece) (n : ℕ) (text : List ℕ) (x : Piece × List ℕ)
-    → coded_at made n text ≡ Some x → ((made (take n text), drop n text) ≡ x) × NamesScalar n (take n text)
-unfolding coded_at
+    → scalar_escape_at made n text ≡ Some x
+    → ((made (take n text), drop n text) ≡ x) × IsScalarCode n (take n text)
+unfolding scalar_escape_at
 coded_sound made n text x e =
     let t = tested (eqb (length (take n text)) n) _ x e in
     let a = bind_some (scalar (take n text)) (λ c. Some (made (take n text), drop n text)) x t.1 in
@@ -118,9 +119,9 @@ coded_sound made n text x e =
     let w = and_parts _ (is_scalar (digits_value 16 (take n text))) s.0 in
     (some_is _ x a.2, (eqb-true _ _ t.0, all_of_list is_hex (take n text) w.0, w.1))
 
-coded_again : (made : List ℕ → Piece) (n : ℕ) (digits rest : List ℕ) → NamesScalar n digits
-    → coded_at made n (digits ++ rest) ≡ Some (made digits, rest)
-unfolding coded_at
+coded_again : (made : List ℕ → Piece) (n : ℕ) (digits rest : List ℕ) → IsScalarCode n digits
+    → scalar_escape_at made n (digits ++ rest) ≡ Some (made digits, rest)
+unfolding scalar_escape_at
 coded_again made n digits rest h =
     let same : eqb (length digits) n ≡ true = eq-eqb (length digits) n h.0 in
     rw (take_at digits rest n h.0, drop_at digits rest n h.0, same, list_of_all is_hex digits h.1, h.2) refl

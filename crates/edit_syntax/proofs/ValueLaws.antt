@@ -1,4 +1,4 @@
--- The laws of values: what is read is spelled so, and what is spelled so is read.
+-- Values: the parser accepts exactly what is written as its result says.
 use Rattle.std.proofs.Common.{◌≡◌, ℕ, zero, suc, eqb, List, ◌∷◌, ◌++◌, length, drop, Some, ap, subst, ◌∙◌, inl, inr, arith}
 use Rattle.edit_syntax.specs.Characters.{comma, equals, left_bracket, right_bracket, left_brace, right_brace, is_blank, All}
 use Rattle.edit_syntax.specs.Strings.{key, IsKey}

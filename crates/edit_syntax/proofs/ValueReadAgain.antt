@@ -1,4 +1,4 @@
--- What is spelled so is read, however the text was split.
+-- Parsing the text of a value gives it back, whichever syntax tree the text is taken to have.
 use Rattle.std.proofs.Common.{◌≡◌, ℕ, zero, suc, ◌≤◌, true, false, eqb, List, [], ◌∷◌, length, Some, refl, ◌∙◌, arith}
 use Rattle.std.proofs.lemmas.Bool.Decides.{nat_tests}
 use Rattle.edit_syntax.specs.Characters.{quote, apostrophe, left_bracket, right_bracket, left_brace, right_brace, All}

@@ -5,7 +5,7 @@ use Rattle.std.specs.List.{AllByRecursion}
 use Rattle.edit_syntax.specs.declared.read.marks.MarkKind.{MarkKind}
 use Rattle.edit_syntax.specs.declared.read.marks.MarkKind.TheVariants.{BarePart, BasicPart, LiteralPart, BasicString, LiteralString, MultiBasicString, MultiLiteralString, Integer, Float, DateTime}
 use Rattle.edit_syntax.specs.Characters.{line_feed, carriage_return, quote, apostrophe, is_blank, is_bare, is_literal_ch, is_ascii, All}
-use Rattle.edit_syntax.specs.Strings.{Piece, letter, short, long, fold, pieces, IsBasicPiece, IsMultiPiece, IsRawPiece, FoldsAreWhole, says, says_multi}
+use Rattle.edit_syntax.specs.Strings.{Piece, letter, short, long, fold, pieces, IsBasicPiece, IsMultiPiece, IsRawPiece, FoldsAreWhole, says, decoded_multi}
 use Rattle.edit_syntax.specs.ReadingSteps.{first}
 
 -- the delimiter of a token of this kind; empty where the kind has none
@@ -30,31 +30,31 @@ IsEscape (long digits) = ⊤
 IsEscape _ = ⊥
 
 -- the piece begins with a backslash: it is an escape or a line fold
-abbrev pub IsMarked : Piece → Type 0
-IsMarked (letter c) = ⊤
-IsMarked (short digits) = ⊤
-IsMarked (long digits) = ⊤
-IsMarked (fold ws e more) = ⊤
-IsMarked _ = ⊥
+abbrev pub BeginsWithBackslash : Piece → Type 0
+BeginsWithBackslash (letter c) = ⊤
+BeginsWithBackslash (short digits) = ⊤
+BeginsWithBackslash (long digits) = ⊤
+BeginsWithBackslash (fold ws e more) = ⊤
+BeginsWithBackslash _ = ⊥
 
 -- a tab, a space, LF or CR, which may follow the backslash of a line fold
 abbrev pub is_spacing : ℕ → Bool
 is_spacing b = is_blank b || b == line_feed || b == carriage_return
 
 -- a line fold ends before this byte
-abbrev pub FoldStops : Piece → ℕ → Type 0
-FoldStops (fold ws e more) b = is_spacing b ≡ false
-FoldStops _ b = ⊤
+abbrev pub IsFoldEnd : Piece → ℕ → Type 0
+IsFoldEnd (fold ws e more) b = is_spacing b ≡ false
+IsFoldEnd _ b = ⊤
 
 -- the content of a basic string, and its decoded value
-abbrev pub BasicSays : List ℕ → List ℕ → Type 0
-BasicSays content said = (ps : List Piece) × AllByRecursion IsBasicPiece ps
+abbrev pub HasBasicValue : List ℕ → List ℕ → Type 0
+HasBasicValue content said = (ps : List Piece) × AllByRecursion IsBasicPiece ps
     × (content ≡ pieces quote ps []) × (said ≡ says quote ps)
 
 -- the content of a string that may span lines, and its decoded value; a newline at its start is part of the
 -- value
-abbrev pub LineSays : List ℕ → List ℕ → Type 0
-LineSays content said = (ps : List Piece) × AllByRecursion IsMultiPiece ps × FoldsAreWhole ps
+abbrev pub HasLineValue : List ℕ → List ℕ → Type 0
+HasLineValue content said = (ps : List Piece) × AllByRecursion IsMultiPiece ps × FoldsAreWhole ps
     × (content ≡ pieces quote ps []) × (said ≡ says quote ps)
 
 -- the content without a newline at its start
@@ -65,33 +65,33 @@ past_break text =
 
 -- the content of a multi-line basic string, and its decoded value, which leaves out a newline at the start
 -- ("String")
-abbrev pub MultiSays : List ℕ → List ℕ → Type 0
-MultiSays content said = (ps : List Piece) × AllByRecursion IsMultiPiece ps × FoldsAreWhole ps
-    × (content ≡ pieces quote ps []) × (said ≡ says_multi quote ps)
+abbrev pub HasMultiValue : List ℕ → List ℕ → Type 0
+HasMultiValue content said = (ps : List Piece) × AllByRecursion IsMultiPiece ps × FoldsAreWhole ps
+    × (content ≡ pieces quote ps []) × (said ≡ decoded_multi quote ps)
 
 -- the content of a multi-line literal string, and its decoded value, which leaves out a newline at the start
 -- ("String")
-abbrev pub RawSays : List ℕ → List ℕ → Type 0
-RawSays content said = (ps : List Piece) × AllByRecursion IsRawPiece ps
-    × (content ≡ pieces apostrophe ps []) × (said ≡ says_multi apostrophe ps)
+abbrev pub HasRawValue : List ℕ → List ℕ → Type 0
+HasRawValue content said = (ps : List Piece) × AllByRecursion IsRawPiece ps
+    × (content ≡ pieces apostrophe ps []) × (said ≡ decoded_multi apostrophe ps)
 
 -- the content of a number, a date or a time: ASCII bytes that are their own decoded value
-abbrev pub WordSays : List ℕ → List ℕ → Type 0
-WordSays content said = (0 < length content) × All is_ascii content × (said ≡ content)
+abbrev pub HasPlainValue : List ℕ → List ℕ → Type 0
+HasPlainValue content said = (0 < length content) × All is_ascii content × (said ≡ content)
 
 -- the content of a token of this kind, and its decoded value
-abbrev pub Says : MarkKind → List ℕ → List ℕ → Type 0
-Says BarePart content said = (0 < length content) × All is_bare content × (said ≡ content)
-Says BasicPart content said = BasicSays content said
-Says LiteralPart content said = All is_literal_ch content × (said ≡ content)
-Says BasicString content said = BasicSays content said
-Says LiteralString content said = All is_literal_ch content × (said ≡ content)
-Says Integer content said = WordSays content said
-Says Float content said = WordSays content said
-Says DateTime content said = WordSays content said
-Says MultiBasicString content said = MultiSays content said
-Says MultiLiteralString content said = RawSays content said
-Says _ content said = ⊥
+abbrev pub HasDecodedValue : MarkKind → List ℕ → List ℕ → Type 0
+HasDecodedValue BarePart content said = (0 < length content) × All is_bare content × (said ≡ content)
+HasDecodedValue BasicPart content said = HasBasicValue content said
+HasDecodedValue LiteralPart content said = All is_literal_ch content × (said ≡ content)
+HasDecodedValue BasicString content said = HasBasicValue content said
+HasDecodedValue LiteralString content said = All is_literal_ch content × (said ≡ content)
+HasDecodedValue Integer content said = HasPlainValue content said
+HasDecodedValue Float content said = HasPlainValue content said
+HasDecodedValue DateTime content said = HasPlainValue content said
+HasDecodedValue MultiBasicString content said = HasMultiValue content said
+HasDecodedValue MultiLiteralString content said = HasRawValue content said
+HasDecodedValue _ content said = ⊥
 
 -- a kind of token that has no line break in it: each but the strings over several lines ("String")
 abbrev pub IsOneLine : MarkKind → Type 0

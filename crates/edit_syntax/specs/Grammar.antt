@@ -3,7 +3,7 @@
 -- grammar if some well-formed syntax tree is written as that text.
 use Rattle.std.specs.Prelude.{◌≡◌, ℕ, Bool, true, false, List, [], ◌∷◌, Option, Some, None, ⊤}
 use Rattle.std.specs.List.{AllByRecursion}
-use Rattle.edit_syntax.specs.Characters.{quote, hash, apostrophe, comma, equals, left_bracket, right_bracket, left_brace, right_brace, is_blank, is_ch, is_literal_ch, All}
+use Rattle.edit_syntax.specs.Characters.{quote, hash, apostrophe, comma, equals, left_bracket, right_bracket, left_brace, right_brace, is_blank, is_comment_byte, is_literal_ch, All}
 use Rattle.edit_syntax.specs.Strings.{◌·◌, LineEnd, line_end, Piece, pieces, basic_text, literal_text, IsBasicPiece, IsMultiPiece, IsRawPiece, RunsFit, FoldsAreWhole, Key, key, IsKey}
 use Rattle.edit_syntax.specs.Numbers.{Integer, integer_text, IsInteger, Float, float_text, IsFloat, DateTime, datetime_text, IsDateTime}
 
@@ -25,7 +25,7 @@ gap (remark text e ∷ more) rest = hash ∷ (text · line_end e (gap more rest)
 abbrev pub IsBetween : Between → Type 0
 IsBetween (blank b) = is_blank b ≡ true
 IsBetween (break e) = ⊤
-IsBetween (remark text e) = All is_ch text
+IsBetween (remark text e) = All is_comment_byte text
 
 -- each part of a gap is well formed
 abbrev pub IsGap : List Between → Type 0
@@ -156,7 +156,7 @@ comment (Some text) rest = hash ∷ (text · rest)
 -- a comment has no control character but tab ("Comment")
 abbrev pub IsComment : Option (List ℕ) → Type 0
 IsComment None = ⊤
-IsComment (Some text) = All is_ch text
+IsComment (Some text) = All is_comment_byte text
 
 -- a line: white space, an optional statement with white space after it, and an optional comment
 pub data Line : Type 0 where

@@ -3,14 +3,14 @@ pub mod Strings
 pub mod Numbers
 pub mod Grammar
 pub mod Depth
-pub mod Marks
+pub mod SyntaxTokens
 pub mod Spans
 pub mod FormOf
 pub mod ReadingSteps
 pub mod ReadingNumbers
 pub mod ReadingTexts
 pub mod Reading
-pub mod Noting
+pub mod AppendedTokens
 pub mod Decoding
 pub mod FirstLine
 pub mod Steps

@@ -1,12 +1,12 @@
 -- A parser, as definitions: each gives a part of the grammar and the rest of the input, or nothing. The
 -- contracts of private functions cite them; proofs/ relates them to the grammar.
 use Rattle.std.specs.Prelude.{ℕ, zero, suc, ◌+◌, Bool, true, false, ◌&&◌, ◌||◌, ◌==◌, if◌then◌else◌, List, length, drop, slice_index, Option, Some, None}
-use Rattle.edit_syntax.specs.Characters.{line_feed, carriage_return, quote, hash, apostrophe, comma, equals, left_bracket, right_bracket, left_brace, right_brace, is_ch}
+use Rattle.edit_syntax.specs.Characters.{line_feed, carriage_return, quote, hash, apostrophe, comma, equals, left_bracket, right_bracket, left_brace, right_brace, is_comment_byte}
 use Rattle.edit_syntax.specs.Strings.{Key}
 use Rattle.edit_syntax.specs.Grammar.{Value, basic, literal, multi_basic, multi_literal, boolean, array, inline, Elements, no_elements, last_element, element, Members, no_members, last_member, member, Statement, pair, header, element_header, Line, empty_line, full_line, Lines, one_line, more_lines, Text}
 use Rattle.edit_syntax.specs.ReadingNumbers.{begins, number_at}
 pub use Rattle.edit_syntax.specs.ReadingSteps.{Read, ◌>>=◌, first, front, after, blanks, past_blanks, past}
-unfoldable pub use Rattle.edit_syntax.specs.ReadingTexts.{line_end_at, between_at, and_more, gap_at, gap_front, past_gap, scalar, coded_at, escape_at, piece_at, pieces_at, basic_at, literal_at, begins_space, space_at, spaces_at, fold_at, is_line_break, feed_at, spot_at, raw_at, line_piece_at, closes, delimiter_at, body_at, multi_at, part_at, dotted_at, key_at}
+unfoldable pub use Rattle.edit_syntax.specs.ReadingTexts.{line_end_at, between_at, and_more, gap_at, gap_front, past_gap, scalar, scalar_escape_at, escape_at, piece_at, pieces_at, basic_at, literal_at, begins_space, space_at, spaces_at, fold_at, is_line_break, text_newline_at, basic_piece_at, literal_piece_at, line_piece_at, closes, delimiter_at, body_at, multi_at, part_at, dotted_at, key_at}
 
 -- ---- values
 
@@ -103,11 +103,11 @@ statement_at depth text =
 
 -- the optional comment at the front
 abbrev pub comment_front : List ℕ → Option (List ℕ)
-comment_front text = if first text == hash then Some (front is_ch (drop 1 text)) else None
+comment_front text = if first text == hash then Some (front is_comment_byte (drop 1 text)) else None
 
 -- the rest behind an optional comment
 abbrev pub past_comment : List ℕ → List ℕ
-past_comment text = if first text == hash then after is_ch (drop 1 text) else text
+past_comment text = if first text == hash then after is_comment_byte (drop 1 text) else text
 
 -- the byte ends a line without a statement: the end of the text, a comment or a newline begins here
 abbrev pub is_line_over : ℕ → Bool

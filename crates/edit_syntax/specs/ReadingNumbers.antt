@@ -33,8 +33,8 @@ abbrev pub past_sign : List ℕ → List ℕ
 past_sign text = if first text == 43 || first text == 45 then drop 1 text else text
 
 -- `e` or `E`, which begins an exponent ("Float")
-abbrev pub is_power : ℕ → Bool
-is_power b = b == 101 || b == 69
+abbrev pub is_exponent_letter : ℕ → Bool
+is_exponent_letter b = b == 101 || b == 69
 
 -- an exponent; the input begins with its letter ("Float")
 unfoldable pub exponent_at : List ℕ → Read Exponent
@@ -44,7 +44,7 @@ exponent_at text = digits_at is_decimal (past_sign (drop 1 text))
 -- a float; the input begins behind its fraction ("Float")
 unfoldable pub fraction_read : Sign → List ℕ → List ℕ → List ℕ → Read Value
 fraction_read s whole fraction text =
-    if is_power (first text)
+    if is_exponent_letter (first text)
     then (exponent_at text >>= λ e. Some (float (with_fraction s whole fraction (Some e.0)), e.1))
     else Some (float (with_fraction s whole fraction None), text)
 
@@ -52,7 +52,7 @@ fraction_read s whole fraction text =
 unfoldable pub whole_read : Sign → List ℕ → List ℕ → Read Value
 whole_read s whole text =
     if first text == 46 then (digits_at is_decimal (drop 1 text) >>= λ f. fraction_read s whole f.0 f.1)
-    else (if is_power (first text)
+    else (if is_exponent_letter (first text)
     then (exponent_at text >>= λ e. Some (float (with_exponent s whole e.0), e.1))
     else Some (integer (decimal s whole), text))
 
@@ -114,23 +114,23 @@ abbrev pub joins : List ℕ → Bool
 joins text = first text == 84 || first text == 116 || (first text == 32 && is_decimal (first (drop 1 text)))
 
 -- a date and an optional time after it ("Offset Date-Time", "Local Date-Time", "Local Date")
-unfoldable pub dated_at : List ℕ → Read Value
-dated_at text = date_at text >>= λ d.
+unfoldable pub date_time_at : List ℕ → Read Value
+date_time_at text = date_at text >>= λ d.
     if joins d.1 then (time_at (drop 1 d.1) >>= λ t. offset_at t.1
     >>= λ o. Some (datetime (both d.0 (first d.1) t.0 o.0), o.1))
     else Some (datetime (only_date d.0), d.1)
 
 -- a time without a date ("Local Time")
-unfoldable pub timed_at : List ℕ → Read Value
-timed_at text = time_at text >>= λ t. Some (datetime (only_time t.0), t.1)
+unfoldable pub local_time_at : List ℕ → Read Value
+local_time_at text = time_at text >>= λ t. Some (datetime (only_time t.0), t.1)
 
--- ---- all of them
+-- ---- numbers, dates and times
 
 -- a number, date or time without a sign, whose kind its digits and the byte behind them decide (own)
 unfoldable pub unsigned_at : List ℕ → Read Value
 unsigned_at text =
-    if first (after is_decimal text) == 45 then dated_at text
-    else (if first (after is_decimal text) == 58 then timed_at text
+    if first (after is_decimal text) == 45 then date_time_at text
+    else (if first (after is_decimal text) == 58 then local_time_at text
     else (if first text == 48 && slice_index text 1 == 120 then based_at hexadecimal (drop 2 text)
     else (if first text == 48 && slice_index text 1 == 111 then based_at octal (drop 2 text)
     else (if first text == 48 && slice_index text 1 == 98 then based_at binary (drop 2 text)

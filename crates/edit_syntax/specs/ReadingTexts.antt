@@ -2,7 +2,7 @@
 use Rattle.std.specs.Prelude.{ℕ, zero, suc, ◌+◌, Bool, not, ◌&&◌, ◌||◌, ◌==◌, if◌then◌else◌, List, [], ◌∷◌, length, take, drop, slice_index, Option, Some, None}
 use Rattle.std.specs.List.{list_all}
 use Rattle.std.specs.Str.Parse.{digits_value}
-use Rattle.edit_syntax.specs.Characters.{line_feed, carriage_return, quote, hash, apostrophe, backslash, is_blank, is_ch, is_bare, is_literal_ch, is_basic_ch}
+use Rattle.edit_syntax.specs.Characters.{line_feed, carriage_return, quote, hash, apostrophe, backslash, is_blank, is_comment_byte, is_bare, is_literal_ch, is_basic_ch}
 use Rattle.edit_syntax.specs.Strings.{LineEnd, lf, crlf, Space, Piece, plain, letter, short, long, feed, fold, delimiter, is_escape, is_hex, is_scalar, Part, bare, basic_part, literal_part, Dotted, Key}
 use Rattle.edit_syntax.specs.Strings as strings
 use Rattle.edit_syntax.specs.Grammar.{Between, blank, break, remark}
@@ -21,8 +21,8 @@ unfoldable pub between_at : List ℕ → Read Between
 between_at text =
     if is_blank (first text) then Some (blank (first text), drop 1 text)
     else (if first text == hash
-    then (line_end_at (after is_ch (drop 1 text))
-    >>= λ e. Some (remark (front is_ch (drop 1 text)) e.0, e.1))
+    then (line_end_at (after is_comment_byte (drop 1 text))
+    >>= λ e. Some (remark (front is_comment_byte (drop 1 text)) e.0, e.1))
     else (line_end_at text >>= λ e. Some (break e.0, e.1)))
 
 -- what was parsed, and what the given parser finds behind it
@@ -51,16 +51,16 @@ scalar digits = if list_all is_hex digits && is_scalar (digits_value 16 digits)
     then Some (digits_value 16 digits) else None
 
 -- n hexadecimal digits of a Unicode scalar value
-unfoldable pub coded_at : (List ℕ → Piece) → ℕ → List ℕ → Read Piece
-coded_at made n text = if length (take n text) == n
+unfoldable pub scalar_escape_at : (List ℕ → Piece) → ℕ → List ℕ → Read Piece
+scalar_escape_at made n text = if length (take n text) == n
     then (scalar (take n text) >>= λ c. Some (made (take n text), drop n text)) else None
 
 -- an escape; the input begins with its backslash
 unfoldable pub escape_at : List ℕ → Read Piece
 escape_at text =
     if is_escape (slice_index text 1) then Some (letter (slice_index text 1), drop 2 text)
-    else (if slice_index text 1 == 117 then coded_at short 4 (drop 2 text)
-    else (if slice_index text 1 == 85 then coded_at long 8 (drop 2 text) else None))
+    else (if slice_index text 1 == 117 then scalar_escape_at short 4 (drop 2 text)
+    else (if slice_index text 1 == 85 then scalar_escape_at long 8 (drop 2 text) else None))
 
 -- an escape, or a byte that needs none
 unfoldable pub piece_at : List ℕ → Read Piece
@@ -84,7 +84,7 @@ unfoldable pub literal_at : List ℕ → Read (List ℕ)
 literal_at text =
     past apostrophe (after is_literal_ch text) >>= λ rest. Some (front is_literal_ch text, rest)
 
--- ---- strings over several lines ("String", multi-line strings)
+-- ---- multi-line strings ("String", multi-line strings)
 
 -- the input begins with a tab, a space or a newline (own)
 abbrev pub begins_space : List ℕ → Bool
@@ -115,27 +115,27 @@ abbrev pub is_line_break : ℕ → Bool
 is_line_break b = b == line_feed || b == carriage_return
 
 -- a newline that is part of a string
-unfoldable pub feed_at : List ℕ → Read Piece
-feed_at text = line_end_at text >>= λ e. Some (feed e.0, e.1)
+unfoldable pub text_newline_at : List ℕ → Read Piece
+text_newline_at text = line_end_at text >>= λ e. Some (feed e.0, e.1)
 
 -- a piece of a multi-line basic string that is no quote: a newline, an escape, a line fold, or a byte that
 -- needs no escape
-unfoldable pub spot_at : List ℕ → Read Piece
-spot_at text =
-    if is_line_break (first text) then feed_at text
+unfoldable pub basic_piece_at : List ℕ → Read Piece
+basic_piece_at text =
+    if is_line_break (first text) then text_newline_at text
     else (if first text == backslash
     then (if is_line_break (first (past_blanks (drop 1 text))) then fold_at text else escape_at text)
     else (if is_basic_ch (first text) then Some (plain (first text), drop 1 text) else None))
 
 -- a piece of a multi-line literal string that is no apostrophe: a newline, or another byte
-unfoldable pub raw_at : List ℕ → Read Piece
-raw_at text =
-    if is_line_break (first text) then feed_at text
+unfoldable pub literal_piece_at : List ℕ → Read Piece
+literal_piece_at text =
+    if is_line_break (first text) then text_newline_at text
     else (if is_literal_ch (first text) then Some (plain (first text), drop 1 text) else None)
 
 -- a piece of a multi-line string that is not its delimiter
 unfoldable pub line_piece_at : ℕ → List ℕ → Read Piece
-line_piece_at mark text = if mark == quote then spot_at text else raw_at text
+line_piece_at mark text = if mark == quote then basic_piece_at text else literal_piece_at text
 
 -- the input begins with exactly three delimiters, which close the string; up to two more may precede these
 abbrev pub closes : ℕ → List ℕ → Bool

@@ -20,7 +20,7 @@ pub record IsItem (v : Value) (g : List Between) (rest : List ℕ) : Type 0 wher
 
 -- a key with the white space before and after its equals sign, before input that begins with neither tab nor
 -- space
-pub record IsNaming (k : Key) (a b more : List ℕ) : Type 0 where
+pub record IsKeyAndSign (k : Key) (a b more : List ℕ) : Type 0 where
   pub key : IsKey k
   pub before : All is_blank a
   pub behind : All is_blank b

@@ -84,15 +84,15 @@ abbrev pub is_hex : ℕ → Bool
 is_hex c = is_digit c 16
 
 -- n hexadecimal digits of a Unicode scalar value ("String", `\u` and `\U`)
-abbrev pub NamesScalar : ℕ → List ℕ → Type 0
-NamesScalar n digits = (length digits ≡ n) × All is_hex digits × (is_scalar (digits_value 16 digits) ≡ true)
+abbrev pub IsScalarCode : ℕ → List ℕ → Type 0
+IsScalarCode n digits = (length digits ≡ n) × All is_hex digits × (is_scalar (digits_value 16 digits) ≡ true)
 
 -- a piece of a basic string on one line
 abbrev pub IsBasicPiece : Piece → Type 0
 IsBasicPiece (plain b) = is_basic_ch b ≡ true
 IsBasicPiece (letter c) = is_escape c ≡ true
-IsBasicPiece (short digits) = NamesScalar 4 digits
-IsBasicPiece (long digits) = NamesScalar 8 digits
+IsBasicPiece (short digits) = IsScalarCode 4 digits
+IsBasicPiece (long digits) = IsScalarCode 8 digits
 IsBasicPiece (feed e) = ⊥
 IsBasicPiece (fold ws e more) = ⊥
 IsBasicPiece delimiter = ⊥
@@ -101,8 +101,8 @@ IsBasicPiece delimiter = ⊥
 abbrev pub IsMultiPiece : Piece → Type 0
 IsMultiPiece (plain b) = is_basic_ch b ≡ true
 IsMultiPiece (letter c) = is_escape c ≡ true
-IsMultiPiece (short digits) = NamesScalar 4 digits
-IsMultiPiece (long digits) = NamesScalar 8 digits
+IsMultiPiece (short digits) = IsScalarCode 4 digits
+IsMultiPiece (long digits) = IsScalarCode 8 digits
 IsMultiPiece (feed e) = ⊤
 IsMultiPiece (fold ws e more) = All is_blank ws × AllByRecursion IsSpace more
 IsMultiPiece delimiter = ⊤
@@ -164,9 +164,9 @@ says mark ps = flat_map (said mark) ps
 
 -- the decoded value of a multi-line string, which leaves out a newline right behind the opening delimiter
 -- ("String")
-abbrev pub says_multi : ℕ → List Piece → List ℕ
-says_multi mark (feed e ∷ ps) = says mark ps
-says_multi mark ps = says mark ps
+abbrev pub decoded_multi : ℕ → List Piece → List ℕ
+decoded_multi mark (feed e ∷ ps) = says mark ps
+decoded_multi mark ps = says mark ps
 
 -- ---- keys
 

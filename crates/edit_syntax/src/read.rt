@@ -4,7 +4,7 @@ ghost use Rattle.edit_base.specs.Errors.{IsMemory};
 ghost use Rattle.edit_syntax.specs.Grammar.{Text, Spells};
 ghost use Rattle.edit_syntax.specs.Reading as reading;
 ghost use Rattle.edit_syntax.specs.Depth.{text_depth};
-ghost use Rattle.edit_syntax.specs.Marks.{text_marks, IsReadRefusal};
+ghost use Rattle.edit_syntax.specs.SyntaxTokens.{tokens_of_text, IsTokenizeError};
 
 mod bytes;
 mod dates;
@@ -45,12 +45,12 @@ pub fn read_marks(alloc: Global, text: &[u8]) -> CargoResult<Vec<Mark>>
     // A text that is read without an error is in the grammar.
     ensures found { IfOk result (λ v.
         (form : Text) × Spells text.now form × (text_depth form ≤ 80)
-        × (v.items ≡ text_marks form)) }
+        × (v.items ≡ tokens_of_text form)) }
     // Every text in the grammar is read, whichever form it is spelled from, unless memory runs out.
     ensures only { (form : Text) → Spells text.now form → text_depth form ≤ 80 →
-        MatchResult result (λ v. v.items ≡ text_marks form) IsMemory }
+        MatchResult result (λ v. v.items ≡ tokens_of_text form) IsMemory }
     // The offset in an error is at most the length of the text.
-    ensures refused { IfErr result (IsReadRefusal (length text.now)) }
+    ensures refused { IfErr result (IsTokenizeError (length text.now)) }
 {
     let body = past_mark(text);
     match lines(alloc, body) {

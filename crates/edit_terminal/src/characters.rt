@@ -2,7 +2,7 @@
 ghost use Rattle.std.specs.Prelude.{◌≡◌, OnOk};
 ghost use Rattle.std.specs.Io.KnownBytes.{Appends};
 ghost use Rattle.std.specs.Str.{chars};
-ghost use Rattle.edit_terminal.specs.Shown.{code_escape, escape, is_active, is_directional, is_within, shown, shown_char};
+ghost use Rattle.edit_terminal.specs.Shown.{code_escape, escape, is_active, is_directional, is_within, shown, terminal_char};
 
 use std::io;
 
@@ -61,7 +61,7 @@ fn write_escape<W: io::Write>(to: &mut W, c: char) -> io::Result<()>
 
 /// Writes a character so that a terminal shows it: as `\u{1b}` where the terminal would act on it.
 fn write_char<W: io::Write>(to: &mut W, c: char) -> io::Result<()>
-    ensures { OnOk result (Appends (W.contents to.old) (W.contents to.new) (shown_char c)) }
+    ensures { OnOk result (Appends (W.contents to.old) (W.contents to.new) (terminal_char c)) }
 {
     if is_active(c) {
         return write_escape(to, c);

@@ -1,7 +1,7 @@
 //! A writer to a terminal.
 ghost use Rattle.std.specs.Prelude.{◌≡◌, ◌+◌, ◌++◌, ◌<◌, ◌≤◌, [], IfOk, OnOk, length, take};
 ghost use Rattle.std.specs.Str.{IsUtf8};
-ghost use Rattle.edit_terminal.specs.Shown.{Shows};
+ghost use Rattle.edit_terminal.specs.Shown.{HasEscaped};
 
 use crate::characters::write_shown;
 use std::alloc::Global;
@@ -57,7 +57,7 @@ fn whole_length(bytes: &[u8]) -> io::Result<usize>
 impl<W: io::Write + Drop> io::Write for TerminalWriter<W> {
     fn write(&mut self, buf: &[u8]) -> io::Result<usize>
         ensures all { IfOk result (λ n. n ≡ length buf.now) }
-        ensures shows { OnOk result (Shows (W.contents self.old.to) (W.contents self.new.to)
+        ensures shows { OnOk result (HasEscaped (W.contents self.old.to) (W.contents self.new.to)
             (self.old.rest.items ++ buf.now) self.new.rest.items) }
     {
         let mut bytes = mem::try_take(&mut self.rest)?;

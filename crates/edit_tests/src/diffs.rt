@@ -1,6 +1,6 @@
 //! Tests of diffs of arbitrary texts. Those of edited manifests are in `tests/cases/upgrade/diffs.toml`.
-use crate::rows::{TILDES, rows_hold};
-use crate::stop::{must, text};
+use crate::assertion_helpers::{text, unwrap_ok};
+use crate::rows::{TILDES, check_rows};
 use edit_shown::diff::diff_text;
 use std::alloc::Global;
 use std::process::Abort;
@@ -19,12 +19,12 @@ l1\nl2\nl3\nl4\nl5\nl6\n|l1\nl2\nl3\nl4\n~\
 |a\nb\n|a\nb\n";
 
 /// The diff of two texts.
-fn diffed(rt: &impl Abort, alloc: Global, old: &str, new: &str) -> String {
-    let diff = must(rt, diff_text(alloc, "f", old.as_bytes(), new.as_bytes()));
+fn diff_of_texts(rt: &impl Abort, alloc: Global, old: &str, new: &str) -> String {
+    let diff = unwrap_ok(rt, diff_text(alloc, "f", old.as_bytes(), new.as_bytes()));
     text(rt, alloc, str::from_utf8(&diff).expect(rt, "UTF-8"))
 }
 
 #[test]
 fn shows_changes(rt: HostRuntime) {
-    rows_hold(&rt, rt.alloc(), ROWS, TILDES, diffed);
+    check_rows(&rt, rt.alloc(), ROWS, TILDES, diff_of_texts);
 }

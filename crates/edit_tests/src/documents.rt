@@ -1,8 +1,8 @@
 //! Tests of what `Debug` prints of documents and of views of their items: what Rust's derive prints of structs
 //! and enums with these names and fields. A document is printed as a struct with one field, its text, that has
 //! no name.
-use crate::rows::{LINES, rows_hold};
-use crate::stop::{kept, must, push, text};
+use crate::assertion_helpers::{kept, push, text, unwrap_ok};
+use crate::rows::{LINES, check_rows};
 use edit_document::{Document, Item, NewItem, NewValue};
 use std::alloc::Global;
 use std::fmt::Debug;
@@ -41,7 +41,7 @@ fn printed<D: Debug>(rt: &impl Abort, alloc: Global, value: &D, part: &str) -> S
 }
 
 /// The item one step below an item: an element by its index, or a member by its key.
-fn stepped<'a>(rt: &impl Abort, item: Item<'a>, step: &str) -> Item<'a> {
+fn child_item<'a>(rt: &impl Abort, item: Item<'a>, step: &str) -> Item<'a> {
     let found = match step.parse() {
         Ok(number) => item.at(number),
         Err(_) => item.get(step),
@@ -53,7 +53,7 @@ fn stepped<'a>(rt: &impl Abort, item: Item<'a>, step: &str) -> Item<'a> {
 fn below(rt: &impl Abort, alloc: Global, root: Item<'_>, steps: &str, part: &str) -> String {
     let mut item = root;
     'steps: for step in steps.split_whitespace() {
-        item = stepped(rt, item, step);
+        item = child_item(rt, item, step);
     }
     printed(rt, alloc, &item, part)
 }
@@ -94,7 +94,7 @@ fn table(rt: &impl Abort, alloc: Global) -> NewItem {
 
 /// The `Debug` text of a view of a document.
 fn of_document(rt: &impl Abort, alloc: Global, view: &str, rest: &str) -> String {
-    let document = must(rt, Document::read(alloc, TEXT));
+    let document = unwrap_ok(rt, Document::read(alloc, TEXT));
     let root = document.item(&[]).expect(rt, "the root");
     match view {
         "document" => printed(rt, alloc, &document, DOCUMENT),
@@ -117,5 +117,5 @@ fn shown(rt: &impl Abort, alloc: Global, view: &str, rest: &str) -> String {
 
 #[test]
 fn printed_as_derived(rt: HostRuntime) {
-    rows_hold(&rt, rt.alloc(), PRINTED, LINES, shown);
+    check_rows(&rt, rt.alloc(), PRINTED, LINES, shown);
 }

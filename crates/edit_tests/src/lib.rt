@@ -6,6 +6,8 @@
 #![tactic(auto)]
 
 #[cfg(test)]
+mod assertion_helpers;
+#[cfg(test)]
 mod diffs;
 #[cfg(test)]
 mod documents;
@@ -27,8 +29,6 @@ mod reports;
 mod rows;
 #[cfg(test)]
 mod sources;
-#[cfg(test)]
-mod stop;
 #[cfg(test)]
 mod versions;
 #[cfg(test)]

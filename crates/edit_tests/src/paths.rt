@@ -1,6 +1,6 @@
 //! Tests of paths.
-use crate::rows::{LINES, rows_hold};
-use crate::stop::{made, text};
+use crate::assertion_helpers::{made, text};
+use crate::rows::{LINES, check_rows};
 use edit_base::paths::{folder, join, normal, relative};
 use std::alloc::Global;
 use std::process::Abort;
@@ -44,5 +44,5 @@ fn path(rt: &impl Abort, alloc: Global, call: &str, argument: &str) -> String {
 
 #[test]
 fn paths_are_made(rt: HostRuntime) {
-    rows_hold(&rt, rt.alloc(), PATHS, LINES, path);
+    check_rows(&rt, rt.alloc(), PATHS, LINES, path);
 }

@@ -2,8 +2,8 @@
 //! `@`; a row ends at `~`.
 mod made;
 
-use crate::rows::{TILDES, rows_hold};
-use crate::stop::told;
+use crate::assertion_helpers::told;
+use crate::rows::{TILDES, check_rows};
 use made::refusal;
 use std::alloc::Global;
 use std::process::Abort;
@@ -81,5 +81,5 @@ fn text(rt: &impl Abort, alloc: Global, number: &str, parts: &str) -> String {
 
 #[test]
 fn refusals(rt: HostRuntime) {
-    rows_hold(&rt, rt.alloc(), REFUSALS, TILDES, text);
+    check_rows(&rt, rt.alloc(), REFUSALS, TILDES, text);
 }

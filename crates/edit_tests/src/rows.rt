@@ -1,5 +1,5 @@
 //! Tables of test cases: each table is one text.
-use crate::stop::same;
+use crate::assertion_helpers::check_result;
 use std::alloc::Global;
 use std::process::Abort;
 
@@ -34,7 +34,7 @@ pub(crate) fn field(row: &str, n: usize) -> &str {
 
 /// Ends a test at the first row that does not give its expected result. A row is the expected result, the
 /// call, and the argument, which is the rest of the row.
-pub(crate) fn rows_hold<R: Abort, F: Fn(&R, Global, &str, &str) -> String + Drop>(
+pub(crate) fn check_rows<R: Abort, F: Fn(&R, Global, &str, &str) -> String + Drop>(
     rt: &R,
     alloc: Global,
     table: &str,
@@ -47,6 +47,6 @@ pub(crate) fn rows_hold<R: Abort, F: Fn(&R, Global, &str, &str) -> String + Drop
         let (want, rest) = cut(row, ends.field);
         let (call, argument) = cut(rest, ends.field);
         let seen = answer(rt, alloc, call, argument);
-        same(rt, row, seen.as_str(), want);
+        check_result(rt, row, seen.as_str(), want);
     }
 }

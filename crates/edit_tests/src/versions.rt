@@ -1,5 +1,5 @@
 //! Tests of copies of `TargetVersion`, which no program makes.
-use crate::stop::{kept, must, same};
+use crate::assertion_helpers::{check_result, kept, unwrap_ok};
 use edit_set_version::TargetVersion;
 use semver::Version;
 use std::alloc::Global;
@@ -12,23 +12,23 @@ fn version_of(rt: &impl Abort, alloc: Global, text: &str) -> Version {
 
 /// The version that a copy of a target makes of 1.0.0-rc.1.
 fn next(rt: &impl Abort, alloc: Global, target: &TargetVersion) -> String {
-    let copy = must(rt, target.try_clone(alloc));
+    let copy = unwrap_ok(rt, target.try_clone(alloc));
     let current = version_of(rt, alloc, "1.0.0-rc.1");
-    let next = must(rt, copy.bump(alloc, &current, None)).expect(rt, "a next version");
+    let next = unwrap_ok(rt, copy.bump(alloc, &current, None)).expect(rt, "a next version");
     kept(rt, next.to_string(alloc))
 }
 
 #[test]
 fn copies_targets(rt: HostRuntime) {
     let target = TargetVersion::Absolute(version_of(&rt, rt.alloc(), "2.0.0+a"));
-    same(
+    check_result(
         &rt,
         "a version",
         next(&rt, rt.alloc(), &target).as_str(),
         "2.0.0+a",
     );
     let level = TargetVersion::default();
-    same(
+    check_result(
         &rt,
         "a level",
         next(&rt, rt.alloc(), &level).as_str(),

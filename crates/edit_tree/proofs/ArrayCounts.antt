@@ -2,7 +2,7 @@
 use Rattle.std.proofs.Common.{◌≡◌, ℕ, suc, Bool, true, false, cond, ◌&&◌, List, [], ◌∷◌, ◌++◌, Some, refl, sym, ap, ◌∙◌, ◌⊎◌, inl, inr, append_assoc, subst}
 use Rattle.std.specs.List.{AllByRecursion}
 use Rattle.edit_syntax.specs.Grammar.{Value, basic, literal, multi_basic, multi_literal, boolean, integer, float, datetime, array, inline, Elements, no_elements, last_element, element, Members, no_members, last_member, member, Statement, pair, header, element_header}
-use Rattle.edit_tree.specs.Assertions.{key, index, Place, at, same_place, Kind, dotted, leaf, super, header_kind, array_kind, element_kind, Assertion, asserts, together, NoClash, names, named, of_key, of_value, of_elements, of_members, is_array, is_array_at, elements_at, resolved, fronts, header_place, of_statement}
+use Rattle.edit_tree.specs.Assertions.{key, index, Place, at, same_place, Kind, dotted, leaf, super, header_kind, array_kind, element_kind, Assertion, asserts, are_compatible, AreCompatible, names, named, of_key, of_value, of_elements, of_members, is_array, is_array_at, elements_at, resolved, fronts, header_place, of_statement}
 use Rattle.edit_tree.specs.Tree.{kind_at}
 use Rattle.edit_tree.proofs.SamePlace.{same_place_is, last_same, other_place, same_place_self, place_or}
 use Rattle.edit_tree.proofs.MoreMembers.{is_element, elements_below, elements_stay, elements_grow, elements_else}
@@ -75,12 +75,12 @@ plain_both (x ∷ xs) ys h g = (h.0, plain_both xs ys h.1 g)
 -- ---- an array stands alone
 
 no_arrays : (p : Place) (k : Kind) (made : List Assertion)
-    → AllByRecursion (λ b. p ≡ b.place → together k b.kind ≡ true) made → is_array k ≡ false
+    → AllByRecursion (λ b. p ≡ b.place → are_compatible k b.kind ≡ true) made → is_array k ≡ false
     → elements_at made p ≡ 0
 no_arrays p k [] h ne = refl
 no_arrays p k (b ∷ made) h ne = go (same_place b.place p) refl (no_arrays p k made h.1 ne)
   where
-    other : (j : Kind) → together k j ≡ true → is_array j ≡ false
+    other : (j : Kind) → are_compatible k j ≡ true → is_array j ≡ false
     other (dotted w) t = refl
     other (leaf v) t = refl
     other super t = refl
@@ -88,7 +88,7 @@ no_arrays p k (b ∷ made) h ne = go (same_place b.place p) refl (no_arrays p k 
     other element_kind t = refl
     other array_kind t = pick k t ne
       where
-        pick : (x : Kind) → together x array_kind ≡ true → is_array x ≡ false → true ≡ false
+        pick : (x : Kind) → are_compatible x array_kind ≡ true → is_array x ≡ false → true ≡ false
         pick (dotted w) t ne = absurd cc
         pick (leaf v) t ne = absurd cc
         pick super t ne = absurd cc
@@ -105,15 +105,15 @@ no_arrays p k (b ∷ made) h ne = go (same_place b.place p) refl (no_arrays p k 
         nothing false = refl
 
 -- where an array of tables is asserted, it is the first
-pub arrays_alone : (made : List Assertion) (p : Place) → NoClash made → (elements_at made p ≡ 0)
+pub arrays_alone : (made : List Assertion) (p : Place) → AreCompatible made → (elements_at made p ≡ 0)
     ⊎ (kind_at made p ≡ Some array_kind)
 arrays_alone [] p h = inl refl
 arrays_alone (a ∷ made) p h = go (same_place a.place p) refl (arrays_alone made p h.1)
   where
     here : (k : Kind) → a.kind ≡ k → same_place a.place p ≡ true
-        → AllByRecursion (λ b. p ≡ b.place → together k b.kind ≡ true) made
-    here k e t = subst (λ (x : Kind). AllByRecursion (λ b. p ≡ b.place → together x b.kind ≡ true) made) e
-        (subst (λ (q : Place). AllByRecursion (λ b. q ≡ b.place → together a.kind b.kind ≡ true) made)
+        → AllByRecursion (λ b. p ≡ b.place → are_compatible k b.kind ≡ true) made
+    here k e t = subst (λ (x : Kind). AllByRecursion (λ b. p ≡ b.place → are_compatible x b.kind ≡ true) made) e
+        (subst (λ (q : Place). AllByRecursion (λ b. q ≡ b.place → are_compatible a.kind b.kind ≡ true) made)
         (same_place_is a.place p t) h.0)
 
     first : (k : Kind) → a.kind ≡ k → same_place a.place p ≡ true → (elements_at (a ∷ made) p ≡ 0)

@@ -3,7 +3,7 @@ use Rattle.std.proofs.Common.{◌≡◌, ℕ, ◌+◌, ◌<◌, length, take, dr
 use Rattle.std.specs.List.{flat_map}
 use Rattle.std.proofs.lemmas.List.{take_more, take-append-drop}
 use Rattle.edit_syntax.proofs.Members.{Among}
-use Rattle.edit_tree.specs.EditBytes.{first_of, first_made, last_made}
+use Rattle.edit_tree.specs.EditBytes.{first_of, first_result, last_result}
 
 only_one : {A : Type 0} (o : Option A) → first_of (o ∷ []) ≡ o
 only_one None = refl
@@ -11,14 +11,14 @@ only_one (Some x) = refl
 
 -- one more behind the others
 pub last_more : {A B : Type 0} (f : A → Option B) (xs : List A) (x : A)
-    → last_made f (xs ++ x ∷ []) ≡ first_of (f x ∷ last_made f xs ∷ [])
+    → last_result f (xs ++ x ∷ []) ≡ first_of (f x ∷ last_result f xs ∷ [])
 last_more {B = B} f [] x = go (f x)
   where
     go : (o : Option B) → first_of (None ∷ o ∷ []) ≡ first_of (o ∷ None ∷ [])
     go None = refl
     go (Some y) = refl
 last_more {B = B} f (y ∷ ys) x =
-    ap (λ (o : Option B). first_of (o ∷ f y ∷ [])) (last_more f ys x) ∙ go (f x) (last_made f ys) (f y)
+    ap (λ (o : Option B). first_of (o ∷ f y ∷ [])) (last_more f ys x) ∙ go (f x) (last_result f ys) (f y)
   where
     go : (o p q : Option B) → first_of (first_of (o ∷ p ∷ []) ∷ q ∷ [])
         ≡ first_of (o ∷ first_of (p ∷ q ∷ []) ∷ [])
@@ -32,10 +32,10 @@ before_none None = refl
 before_none (Some x) = refl
 
 pub first_more : {A B : Type 0} (f : A → Option B) (xs : List A) (x : A)
-    → first_made f (xs ++ x ∷ []) ≡ first_of (first_made f xs ∷ f x ∷ [])
+    → first_result f (xs ++ x ∷ []) ≡ first_of (first_result f xs ∷ f x ∷ [])
 first_more {B = B} f [] x = ap (λ (o : Option B). o) (before_none (f x)) ∙ sym (only_one (f x))
 first_more {B = B} f (y ∷ ys) x =
-    ap (λ (o : Option B). first_of (f y ∷ o ∷ [])) (first_more f ys x) ∙ go (f y) (first_made f ys) (f x)
+    ap (λ (o : Option B). first_of (f y ∷ o ∷ [])) (first_more f ys x) ∙ go (f y) (first_result f ys) (f x)
   where
     go : (o p q : Option B) → first_of (o ∷ first_of (p ∷ q ∷ []) ∷ [])
         ≡ first_of (first_of (o ∷ p ∷ []) ∷ q ∷ [])
@@ -46,11 +46,11 @@ first_more {B = B} f (y ∷ ys) x =
 
 -- of two lists
 pub first_both : {A B : Type 0} (f : A → Option B) (xs ys : List A)
-    → first_made f (xs ++ ys) ≡ first_of (first_made f xs ∷ first_made f ys ∷ [])
-first_both f [] ys = sym (only_one (first_made f ys))
+    → first_result f (xs ++ ys) ≡ first_of (first_result f xs ∷ first_result f ys ∷ [])
+first_both f [] ys = sym (only_one (first_result f ys))
 first_both {B = B} f (x ∷ xs) ys =
     ap (λ (o : Option B). first_of (f x ∷ o ∷ [])) (first_both f xs ys) ∙
-    go (f x) (first_made f xs) (first_made f ys)
+    go (f x) (first_result f xs) (first_result f ys)
   where
     go : (o p q : Option B) → first_of (o ∷ first_of (p ∷ q ∷ []) ∷ [])
         ≡ first_of (first_of (o ∷ p ∷ []) ∷ q ∷ [])
@@ -62,41 +62,41 @@ first_both {B = B} f (x ∷ xs) ys =
 -- ---- as far as a loop has come
 
 pub last_taken : {A B : Type 0} (f : A → Option B) (xs : List A) (i : ℕ) (d : A) (y : B) → i < length xs
-    → f (get_or xs i d) ≡ Some y → last_made f (take (i + 1) xs) ≡ Some y
+    → f (get_or xs i d) ≡ Some y → last_result f (take (i + 1) xs) ≡ Some y
 last_taken {B = B} f xs i d y lt e =
-    ap (last_made f) (take_more xs i d lt) ∙ last_more f (take i xs) (get_or xs i d)
-    ∙ ap (λ (o : Option B). first_of (o ∷ last_made f (take i xs) ∷ [])) e
+    ap (last_result f) (take_more xs i d lt) ∙ last_more f (take i xs) (get_or xs i d)
+    ∙ ap (λ (o : Option B). first_of (o ∷ last_result f (take i xs) ∷ [])) e
 
 pub last_left : {A B : Type 0} (f : A → Option B) (xs : List A) (i : ℕ) (d : A) → i < length xs
-    → f (get_or xs i d) ≡ None → last_made f (take (i + 1) xs) ≡ last_made f (take i xs)
+    → f (get_or xs i d) ≡ None → last_result f (take (i + 1) xs) ≡ last_result f (take i xs)
 last_left {B = B} f xs i d lt e =
-    ap (last_made f) (take_more xs i d lt) ∙ last_more f (take i xs) (get_or xs i d)
-    ∙ ap (λ (o : Option B). first_of (o ∷ last_made f (take i xs) ∷ [])) e ∙
-    only_one (last_made f (take i xs))
+    ap (last_result f) (take_more xs i d lt) ∙ last_more f (take i xs) (get_or xs i d)
+    ∙ ap (λ (o : Option B). first_of (o ∷ last_result f (take i xs) ∷ [])) e ∙
+    only_one (last_result f (take i xs))
 
 first_step : {A B : Type 0} (f : A → Option B) (xs : List A) (i : ℕ) (d : A) → i < length xs
-    → first_made f (take i xs) ≡ None → first_made f (take (i + 1) xs) ≡ f (get_or xs i d)
+    → first_result f (take i xs) ≡ None → first_result f (take (i + 1) xs) ≡ f (get_or xs i d)
 first_step {B = B} f xs i d lt none =
-    ap (first_made f) (take_more xs i d lt) ∙ first_more f (take i xs) (get_or xs i d)
+    ap (first_result f) (take_more xs i d lt) ∙ first_more f (take i xs) (get_or xs i d)
     ∙ ap (λ (o : Option B). first_of (o ∷ f (get_or xs i d) ∷ [])) none ∙ only_one (f (get_or xs i d))
 
 pub first_left : {A B : Type 0} (f : A → Option B) (xs : List A) (i : ℕ) (d : A) → i < length xs
-    → first_made f (take i xs) ≡ None → f (get_or xs i d) ≡ None → first_made f (take (i + 1) xs) ≡ None
+    → first_result f (take i xs) ≡ None → f (get_or xs i d) ≡ None → first_result f (take (i + 1) xs) ≡ None
 first_left f xs i d lt none e = first_step f xs i d lt none ∙ e
 
 pub first_taken : {A B : Type 0} (f : A → Option B) (xs : List A) (i : ℕ) (d : A) (y : B) → i < length xs
-    → first_made f (take i xs) ≡ None → f (get_or xs i d) ≡ Some y → first_made f xs ≡ Some y
+    → first_result f (take i xs) ≡ None → f (get_or xs i d) ≡ Some y → first_result f xs ≡ Some y
 first_taken {B = B} f xs i d y lt none e =
-    ap (first_made f) (sym (take-append-drop (i + 1) xs)) ∙ first_both f (take (i + 1) xs) (drop (i + 1) xs)
-    ∙ ap (λ (o : Option B). first_of (o ∷ first_made f (drop (i + 1) xs) ∷ [])) (first_step f xs i d lt none ∙
+    ap (first_result f) (sym (take-append-drop (i + 1) xs)) ∙ first_both f (take (i + 1) xs) (drop (i + 1) xs)
+    ∙ ap (λ (o : Option B). first_of (o ∷ first_result f (drop (i + 1) xs) ∷ [])) (first_step f xs i d lt none ∙
     e)
 
 -- of lists one behind the other
 pub first_flat : {S A B : Type 0} (f : A → Option B) (k : S → List A) (xs : List S)
-    → first_made f (flat_map k xs) ≡ first_made (λ x. first_made f (k x)) xs
+    → first_result f (flat_map k xs) ≡ first_result (λ x. first_result f (k x)) xs
 first_flat f k [] = refl
 first_flat {B = B} f k (x ∷ xs) =
-    first_both f (k x) (flat_map k xs) ∙ ap (λ (o : Option B). first_of (first_made f (k x) ∷ o ∷ []))
+    first_both f (k x) (flat_map k xs) ∙ ap (λ (o : Option B). first_of (first_result f (k x) ∷ o ∷ []))
     (first_flat f k xs)
 
 -- something is made of one exactly where something is made of its image
@@ -113,44 +113,44 @@ pub record Chosen {S A B C : Type 0} (f : A → Option B) (g : S → Option C) (
   pub is : all ≡ g one
 
 module _ {S A B C : Type 0} (f : A → Option B) (g : S → Option C) (h : S → A) (alike : Alike f g h) where
-  pub first_none : (xs : List S) → first_made f (map h xs) ≡ None → first_made g xs ≡ None
+  pub first_none : (xs : List S) → first_result f (map h xs) ≡ None → first_result g xs ≡ None
   first_none [] e = refl
   first_none (x ∷ xs) e = go (f (h x)) refl e (first_none xs)
     where
-      go : (o : Option B) → f (h x) ≡ o → first_of (o ∷ first_made f (map h xs) ∷ []) ≡ None
-          → (first_made f (map h xs) ≡ None → first_made g xs ≡ None) → first_made g (x ∷ xs) ≡ None
+      go : (o : Option B) → f (h x) ≡ o → first_of (o ∷ first_result f (map h xs) ∷ []) ≡ None
+          → (first_result f (map h xs) ≡ None → first_result g xs ≡ None) → first_result g (x ∷ xs) ≡ None
       go None k d ih =
           ap₂ (λ (a b : Option C). first_of (a ∷ b ∷ [])) (alike.none x k)
-          (ih (sym (only_one (first_made f (map h xs))) ∙ d))
+          (ih (sym (only_one (first_result f (map h xs))) ∙ d))
       go (Some b) k d ih = absurd cc
 
-  pub last_none : (xs : List S) → last_made f (map h xs) ≡ None → last_made g xs ≡ None
+  pub last_none : (xs : List S) → last_result f (map h xs) ≡ None → last_result g xs ≡ None
   last_none [] e = refl
-  last_none (x ∷ xs) e = go (last_made f (map h xs)) refl e (last_none xs)
+  last_none (x ∷ xs) e = go (last_result f (map h xs)) refl e (last_none xs)
     where
-      go : (o : Option B) → last_made f (map h xs) ≡ o → first_of (o ∷ f (h x) ∷ []) ≡ None
-          → (last_made f (map h xs) ≡ None → last_made g xs ≡ None) → last_made g (x ∷ xs) ≡ None
+      go : (o : Option B) → last_result f (map h xs) ≡ o → first_of (o ∷ f (h x) ∷ []) ≡ None
+          → (last_result f (map h xs) ≡ None → last_result g xs ≡ None) → last_result g (x ∷ xs) ≡ None
       go None k d ih =
           ap₂ (λ (a b : Option C). first_of (a ∷ b ∷ [])) (ih k)
           (alike.none x (sym (only_one (f (h x))) ∙ d))
       go (Some b) k d ih = absurd cc
 
-  pub first_chosen : (xs : List S) (b : B) → first_made f (map h xs) ≡ Some b
-      → Chosen f g h xs b (first_made g xs)
+  pub first_chosen : (xs : List S) (b : B) → first_result f (map h xs) ≡ Some b
+      → Chosen f g h xs b (first_result g xs)
   first_chosen [] b e = absurd cc
   first_chosen (x ∷ xs) b e = go (f (h x)) refl e (first_chosen xs b)
     where
-      go : (o : Option B) → f (h x) ≡ o → first_of (o ∷ first_made f (map h xs) ∷ []) ≡ Some b
-          → (first_made f (map h xs) ≡ Some b → Chosen f g h xs b (first_made g xs))
-          → Chosen f g h (x ∷ xs) b (first_made g (x ∷ xs))
+      go : (o : Option B) → f (h x) ≡ o → first_of (o ∷ first_result f (map h xs) ∷ []) ≡ Some b
+          → (first_result f (map h xs) ≡ Some b → Chosen f g h xs b (first_result g xs))
+          → Chosen f g h (x ∷ xs) b (first_result g (x ∷ xs))
       go None k d ih =
-          let r = ih (sym (only_one (first_made f (map h xs))) ∙ d) in
+          let r = ih (sym (only_one (first_result f (map h xs))) ∙ d) in
           record {
             one = r.one;
             among = inr r.among;
             made = r.made;
-            is = ap (λ (a : Option C). first_of (a ∷ first_made g xs ∷ [])) (alike.none x k)
-                ∙ only_one (first_made g xs) ∙ r.is;
+            is = ap (λ (a : Option C). first_of (a ∷ first_result g xs ∷ [])) (alike.none x k)
+                ∙ only_one (first_result g xs) ∙ r.is;
           }
       go (Some d) k e ih =
           let c = alike.some x d k in
@@ -158,17 +158,17 @@ module _ {S A B C : Type 0} (f : A → Option B) (g : S → Option C) (h : S →
             one = x;
             among = inl refl;
             made = k ∙ e;
-            is = ap (λ (a : Option C). first_of (a ∷ first_made g xs ∷ [])) c.1 ∙ sym c.1;
+            is = ap (λ (a : Option C). first_of (a ∷ first_result g xs ∷ [])) c.1 ∙ sym c.1;
           }
 
-  pub last_chosen : (xs : List S) (b : B) → last_made f (map h xs) ≡ Some b
-      → Chosen f g h xs b (last_made g xs)
+  pub last_chosen : (xs : List S) (b : B) → last_result f (map h xs) ≡ Some b
+      → Chosen f g h xs b (last_result g xs)
   last_chosen [] b e = absurd cc
-  last_chosen (x ∷ xs) b e = go (last_made f (map h xs)) refl e (last_chosen xs b)
+  last_chosen (x ∷ xs) b e = go (last_result f (map h xs)) refl e (last_chosen xs b)
     where
-      go : (o : Option B) → last_made f (map h xs) ≡ o → first_of (o ∷ f (h x) ∷ []) ≡ Some b
-          → (last_made f (map h xs) ≡ Some b → Chosen f g h xs b (last_made g xs))
-          → Chosen f g h (x ∷ xs) b (last_made g (x ∷ xs))
+      go : (o : Option B) → last_result f (map h xs) ≡ o → first_of (o ∷ f (h x) ∷ []) ≡ Some b
+          → (last_result f (map h xs) ≡ Some b → Chosen f g h xs b (last_result g xs))
+          → Chosen f g h (x ∷ xs) b (last_result g (x ∷ xs))
       go None k d ih = record {
         one = x;
         among = inl refl;
@@ -188,14 +188,14 @@ module _ {S A B C : Type 0} (f : A → Option B) (g : S → Option C) (h : S →
 -- ---- where nothing is made of any
 
 pub last_nothing : {A B : Type 0} (f : A → Option B) (xs : List A) → ((x : A) → Among x xs → f x ≡ None)
-    → last_made f xs ≡ None
+    → last_result f xs ≡ None
 last_nothing f [] all = refl
 last_nothing {B = B} f (x ∷ xs) all =
     ap₂ (λ (a b : Option B). first_of (a ∷ b ∷ [])) (last_nothing f xs (λ y m. all y (inr m)))
     (all x (inl refl))
 
 pub first_nothing : {A B : Type 0} (f : A → Option B) (xs : List A) → ((x : A) → Among x xs → f x ≡ None)
-    → first_made f xs ≡ None
+    → first_result f xs ≡ None
 first_nothing f [] all = refl
 first_nothing {B = B} f (x ∷ xs) all =
     ap₂ (λ (a b : Option B). first_of (a ∷ b ∷ [])) (all x (inl refl))
@@ -204,11 +204,11 @@ first_nothing {B = B} f (x ∷ xs) all =
 -- ---- where something is made of one alone
 
 pub last_both : {A B : Type 0} (f : A → Option B) (xs ys : List A)
-    → last_made f (xs ++ ys) ≡ first_of (last_made f ys ∷ last_made f xs ∷ [])
-last_both f [] ys = sym (before_none (last_made f ys))
+    → last_result f (xs ++ ys) ≡ first_of (last_result f ys ∷ last_result f xs ∷ [])
+last_both f [] ys = sym (before_none (last_result f ys))
 last_both {B = B} f (x ∷ xs) ys =
     ap (λ (o : Option B). first_of (o ∷ f x ∷ [])) (last_both f xs ys) ∙
-    go (last_made f ys) (last_made f xs) (f x)
+    go (last_result f ys) (last_result f xs) (f x)
   where
     go : (o p q : Option B) → first_of (first_of (o ∷ p ∷ []) ∷ q ∷ [])
         ≡ first_of (o ∷ first_of (p ∷ q ∷ []) ∷ [])
@@ -219,14 +219,14 @@ last_both {B = B} f (x ∷ xs) ys =
 
 -- of lists one behind the other
 pub last_flat : {S A B : Type 0} (f : A → Option B) (k : S → List A) (xs : List S)
-    → last_made f (flat_map k xs) ≡ last_made (λ x. last_made f (k x)) xs
+    → last_result f (flat_map k xs) ≡ last_result (λ x. last_result f (k x)) xs
 last_flat f k [] = refl
 last_flat {B = B} f k (x ∷ xs) =
-    last_both f (k x) (flat_map k xs) ∙ ap (λ (o : Option B). first_of (o ∷ last_made f (k x) ∷ []))
+    last_both f (k x) (flat_map k xs) ∙ ap (λ (o : Option B). first_of (o ∷ last_result f (k x) ∷ []))
     (last_flat f k xs)
 
 pub last_only : {A B : Type 0} (f : A → Option B) (w : A) (xs : List A) → Among w xs
-    → ((x : A) → Among x xs → (f x ≡ None) ⊎ (x ≡ w)) → last_made f xs ≡ f w
+    → ((x : A) → Among x xs → (f x ≡ None) ⊎ (x ≡ w)) → last_result f xs ≡ f w
 last_only f w [] m each = absurd m
 last_only {A} {B} f w (x ∷ xs) m each =
     go m (each x (inl refl)) (rest xs (λ y n. each y (inr n)))
@@ -237,12 +237,12 @@ last_only {A} {B} f w (x ∷ xs) m each =
     same_twice (Some y) = refl
 
     rest : (ys : List A) → ((y : A) → Among y ys → (f y ≡ None) ⊎ (y ≡ w))
-        → (last_made f ys ≡ None) ⊎ (last_made f ys ≡ f w)
+        → (last_result f ys ≡ None) ⊎ (last_result f ys ≡ f w)
     rest [] all = inl refl
     rest (y ∷ ys) all = pick (all y (inl refl)) (rest ys (λ z n. all z (inr n)))
       where
-        pick : (f y ≡ None) ⊎ (y ≡ w) → (last_made f ys ≡ None) ⊎ (last_made f ys ≡ f w)
-            → (last_made f (y ∷ ys) ≡ None) ⊎ (last_made f (y ∷ ys) ≡ f w)
+        pick : (f y ≡ None) ⊎ (y ≡ w) → (last_result f ys ≡ None) ⊎ (last_result f ys ≡ f w)
+            → (last_result f (y ∷ ys) ≡ None) ⊎ (last_result f (y ∷ ys) ≡ f w)
         pick (inl e) (inl h) = inl (ap₂ (λ (a b : Option B). first_of (a ∷ b ∷ [])) h e)
         pick (inl e) (inr h) =
             inr (ap₂ (λ (a b : Option B). first_of (a ∷ b ∷ [])) h e ∙ before_none (f w))
@@ -251,8 +251,8 @@ last_only {A} {B} f w (x ∷ xs) m each =
         pick (inr e) (inr h) =
             inr (ap₂ (λ (a b : Option B). first_of (a ∷ b ∷ [])) h (ap f e) ∙ same_twice (f w))
 
-    go : Among w (x ∷ xs) → (f x ≡ None) ⊎ (x ≡ w) → (last_made f xs ≡ None) ⊎ (last_made f xs ≡ f w)
-        → (Among w xs → last_made f xs ≡ f w) → last_made f (x ∷ xs) ≡ f w
+    go : Among w (x ∷ xs) → (f x ≡ None) ⊎ (x ≡ w) → (last_result f xs ≡ None) ⊎ (last_result f xs ≡ f w)
+        → (Among w xs → last_result f xs ≡ f w) → last_result f (x ∷ xs) ≡ f w
     go n (inr e) (inl h) ih = ap₂ (λ (a b : Option B). first_of (a ∷ b ∷ [])) h (ap f e) ∙ only_one (f w)
     go n (inr e) (inr h) ih = ap₂ (λ (a b : Option B). first_of (a ∷ b ∷ [])) h (ap f e) ∙ same_twice (f w)
     go (inl p) (inl e) (inl h) ih =

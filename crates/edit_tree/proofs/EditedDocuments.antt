@@ -6,7 +6,7 @@ use Rattle.edit_tree.specs.Tree.{View, view_at}
 use Rattle.edit_tree.specs.EditBytes.{inserted_text, replaced_text}
 use Rattle.edit_tree.specs.RemovedBytes.{removed_text}
 use Rattle.edit_tree.specs.NewItems.{NewValue, NewItem}
-use Rattle.edit_tree.specs.Meant.{Tree, Grown, Inserted, InsertFails, SameButOrder, Loses, moved, Removed, RemoveFails, item_view, above, is_inline_table, HasReplaced, ReplaceFails}
+use Rattle.edit_tree.specs.IntendedTrees.{Tree, Grown, Inserted, InsertFails, SameButOrder, Loses, moved, Removed, RemoveFails, item_view, above, is_inline_table, HasReplaced, ReplaceFails}
 
 -- two trees that show the same everywhere
 abbrev Alike : Tree → Tree → Type 0

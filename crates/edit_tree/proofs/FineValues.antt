@@ -4,12 +4,12 @@ use Rattle.std.specs.List.{AllByRecursion}
 use Rattle.edit_syntax.specs.Characters.{right_bracket, right_brace}
 use Rattle.edit_syntax.specs.Grammar.{Value, basic, literal, multi_basic, multi_literal, boolean, integer, float, datetime, array, inline, IsValue, Elements, no_elements, last_element, element, AreElements, Members, no_members, last_member, member, AreMembers, Statement, pair, header, element_header, IsStatement, empty_line, full_line, Lines, one_line, more_lines, AreLines}
 use Rattle.edit_tree.specs.Assertions.{Place, index, at, names, named, Assertion, of_statement, prefix_after}
-use Rattle.edit_tree.specs.Written.{Valued, inside, in_elements, in_members, in_statement, in_lines}
+use Rattle.edit_tree.specs.Written.{PlacedValue, inside, in_elements, in_members, in_statement, in_lines}
 
-abbrev AreFine : List Valued → Type 0
+abbrev AreFine : List PlacedValue → Type 0
 AreFine ws = AllByRecursion (λ w. IsValue w.value) ws
 
-fine_append : (xs ys : List Valued) → AreFine xs → AreFine ys → AreFine (xs ++ ys)
+fine_append : (xs ys : List PlacedValue) → AreFine xs → AreFine ys → AreFine (xs ++ ys)
 fine_append [] ys h g = g
 fine_append (x ∷ xs) ys h g = (h.0, fine_append xs ys h.1 g)
 

@@ -3,11 +3,11 @@ use Rattle.std.proofs.Common.{◌≡◌, Bool, true, false, not, ◌&&◌, if◌
 use Rattle.edit_syntax.specs.Grammar.{Text}
 use Rattle.edit_syntax.proofs.Cases.{by_test}
 use Rattle.edit_syntax.proofs.Members.{Among, among_all, among_map}
-use Rattle.edit_tree.specs.Assertions.{Place, Step, at, same_step, same_place, assertions, NoClash}
-use Rattle.edit_tree.specs.EditBytes.{is_within, first_of, last_made}
+use Rattle.edit_tree.specs.Assertions.{Place, Step, at, same_step, same_place, assertions, AreCompatible}
+use Rattle.edit_tree.specs.EditBytes.{is_within, first_of, last_result}
 use Rattle.edit_tree.specs.RemovedBytes.{is_around, innermost}
 use Rattle.edit_tree.specs.Tree.{is_value_at}
-use Rattle.edit_tree.specs.Written.{Valued, values}
+use Rattle.edit_tree.specs.Written.{PlacedValue, values}
 use Rattle.edit_tree.proofs.Choices.{last_nothing}
 use Rattle.edit_tree.proofs.RisingValues.{Rising, values_rise}
 use Rattle.edit_tree.proofs.SamePlace.{same_place_is}
@@ -43,18 +43,19 @@ above_root (y ∷ q) = refl
 
 -- ---- values
 
-abbrev around : Place → Valued → Option Valued
+abbrev around : Place → PlacedValue → Option PlacedValue
 around gone w = if is_around gone w then Some w else None
 
-around_not : (gone : Place) (w : Valued) → is_around gone w ≡ false → around gone w ≡ None
+around_not : (gone : Place) (w : PlacedValue) → is_around gone w ≡ false → around gone w ≡ None
 around_not gone w e = ap (λ (b : Bool). if b then Some w else None) e
 
-last_alike : (f g : Valued → Option Valued) (ws : List Valued) → ((w : Valued) → Among w ws → f w ≡ g w)
-    → last_made f ws ≡ last_made g ws
+last_alike : (f g : PlacedValue → Option PlacedValue) (ws : List PlacedValue)
+    → ((w : PlacedValue) → Among w ws → f w ≡ g w)
+    → last_result f ws ≡ last_result g ws
 last_alike f g [] h = refl
 last_alike f g (w ∷ ws) h =
-    ap (λ (o : Option Valued). first_of (o ∷ f w ∷ [])) (last_alike f g ws (λ v m. h v (inr m)))
-    ∙ ap (λ (o : Option Valued). first_of (last_made g ws ∷ o ∷ [])) (h w (inl refl))
+    ap (λ (o : Option PlacedValue). first_of (o ∷ f w ∷ [])) (last_alike f g ws (λ v m. h v (inr m)))
+    ∙ ap (λ (o : Option PlacedValue). first_of (last_result g ws ∷ o ∷ [])) (h w (inl refl))
 
 -- nothing is around the root
 pub none_around : (form : Text) → innermost [] form ≡ None
@@ -70,7 +71,7 @@ same_around form p s none =
     (above_at w.place p s
     ∙ sym (ap (λ (b : Bool). is_within w.place p && not b) (other w m) ∙ yes (is_within w.place p))))
   where
-    other : (w : Valued) → Among w (values form) → same_place w.place p ≡ false
+    other : (w : PlacedValue) → Among w (values form) → same_place w.place p ≡ false
     other w m =
         by_test (same_place w.place p)
         (λ h. absurd (true≢false
@@ -81,24 +82,25 @@ same_around form p s none =
     yes true = refl
     yes false = refl
 
-found_last : (p : Place) (s : Step) (ws : List Valued) (w : Valued) → Rising (places ws) → Among w ws
-    → w.place ≡ p → last_made (around (at p s)) ws ≡ Some w
+found_last : (p : Place) (s : Step) (ws : List PlacedValue) (w : PlacedValue) → Rising (places ws)
+    → Among w ws
+    → w.place ≡ p → last_result (around (at p s)) ws ≡ Some w
 found_last p s [] w up m e = absurd m
 found_last p s (x ∷ ws) w up (inr m) e =
-    ap (λ (o : Option Valued). first_of (o ∷ around (at p s) x ∷ [])) (found_last p s ws w up.1 m e)
+    ap (λ (o : Option PlacedValue). first_of (o ∷ around (at p s) x ∷ [])) (found_last p s ws w up.1 m e)
 found_last p s (x ∷ ws) w up (inl same) e =
-    let there : x.place ≡ p = ap (λ (v : Valued). v.place) (sym same) ∙ e in
-    let none : last_made (around (at p s)) ws ≡ None =
+    let there : x.place ≡ p = ap (λ (v : PlacedValue). v.place) (sym same) ∙ e in
+    let none : last_result (around (at p s)) ws ≡ None =
     last_nothing (around (at p s)) ws (λ u m. around_not (at p s) u
     (above_at u.place p s ∙ ap (is_within u.place) (sym there)
     ∙ among_all (λ q. is_within q x.place ≡ false) u.place (places ws) up.0
-    (among_map (λ (v : Valued). v.place) u ws m))) in
+    (among_map (λ (v : PlacedValue). v.place) u ws m))) in
     let here : is_around (at p s) x ≡ true =
     above_at x.place p s ∙ ap (λ (q : Place). is_within q p) there ∙ within_same p in
-    ap (λ (o : Option Valued). first_of (o ∷ around (at p s) x ∷ [])) none
+    ap (λ (o : Option PlacedValue). first_of (o ∷ around (at p s) x ∷ [])) none
     ∙ ap (λ (b : Bool). first_of ((if b then Some x else None) ∷ [])) here ∙ ap Some (sym same)
 
 -- where a value stands, it is the innermost one around what is one step below
-pub value_around : (form : Text) (p : Place) (s : Step) (w : Valued) → NoClash (assertions form)
+pub value_around : (form : Text) (p : Place) (s : Step) (w : PlacedValue) → AreCompatible (assertions form)
     → Among w (values form) → w.place ≡ p → innermost (at p s) form ≡ Some w
 value_around form p s w clash m e = found_last p s (values form) w (values_rise form clash) m e

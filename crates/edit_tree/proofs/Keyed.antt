@@ -5,7 +5,7 @@ use Rattle.std.specs.Prelude.{map}
 use Rattle.std.proofs.lemmas.Option.{same_Some}
 use Rattle.edit_syntax.specs.Strings.{Key}
 use Rattle.edit_syntax.specs.Grammar.{Value, basic, literal, multi_basic, multi_literal, boolean, integer, float, datetime, array, inline, Elements, no_elements, last_element, element, Members, no_members, last_member, member, Statement, pair, header, element_header, empty_line, full_line, Lines, one_line, more_lines, Text}
-use Rattle.edit_tree.specs.Assertions.{Place, key, index, at, same_place, Kind, dotted, leaf, super, header_kind, array_kind, element_kind, Assertion, asserts, names, named, of_key, of_value, of_elements, of_members, elements_at, resolved, fronts, header_place, of_statement, prefix_after, of_lines, assertions, together, NoClash}
+use Rattle.edit_tree.specs.Assertions.{Place, key, index, at, same_place, Kind, dotted, leaf, super, header_kind, array_kind, element_kind, Assertion, asserts, names, named, of_key, of_value, of_elements, of_members, elements_at, resolved, fronts, header_place, of_statement, prefix_after, of_lines, assertions, are_compatible, AreCompatible}
 use Rattle.edit_tree.specs.Tree.{kind_at}
 use Rattle.edit_syntax.proofs.Cases.{by_test}
 use Rattle.edit_tree.proofs.SamePlace.{same_place_is, same_place_self, last_same}
@@ -227,7 +227,7 @@ under_tables t = lines_under (assertions t) [] [] t.lines (inl refl) tt (λ p h.
 
 -- ---- the first assertion of a table's place
 
-joined_table : (k l : Kind) → together k l ≡ true → tabular l ≡ true → tabular k ≡ true
+joined_table : (k l : Kind) → are_compatible k l ≡ true → tabular l ≡ true → tabular k ≡ true
 joined_table (dotted a) l e t = refl
 joined_table super l e t = refl
 joined_table header_kind l e t = refl
@@ -241,13 +241,13 @@ joined_table array_kind element_kind e t = absurd cc
 joined_table array_kind (leaf v) e t = absurd cc
 
 later_table : (k : Kind) (p q : Place) (ys : List Assertion) → p ≡ q
-    → AllByRecursion (λ (b : Assertion). p ≡ b.place → together k b.kind ≡ true) ys → HasTable ys q
+    → AllByRecursion (λ (b : Assertion). p ≡ b.place → are_compatible k b.kind ≡ true) ys → HasTable ys q
     → tabular k ≡ true
 later_table k p q [] same all h = absurd h
 later_table k p q (y ∷ ys) same all (inl h) = joined_table k y.kind (all.0 (same ∙ sym h.0)) h.1
 later_table k p q (y ∷ ys) same all (inr h) = later_table k p q ys same all.1 h
 
-pub first_table : (made : List Assertion) (p : Place) (k : Kind) → NoClash made → HasTable made p
+pub first_table : (made : List Assertion) (p : Place) (k : Kind) → AreCompatible made → HasTable made p
     → kind_at made p ≡ Some k → tabular k ≡ true
 first_table [] p k clash h e = absurd h
 first_table (y ∷ ys) p k clash h e = go (same_place y.place p) refl h e (first_table ys p k clash.1)

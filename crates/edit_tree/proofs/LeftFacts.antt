@@ -6,13 +6,13 @@ use Rattle.edit_syntax.specs.Grammar.{Text}
 use Rattle.edit_tree.specs.Assertions.{Place, key, index, assertions}
 use Rattle.edit_tree.specs.Tree.{View, string, static_array, table_array, inline_table, table, view_in}
 use Rattle.edit_tree.specs.NewItems.{a_string, a_truth, a_table}
-use Rattle.edit_tree.specs.Meant.{staying, moved, item_view}
+use Rattle.edit_tree.specs.IntendedTrees.{assertions_left, moved, item_view}
 use Rattle.edit_tree.proofs.OnTexts.{on_texts}
 
 -- what the assertions that stay show at a place, once all that names another place or one below it is gone
 abbrev left_of : List ℕ → Place → Place → Option View
 left_of bytes gone place =
-    option_and_then (λ (form : Text). view_in (staying gone (assertions form)) place) (form_of bytes)
+    option_and_then (λ (form : Text). view_in (assertions_left gone (assertions form)) place) (form_of bytes)
 
 -- a header stays when its last pair goes
 pub a_header_stays :

@@ -6,9 +6,9 @@ use Rattle.edit_syntax.specs.Grammar.{Statement, pair, header, element_header, e
 use Rattle.edit_syntax.specs.Strings.{line_end}
 use Rattle.edit_syntax.proofs.Members.{Among}
 use Rattle.edit_tree.specs.Assertions.{Place, key, at, Assertion, of_statement, prefix_after}
-use Rattle.edit_tree.specs.EditBytes.{Splice, first_of, first_made, as_it_is, is_within, part_to, entry_replaced, is_header_of, is_one_statement}
+use Rattle.edit_tree.specs.EditBytes.{Splice, first_of, first_result, unresolved, is_within, part_to, entry_replaced, is_header_of, is_one_statement}
 use Rattle.edit_tree.specs.NewItems.{NewItem, new_entry}
-use Rattle.edit_tree.specs.Statements.{Stated, stated_line, stated_in, stated, Named, behind_part, Paired, line_pairs, inner_pairs}
+use Rattle.edit_tree.specs.Statements.{PlacedStatement, stated_line, stated_in, placed_statements, Named, behind_part, PlacedPair, line_pairs, inner_pairs}
 use Rattle.edit_tree.proofs.SamePlace.{other_place, not_root}
 
 -- ---- the one of which something is made
@@ -30,7 +30,7 @@ none_left {A} {B} f (y ∷ ys) x b none m e = go (f y) refl none m (λ c n. none
 -- where something is made of one alone, that is the first
 pub lone : {A B C : Type 0} (f : A → Option B) (g : A → B → C) (xs : List A) (x : A) (b : B)
     → length (filter (λ a. is_some (f a)) xs) ≡ 1 → Among x xs → f x ≡ Some b
-    → first_made (λ a. option_map (g a) (f a)) xs ≡ Some (g x b)
+    → first_result (λ a. option_map (g a) (f a)) xs ≡ Some (g x b)
 lone f g [] x b one m e = absurd m
 lone {A} {B} {C} f g (y ∷ ys) x b one m e = go (f y) refl one m (λ c n. lone f g ys x b c n e)
   where
@@ -38,7 +38,7 @@ lone {A} {B} {C} f g (y ∷ ys) x b one m e = go (f y) refl one m (λ c n. lone 
     others = filter (λ a. is_some (f a)) ys
 
     made : Option C
-    made = first_made (λ a. option_map (g a) (f a)) ys
+    made = first_result (λ a. option_map (g a) (f a)) ys
 
     only : (o : Option C) → first_of (o ∷ []) ≡ o
     only None = refl
@@ -65,7 +65,7 @@ none_made {A} f (x ∷ xs) all =
 
 -- ---- the pairs of a text
 
-abbrev all_pairs : Text → List Paired
+abbrev all_pairs : Text → List PlacedPair
 all_pairs form = line_pairs form ++ inner_pairs form
 
 one_pair : (form : Text) (place : Place) → is_one_statement form place ≡ true
@@ -73,27 +73,27 @@ one_pair : (form : Text) (place : Place) → is_one_statement form place ≡ tru
 one_pair form place one = eqb-true _ _ (and_parts _ _ one).0
 
 -- what gives way in the one pair that names the place
-pub entry_is : (form : Text) (place : Place) (item : NewItem) (p : Paired) (part : List ℕ)
+pub entry_is : (form : Text) (place : Place) (item : NewItem) (p : PlacedPair) (part : List ℕ)
     → is_one_statement form place ≡ true → Among p (all_pairs form) → part_to place p ≡ Some part
     → entry_replaced place item form ≡ Some (record { from = part; to = p.behind; now = new_entry item [] })
 entry_is form place item p part one m e =
     lone (part_to place) made (all_pairs form) p part (one_pair form place one) m e
   where
-    made : Paired → List ℕ → Splice
+    made : PlacedPair → List ℕ → Splice
     made q spot = record { from = spot; to = q.behind; now = new_entry item [] }
 
 -- one pair does
 pub some_pair : (form : Text) (place : Place) → is_one_statement form place ≡ true
-    → ((p : Paired) → Among p (all_pairs form) → part_to place p ≡ None) → ⊥
+    → ((p : PlacedPair) → Among p (all_pairs form) → part_to place p ≡ None) → ⊥
 some_pair form place one none =
     absurd (omega (arith, one_pair form place one, none_made (part_to place) (all_pairs form) none))
 
 -- ---- the root
 
-root_part : (table : Place) (ns : List Named) → behind_part as_it_is [] table ns ≡ None
+root_part : (table : Place) (ns : List Named) → behind_part unresolved [] table ns ≡ None
 root_part table [] = refl
 root_part table (n ∷ ns) =
-    ap (λ (b : Bool). cond b (Some n.1) (behind_part as_it_is [] (at table (key n.0)) ns))
+    ap (λ (b : Bool). cond b (Some n.1) (behind_part unresolved [] (at table (key n.0)) ns))
     (other_place (at table (key n.0)) [] (not_root table (key n.0)))
     ∙ root_part (at table (key n.0)) ns
 
@@ -110,18 +110,18 @@ or_parts false b e = (refl, e)
 out_in : (place : Place) (earlier : List Assertion) (prefix : Place) (ls : Lines)
     → is_within place prefix ≡ false
     → list_any (is_header_of place) (stated_in earlier prefix ls) ≡ false
-    → (s : Stated) → Among s (stated_in earlier prefix ls) → is_within place s.prefix ≡ false
+    → (s : PlacedStatement) → Among s (stated_in earlier prefix ls) → is_within place s.prefix ≡ false
 out_in place earlier prefix (one_line (empty_line a c)) out none s m = absurd m
 out_in place earlier prefix (one_line (full_line a st b c)) out none s (inl e) =
-    ap (λ (x : Stated). is_within place x.prefix) e ∙ out
+    ap (λ (x : PlacedStatement). is_within place x.prefix) e ∙ out
 out_in place earlier prefix (one_line (full_line a st b c)) out none s (inr m) = absurd m
 out_in place earlier prefix (more_lines (empty_line a c) e ls) out none s m =
     out_in place earlier prefix ls out none s m
 out_in place earlier prefix (more_lines (full_line a st b c) e ls) out none s (inl same) =
-    ap (λ (x : Stated). is_within place x.prefix) same ∙ out
+    ap (λ (x : PlacedStatement). is_within place x.prefix) same ∙ out
 out_in place earlier prefix (more_lines (full_line a st b c) e ls) out none s (inr m) =
     let after = line_end e (lines ls) in
-    let here : Stated = stated_line earlier prefix a st (b ++ comment c after) after (lines ls) in
+    let here : PlacedStatement = stated_line earlier prefix a st (b ++ comment c after) after (lines ls) in
     let h = or_parts (is_header_of place here)
     (list_any (is_header_of place)
     (stated_in (earlier ++ of_statement earlier prefix st) (prefix_after earlier prefix st) ls)) none in
@@ -137,11 +137,11 @@ out_in place earlier prefix (more_lines (full_line a st b c) e ls) out none s (i
     further (element_header x k y) h = h
 
 -- the same of a text, where one pair names the place and no header does
-pub stands_out : (form : Text) (place : Place) → is_one_statement form place ≡ true → (s : Stated)
-    → Among s (stated form) → is_within place s.prefix ≡ false
+pub stands_out : (form : Text) (place : Place) → is_one_statement form place ≡ true → (s : PlacedStatement)
+    → Among s (placed_statements form) → is_within place s.prefix ≡ false
 stands_out form [] one s m = absurd (root_not_one form one)
 stands_out form (t ∷ ts) one s m =
-    out_in (t ∷ ts) [] [] form.lines refl (none (list_any (is_header_of (t ∷ ts)) (stated form))
+    out_in (t ∷ ts) [] [] form.lines refl (none (list_any (is_header_of (t ∷ ts)) (placed_statements form))
     (and_parts _ _ one).1) s m
   where
     none : (b : Bool) → not b ≡ true → b ≡ false

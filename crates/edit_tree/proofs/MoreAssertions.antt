@@ -1,6 +1,6 @@
 -- One more assertion: the view at each place, the members, and what may follow.
 use Rattle.std.proofs.Common.{◌≡◌, ◌≤◌, Bool, true, false, cond, ◌&&◌, List, [], ◌∷◌, ◌++◌, length, Option, Some, None, refl, sym, ap, ◌∙◌, ◌⊎◌, inl, inr}
-use Rattle.edit_tree.specs.Assertions.{Place, same_place, Kind, header_kind, Assertion, together, NoClash, AreShort}
+use Rattle.edit_tree.specs.Assertions.{Place, same_place, Kind, header_kind, Assertion, are_compatible, AreCompatible, AreShort}
 use Rattle.edit_tree.specs.Tree.{kind_at}
 use Rattle.edit_tree.proofs.SamePlace.{same_place_self, same_place_is, other_place}
 use Rattle.edit_tree.proofs.Below.{all_front, all_push, all_last}
@@ -76,7 +76,7 @@ first_is made (s ∷ ss) ne = refl
 -- an assertion of this kind may stand with all those on the place
 abbrev pub allowed : List Assertion → Place → Kind → Bool
 allowed [] p k = true
-allowed (a ∷ made) p k = cond (same_place a.place p) (together a.kind k) true && allowed made p k
+allowed (a ∷ made) p k = cond (same_place a.place p) (are_compatible a.kind k) true && allowed made p k
 
 and_assoc : (x y z : Bool) → (x && (y && z)) ≡ ((x && y) && z)
 and_assoc true y z = refl
@@ -88,23 +88,23 @@ and_true false = refl
 
 pub allowed_more : (made : List Assertion) (a : Assertion) (p : Place) (k : Kind)
     → allowed (made ++ a ∷ []) p k
-    ≡ (allowed made p k && cond (same_place a.place p) (together a.kind k) true)
-allowed_more [] a p k = and_true (cond (same_place a.place p) (together a.kind k) true)
+    ≡ (allowed made p k && cond (same_place a.place p) (are_compatible a.kind k) true)
+allowed_more [] a p k = and_true (cond (same_place a.place p) (are_compatible a.kind k) true)
 allowed_more (b ∷ made) a p k =
-    ap (λ (x : Bool). cond (same_place b.place p) (together b.kind k) true && x) (allowed_more made a p k)
-    ∙ and_assoc (cond (same_place b.place p) (together b.kind k) true) (allowed made p k)
-    (cond (same_place a.place p) (together a.kind k) true)
+    ap (λ (x : Bool). cond (same_place b.place p) (are_compatible b.kind k) true && x) (allowed_more made a p k)
+    ∙ and_assoc (cond (same_place b.place p) (are_compatible b.kind k) true) (allowed made p k)
+    (cond (same_place a.place p) (are_compatible a.kind k) true)
 
 pub allowed_else : (made : List Assertion) (a : Assertion) (p : Place) (k : Kind) → (a.place ≡ p → ⊥)
     → allowed (made ++ a ∷ []) p k ≡ allowed made p k
 allowed_else made a p k ne = allowed_more made a p k ∙
-    ap (λ (b : Bool). allowed made p k && cond b (together a.kind k) true) (other_place a.place p ne) ∙
+    ap (λ (b : Bool). allowed made p k && cond b (are_compatible a.kind k) true) (other_place a.place p ne) ∙
     and_true (allowed made p k)
 
 pub allowed_here : (made : List Assertion) (a : Assertion) (p : Place) (k : Kind) → a.place ≡ p
-    → allowed (made ++ a ∷ []) p k ≡ (allowed made p k && together a.kind k)
+    → allowed (made ++ a ∷ []) p k ≡ (allowed made p k && are_compatible a.kind k)
 allowed_here made a p k same = allowed_more made a p k ∙
-    ap (λ (b : Bool). allowed made p k && cond b (together a.kind k) true)
+    ap (λ (b : Bool). allowed made p k && cond b (are_compatible a.kind k) true)
     (ap (λ (q : Place). same_place q p) same ∙ same_place_self p)
 
 pub allowed_none : (made : List Assertion) (p : Place) (k : Kind) → kind_at made p ≡ None
@@ -114,19 +114,19 @@ allowed_none (a ∷ made) p k e = go (same_place a.place p) e (allowed_none made
   where
     go : (b : Bool) → cond b (Some a.kind) (kind_at made p) ≡ None
         → (kind_at made p ≡ None → allowed made p k ≡ true)
-        → (cond b (together a.kind k) true && allowed made p k) ≡ true
+        → (cond b (are_compatible a.kind k) true && allowed made p k) ≡ true
     go true h ih = absurd cc
     go false h ih = ih h
 
 -- no two clash, and each place is short
 pub record IsClear (made : List Assertion) : Type 0 where
-  pub apart : NoClash made
+  pub apart : AreCompatible made
   pub short : AreShort made
 
-apart_front : (made more : List Assertion) → NoClash (made ++ more) → NoClash made
+apart_front : (made more : List Assertion) → AreCompatible (made ++ more) → AreCompatible made
 apart_front [] more h = tt
 apart_front (a ∷ made) more h = (
-  all_front (λ b. a.place ≡ b.place → together a.kind b.kind ≡ true) made more h.0,
+  all_front (λ b. a.place ≡ b.place → are_compatible a.kind b.kind ≡ true) made more h.0,
   apart_front made more h.1,
 )
 
@@ -137,29 +137,29 @@ clear_front made more h =
       short = all_front (λ a. length a.place ≤ 80) made more h.short;
     }
 
-apart_more : (made : List Assertion) (a : Assertion) → NoClash made → allowed made a.place a.kind ≡ true
-    → NoClash (made ++ a ∷ [])
+apart_more : (made : List Assertion) (a : Assertion) → AreCompatible made → allowed made a.place a.kind ≡ true
+    → AreCompatible (made ++ a ∷ [])
 apart_more [] a h e = (tt, tt)
 apart_more (b ∷ made) a h e =
-    let parts = and_parts (cond (same_place b.place a.place) (together b.kind a.kind) true)
+    let parts = and_parts (cond (same_place b.place a.place) (are_compatible b.kind a.kind) true)
     (allowed made a.place a.kind) e in (
-      all_push (λ c. b.place ≡ c.place → together b.kind c.kind ≡ true) made a h.0
-          (λ same. sym (ap (λ (x : Bool). cond x (together b.kind a.kind) true)
+      all_push (λ c. b.place ≡ c.place → are_compatible b.kind c.kind ≡ true) made a h.0
+          (λ same. sym (ap (λ (x : Bool). cond x (are_compatible b.kind a.kind) true)
           (ap (λ (q : Place). same_place q a.place) same ∙ same_place_self a.place)) ∙ parts.0),
       apart_more made a h.1 parts.1,
     )
 
-apart_last : (made : List Assertion) (a : Assertion) → NoClash (made ++ a ∷ [])
+apart_last : (made : List Assertion) (a : Assertion) → AreCompatible (made ++ a ∷ [])
     → allowed made a.place a.kind ≡ true
 apart_last [] a h = refl
 apart_last (b ∷ made) a h = go (same_place b.place a.place) refl (apart_last made a h.1)
   where
     go : (x : Bool) → same_place b.place a.place ≡ x → allowed made a.place a.kind ≡ true
-        → (cond (same_place b.place a.place) (together b.kind a.kind) true && allowed made a.place a.kind)
+        → (cond (same_place b.place a.place) (are_compatible b.kind a.kind) true && allowed made a.place a.kind)
         ≡ true
     go true e ih =
-        let t : together b.kind a.kind ≡ true = all_last (λ c. b.place ≡ c.place
-        → together b.kind c.kind ≡ true) made a h.0 (same_place_is b.place a.place e) in
+        let t : are_compatible b.kind a.kind ≡ true = all_last (λ c. b.place ≡ c.place
+        → are_compatible b.kind c.kind ≡ true) made a h.0 (same_place_is b.place a.place e) in
         rw (e, t) ih
     go false e ih = rw e ih
 

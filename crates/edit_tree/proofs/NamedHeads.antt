@@ -5,7 +5,7 @@ use Rattle.edit_syntax.specs.Strings.{◌·◌, Key, line_end}
 use Rattle.edit_syntax.specs.Grammar.{Value, basic, literal, multi_basic, multi_literal, boolean, integer, float, datetime, array, inline, Elements, no_elements, last_element, element, Members, no_members, last_member, member, Statement, pair, header, element_header, comment, empty_line, full_line, Lines, one_line, more_lines, lines, Text}
 use Rattle.edit_tree.specs.Assertions.{Place, key, index, at, Kind, dotted, leaf, super, header_kind, array_kind, element_kind, Assertion, asserts, names, named, elements_at, of_key, of_value, of_elements, of_members, resolved, fronts, header_place, of_statement, prefix_after, of_lines, assertions}
 use Rattle.edit_tree.specs.EditBytes.{is_within as is_inside, is_header_of, is_one_statement}
-use Rattle.edit_tree.specs.Statements.{Stated, stated_line, stated_in}
+use Rattle.edit_tree.specs.Statements.{PlacedStatement, stated_line, stated_in}
 use Rattle.edit_tree.proofs.NamedPairs.{is_paired, pairs_at, IsKeyed, pairs_named}
 
 -- headers assert these kinds on the place that they name
@@ -105,7 +105,8 @@ or_none : (b : Bool) → (b || false) ≡ b
 or_none true = refl
 or_none false = refl
 
-pub statement_heads : (t : Place) (s : Stated) → has_head (of_statement s.earlier s.prefix s.statement) t
+pub statement_heads : (t : Place) (s : PlacedStatement)
+    → has_head (of_statement s.earlier s.prefix s.statement) t
     ≡ is_header_of t s
 statement_heads t s = go s.statement
   where

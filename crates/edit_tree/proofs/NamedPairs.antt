@@ -6,10 +6,10 @@ use Rattle.edit_syntax.specs.Strings.{◌·◌, Dotted, Key, name, line_end}
 use Rattle.edit_syntax.specs.Grammar.{gap, Value, basic, literal, multi_basic, multi_literal, boolean, integer, float, datetime, array, inline, Elements, no_elements, last_element, element, elements, Members, no_members, last_member, member, members, Statement, pair, header, element_header, comment, empty_line, full_line, Lines, one_line, more_lines, lines, Text}
 use Rattle.edit_syntax.proofs.Cases.{by_test}
 use Rattle.edit_tree.specs.Assertions.{Place, key, index, at, same_place, Kind, dotted, leaf, header_kind, array_kind, element_kind, Assertion, asserts, names, named, elements_at, of_key, of_value, of_elements, of_members, resolved, fronts, header_place, of_statement, prefix_after, of_lines, assertions}
-use Rattle.edit_tree.specs.EditBytes.{as_it_is, part_to, is_within}
-use Rattle.edit_tree.specs.Statements.{dotted_parts, behind_part, Paired, paired, paired_members, paired_value, paired_statement, Stated, stated_line, stated_in, line_pairs, inner_pairs}
+use Rattle.edit_tree.specs.EditBytes.{unresolved, part_to, is_within}
+use Rattle.edit_tree.specs.Statements.{dotted_parts, behind_part, PlacedPair, paired, paired_members, paired_value, paired_statement, PlacedStatement, stated_line, stated_in, line_pairs, inner_pairs}
 use Rattle.edit_tree.specs.Replaces.{is_below}
-use Rattle.edit_tree.specs.Written.{valued, inside, in_elements, in_members, in_statement, in_lines}
+use Rattle.edit_tree.specs.Written.{placed_value, inside, in_elements, in_members, in_statement, in_lines}
 use Rattle.edit_tree.proofs.SamePlace.{same_place_is, other_place}
 use Rattle.edit_tree.proofs.SamePlaces.{within_same, within_at, below_at, not_below_itself}
 
@@ -28,7 +28,7 @@ pairs_at (a ∷ made) t = cond (is_paired a.kind && same_place a.place t) (suc (
     (pairs_at made t)
 
 -- how many of these pairs name a place by some part of their keys
-abbrev pub named_in : Place → List Paired → ℕ
+abbrev pub named_in : Place → List PlacedPair → ℕ
 named_in t ps = length (filter (λ p. is_some (part_to t p)) ps)
 
 -- the place is no element of an array
@@ -45,7 +45,7 @@ pairs_append (x ∷ xs) ys t = go (is_paired x.kind && same_place x.place t) (pa
     go true e = omega (arith, e)
     go false e = e
 
-named_more : (t : Place) (p : Paired) (ps : List Paired)
+named_more : (t : Place) (p : PlacedPair) (ps : List PlacedPair)
     → named_in t (p ∷ ps) ≡ cond (is_some (part_to t p)) 1 0 + named_in t ps
 named_more t p ps = go (is_some (part_to t p))
   where
@@ -55,11 +55,11 @@ named_more t p ps = go (is_some (part_to t p))
     go true = omega arith
     go false = omega arith
 
-named_append : (t : Place) (xs ys : List Paired) → named_in t (xs ++ ys) ≡ named_in t xs + named_in t ys
+named_append : (t : Place) (xs ys : List PlacedPair) → named_in t (xs ++ ys) ≡ named_in t xs + named_in t ys
 named_append t [] ys = omega arith
 named_append t (x ∷ xs) ys = omega (arith, named_more t x (xs ++ ys), named_more t x xs, named_append t xs ys)
 
-flat_append : {X : Type 0} (f : X → List Paired) (xs ys : List X) (t : Place)
+flat_append : {X : Type 0} (f : X → List PlacedPair) (xs ys : List X) (t : Place)
     → named_in t (flat_map f (xs ++ ys)) ≡ named_in t (flat_map f xs) + named_in t (flat_map f ys)
 flat_append f [] ys t = omega arith
 flat_append f (x ∷ xs) ys t =
@@ -101,7 +101,7 @@ part_names ds = map (λ d. name d.part) ds
 key_named : (t : Place) (d : Bool) (by q : Place) (n x : List ℕ) (ds : List Dotted) (rest : List ℕ)
     (v : Value)
     → pairs_at (of_key d by q (n ∷ part_names ds) v) t ≡ cond
-    (is_some (behind_part as_it_is t q ((n, x) ∷ dotted_parts ds rest))) 1 0
+    (is_some (behind_part unresolved t q ((n, x) ∷ dotted_parts ds rest))) 1 0
 key_named t d by q n x [] rest v = go (same_place (at q (key n)) t)
   where
     go : (b : Bool) → cond b (suc 0) 0 ≡ cond (is_some (cond b (Some x) None)) 1 0
@@ -112,11 +112,11 @@ key_named t d by q n x (e ∷ ds) rest v = go (same_place (at q (key n)) t) refl
   where
     go : (b : Bool) → same_place (at q (key n)) t ≡ b
         → pairs_at (of_key d by (at q (key n)) (name e.part ∷ part_names ds) v) t
-        ≡ cond (is_some (behind_part as_it_is t (at q (key n)) (dotted_parts (e ∷ ds) rest))) 1 0
+        ≡ cond (is_some (behind_part unresolved t (at q (key n)) (dotted_parts (e ∷ ds) rest))) 1 0
         → cond b (suc (pairs_at (of_key d by (at q (key n)) (name e.part ∷ part_names ds) v) t))
         (pairs_at (of_key d by (at q (key n)) (name e.part ∷ part_names ds) v) t)
         ≡ cond (is_some (cond b (Some x)
-        (behind_part as_it_is t (at q (key n)) (dotted_parts (e ∷ ds) rest)))) 1 0
+        (behind_part unresolved t (at q (key n)) (dotted_parts (e ∷ ds) rest)))) 1 0
     go true h ih =
         let here : is_within t (at q (key n)) ≡ true = ap (λ r. is_within r (at q (key n)))
         (sym (same_place_is (at q (key n)) t h)) ∙ within_same (at q (key n)) in
@@ -134,7 +134,7 @@ element_else t p i keyed = other_place (at p (index i)) t (keyed p i)
 
 mutual
   value_named : (t : Place) → IsKeyed t → (p : Place) (v : Value) (after : List ℕ)
-      → pairs_at (of_value p v) t ≡ named_in t (flat_map paired_value (valued p v after ∷ inside p v after))
+      → pairs_at (of_value p v) t ≡ named_in t (flat_map paired_value (placed_value p v after ∷ inside p v after))
   value_named t keyed p (basic ps) after = refl
   value_named t keyed p (literal text) after = refl
   value_named t keyed p (multi_basic ps) after = refl
@@ -168,7 +168,7 @@ mutual
         pairs_append (of_value q v) (of_elements p (suc i) es) t,
         value_named t keyed q v after,
         elements_named t keyed p (suc i) es rest,
-        flat_append paired_value (valued q v after ∷ inside q v after) (in_elements p (suc i) es rest) t,
+        flat_append paired_value (placed_value q v after ∷ inside q v after) (in_elements p (suc i) es rest) t,
       )
 
   members_named : (t : Place) → IsKeyed t → (p : Place) (ms : Members) (rest : List ℕ)
@@ -195,7 +195,7 @@ mutual
         value_named t keyed q v after,
         members_named t keyed p ms rest,
         named_more t (paired p k a b v after) (paired_members p ms rest),
-        flat_append paired_value (valued q v after ∷ inside q v after) (in_members p ms rest) t,
+        flat_append paired_value (placed_value q v after ∷ inside q v after) (in_members p ms rest) t,
       )
 
 -- ---- lines
@@ -207,7 +207,7 @@ fronts_none earlier by q (n ∷ []) t = refl
 fronts_none earlier by q (n ∷ m ∷ ns) t = fronts_none earlier by (resolved earlier (at q (key n))) (m ∷ ns) t
 
 -- what a statement asserts, with this text behind it
-statement_named : (t : Place) → IsKeyed t → (s : Stated)
+statement_named : (t : Place) → IsKeyed t → (s : PlacedStatement)
     → pairs_at (of_statement s.earlier s.prefix s.statement) t
     ≡ named_in t (paired_statement s) + named_in t
     (flat_map paired_value (in_statement s.prefix s.statement s.behind))

@@ -5,7 +5,7 @@ use Rattle.std.proofs.lemmas.Option.{same_Some}
 use Rattle.std.specs.List.{AllByRecursion}
 use Rattle.edit_syntax.specs.Grammar.{Value, Text}
 use Rattle.edit_syntax.proofs.Cases.{by_test}
-use Rattle.edit_tree.specs.Assertions.{Place, Step, key, at, same_place, Kind, dotted, leaf, super, header_kind, array_kind, element_kind, Assertion, assertions, together, NoClash}
+use Rattle.edit_tree.specs.Assertions.{Place, Step, key, at, same_place, Kind, dotted, leaf, super, header_kind, array_kind, element_kind, Assertion, assertions, are_compatible, AreCompatible}
 use Rattle.edit_tree.specs.Tree.{step_from, kind_at}
 use Rattle.edit_tree.proofs.Below.{step_from_at}
 use Rattle.edit_tree.proofs.HeadedPlaces.{is_headed_at, headed_down, headed_up}
@@ -21,15 +21,16 @@ use Rattle.edit_tree.proofs.SamePlace.{same_place_is, last_same}
 
 -- what may still be asserted fits to the first assertion
 pub first_fits : (made : List Assertion) (t : Place) (j k : Kind) → kind_at made t ≡ Some j
-    → allowed made t k ≡ true → together j k ≡ true
+    → allowed made t k ≡ true → are_compatible j k ≡ true
 first_fits [] t j k e f = absurd cc
 first_fits (a ∷ made) t j k e f =
-    let h = and_parts (cond (same_place a.place t) (together a.kind k) true) (allowed made t k) f in
+    let h = and_parts (cond (same_place a.place t) (are_compatible a.kind k) true) (allowed made t k) f in
     go (same_place a.place t) e h.0 (λ g. first_fits made t j k g h.1)
   where
-    go : (b : Bool) → cond b (Some a.kind) (kind_at made t) ≡ Some j → cond b (together a.kind k) true ≡ true
-        → (kind_at made t ≡ Some j → together j k ≡ true) → together j k ≡ true
-    go true g h ih = ap (λ z. together z k) (sym (same_Some a.kind j g)) ∙ h
+    go : (b : Bool) → cond b (Some a.kind) (kind_at made t) ≡ Some j
+        → cond b (are_compatible a.kind k) true ≡ true
+        → (kind_at made t ≡ Some j → are_compatible j k ≡ true) → are_compatible j k ≡ true
+    go true g h ih = ap (λ z. are_compatible z k) (sym (same_Some a.kind j g)) ∙ h
     go false g h ih = ih g
 
 -- where nothing is asserted, no pair asserts
@@ -61,7 +62,7 @@ paired_or_headed (a ∷ made) t k e = go (is_paired a.kind) (same_place a.place 
 
 -- ---- values
 
-leaf_lone : (v : Value) (k : Kind) → together (leaf v) k ≡ false
+leaf_lone : (v : Value) (k : Kind) → are_compatible (leaf v) k ≡ false
 leaf_lone v (dotted b) = refl
 leaf_lone v (leaf w) = refl
 leaf_lone v super = refl
@@ -78,21 +79,21 @@ skip_head true b c e = refl
 skip_head false b c e = ap (λ z. z || c) e
 
 -- a value is asserted once, and nothing else at its place
-pub leaf_once : (made : List Assertion) (t : Place) (v : Value) → NoClash made
+pub leaf_once : (made : List Assertion) (t : Place) (v : Value) → AreCompatible made
     → kind_at made t ≡ Some (leaf v) → (pairs_at made t ≡ 1) × (is_headed_at made t ≡ false)
 leaf_once [] t v clash e = absurd cc
 leaf_once (a ∷ made) t v clash e = go (same_place a.place t) refl e (leaf_once made t v clash.1)
   where
     apart : (x : Assertion) → a.place ≡ t → a.kind ≡ leaf v
-        → (a.place ≡ x.place → together a.kind x.kind ≡ true) → same_place x.place t ≡ false
+        → (a.place ≡ x.place → are_compatible a.kind x.kind ≡ true) → same_place x.place t ≡ false
     apart x same kind h =
         by_test (same_place x.place t)
         (λ g. absurd (true≢false (sym (h (same ∙ sym (same_place_is x.place t g))) ∙
-        ap (λ z. together z x.kind) kind ∙ leaf_lone v x.kind)))
+        ap (λ z. are_compatible z x.kind) kind ∙ leaf_lone v x.kind)))
         (λ g. g)
 
     none : (xs : List Assertion) → a.place ≡ t → a.kind ≡ leaf v
-        → AllByRecursion (λ b. a.place ≡ b.place → together a.kind b.kind ≡ true) xs → (pairs_at xs t ≡ 0)
+        → AllByRecursion (λ b. a.place ≡ b.place → are_compatible a.kind b.kind ≡ true) xs → (pairs_at xs t ≡ 0)
         × (is_headed_at xs t ≡ false)
     none [] same kind h = (refl, refl)
     none (x ∷ xs) same kind h =
@@ -121,7 +122,7 @@ leaf_once (a ∷ made) t v clash e = go (same_place a.place t) refl e (leaf_once
           skip_head (is_paired a.kind) false (is_headed_at made t) refl ∙ r.1,
         )
 
-pub leaf_alone : (form : Text) (s : Step) (ss : Place) (v : Value) → NoClash (assertions form)
+pub leaf_alone : (form : Text) (s : Step) (ss : Place) (v : Value) → AreCompatible (assertions form)
     → kind_at (assertions form) (s ∷ ss) ≡ Some (leaf v) → is_alone (assertions form) (s ∷ ss) ≡ true
 leaf_alone form s ss v clash e =
     let r = leaf_once (assertions form) (s ∷ ss) v clash e in
@@ -190,7 +191,7 @@ same_truth false false f g = refl
 pub only_alone : (form : Text) (s : Step) (ss : Place) (m : List ℕ)
     → allowed (assertions form) (s ∷ ss) (dotted false) ≡ true → HasOnly (assertions form) (s ∷ ss) m
     → is_alone (assertions form) (s ∷ ss) ≡ is_alone (assertions form) (at (s ∷ ss) (key m))
-only_alone form s ss m free only = ap₂ (λ n b. (n == 1) && not b) pairs heads
+only_alone form s ss m free only = ap₂ (λ n b. (n == 1) && not b) pairs header_walk
   where
     made : List Assertion
     made = assertions form
@@ -209,8 +210,8 @@ only_alone form s ss m free only = ap₂ (λ n b. (n == 1) && not b) pairs heads
         let k = head_stands form t r.0 r.1 in
         subst (λ x. has_head made (at t x) ≡ true) (only r.0 k.0 k.1) r.1
 
-    heads : has_head made t ≡ has_head made (at t (key m))
-    heads = same_truth (has_head made t) (has_head made (at t (key m))) down (head_above t (key m) made)
+    header_walk : has_head made t ≡ has_head made (at t (key m))
+    header_walk = same_truth (has_head made t) (has_head made (at t (key m))) down (head_above t (key m) made)
 
 -- ---- no member, and two members
 

@@ -3,7 +3,7 @@ use Rattle.std.proofs.Common.{◌≡◌, true, false, if◌then◌else◌, List,
 use Rattle.std.proofs.lemmas.Bool.{and_parts, and_from}
 use Rattle.std.specs.List.{AllByRecursion}
 use Rattle.edit_syntax.specs.Grammar.{Value, Text}
-use Rattle.edit_tree.specs.Assertions.{Place, Step, at, same_step, same_place, Kind, leaf, Assertion, assertions, together, NoClash}
+use Rattle.edit_tree.specs.Assertions.{Place, Step, at, same_step, same_place, Kind, leaf, Assertion, assertions, are_compatible, AreCompatible}
 use Rattle.edit_tree.specs.Tree.{kind_at}
 use Rattle.edit_tree.specs.Replaces.{is_below}
 use Rattle.edit_tree.proofs.ThinnedLines.{leaf_alone}
@@ -61,26 +61,27 @@ HasLeaf target b [] = ⊥
 HasLeaf target b (y ∷ ys) = ((y.place ≡ target) × (y.kind ≡ leaf b)) ⊎ HasLeaf target b ys
 
 with_leaf : (target : Place) (b : Value) (k : Kind) (p : Place) (ys : List Assertion) → p ≡ target
-    → HasLeaf target b ys → AllByRecursion (λ y. p ≡ y.place → together k y.kind ≡ true) ys → ⊥
+    → HasLeaf target b ys → AllByRecursion (λ y. p ≡ y.place → are_compatible k y.kind ≡ true) ys → ⊥
 with_leaf target b k p [] e has all = has
-with_leaf target b k p (y ∷ ys) e (inl h) all = true≢false (sym (all.0 (e ∙ sym h.0)) ∙ ap (together k) h.1 ∙
+with_leaf target b k p (y ∷ ys) e (inl h) all = true≢false (sym (all.0 (e ∙ sym h.0)) ∙ ap (are_compatible k) h.1 ∙
     leaf_alone k b)
 with_leaf target b k p (y ∷ ys) e (inr has) all = with_leaf target b k p ys e has all.1
 
 with_opened : (target : Place) (b : Value) (p : Place) (ys : List Assertion) → p ≡ target → Opened ys target
-    → AllByRecursion (λ y. p ≡ y.place → together (leaf b) y.kind ≡ true) ys → ⊥
+    → AllByRecursion (λ y. p ≡ y.place → are_compatible (leaf b) y.kind ≡ true) ys → ⊥
 with_opened target b p [] e o all = o
 with_opened target b p (y ∷ ys) e (inl h) all = true≢false (sym (all.0 (e ∙ sym h.0)))
 with_opened target b p (y ∷ ys) e (inr o) all = with_opened target b p ys e o all.1
 
 -- a plain value is not opened
-not_opened : (target : Place) (b : Value) (made : List Assertion) → opens (leaf b) ≡ false → NoClash made
+not_opened : (target : Place) (b : Value) (made : List Assertion) → opens (leaf b) ≡ false
+    → AreCompatible made
     → HasLeaf target b made → Opened made target → ⊥
 not_opened target b [] shut clash has o = o
 not_opened target b (y ∷ ys) shut clash (inl h) (inl o) = true≢false (sym o.1 ∙ ap opens h.1 ∙ shut)
 not_opened target b (y ∷ ys) shut clash (inl h) (inr o) =
     with_opened target b y.place ys h.0 o
-    (subst (λ k. AllByRecursion (λ z. y.place ≡ z.place → together k z.kind ≡ true) ys) h.1 clash.0)
+    (subst (λ k. AllByRecursion (λ z. y.place ≡ z.place → are_compatible k z.kind ≡ true) ys) h.1 clash.0)
 not_opened target b (y ∷ ys) shut clash (inr has) (inl o) =
     with_leaf target b y.kind y.place ys o.0 has clash.0
 not_opened target b (y ∷ ys) shut clash (inr has) (inr o) = not_opened target b ys shut clash.1 has o
@@ -113,7 +114,7 @@ opened_from (x ∷ xs) base p o = ⊎_elim (λ l. inl (inr l)) (λ r. first r) (
 
 -- in a text without clashes nothing shows below a plain value
 pub shut_below : (t : Text) (s : Step) (ss q : Place) (b : Value) → opens (leaf b) ≡ false
-    → NoClash (assertions t) → HasLeaf (s ∷ ss) b (assertions t) → is_below (s ∷ ss) q ≡ true
+    → AreCompatible (assertions t) → HasLeaf (s ∷ ss) b (assertions t) → is_below (s ∷ ss) q ≡ true
     → kind_at (assertions t) q ≡ None
 shut_below t s ss q b shut clash has low =
     none_there (s ∷ ss) q (assertions t) low
@@ -122,7 +123,8 @@ shut_below t s ss q b shut clash has low =
     (any_onto (s ∷ ss) (assertions t) [] any))))
 
 -- and the value itself shows
-pub leaf_there : (target : Place) (b : Value) (made : List Assertion) → NoClash made → HasLeaf target b made
+pub leaf_there : (target : Place) (b : Value) (made : List Assertion) → AreCompatible made
+    → HasLeaf target b made
     → kind_at made target ≡ Some (leaf b)
 leaf_there target b [] clash has = absurd has
 leaf_there target b (y ∷ ys) clash (inl h) =

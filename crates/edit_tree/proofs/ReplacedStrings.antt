@@ -2,10 +2,10 @@
 use Rattle.std.proofs.Common.{◌≡◌, ℕ, true, false, ◌&&◌, ◌||◌, cond, List, [], ◌∷◌, Option, None, Some, option_map, refl, sym, ap, ap₂, ◌∙◌, subst, inl, inr, true≢false}
 use Rattle.std.proofs.lemmas.Bool.{and_parts}
 use Rattle.edit_syntax.specs.Grammar.{Value, basic, literal, multi_basic, multi_literal, boolean, integer, float, datetime, array, inline, Text}
-use Rattle.edit_tree.specs.Assertions.{Place, same_place, Kind, dotted, leaf, super, header_kind, array_kind, element_kind, Assertion, assertions, NoClash, IsDocument}
+use Rattle.edit_tree.specs.Assertions.{Place, same_place, Kind, dotted, leaf, super, header_kind, array_kind, element_kind, Assertion, assertions, AreCompatible, IsDocument}
 use Rattle.edit_tree.specs.Tree.{View, string, view_at, view_of_kind, kind_at, is_value_at}
 use Rattle.std.specs.List.{AllByRecursion, list_any}
-use Rattle.edit_tree.specs.Replaces.{Edits, new_text, replaced, is_below, is_below_any, written, emptied, is_string, AreStrings, AreValues, AreOutside}
+use Rattle.edit_tree.specs.Replaces.{Edits, new_text, replaced, is_below, is_below_any, written, tree_without_below, is_string, AreStrings, AreValues, AreOutside}
 use Rattle.edit_tree.proofs.SamePlaces.{not_below_itself}
 use Rattle.edit_tree.proofs.ThinnedForms.{is_leaf}
 use Rattle.edit_tree.proofs.NothingBelow.{opens}
@@ -36,7 +36,7 @@ value_has p (x ∷ made) e =
     of_kind element_kind e = absurd (true≢false (sym e))
 
 -- the value that is told at a place
-pub told_value : (form : Text) (p : Place) → NoClash (assertions form) → is_value_at form p ≡ true
+pub told_value : (form : Text) (p : Place) → AreCompatible (assertions form) → is_value_at form p ≡ true
     → HasValue form p
 told_value form p clash e = let r = value_has p (assertions form) e in
     (r.0, leaf_there p r.0 (assertions form) clash r.1)
@@ -65,7 +65,7 @@ each_place P (x ∷ edits) p said all e =
     (λ h. subst P (same_place_is x.0 p h) all.0)
     (λ h. each_place P edits p said all.1 (sym (ap (λ c. cond c (Some x.1) (new_text edits p)) h) ∙ e))
 
-pub values_apart : (edits : Edits) (form : Text) → NoClash (assertions form) → AreValues edits form
+pub values_apart : (edits : Edits) (form : Text) → AreCompatible (assertions form) → AreValues edits form
     → AreOutside edits → AreApart edits form
 values_apart edits form clash values outside p said e = (
   told_value form p clash (each_place (λ q. is_value_at form q ≡ true) edits p said values e),
@@ -177,7 +177,7 @@ strings_outside edits old form document all = go edits all
 
 -- nothing is lost below strings
 pub strings_emptied : (edits : Edits) (old : List ℕ) (form : Text) (q : Place) → IsDocument old form
-    → AreStrings edits (view_at form) → emptied edits (view_at form) q ≡ view_at form q
+    → AreStrings edits (view_at form) → tree_without_below edits (view_at form) q ≡ view_at form q
 strings_emptied edits old form q document all =
     by_test (is_below_any edits q)
     (λ low. ap (λ c. cond c None (view_at form q)) low ∙ sym (below_none edits old form q document all low))
@@ -188,5 +188,5 @@ pub strings_view : (edits : Edits) (old : List ℕ) (form : Text) → IsDocument
     ≡ written edits (view_at form) q
 strings_view edits old form document all q =
     replaced_view edits old form document (strings_apart edits old form document all) q
-    ∙ written_same edits (emptied edits (view_at form)) (view_at form) q
+    ∙ written_same edits (tree_without_below edits (view_at form)) (view_at form) q
     (strings_emptied edits old form q document all)

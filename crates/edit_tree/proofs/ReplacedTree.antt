@@ -1,10 +1,10 @@
 -- A document with strings written at places is a document again, with the intended tree.
 use Rattle.std.proofs.Common.{◌≡◌, ℕ, suc, true, false, ◌||◌, cond, List, [], ◌∷◌, ◌++◌, Option, None, Some, option_map, refl, sym, ap, ◌∙◌, true≢false}
 use Rattle.edit_syntax.specs.Grammar.{Value, basic, literal, multi_basic, multi_literal, boolean, integer, float, datetime, array, inline, Elements, no_elements, last_element, element, Members, no_members, last_member, member, Statement, pair, header, element_header, empty_line, full_line, Lines, one_line, more_lines, Text, text, IsValue, AreElements, AreMembers, IsStatement, AreLines}
-use Rattle.edit_tree.specs.Assertions.{Place, Step, at, index, names, named, same_place, leaf, Assertion, of_statement, assertions, prefix_after, NoClash, IsDocument}
+use Rattle.edit_tree.specs.Assertions.{Place, Step, at, index, names, named, same_place, leaf, Assertion, of_statement, assertions, prefix_after, AreCompatible, IsDocument}
 use Rattle.edit_tree.specs.Tree.{View, string, view_at, view_of_kind, kind_at}
 use Rattle.edit_tree.specs.Literals.{literal_of}
-use Rattle.edit_tree.specs.Replaces.{Edits, Writer, new_text, written_or, put, replaced_inside, replaced_elements, replaced_members, replaced_statement, replaced_lines, replaced, is_below, is_below_any, written, emptied}
+use Rattle.edit_tree.specs.Replaces.{Edits, Writer, new_text, written_or, put, replaced_inside, replaced_elements, replaced_members, replaced_statement, replaced_lines, replaced, is_below, is_below_any, written, tree_without_below}
 use Rattle.edit_tree.proofs.LiteralLaws.{literal_is_value, literal_says}
 use Rattle.edit_tree.proofs.ThinnedForms.{Thin, none}
 use Rattle.edit_tree.proofs.ThinnedLines.{thin_lines, thin_short, thin_no_clash}
@@ -166,7 +166,7 @@ no_root base xs (next b x zs p s e st r) = ap (λ c. cond c (Some x.kind) (kind_
 
 -- nothing shows below a plain value
 pub nothing_below : (form : Text) (p q : Place) (v : Value) → opens (leaf v) ≡ false
-    → NoClash (assertions form) → kind_at (assertions form) p ≡ Some (leaf v) → is_below p q ≡ true
+    → AreCompatible (assertions form) → kind_at (assertions form) p ≡ Some (leaf v) → is_below p q ≡ true
     → view_at form q ≡ None
 nothing_below form [] q v shut clash e low = let no : None ≡ Some (leaf v) =
     sym (no_root [] (assertions form) (rooted form)) ∙ e in absurd (never v no)
@@ -202,7 +202,8 @@ edit_above (e ∷ edits) q low =
     (λ s. (r.0, r.1, ap (λ c. cond c (Some e.1) (new_text edits r.0)) s ∙ r.2, r.3)))
 
 pub replaced_view : (edits : Edits) (old : List ℕ) (form : Text) → IsDocument old form → AreApart edits form
-    → (q : Place) → view_at (replaced edits form) q ≡ written edits (emptied edits (view_at form)) q
+    → (q : Place)
+    → view_at (replaced edits form) q ≡ written edits (tree_without_below edits (view_at form)) q
 replaced_view edits old form document apart q = go (new_text edits q) refl
   where
     literal_at : (p : Place) (said : List ℕ) → new_text edits p ≡ Some said
@@ -212,17 +213,17 @@ replaced_view edits old form document apart q = go (new_text edits q) refl
         (thinned edits form)
 
     go : (o : Option (List ℕ)) → new_text edits q ≡ o → view_at (replaced edits form) q
-        ≡ written edits (emptied edits (view_at form)) q
+        ≡ written edits (tree_without_below edits (view_at form)) q
     go (Some said) e = literal_view (replaced edits form) q said (literal_at q said e) ∙
-        sym (written_there edits (emptied edits (view_at form)) q said e)
+        sym (written_there edits (tree_without_below edits (view_at form)) q said e)
     go None e =
         by_test (is_below_any edits q)
         (λ low. let r = edit_above edits q low in
         nothing_below (replaced edits form) r.0 q (literal_of r.1) refl
         (replaced_document edits old form document).no_clash (literal_at r.0 r.1 r.2) r.3
-        ∙ sym (written_elsewhere edits (emptied edits (view_at form)) q e ∙
+        ∙ sym (written_elsewhere edits (tree_without_below edits (view_at form)) q e ∙
         ap (λ c. cond c None (view_at form q)) low))
         (λ high. sym (thin_view edits q (assertions form) (assertions (replaced edits form))
         (record { same = e; above = high }) (thinned edits form))
-        ∙ sym (written_elsewhere edits (emptied edits (view_at form)) q e ∙
+        ∙ sym (written_elsewhere edits (tree_without_below edits (view_at form)) q e ∙
         ap (λ c. cond c None (view_at form q)) high))

@@ -5,7 +5,7 @@ use Rattle.edit_syntax.specs.Grammar.{Text}
 use Rattle.edit_syntax.proofs.Cases.{by_test}
 use Rattle.edit_syntax.proofs.Members.{Among, among_all, filter_among}
 use Rattle.edit_tree.specs.EditBytes.{is_within}
-use Rattle.edit_tree.specs.Assertions.{Place, Step, Kind, dotted, leaf, super, header_kind, array_kind, element_kind, Assertion, assertions, together, NoClash}
+use Rattle.edit_tree.specs.Assertions.{Place, Step, Kind, dotted, leaf, super, header_kind, array_kind, element_kind, Assertion, assertions, are_compatible, AreCompatible}
 use Rattle.edit_tree.specs.Written.{values}
 use Rattle.edit_tree.proofs.NothingBelow.{Opened, Rooted, done, next, rooted}
 use Rattle.edit_tree.proofs.PlainValues.{AnyBelow, opened_below}
@@ -31,11 +31,11 @@ abbrev IsClosed : List Assertion → Type 0
 IsClosed base = (t : Step) (ts : Place) → AnyBelow (t ∷ ts) base → Opened base (t ∷ ts)
 
 no_leaf : (a : Assertion) (xs : List Assertion)
-    → AllByRecursion (λ b. a.place ≡ b.place → together a.kind b.kind ≡ true) xs → NoLeaf a.place xs
+    → AllByRecursion (λ b. a.place ≡ b.place → are_compatible a.kind b.kind ≡ true) xs → NoLeaf a.place xs
 no_leaf a [] h = tt
 no_leaf a (x ∷ xs) h = ((λ e. plain x.kind (h.0 e)), no_leaf a xs h.1)
   where
-    plain : (k : Kind) → together a.kind k ≡ true → is_leaf k ≡ false
+    plain : (k : Kind) → are_compatible a.kind k ≡ true → is_leaf k ≡ false
     plain (leaf v) e = absurd (true≢false (sym e ∙ leaf_alone a.kind v))
     plain (dotted w) e = refl
     plain super e = refl
@@ -65,7 +65,7 @@ rooted_place base xs z (next b x zs p s is st r) (inr m) e = rooted_place (x ∷
 
 -- no value to come stands at an assertion's place or above it
 module _ (base : List Assertion) (x : Assertion) (xs : List Assertion) (rest : Rooted (x ∷ base) xs)
-    (closed : IsClosed (x ∷ base)) (here : NoLeaf x.place xs) (apart : IsApart base xs) where
+    (value_closed : IsClosed (x ∷ base)) (here : NoLeaf x.place xs) (apart : IsApart base xs) where
   not_there : (z : Assertion) → Among z xs → is_leaf z.kind ≡ true → x.place ≡ z.place → ⊥
   not_there z m is same =
       true≢false (sym is ∙ among_all (λ z. x.place ≡ z.place → is_leaf z.kind ≡ false) z xs here m same)
@@ -82,24 +82,24 @@ module _ (base : List Assertion) (x : Assertion) (xs : List Assertion) (rest : R
       ⊎_elim
       (λ same. not_there z.0 z.1 z.3 (sym same ∙ z.2))
       (λ low. ⊎_elim (λ own. not_there z.0 z.1 z.3 (own.0 ∙ z.2)) (λ o. not_opened z.0 (t ∷ ts) z.1 z.3 z.2 o)
-      (closed t ts (inl low)))
+      (value_closed t ts (inl low)))
       (within_cases (t ∷ ts) x.place w)
 
 each : {X : Type 0} (P : X → Type 0) (xs : List X) → ((x : X) → Among x xs → P x) → AllByRecursion P xs
 each P [] h = tt
 each P (x ∷ xs) h = (h x (inl refl), each P xs (λ y m. h y (inr m)))
 
-rising_from : (base xs : List Assertion) → Rooted base xs → IsClosed base → IsApart base xs → NoClash xs
+rising_from : (base xs : List Assertion) → Rooted base xs → IsClosed base → IsApart base xs → AreCompatible xs
     → Rising (leaves xs)
-rising_from base xs (done b) closed apart clash = tt
-rising_from base xs (next b x zs p s e st r) closed apart clash =
+rising_from base xs (done b) value_closed apart clash = tt
+rising_from base xs (next b x zs p s e st r) value_closed apart clash =
     go (is_leaf x.kind) (rising_from (x ∷ b) zs r closed_more apart_more clash.1)
   where
     here : NoLeaf x.place zs
     here = no_leaf x zs clash.0
 
     closed_more : IsClosed (x ∷ b)
-    closed_more t ts any = opened_below t ts b (x ∷ []) (next b x [] p s e st (done _)) (closed t ts) any
+    closed_more t ts any = opened_below t ts b (x ∷ []) (next b x [] p s e st (done _)) (value_closed t ts) any
 
     apart_more : IsApart (x ∷ b) zs
     apart_more q (inl own) = subst (λ (y : Place). NoLeaf y zs) own.0 here
@@ -115,7 +115,7 @@ rising_from base xs (next b x zs p s e st r) closed apart clash =
     go false more = more
 
 -- the values of a document rise
-pub values_rise : (form : Text) → NoClash (assertions form) → Rising (places (values form))
+pub values_rise : (form : Text) → AreCompatible (assertions form) → Rising (places (values form))
 values_rise form clash =
     subst Rising (lines_leaves [] [] form.lines)
     (rising_from [] (assertions form) (rooted form) (λ t ts any. absurd any) (λ q o. absurd o) clash)

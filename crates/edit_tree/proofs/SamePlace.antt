@@ -57,9 +57,9 @@ last_same (x ∷ []) [] s t e = absurd cc
 last_same (x ∷ w ∷ p) [] s t e = absurd cc
 last_same (x ∷ p) (y ∷ q) s t e =
     let tails : at p s ≡ at q t = cc in
-    let heads : x ≡ y = cc in
+    let header_walk : x ≡ y = cc in
     let h = last_same p q s t tails in
-    (ap (λ (r : Place). x ∷ r) h.0 ∙ ap (λ (a : Step). a ∷ q) heads, h.1)
+    (ap (λ (r : Place). x ∷ r) h.0 ∙ ap (λ (a : Step). a ∷ q) header_walk, h.1)
 
 pub not_root : (p : Place) (s : Step) → at p s ≡ [] → ⊥
 not_root [] s e = cc

@@ -7,27 +7,28 @@ use Rattle.std.proofs.lemmas.Option.{slice_get_past}
 use Rattle.edit_tree.specs.declared.nodes.Node.{Node}
 use Rattle.edit_syntax.specs.declared.span.Span.{Span}
 use Rattle.edit_tree.specs.declared.nodes.Content.{Content}
-use Rattle.edit_tree.specs.declared.nodes.Taken.{Taken}
-use Rattle.edit_tree.specs.declared.nodes.Taken.TheVariants.{Dotted, Value, Super, Header, Array, Element}
+use Rattle.edit_tree.specs.declared.nodes.DefinedBy.{DefinedBy}
+use Rattle.edit_tree.specs.declared.nodes.DefinedBy.TheVariants.{Dotted, Value, Super, Header, Array, Element}
 use Rattle.edit_tree.specs.Assertions.{key, index, Place, at}
-use Rattle.edit_tree.specs.Nodes.{Shape, Spot, shape_of, entries_of, elements_of, IsIndexed, Keeps, Holds}
-use Rattle.edit_tree.specs.Walk.{last_table, spot_at, target_of, with_member, with_element, added, element_added}
+use Rattle.edit_tree.specs.Nodes.{Shape, ModelNode, shape_of, entries_of, elements_of, IsIndexed, RepresentsNode, RepresentsNodes}
+use Rattle.edit_tree.specs.Walk.{last_table, model_node_at, target_of, with_member, with_element, added, element_added}
 use Rattle.edit_tree.proofs.SpotNodes.{holds_set, holds_push, kept_at}
 
 -- ---- targets
 
-pub target_past : {text : List ℕ} (nodes : List Node) (spots : List Spot) (t : ℕ) → Holds text nodes spots
+pub target_past : {text : List ℕ} (nodes : List Node) (spots : List ModelNode) (t : ℕ)
+    → RepresentsNodes text nodes spots
     → length nodes ≤ t → target_of spots t Super ≡ t
 unfolding target_of
 target_past nodes spots t holds le = rw (slice_get_past spots t (let l = holds.len in omega arith)) refl
 
-pub target_is : (spots : List Spot) (t : ℕ) (s : Spot) → slice_get spots t ≡ Some s
+pub target_is : (spots : List ModelNode) (t : ℕ) (s : ModelNode) → slice_get spots t ≡ Some s
     → target_of spots t Super ≡ unwrap_or (last_table s.shape s.elements) t
 unfolding target_of
 target_is spots t s e = rw e refl
 
-pub target_found : {text : List ℕ} (nodes : List Node) (spots : List Spot) (t : ℕ) (node : Node)
-    → Holds text nodes spots → t < length nodes → node ≡ get_or nodes t node
+pub target_found : {text : List ℕ} (nodes : List Node) (spots : List ModelNode) (t : ℕ) (node : Node)
+    → RepresentsNodes text nodes spots → t < length nodes → node ≡ get_or nodes t node
     → target_of spots t Super ≡ unwrap_or (last_table (shape_of text node.content) (elements_of node.members)) t
 target_found {text} nodes spots t node holds lt is =
     let k = kept_at nodes spots t node holds lt is in
@@ -35,7 +36,7 @@ target_found {text} nodes spots t node holds lt is =
     (sym k.keeps.shape) ∙ ap (λ (ns : List ℕ). unwrap_or (last_table (shape_of text node.content) ns) t)
     (sym k.keeps.elements)
 
-pub target_other : (spots : List Spot) (t : ℕ) (taken : Taken) → (taken ≡ Super → ⊥)
+pub target_other : (spots : List ModelNode) (t : ℕ) (taken : DefinedBy) → (taken ≡ Super → ⊥)
     → target_of spots t taken ≡ t
 unfolding target_of
 target_other spots t Super ne = absurd (ne refl)
@@ -53,25 +54,25 @@ deepest n e = grind (arith, nat_tests)
 pub not_deepest : (n : ℕ) → nat_le 80 n ≡ false → n < 80
 not_deepest n e = grind (arith, nat_tests)
 
-pub added_past : {text : List ℕ} (nodes : List Node) (spots : List Spot) (t : ℕ) (name : List ℕ)
-    (shape : Shape) (taken : Taken) (span : Option Span) → Holds text nodes spots → length nodes ≤ t
+pub added_past : {text : List ℕ} (nodes : List Node) (spots : List ModelNode) (t : ℕ) (name : List ℕ)
+    (shape : Shape) (taken : DefinedBy) (span : Option Span) → RepresentsNodes text nodes spots → length nodes ≤ t
     → added spots t name shape taken span ≡ None
 unfolding added
 added_past nodes spots t name shape taken span holds le =
     rw (slice_get_past spots t (let l = holds.len in omega arith)) refl
 
-pub added_long : (spots : List Spot) (t : ℕ) (name : List ℕ) (shape : Shape) (taken : Taken)
-    (span : Option Span) (s : Spot) → slice_get spots t ≡ Some s → 80 ≤ length s.place
+pub added_long : (spots : List ModelNode) (t : ℕ) (name : List ℕ) (shape : Shape) (taken : DefinedBy)
+    (span : Option Span) (s : ModelNode) → slice_get spots t ≡ Some s → 80 ≤ length s.place
     → added spots t name shape taken span ≡ None
 unfolding added
 added_long spots t name shape taken span s e le = let test : nat_le 80 (length s.place) ≡ true =
     grind (arith, nat_tests) in rw (e, test) refl
 
-pub added_made : (spots : List Spot) (t : ℕ) (name : List ℕ) (shape : Shape) (taken : Taken)
-    (span : Option Span) (s : Spot) → slice_get spots t ≡ Some s → length s.place < 80
+pub added_made : (spots : List ModelNode) (t : ℕ) (name : List ℕ) (shape : Shape) (taken : DefinedBy)
+    (span : Option Span) (s : ModelNode) → slice_get spots t ≡ Some s → length s.place < 80
     → added spots t name shape taken span
     ≡ Some (
-      slice_set spots t (with_member s name (length spots)) ++ spot_at
+      slice_set spots t (with_member s name (length spots)) ++ model_node_at
           (at s.place (key name)) shape taken span ∷ [],
       length spots,
     )
@@ -79,8 +80,8 @@ unfolding added
 added_made spots t name shape taken span s e lt = let test : nat_le 80 (length s.place) ≡ false =
     grind (arith, nat_tests) in rw (e, test) refl
 
-pub add_stopped : {text : List ℕ} (nodes : List Node) (spots : List Spot) (t : ℕ) (node : Node)
-    (name : List ℕ) (shape : Shape) (taken : Taken) (span : Option Span) → Holds text nodes spots
+pub add_stopped : {text : List ℕ} (nodes : List Node) (spots : List ModelNode) (t : ℕ) (node : Node)
+    (name : List ℕ) (shape : Shape) (taken : DefinedBy) (span : Option Span) → RepresentsNodes text nodes spots
     → t < length nodes → node ≡ get_or nodes t node → 80 ≤ node.steps
     → added spots t name shape taken span ≡ None
 add_stopped nodes spots t node name shape taken span holds lt is le =
@@ -98,7 +99,7 @@ pub record Inserted (text : List ℕ) (old new : Node) (name : List ℕ) (count 
   pub indexed : IsIndexed text new.members
 
 -- a node without members, one step below another
-pub record Starts (text : List ℕ) (new : Node) (content : Content) (taken : Taken) (steps : ℕ)
+pub record Starts (text : List ℕ) (new : Node) (content : Content) (taken : DefinedBy) (steps : ℕ)
     (span : Option Span) : Type 0 where
   pub content_is : new.content ≡ content
   pub taken_is : new.taken ≡ taken
@@ -108,9 +109,9 @@ pub record Starts (text : List ℕ) (new : Node) (content : Content) (taken : Ta
   pub indexed : IsIndexed text new.members
   pub none : elements_of new.members ≡ []
 
-starts_keeps : (text : List ℕ) (new : Node) (content : Content) (taken : Taken) (steps : ℕ)
+starts_keeps : (text : List ℕ) (new : Node) (content : Content) (taken : DefinedBy) (steps : ℕ)
     (span : Option Span) (place : Place) → Starts text new content taken steps span → length place ≡ steps + 1
-    → Keeps text new (spot_at place (shape_of text content) taken span)
+    → RepresentsNode text new (model_node_at place (shape_of text content) taken span)
 starts_keeps text new content taken steps span place h e = record {
   shape = ap (shape_of text) h.content_is;
   taken = h.taken_is;
@@ -121,8 +122,9 @@ starts_keeps text new content taken steps span place h e = record {
   span = h.span_is;
 }
 
-gained_keeps : {text : List ℕ} (old new : Node) (name : List ℕ) (count : ℕ) (s : Spot) → Keeps text old s
-    → Inserted text old new name count → Keeps text new (with_member s name count)
+gained_keeps : {text : List ℕ} (old new : Node) (name : List ℕ) (count : ℕ) (s : ModelNode)
+    → RepresentsNode text old s
+    → Inserted text old new name count → RepresentsNode text new (with_member s name count)
 gained_keeps {text} old new name count s keeps i =
     record {
       shape = ap (shape_of text) i.content ∙ keeps.shape;
@@ -134,13 +136,13 @@ gained_keeps {text} old new name count s keeps i =
       span = i.span ∙ keeps.span;
     }
 
-pub add_done : {text : List ℕ} (nodes nodes2 : List Node) (spots : List Spot) (t count : ℕ)
-    (old node2 last : Node) (name : List ℕ) (content : Content) (taken : Taken) (span : Option Span)
-    → Holds text nodes spots → t < count → count ≡ length nodes
+pub add_done : {text : List ℕ} (nodes nodes2 : List Node) (spots : List ModelNode) (t count : ℕ)
+    (old node2 last : Node) (name : List ℕ) (content : Content) (taken : DefinedBy) (span : Option Span)
+    → RepresentsNodes text nodes spots → t < count → count ≡ length nodes
     → old ≡ get_or nodes t old → old.steps < 80 → Inserted text old node2 name count
     → Starts text last content taken old.steps span → nodes2 ≡ slice_set nodes t node2 ++ last ∷ []
-    → (made : List Spot) × (added spots t name (shape_of text content) taken span ≡ Some (made, count))
-    × Holds text nodes2 made
+    → (made : List ModelNode) × (added spots t name (shape_of text content) taken span ≡ Some (made, count))
+    × RepresentsNodes text nodes2 made
 add_done {text} nodes nodes2 spots t count old node2 last name content taken span holds lt size was few
     inserted starts made =
     let lt2 : t < length nodes = omega arith in
@@ -151,39 +153,39 @@ add_done {text} nodes nodes2 spots t count old node2 last name content taken spa
     let first = holds_set nodes spots t node2 (with_member k.spot name count) holds lt2
     (gained_keeps old node2 name count k.spot k.keeps inserted) in
     let both = holds_push (slice_set nodes t node2) (slice_set spots t (with_member k.spot name count)) last
-    (spot_at (at k.spot.place (key name)) (shape_of text content) taken span) first
+    (model_node_at (at k.spot.place (key name)) (shape_of text content) taken span) first
     (starts_keeps text last content taken old.steps span (at k.spot.place (key name)) starts long) in
     let fits : length k.spot.place < 80 = (let e = k.keeps.steps in omega arith) in (
-      slice_set spots t (with_member k.spot name count) ++ spot_at (at k.spot.place (key name))
+      slice_set spots t (with_member k.spot name count) ++ model_node_at (at k.spot.place (key name))
           (shape_of text content) taken span ∷ [],
       added_made spots t name (shape_of text content) taken span k.spot k.spot_is fits
           ∙ ap (λ (n : ℕ). Some (
-            slice_set spots t (with_member k.spot name n) ++ spot_at (at k.spot.place (key name))
+            slice_set spots t (with_member k.spot name n) ++ model_node_at (at k.spot.place (key name))
                 (shape_of text content) taken span ∷ [],
             n,
           )) (sym number),
-      subst (λ (ns : List Node). Holds text ns (slice_set spots t (with_member k.spot name count) ++ spot_at
+      subst (λ (ns : List Node). RepresentsNodes text ns (slice_set spots t (with_member k.spot name count) ++ model_node_at
           (at k.spot.place (key name)) (shape_of text content) taken span ∷ [])) (sym made) both,
     )
 
-pub element_past : {text : List ℕ} (nodes : List Node) (spots : List Spot) (t : ℕ) (shape : Shape)
-    (taken : Taken) (span : Option Span) → Holds text nodes spots → length nodes ≤ t
+pub element_past : {text : List ℕ} (nodes : List Node) (spots : List ModelNode) (t : ℕ) (shape : Shape)
+    (taken : DefinedBy) (span : Option Span) → RepresentsNodes text nodes spots → length nodes ≤ t
     → element_added spots t shape taken span ≡ None
 unfolding element_added
 element_past nodes spots t shape taken span holds le =
     rw (slice_get_past spots t (let l = holds.len in omega arith)) refl
 
-pub element_long : (spots : List Spot) (t : ℕ) (shape : Shape) (taken : Taken) (span : Option Span) (s : Spot)
+pub element_long : (spots : List ModelNode) (t : ℕ) (shape : Shape) (taken : DefinedBy) (span : Option Span) (s : ModelNode)
     → slice_get spots t ≡ Some s → 80 ≤ length s.place → element_added spots t shape taken span ≡ None
 unfolding element_added
 element_long spots t shape taken span s e le = let test : nat_le 80 (length s.place) ≡ true =
     grind (arith, nat_tests) in rw (e, test) refl
 
-pub element_made : (spots : List Spot) (t : ℕ) (shape : Shape) (taken : Taken) (span : Option Span) (s : Spot)
+pub element_made : (spots : List ModelNode) (t : ℕ) (shape : Shape) (taken : DefinedBy) (span : Option Span) (s : ModelNode)
     → slice_get spots t ≡ Some s → length s.place < 80
     → element_added spots t shape taken span
     ≡ Some (
-      slice_set spots t (with_element s (length spots)) ++ spot_at
+      slice_set spots t (with_element s (length spots)) ++ model_node_at
           (at s.place (index (length s.elements))) shape taken span ∷ [],
       length spots,
     )
@@ -191,8 +193,8 @@ unfolding element_added
 element_made spots t shape taken span s e lt = let test : nat_le 80 (length s.place) ≡ false =
     grind (arith, nat_tests) in rw (e, test) refl
 
-pub element_stopped : {text : List ℕ} (nodes : List Node) (spots : List Spot) (t : ℕ) (node : Node)
-    (shape : Shape) (taken : Taken) (span : Option Span) → Holds text nodes spots → t < length nodes
+pub element_stopped : {text : List ℕ} (nodes : List Node) (spots : List ModelNode) (t : ℕ) (node : Node)
+    (shape : Shape) (taken : DefinedBy) (span : Option Span) → RepresentsNodes text nodes spots → t < length nodes
     → node ≡ get_or nodes t node → 80 ≤ node.steps → element_added spots t shape taken span ≡ None
 element_stopped nodes spots t node shape taken span holds lt is le =
     let k = kept_at nodes spots t node holds lt is in
@@ -208,8 +210,8 @@ pub record Extended (text : List ℕ) (old new : Node) (count : ℕ) : Type 0 wh
   pub indexed : IsIndexed text old.members → IsIndexed text new.members
   pub elements : elements_of new.members ≡ elements_of old.members ++ count ∷ []
 
-extended_keeps : {text : List ℕ} (old new : Node) (count : ℕ) (s : Spot) → Keeps text old s
-    → Extended text old new count → Keeps text new (with_element s count)
+extended_keeps : {text : List ℕ} (old new : Node) (count : ℕ) (s : ModelNode) → RepresentsNode text old s
+    → Extended text old new count → RepresentsNode text new (with_element s count)
 extended_keeps {text} old new count s keeps i = record {
   shape = ap (shape_of text) i.content ∙ keeps.shape;
   taken = i.taken ∙ keeps.taken;
@@ -220,12 +222,13 @@ extended_keeps {text} old new count s keeps i = record {
   span = i.span ∙ keeps.span;
 }
 
-pub element_done : {text : List ℕ} (nodes nodes2 : List Node) (spots : List Spot) (t count : ℕ)
-    (old node2 last : Node) (content : Content) (taken : Taken) (span : Option Span) → Holds text nodes spots
-    → t < count → count ≡ length nodes → old ≡ get_or nodes t old → old.steps < 80 → Extended text old node2 count
+pub element_done : {text : List ℕ} (nodes nodes2 : List Node) (spots : List ModelNode) (t count : ℕ)
+    (old node2 last : Node) (content : Content) (taken : DefinedBy) (span : Option Span) → RepresentsNodes text nodes spots
+    → t < count → count ≡ length nodes → old ≡ get_or nodes t old → old.steps < 80
+    → Extended text old node2 count
     → Starts text last content taken old.steps span → nodes2 ≡ slice_set nodes t node2 ++ last ∷ []
-    → (made : List Spot) × (element_added spots t (shape_of text content) taken span ≡ Some (made, count))
-    × Holds text nodes2 made
+    → (made : List ModelNode) × (element_added spots t (shape_of text content) taken span ≡ Some (made, count))
+    × RepresentsNodes text nodes2 made
 element_done {text} nodes nodes2 spots t count old node2 last content taken span holds lt size was few
     extended starts made =
     let lt2 : t < length nodes = omega arith in
@@ -236,18 +239,18 @@ element_done {text} nodes nodes2 spots t count old node2 last content taken span
     length_push k.spot.place (index (length k.spot.elements)) ∙ ap (λ (n : ℕ). n + 1) (sym k.keeps.steps) in
     let first = holds_set nodes spots t node2 (with_element k.spot count) holds lt2
     (extended_keeps old node2 count k.spot k.keeps extended) in
-    let keeps : Keeps text last (spot_at place (shape_of text content) taken span) =
+    let keeps : RepresentsNode text last (model_node_at place (shape_of text content) taken span) =
     starts_keeps text last content taken old.steps span place starts long in
     let both = holds_push (slice_set nodes t node2) (slice_set spots t (with_element k.spot count)) last
-    (spot_at place (shape_of text content) taken span) first keeps in
+    (model_node_at place (shape_of text content) taken span) first keeps in
     let fits : length k.spot.place < 80 = (let e = k.keeps.steps in omega arith) in (
-      slice_set spots t (with_element k.spot count) ++ spot_at place (shape_of text content) taken span ∷ [],
+      slice_set spots t (with_element k.spot count) ++ model_node_at place (shape_of text content) taken span ∷ [],
       element_made spots t (shape_of text content) taken span k.spot k.spot_is fits ∙
           ap (λ (n : ℕ). Some (
-            slice_set spots t (with_element k.spot n) ++ spot_at place
+            slice_set spots t (with_element k.spot n) ++ model_node_at place
                 (shape_of text content) taken span ∷ [],
             n,
           )) (sym number),
-      subst (λ (ns : List Node). Holds text ns (slice_set spots t (with_element k.spot count) ++ spot_at place
+      subst (λ (ns : List Node). RepresentsNodes text ns (slice_set spots t (with_element k.spot count) ++ model_node_at place
           (shape_of text content) taken span ∷ [])) (sym made) both,
     )

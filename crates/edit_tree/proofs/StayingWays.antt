@@ -6,7 +6,7 @@ use Rattle.edit_syntax.proofs.Cases.{by_test}
 use Rattle.edit_syntax.proofs.Members.{Among, among_all}
 use Rattle.edit_tree.specs.Assertions.{Place, Step, index, at, same_step, same_place, Kind, Assertion}
 use Rattle.edit_tree.specs.EditBytes.{is_within}
-use Rattle.edit_tree.specs.Meant.{staying}
+use Rattle.edit_tree.specs.IntendedTrees.{assertions_left}
 use Rattle.edit_tree.specs.Tree.{kind_at}
 use Rattle.edit_tree.proofs.Asserters.{Made, AreMade}
 use Rattle.edit_tree.proofs.HeadedPlaces.{inside_trans}
@@ -35,13 +35,14 @@ on_one_way (s ∷ p) (t ∷ q) (u ∷ r) e f =
 
 -- ---- lists
 
-pub stays_among : (gone : Place) (xs : List Assertion) (a : Assertion) → Among a (staying gone xs)
+pub stays_among : (gone : Place) (xs : List Assertion) (a : Assertion) → Among a (assertions_left gone xs)
     → Among a xs × (is_within gone a.by ≡ false)
 stays_among gone [] a m = absurd m
 stays_among gone (x ∷ xs) a m = go (is_within gone x.by) refl m (stays_among gone xs a)
   where
-    go : (b : Bool) → is_within gone x.by ≡ b → Among a (cond (not b) (x ∷ staying gone xs) (staying gone xs))
-        → (Among a (staying gone xs) → Among a xs × (is_within gone a.by ≡ false)) → Among a (x ∷ xs)
+    go : (b : Bool) → is_within gone x.by ≡ b
+        → Among a (cond (not b) (x ∷ assertions_left gone xs) (assertions_left gone xs))
+        → (Among a (assertions_left gone xs) → Among a xs × (is_within gone a.by ≡ false)) → Among a (x ∷ xs)
         × (is_within gone a.by ≡ false)
     go true e m ih = let r = ih m in (inr r.0, r.1)
     go false e (inl same) ih = (inl same, ap (λ (z : Assertion). is_within gone z.by) same ∙ e)
@@ -49,13 +50,13 @@ stays_among gone (x ∷ xs) a m = go (is_within gone x.by) refl m (stays_among g
 
 pub among_stays : (gone : Place) (xs : List Assertion) (a : Assertion) → Among a xs
     → is_within gone a.by ≡ false
-    → Among a (staying gone xs)
+    → Among a (assertions_left gone xs)
 among_stays gone [] a m out = absurd m
 among_stays gone (x ∷ xs) a m out = go (is_within gone x.by) refl m (among_stays gone xs a)
   where
     go : (b : Bool) → is_within gone x.by ≡ b → Among a (x ∷ xs)
-        → (Among a xs → is_within gone a.by ≡ false → Among a (staying gone xs))
-        → Among a (cond (not b) (x ∷ staying gone xs) (staying gone xs))
+        → (Among a xs → is_within gone a.by ≡ false → Among a (assertions_left gone xs))
+        → Among a (cond (not b) (x ∷ assertions_left gone xs) (assertions_left gone xs))
     go true e (inl same) ih =
         absurd (true≢false (sym e ∙ ap (λ (z : Assertion). is_within gone z.by) (sym same) ∙ out))
     go true e (inr m) ih = ih m out
@@ -101,18 +102,19 @@ module _ (gone : Place) (made : List Assertion) (all : AreMade made made) where
   told : (a : Assertion) → Among a made → Made made a
   told a m = among_all (Made made) a made all m
 
-  pub stays_kind : (p : Place) → Stays p → kind_at (staying gone made) p ≡ None → ⊥
-  stays_kind p (a, m, place, out) none = among_kind (staying gone made) p a
+  pub stays_kind : (p : Place) → Stays p → kind_at (assertions_left gone made) p ≡ None → ⊥
+  stays_kind p (a, m, place, out) none = among_kind (assertions_left gone made) p a
       (among_stays gone made a m out) place none
 
-  pub kind_stays : (p : Place) → (kind_at (staying gone made) p ≡ None) ⊎ Stays p
-  kind_stays p = go (kind_at (staying gone made) p) refl
+  pub kind_stays : (p : Place) → (kind_at (assertions_left gone made) p ≡ None) ⊎ Stays p
+  kind_stays p = go (kind_at (assertions_left gone made) p) refl
     where
-      go : (o : Option Kind) → kind_at (staying gone made) p ≡ o → (kind_at (staying gone made) p ≡ None)
+      go : (o : Option Kind) → kind_at (assertions_left gone made) p ≡ o
+          → (kind_at (assertions_left gone made) p ≡ None)
           ⊎ Stays p
       go None e = inl e
       go (Some k) e =
-          let r = kind_among (staying gone made) p k e in
+          let r = kind_among (assertions_left gone made) p k e in
           let s = stays_among gone made r.0 r.1 in
           inr (r.0, s.0, r.2, s.1)
 

@@ -8,28 +8,28 @@ use Rattle.edit_syntax.specs.Strings.{line_end, Key}
 use Rattle.edit_syntax.specs.Grammar.{gap, Value, basic, literal, multi_basic, multi_literal, boolean, integer, float, datetime, array, inline, value, Elements, no_elements, last_element, element, elements, Members, no_members, last_member, member, members, Statement, pair, header, element_header, statement, empty_line, full_line, comment, Lines, one_line, more_lines, lines, Text, text}
 use Rattle.edit_tree.specs.EditBytes.{is_within}
 use Rattle.edit_tree.specs.Assertions.{Place, index, at, named, names, Assertion, of_statement, prefix_after}
-use Rattle.edit_tree.specs.Written.{Valued, valued, inside, in_elements, in_members, in_statement, in_lines}
+use Rattle.edit_tree.specs.Written.{PlacedValue, placed_value, inside, in_elements, in_members, in_statement, in_lines}
 use Rattle.edit_tree.specs.Replaces.{Edits, Writer, new_text, written_or, put, replaced_inside, replaced_elements, replaced_members, replaced_statement, replaced_lines, replaced_by, edited, Swaps, rest, next, is_below}
 use Rattle.edit_tree.proofs.SamePlaces.{within_same, below_at, within_at, within_named}
 use Rattle.edit_syntax.proofs.PutBefore.{IsKept, put_before, end_before, gap_before, pair_before, value_before, line_before, comment_before, statement_before, mark_before}
 use Rattle.edit_tree.proofs.ThinnedForms.{edited_below}
 use Rattle.edit_tree.proofs.ReplacedTree.{AreApart}
 
-pub swaps_one : (write : Writer) (more : List (Valued × List ℕ)) → IsKept (Swaps write more)
+pub swaps_one : (write : Writer) (more : List (PlacedValue × List ℕ)) → IsKept (Swaps write more)
 swaps_one write more c old new (rest t) = rest (c ∷ t)
 swaps_one write more c old new (next t w said others now s) = next (c ∷ t) w said others now s
 
-abbrev pub edit_of : Edits → Valued → Option (Valued × List ℕ)
+abbrev pub edit_of : Edits → PlacedValue → Option (PlacedValue × List ℕ)
 edit_of edits w = option_map (λ said. (w, said)) (new_text edits w.place)
 
-abbrev edits_of : Edits → List Valued → List (Valued × List ℕ)
+abbrev edits_of : Edits → List PlacedValue → List (PlacedValue × List ℕ)
 edits_of edits ws = filter_map (edit_of edits) ws
 
-three_parts : (edits : Edits) (xs ys : List Valued) (more : List (Valued × List ℕ))
+three_parts : (edits : Edits) (xs ys : List PlacedValue) (more : List (PlacedValue × List ℕ))
     → edits_of edits xs ++ (edits_of edits ys ++ more) ≡ edits_of edits (xs ++ ys) ++ more
 three_parts edits xs ys more =
     sym (append_assoc (edits_of edits xs) (edits_of edits ys) more) ∙
-    ap (λ (l : List (Valued × List ℕ)). l ++ more) (sym (filter_map-append (edit_of edits) xs ys))
+    ap (λ (l : List (PlacedValue × List ℕ)). l ++ more) (sym (filter_map-append (edit_of edits) xs ys))
 
 -- ---- inside an edited value nothing is edited
 
@@ -45,10 +45,10 @@ apart_none edits form apart p q said e low = go (new_text edits q) refl
     go None h = h
     go (Some told) h = absurd (true≢false (sym (edited_below edits p q said e low) ∙ (apart q told h).1))
 
-abbrev AreBelow : Place → List Valued → Type 0
+abbrev AreBelow : Place → List PlacedValue → Type 0
 AreBelow target ws = AllByRecursion (λ w. is_below target w.place ≡ true) ws
 
-below_append : (target : Place) (xs ys : List Valued) → AreBelow target xs → AreBelow target ys
+below_append : (target : Place) (xs ys : List PlacedValue) → AreBelow target xs → AreBelow target ys
     → AreBelow target (xs ++ ys)
 below_append target [] ys h more = more
 below_append target (x ∷ xs) ys h more = (h.0, below_append target xs ys h.1 more)
@@ -110,7 +110,7 @@ mutual
         (members_below target p ms after e),
   )
 
-none_edited : (edits : Edits) (p : Place) (said : List ℕ) (ws : List Valued) → NoneBelow edits
+none_edited : (edits : Edits) (p : Place) (said : List ℕ) (ws : List PlacedValue) → NoneBelow edits
     → new_text edits p ≡ Some said → AreBelow p ws → edits_of edits ws ≡ []
 none_edited edits p said [] free e low = refl
 none_edited edits p said (w ∷ ws) free e low =
@@ -120,24 +120,24 @@ none_edited edits p said (w ∷ ws) free e low =
 -- ---- values
 
 -- the value at a place, where what is inside it was swapped
-swaps_put : (write : Writer) (edits : Edits) (p : Place) (v u : Value) (more : List (Valued × List ℕ))
+swaps_put : (write : Writer) (edits : Edits) (p : Place) (v u : Value) (more : List (PlacedValue × List ℕ))
     (old new : List ℕ) → NoneBelow edits → Swaps write more old new
     → Swaps write (edits_of edits (inside p v old) ++ more) (value v old) (value u new)
-    → Swaps write (edits_of edits (valued p v old ∷ inside p v old) ++ more) (value v old)
+    → Swaps write (edits_of edits (placed_value p v old ∷ inside p v old) ++ more) (value v old)
     (value (put write edits p u) new)
 swaps_put write edits p v u more old new free s within = go (new_text edits p) refl
   where
     go : (o : Option (List ℕ)) → new_text edits p ≡ o
-        → Swaps write (cons_option (option_map (λ said. (valued p v old, said)) o)
+        → Swaps write (cons_option (option_map (λ said. (placed_value p v old, said)) o)
         (edits_of edits (inside p v old)) ++ more) (value v old) (value (written_or write o u) new)
     go None e = within
     go (Some said) e =
-        subst (λ l. Swaps write ((valued p v old, said) ∷ (l ++ more)) (value v old) (value (write said) new))
+        subst (λ l. Swaps write ((placed_value p v old, said) ∷ (l ++ more)) (value v old) (value (write said) new))
         (sym (none_edited edits p said (inside p v old) free e (inside_below p p v old (within_same p))))
-        (next [] (valued p v old) said more new s)
+        (next [] (placed_value p v old) said more new s)
 
 mutual
-  swaps_inside : (write : Writer) (edits : Edits) (p : Place) (v : Value) (more : List (Valued × List ℕ))
+  swaps_inside : (write : Writer) (edits : Edits) (p : Place) (v : Value) (more : List (PlacedValue × List ℕ))
       (old new : List ℕ) → NoneBelow edits → Swaps write more old new
       → Swaps write (edits_of edits (inside p v old) ++ more) (value v old)
       (value (replaced_inside write edits p v) new)
@@ -169,7 +169,7 @@ mutual
       (swaps_members write edits p ms more _ _ free (swaps_one write more right_brace old new s)))
 
   swaps_elements : (write : Writer) (edits : Edits) (p : Place) (i : ℕ) (es : Elements)
-      (more : List (Valued × List ℕ)) (old new : List ℕ) → NoneBelow edits → Swaps write more old new
+      (more : List (PlacedValue × List ℕ)) (old new : List ℕ) → NoneBelow edits → Swaps write more old new
       → Swaps write (edits_of edits (in_elements p i es old) ++ more) (elements es old)
       (elements (replaced_elements write edits p i es) new)
   swaps_elements write edits p i no_elements more old new free s = s
@@ -188,11 +188,11 @@ mutual
       (gap_before (Swaps write all) (swaps_one write all) h _ _
       (swaps_elements write edits p (suc i) es more old new free s))) in
       subst (λ l. Swaps write l (value v o) (value (put write edits q (replaced_inside write edits q v)) n))
-      (three_parts edits (valued q v o ∷ inside q v o) (in_elements p (suc i) es old) more)
+      (three_parts edits (placed_value q v o ∷ inside q v o) (in_elements p (suc i) es old) more)
       (swaps_put write edits q v (replaced_inside write edits q v) all o n free t
       (swaps_inside write edits q v all o n free t))
 
-  swaps_members : (write : Writer) (edits : Edits) (p : Place) (ms : Members) (more : List (Valued × List ℕ))
+  swaps_members : (write : Writer) (edits : Edits) (p : Place) (ms : Members) (more : List (PlacedValue × List ℕ))
       (old new : List ℕ) → NoneBelow edits → Swaps write more old new
       → Swaps write (edits_of edits (in_members p ms old) ++ more) (members ms old)
       (members (replaced_members write edits p ms) new)
@@ -200,7 +200,7 @@ mutual
   swaps_members write edits p (last_member k a b v c) more old new free s =
       let q = named p (names k) in
       let t = gap_before (Swaps write more) (swaps_one write more) c old new s in
-      let all = edits_of edits (valued q v (gap c old) ∷ inside q v (gap c old)) ++ more in
+      let all = edits_of edits (placed_value q v (gap c old) ∷ inside q v (gap c old)) ++ more in
       pair_before (Swaps write all) (swaps_one write all) k a b _ _
       (swaps_put write edits q v (replaced_inside write edits q v) more (gap c old) (gap c new) free t
       (swaps_inside write edits q v more (gap c old) (gap c new) free t))
@@ -212,10 +212,10 @@ mutual
       let t = gap_before (Swaps write rest_all) (swaps_one write rest_all) c _ _
       (swaps_one write rest_all comma _ _ (gap_before (Swaps write rest_all) (swaps_one write rest_all) d _ _
       (swaps_members write edits p ms more old new free s))) in
-      let all = edits_of edits (valued q v o ∷ inside q v o) ++ rest_all in
+      let all = edits_of edits (placed_value q v o ∷ inside q v o) ++ rest_all in
       subst (λ l. Swaps write l (members (member k a b v c d ms) old)
       (members (replaced_members write edits p (member k a b v c d ms)) new))
-      (three_parts edits (valued q v o ∷ inside q v o) (in_members p ms old) more)
+      (three_parts edits (placed_value q v o ∷ inside q v o) (in_members p ms old) more)
       (pair_before (Swaps write all) (swaps_one write all) k a b _ _
       (swaps_put write edits q v (replaced_inside write edits q v) rest_all o n free t
       (swaps_inside write edits q v rest_all o n free t)))
@@ -223,12 +223,12 @@ mutual
 -- ---- lines
 
 swaps_statement : (write : Writer) (edits : Edits) (prefix : Place) (s : Statement)
-    (more : List (Valued × List ℕ)) (old new : List ℕ) → NoneBelow edits → Swaps write more old new
+    (more : List (PlacedValue × List ℕ)) (old new : List ℕ) → NoneBelow edits → Swaps write more old new
     → Swaps write (edits_of edits (in_statement prefix s old) ++ more) (statement s old)
     (statement (replaced_statement write edits prefix s) new)
 swaps_statement write edits prefix (pair k a b v) more old new free t =
     let q = named prefix (names k) in
-    let all = edits_of edits (valued q v old ∷ inside q v old) ++ more in
+    let all = edits_of edits (placed_value q v old ∷ inside q v old) ++ more in
     pair_before (Swaps write all) (swaps_one write all) k a b _ _
     (swaps_put write edits q v (replaced_inside write edits q v) more old new free t
     (swaps_inside write edits q v more old new free t))

@@ -5,8 +5,8 @@ use Rattle.edit_syntax.specs.Characters.{right_brace}
 use Rattle.edit_syntax.specs.Grammar.{Value, basic, literal, multi_basic, multi_literal, boolean, integer, float, datetime, array, inline, Members, no_members, last_member, member}
 use Rattle.edit_syntax.proofs.Members.{Among, among_append}
 use Rattle.edit_tree.specs.Assertions.{Place}
-use Rattle.edit_tree.specs.Statements.{Paired, paired_members, paired_value}
-use Rattle.edit_tree.specs.Written.{Valued}
+use Rattle.edit_tree.specs.Statements.{PlacedPair, paired_members, paired_value}
+use Rattle.edit_tree.specs.Written.{PlacedValue}
 
 pub among_flat : {X Y : Type 0} (f : X → List Y) (y : Y) (xs : List X) → Among y (flat_map f xs)
     → (x : X) × Among x xs × Among y (f x)
@@ -15,16 +15,16 @@ among_flat f y (x ∷ xs) m =
     ⊎_elim (λ l. (x, inl refl, l)) (λ r. let h = among_flat f y xs r in (h.0, inr h.1, h.2))
     (among_append y (f x) (flat_map f xs) m)
 
-members_table : (p : Paired) (table : Place) (ms : Members) (rest : List ℕ)
+members_table : (p : PlacedPair) (table : Place) (ms : Members) (rest : List ℕ)
     → Among p (paired_members table ms rest)
     → p.table ≡ table
 members_table p table no_members rest m = absurd m
-members_table p table (last_member k a b v c) rest (inl e) = ap (λ (q : Paired). q.table) e
+members_table p table (last_member k a b v c) rest (inl e) = ap (λ (q : PlacedPair). q.table) e
 members_table p table (last_member k a b v c) rest (inr m) = absurd m
-members_table p table (member k a b v c d ms) rest (inl e) = ap (λ (q : Paired). q.table) e
+members_table p table (member k a b v c d ms) rest (inl e) = ap (λ (q : PlacedPair). q.table) e
 members_table p table (member k a b v c d ms) rest (inr m) = members_table p table ms rest m
 
-pub value_table : (p : Paired) (w : Valued) → Among p (paired_value w) → p.table ≡ w.place
+pub value_table : (p : PlacedPair) (w : PlacedValue) → Among p (paired_value w) → p.table ≡ w.place
 value_table p w = go w.value
   where
     go : (v : Value) → Among p (paired_value (record w { value = v })) → p.table ≡ w.place

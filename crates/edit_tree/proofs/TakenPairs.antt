@@ -1,11 +1,11 @@
 -- How places count as defined, against the pairs of kinds that are compatible.
 use Rattle.std.proofs.Common.{◌≡◌, true, ◌&&◌, refl}
-use Rattle.edit_tree.specs.declared.nodes.Taken.{Taken}
-use Rattle.edit_tree.specs.declared.nodes.Taken.TheVariants.{Dotted, Value, Super, Header, Array, Element}
-use Rattle.edit_tree.specs.Assertions.{Kind, dotted, leaf, super, header_kind, array_kind, element_kind, together}
-use Rattle.edit_tree.specs.Taking.{taken_of, joins, stronger}
+use Rattle.edit_tree.specs.declared.nodes.DefinedBy.{DefinedBy}
+use Rattle.edit_tree.specs.declared.nodes.DefinedBy.TheVariants.{Dotted, Value, Super, Header, Array, Element}
+use Rattle.edit_tree.specs.Assertions.{Kind, dotted, leaf, super, header_kind, array_kind, element_kind, are_compatible}
+use Rattle.edit_tree.specs.Redefinition.{defined_by, joins, merged_definition}
 
-pub together_is : (j k : Kind) → together j k ≡ joins (taken_of j) (taken_of k)
+pub together_is : (j k : Kind) → are_compatible j k ≡ joins (defined_by j) (defined_by k)
 together_is (dotted a) (dotted b) = refl
 together_is (dotted a) (leaf w) = refl
 together_is (dotted a) super = refl
@@ -44,7 +44,8 @@ together_is element_kind array_kind = refl
 together_is element_kind element_kind = refl
 
 -- what may take a place after two that may take it is what may take it after the stronger
-pub stronger_is : (j k l : Taken) → joins j k ≡ true → joins (stronger j k) l ≡ (joins j l && joins k l)
+pub stronger_is : (j k l : DefinedBy) → joins j k ≡ true
+    → joins (merged_definition j k) l ≡ (joins j l && joins k l)
 stronger_is Dotted Dotted Dotted e = refl
 stronger_is Dotted Dotted Value e = refl
 stronger_is Dotted Dotted Super e = refl

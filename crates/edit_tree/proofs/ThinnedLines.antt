@@ -2,7 +2,7 @@
 use Rattle.std.proofs.Common.{◌≡◌, ℕ, suc, true, false, ◌&&◌, ◌-◌, nat_lt, if◌then◌else◌, cond, List, [], ◌∷◌, ◌++◌, refl, sym, ap, ◌∙◌, subst}
 use Rattle.std.specs.List.{AllByRecursion}
 use Rattle.edit_syntax.specs.Grammar.{Value, Statement, pair, header, element_header, empty_line, full_line, Lines, one_line, more_lines}
-use Rattle.edit_tree.specs.Assertions.{Place, key, index, at, same_place, Kind, dotted, leaf, super, header_kind, array_kind, element_kind, Assertion, asserts, names, is_array_at, elements_at, resolved, fronts, header_place, of_statement, prefix_after, of_lines, together, NoClash, AreShort}
+use Rattle.edit_tree.specs.Assertions.{Place, key, index, at, same_place, Kind, dotted, leaf, super, header_kind, array_kind, element_kind, Assertion, asserts, names, is_array_at, elements_at, resolved, fronts, header_place, of_statement, prefix_after, of_lines, are_compatible, AreCompatible, AreShort}
 use Rattle.edit_tree.specs.Literals.{literal_of}
 use Rattle.edit_tree.specs.Replaces.{Edits, replaced_statement, replaced_lines}
 use Rattle.edit_tree.proofs.ThinnedForms.{Thin, none, keep, swap, lose, HasNoLeaf, thin_same, thin_append, thin_pair}
@@ -127,7 +127,7 @@ thin_short edits xs ys (keep x us vs l t) h = (h.0, thin_short edits us vs t h.1
 thin_short edits xs ys (swap by p v w us vs e t) h = (h.0, thin_short edits us vs t h.1)
 thin_short edits xs ys (lose x us vs b k t) h = thin_short edits us vs t h.1
 
-pub leaf_alone : (k : Kind) (v : Value) → together k (leaf v) ≡ false
+pub leaf_alone : (k : Kind) (v : Value) → are_compatible k (leaf v) ≡ false
 leaf_alone (dotted w) v = refl
 leaf_alone (leaf u) v = refl
 leaf_alone super v = refl
@@ -136,7 +136,7 @@ leaf_alone array_kind v = refl
 leaf_alone element_kind v = refl
 
 abbrev StandsWith : Place → Kind → List Assertion → Type 0
-StandsWith p k xs = AllByRecursion (λ b. p ≡ b.place → together k b.kind ≡ true) xs
+StandsWith p k xs = AllByRecursion (λ b. p ≡ b.place → are_compatible k b.kind ≡ true) xs
 
 thin_with : (edits : Edits) (p : Place) (k : Kind) (xs ys : List Assertion) → Thin edits xs ys
     → StandsWith p k xs → StandsWith p k ys
@@ -146,7 +146,8 @@ thin_with edits p k xs ys (swap by q v w us vs e t) h =
     ((λ same. leaf_alone k w ∙ sym (leaf_alone k v) ∙ h.0 same), thin_with edits p k us vs t h.1)
 thin_with edits p k xs ys (lose x us vs b l t) h = thin_with edits p k us vs t h.1
 
-pub thin_no_clash : (edits : Edits) (xs ys : List Assertion) → Thin edits xs ys → NoClash xs → NoClash ys
+pub thin_no_clash : (edits : Edits) (xs ys : List Assertion) → Thin edits xs ys → AreCompatible xs
+    → AreCompatible ys
 thin_no_clash edits xs ys none h = tt
 thin_no_clash edits xs ys (keep x us vs l t) h =
     (thin_with edits x.place x.kind us vs t h.0, thin_no_clash edits us vs t h.1)

@@ -4,21 +4,22 @@ use Rattle.std.specs.Prelude.{slice_get, slice_set}
 use Rattle.std.proofs.lemmas.List.{length-set}
 use Rattle.std.proofs.lemmas.Option.{slice_get_within, same_Some}
 use Rattle.edit_tree.specs.Assertions.{Step, key, index, Place, at, same_step}
-use Rattle.edit_tree.specs.Nodes.{Spot, StandsAt, below, IsBelow, IsTree}
+use Rattle.edit_tree.specs.Nodes.{ModelNode, StandsAt, below, IsBelow, IsTree}
 use Rattle.edit_tree.proofs.SamePlace.{same_step_self, same_step_is}
 use Rattle.edit_syntax.proofs.ListElements.{get_front, get_last, get_set_same, get_set_other, equal_or, OneSet, changed, other, in_set, OneMore, stood, newest, in_push}
 
 -- what stood still stands
-abbrev pub Grows : List Spot → List Spot → Type 0
+abbrev pub Grows : List ModelNode → List ModelNode → Type 0
 Grows was now = (n : ℕ) (p : Place) → StandsAt was n p → StandsAt now n p
 
-pub grows_same : (spots : List Spot) → Grows spots spots
+pub grows_same : (spots : List ModelNode) → Grows spots spots
 grows_same spots n p h = h
 
-pub grows_then : (a b c : List Spot) → Grows a b → Grows b c → Grows a c
+pub grows_then : (a b c : List ModelNode) → Grows a b → Grows b c → Grows a c
 grows_then a b c g h n p s = h n p (g n p s)
 
-pub grows_set : (spots : List Spot) (t : ℕ) (s s2 : Spot) → slice_get spots t ≡ Some s → s2.place ≡ s.place
+pub grows_set : (spots : List ModelNode) (t : ℕ) (s s2 : ModelNode) → slice_get spots t ≡ Some s
+    → s2.place ≡ s.place
     → Grows spots (slice_set spots t s2)
 grows_set spots t s s2 e same n p h = elim (equal_or n t) [
   | inl here ↦
@@ -26,41 +27,42 @@ grows_set spots t s s2 e same n p h = elim (equal_or n t) [
         s2,
         ap (slice_get (slice_set spots t s2)) here ∙
             get_set_same spots t s2 (slice_get_within spots t s e),
-        same ∙ ap (λ (u : Spot). u.place) (sym was) ∙
+        same ∙ ap (λ (u : ModelNode). u.place) (sym was) ∙
             h.2,
       )
   | inr ne ↦ (h.0, get_set_other spots t n s2 ne ∙ h.1, h.2)
 ]
 
-pub grows_push : (spots : List Spot) (last : Spot) → Grows spots (spots ++ last ∷ [])
+pub grows_push : (spots : List ModelNode) (last : ModelNode) → Grows spots (spots ++ last ∷ [])
 grows_push spots last n p h =
     (h.0, get_front spots (last ∷ []) n (slice_get_within spots n h.0 h.1) ∙ h.1, h.2)
 
 -- ---- one spot told otherwise
 
-below_same : (s u : Spot) (x : Step) → s.members ≡ u.members → s.elements ≡ u.elements → below s x ≡ below u x
+below_same : (s u : ModelNode) (x : Step) → s.members ≡ u.members → s.elements ≡ u.elements
+    → below s x ≡ below u x
 below_same s u (key n) m e = ap (λ ms. below (record u { members = ms }) (key n)) m
 below_same s u (index i) m e = ap (λ (es : List ℕ). slice_get es i) e
 
-module _ (spots : List Spot) (t : ℕ) (s s2 : Spot) (tree : IsTree spots) (e : slice_get spots t ≡ Some s)
+module _ (spots : List ModelNode) (t : ℕ) (s s2 : ModelNode) (tree : IsTree spots) (e : slice_get spots t ≡ Some s)
     (place : s2.place ≡ s.place) (members : s2.members ≡ s.members)
     (elements : s2.elements ≡ s.elements) where
-  set_was : (i : ℕ) (u : Spot) → slice_get (slice_set spots t s2) i ≡ Some u → (w : Spot)
+  set_was : (i : ℕ) (u : ModelNode) → slice_get (slice_set spots t s2) i ≡ Some u → (w : ModelNode)
       × (slice_get spots i ≡ Some w) × (u.place ≡ w.place) × ((x : Step) → below u x ≡ below w x)
   set_was i u g = go (in_set spots t s2 i u (slice_get_within spots t s e) g)
     where
-      go : OneSet spots t s2 i u → (w : Spot) × (slice_get spots i ≡ Some w) × (u.place ≡ w.place)
+      go : OneSet spots t s2 i u → (w : ModelNode) × (slice_get spots i ≡ Some w) × (u.place ≡ w.place)
           × ((x : Step) → below u x ≡ below w x)
       go (changed here is) = (
         s,
         ap (slice_get spots) here ∙ e,
-        ap (λ (v : Spot). v.place) is ∙
+        ap (λ (v : ModelNode). v.place) is ∙
             place,
-        λ x. ap (λ (v : Spot). below v x) is ∙ below_same s2 s x members elements,
+        λ x. ap (λ (v : ModelNode). below v x) is ∙ below_same s2 s x members elements,
       )
       go (other ne g2) = (u, g2, refl, λ x. refl)
 
-  set_still : (i : ℕ) (w : Spot) → slice_get spots i ≡ Some w → (u : Spot)
+  set_still : (i : ℕ) (w : ModelNode) → slice_get spots i ≡ Some w → (u : ModelNode)
       × (slice_get (slice_set spots t s2) i ≡ Some u) × (u.place ≡ w.place)
       × ((x : Step) → below u x ≡ below w x)
   set_still i w g = elim (equal_or i t) [
@@ -69,8 +71,8 @@ module _ (spots : List Spot) (t : ℕ) (s s2 : Spot) (tree : IsTree spots) (e : 
           s2,
           ap (slice_get (slice_set spots t s2)) here ∙
               get_set_same spots t s2 (slice_get_within spots t s e),
-          place ∙ ap (λ (v : Spot). v.place) (sym was),
-          λ x. below_same s2 s x members elements ∙ ap (λ (v : Spot). below v x) (sym was),
+          place ∙ ap (λ (v : ModelNode). v.place) (sym was),
+          λ x. below_same s2 s x members elements ∙ ap (λ (v : ModelNode). below v x) (sym was),
         )
     | inr ne ↦ (w, get_set_other spots t i s2 ne ∙ g, refl, λ x. refl)
   ]
@@ -109,21 +111,21 @@ module _ (spots : List Spot) (t : ℕ) (s s2 : Spot) (tree : IsTree spots) (e : 
 -- ---- one spot more, below another
 
 -- where a spot of the longer list comes from
-data Whence (spots : List Spot) (t : ℕ) (s2 last : Spot) (i : ℕ) (u : Spot) : Type 0 where
+data Whence (spots : List ModelNode) (t : ℕ) (s2 last : ModelNode) (i : ℕ) (u : ModelNode) : Type 0 where
   parent : i ≡ t → u ≡ s2 → Whence spots t s2 last i u
   kept : (i ≡ t → ⊥) → slice_get spots i ≡ Some u → Whence spots t s2 last i u
   added : i ≡ length spots → u ≡ last → Whence spots t s2 last i u
 
 -- a spot with a step more
-pub record Gains (s s2 : Spot) (x : Step) (number : ℕ) : Type 0 where
+pub record Gains (s s2 : ModelNode) (x : Step) (number : ℕ) : Type 0 where
   pub place : s2.place ≡ s.place
   pub gained : below s2 x ≡ Some number
   pub others : (y : Step) → (y ≡ x → ⊥) → below s2 y ≡ below s y
   pub absent : below s x ≡ None
 
-module _ (spots : List Spot) (t : ℕ) (s s2 last : Spot) (x : Step) (tree : IsTree spots)
+module _ (spots : List ModelNode) (t : ℕ) (s s2 last : ModelNode) (x : Step) (tree : IsTree spots)
     (e : slice_get spots t ≡ Some s) (gains : Gains s s2 x (length spots))
-    (fresh : (i : ℕ) (u : Spot) → slice_get spots i ≡ Some u → u.place ≡ at s.place x → ⊥)
+    (fresh : (i : ℕ) (u : ModelNode) → slice_get spots i ≡ Some u → u.place ≡ at s.place x → ⊥)
     (last_place : last.place ≡ at s.place x) (bare : (y : Step) → below last y ≡ None) where
   size : length (slice_set spots t s2) ≡ length spots
   size = length-set spots t s2
@@ -136,7 +138,7 @@ module _ (spots : List Spot) (t : ℕ) (s s2 last : Spot) (x : Step) (tree : IsT
   last_is = ap (slice_get (slice_set spots t s2 ++ last ∷ [])) (sym size) ∙
       get_last (slice_set spots t s2) last
 
-  whence : (i : ℕ) (u : Spot) → slice_get (slice_set spots t s2 ++ last ∷ []) i ≡ Some u
+  whence : (i : ℕ) (u : ModelNode) → slice_get (slice_set spots t s2 ++ last ∷ []) i ≡ Some u
       → Whence spots t s2 last i u
   whence i u g = go (in_push (slice_set spots t s2) last i u g)
     where
@@ -149,14 +151,14 @@ module _ (spots : List Spot) (t : ℕ) (s s2 last : Spot) (x : Step) (tree : IsT
       go (newest here is) = added (here ∙ length-set spots t s2) is
 
   -- an earlier spot of the same place, or the new one
-  was : (i : ℕ) (u : Spot) → Whence spots t s2 last i u
-      → ((w : Spot) × (slice_get spots i ≡ Some w) × (u.place ≡ w.place)) ⊎ ((i ≡ length spots) × (u ≡ last))
+  was : (i : ℕ) (u : ModelNode) → Whence spots t s2 last i u
+      → ((w : ModelNode) × (slice_get spots i ≡ Some w) × (u.place ≡ w.place)) ⊎ ((i ≡ length spots) × (u ≡ last))
   was i u (parent here is) =
-      inl (s, ap (slice_get spots) here ∙ e, ap (λ (v : Spot). v.place) is ∙ gains.place)
+      inl (s, ap (slice_get spots) here ∙ e, ap (λ (v : ModelNode). v.place) is ∙ gains.place)
   was i u (kept ne g) = inl (u, g, refl)
   was i u (added here is) = inr (here, is)
 
-  still : (i : ℕ) (w : Spot) → slice_get spots i ≡ Some w → (u : Spot)
+  still : (i : ℕ) (w : ModelNode) → slice_get spots i ≡ Some w → (u : ModelNode)
       × (slice_get (slice_set spots t s2 ++ last ∷ []) i ≡ Some u) × (u.place ≡ w.place)
       × ((y : Step) (j : ℕ) → below w y ≡ Some j → below u y ≡ Some j)
   still i w g =
@@ -169,9 +171,9 @@ module _ (spots : List Spot) (t : ℕ) (s s2 last : Spot) (x : Step) (tree : IsT
               s2,
               front ∙ ap (slice_get (slice_set spots t s2)) here ∙
                   get_set_same spots t s2 (slice_get_within spots t s e),
-              gains.place ∙ ap (λ (v : Spot). v.place) (sym same),
+              gains.place ∙ ap (λ (v : ModelNode). v.place) (sym same),
               λ y j h.
-                  let old_below : below s y ≡ Some j = ap (λ (v : Spot). below v y) (sym same) ∙ h in
+                  let old_below : below s y ≡ Some j = ap (λ (v : ModelNode). below v y) (sym same) ∙ h in
                   gains.others y (λ step. let clash : Some j ≡ None = sym old_below ∙ ap (below s) step ∙
                   gains.absent in cc) ∙ old_below,
             )
@@ -190,22 +192,22 @@ module _ (spots : List Spot) (t : ℕ) (s s2 last : Spot) (x : Step) (tree : IsT
         listed = u.3 b.step j b.listed;
       }
 
-  one : (i j : ℕ) (u v : Spot) → u.place ≡ v.place
-      → ((w : Spot) × (slice_get spots i ≡ Some w) × (u.place ≡ w.place)) ⊎ ((i ≡ length spots) × (u ≡ last))
-      → ((w : Spot) × (slice_get spots j ≡ Some w) × (v.place ≡ w.place)) ⊎ ((j ≡ length spots) × (v ≡ last))
+  one : (i j : ℕ) (u v : ModelNode) → u.place ≡ v.place
+      → ((w : ModelNode) × (slice_get spots i ≡ Some w) × (u.place ≡ w.place)) ⊎ ((i ≡ length spots) × (u ≡ last))
+      → ((w : ModelNode) × (slice_get spots j ≡ Some w) × (v.place ≡ w.place)) ⊎ ((j ≡ length spots) × (v ≡ last))
       → i ≡ j
   one i j u v same (inl a) (inl b) = tree.unique i j a.0 b.0 a.1 b.1 (sym a.2 ∙ same ∙ b.2)
   one i j u v same (inl a) (inr b) =
-      absurd (fresh i a.0 a.1 (sym a.2 ∙ same ∙ ap (λ (w : Spot). w.place) b.1 ∙ last_place))
+      absurd (fresh i a.0 a.1 (sym a.2 ∙ same ∙ ap (λ (w : ModelNode). w.place) b.1 ∙ last_place))
   one i j u v same (inr a) (inl b) =
-      absurd (fresh j b.0 b.1 (sym b.2 ∙ sym same ∙ ap (λ (w : Spot). w.place) a.1 ∙ last_place))
+      absurd (fresh j b.0 b.1 (sym b.2 ∙ sym same ∙ ap (λ (w : ModelNode). w.place) a.1 ∙ last_place))
   one i j u v same (inr a) (inr b) = a.0 ∙ sym b.0
 
-  descend : (i j : ℕ) (u : Spot) (y : Step) → below u y ≡ Some j → Whence spots t s2 last i u
+  descend : (i j : ℕ) (u : ModelNode) (y : Step) → below u y ≡ Some j → Whence spots t s2 last i u
       → StandsAt (slice_set spots t s2 ++ last ∷ []) j (at u.place y)
   descend i j u y h (parent here is) =
-      let there : below s2 y ≡ Some j = ap (λ (v : Spot). below v y) (sym is) ∙ h in
-      let up : u.place ≡ s.place = ap (λ (v : Spot). v.place) is ∙ gains.place in
+      let there : below s2 y ≡ Some j = ap (λ (v : ModelNode). below v y) (sym is) ∙ h in
+      let up : u.place ≡ s.place = ap (λ (v : ModelNode). v.place) is ∙ gains.place in
       let r = go (same_step y x) refl there in
       (r.0, r.1, r.2 ∙ ap (λ (q : Place). at q y) (sym up))
     where
@@ -226,12 +228,12 @@ module _ (spots : List Spot) (t : ℕ) (s s2 last : Spot) (x : Step) (tree : IsT
           grown j (at s.place y) (tree.down t j s y e (sym (gains.others y ne) ∙ there))
   descend i j u y h (kept ne g) = grown j (at u.place y) (tree.down i j u y g h)
   descend i j u y h (added here is) = absurd (let clash : None ≡ Some j = sym (bare y) ∙
-      ap (λ (v : Spot). below v y) (sym is) ∙ h in cc)
+      ap (λ (v : ModelNode). below v y) (sym is) ∙ h in cc)
 
-  ascend : (j : ℕ) (v : Spot) → Whence spots t s2 last j v → (v.place ≡ [])
+  ascend : (j : ℕ) (v : ModelNode) → Whence spots t s2 last j v → (v.place ≡ [])
       ⊎ IsBelow (slice_set spots t s2 ++ last ∷ []) j v.place
   ascend j v (parent here is) =
-      let place : v.place ≡ s.place = ap (λ (w : Spot). w.place) is ∙ gains.place in
+      let place : v.place ≡ s.place = ap (λ (w : ModelNode). w.place) is ∙ gains.place in
       elim (tree.up t s e) [
         | inl r ↦ inl (place ∙ r)
         | inr m ↦ inr (subst (λ (n : ℕ). IsBelow (slice_set spots t s2 ++ last ∷ []) n v.place) (sym here)
@@ -247,7 +249,7 @@ module _ (spots : List Spot) (t : ℕ) (s s2 last : Spot) (x : Step) (tree : IsT
         above = t;
         step = x;
         stands = stands;
-        place_is = ap (λ (w : Spot). w.place) is ∙ last_place ∙ ap (λ (q : Place). at q x) (sym gains.place);
+        place_is = ap (λ (w : ModelNode). w.place) is ∙ last_place ∙ ap (λ (q : Place). at q x) (sym gains.place);
         listed = gains.gained ∙ ap (λ (n : ℕ). Some n) (sym here);
       })
 
@@ -260,8 +262,8 @@ module _ (spots : List Spot) (t : ℕ) (s s2 last : Spot) (x : Step) (tree : IsT
   }
 
   -- a spot of the longer list is an earlier one, the changed one or the new one
-  pub each_gain : (P : Spot → Type 0) → P s2 → P last
-      → ((i : ℕ) (u : Spot) → (i ≡ t → ⊥) → slice_get spots i ≡ Some u → P u) → (i : ℕ) (u : Spot)
+  pub each_gain : (P : ModelNode → Type 0) → P s2 → P last
+      → ((i : ℕ) (u : ModelNode) → (i ≡ t → ⊥) → slice_get spots i ≡ Some u → P u) → (i : ℕ) (u : ModelNode)
       → slice_get (slice_set spots t s2 ++ last ∷ []) i ≡ Some u → P u
   each_gain P a b c i u g = go (whence i u g)
     where

@@ -6,9 +6,9 @@ use Rattle.std.specs.List.{AllByRecursion, filter_map, cons_option, list_any}
 use Rattle.edit_syntax.specs.Characters.{comma, right_bracket, right_brace}
 use Rattle.edit_syntax.specs.Strings.{Key, line_end}
 use Rattle.edit_syntax.specs.Grammar.{gap, Value, basic, literal, multi_basic, multi_literal, boolean, integer, float, datetime, array, inline, Elements, no_elements, last_element, element, elements, Members, no_members, last_member, member, members, Statement, pair, header, element_header, empty_line, full_line, comment, Lines, one_line, more_lines, lines, Text}
-use Rattle.edit_tree.specs.Assertions.{Place, key, index, at, names, named, Kind, dotted, leaf, super, header_kind, array_kind, element_kind, Assertion, of_key, of_value, of_elements, of_members, fronts, resolved, of_statement, prefix_after, of_lines, assertions, together, same_place, NoClash}
+use Rattle.edit_tree.specs.Assertions.{Place, key, index, at, names, named, Kind, dotted, leaf, super, header_kind, array_kind, element_kind, Assertion, of_key, of_value, of_elements, of_members, fronts, resolved, of_statement, prefix_after, of_lines, assertions, are_compatible, same_place, AreCompatible}
 use Rattle.edit_tree.specs.Tree.{is_value_at}
-use Rattle.edit_tree.specs.Written.{Valued, valued, inside, in_elements, in_members, in_statement, in_lines, values}
+use Rattle.edit_tree.specs.Written.{PlacedValue, placed_value, inside, in_elements, in_members, in_statement, in_lines, values}
 use Rattle.edit_syntax.proofs.Members.{Among, among_all, among_map, map_among, filter_among}
 use Rattle.edit_tree.proofs.ThinnedForms.{is_leaf}
 use Rattle.edit_syntax.proofs.Cases.{by_test}
@@ -20,17 +20,17 @@ leaf_place a = if is_leaf a.kind then Some a.place else None
 abbrev pub leaves : List Assertion → List Place
 leaves made = filter_map leaf_place made
 
-abbrev pub places : List Valued → List Place
+abbrev pub places : List PlacedValue → List Place
 places ws = map (λ w. w.place) ws
 
 leaves_append : (xs ys : List Assertion) → leaves (xs ++ ys) ≡ leaves xs ++ leaves ys
 leaves_append xs ys = filter_map-append leaf_place xs ys
 
-places_append : (xs ys : List Valued) → places (xs ++ ys) ≡ places xs ++ places ys
+places_append : (xs ys : List PlacedValue) → places (xs ++ ys) ≡ places xs ++ places ys
 places_append [] ys = refl
 places_append (x ∷ xs) ys = ap (λ (l : List Place). x.place ∷ l) (places_append xs ys)
 
-both : (xs ys : List Assertion) (us vs : List Valued) → leaves xs ≡ places us → leaves ys ≡ places vs
+both : (xs ys : List Assertion) (us vs : List PlacedValue) → leaves xs ≡ places us → leaves ys ≡ places vs
     → leaves (xs ++ ys) ≡ places (us ++ vs)
 both xs ys us vs e h = leaves_append xs ys ∙ ap₂ (λ (a : List Place) (b : List Place). a ++ b) e h ∙
     sym (places_append us vs)
@@ -44,10 +44,10 @@ key_leaves w by p n (m ∷ ns) v = key_leaves w by (at p (key n)) m ns v ∙
 pair_leaves : (w : Bool) (p : Place) (k : Key) (v : Value) (after : List ℕ)
     → leaves (of_value (named p (names k)) v) ≡ places (inside (named p (names k)) v after)
     → leaves (of_key w (named p (names k)) p (names k) v ++ of_value (named p (names k)) v)
-    ≡ places (valued (named p (names k)) v after ∷ inside (named p (names k)) v after)
+    ≡ places (placed_value (named p (names k)) v after ∷ inside (named p (names k)) v after)
 pair_leaves w p k v after e =
     both (of_key w (named p (names k)) p (names k) v) (of_value (named p (names k)) v)
-    (valued (named p (names k)) v after ∷ []) (inside (named p (names k)) v after)
+    (placed_value (named p (names k)) v after ∷ []) (inside (named p (names k)) v after)
     (key_leaves w (named p (names k)) p _ _ v) e
 
 mutual
@@ -84,7 +84,7 @@ mutual
       let q = named p (names k) in
       let after = gap c (comma ∷ gap d (members ms rest)) in
       both (of_key true q p (names k) v ++ of_value q v) (of_members p ms)
-      (valued q v after ∷ inside q v after) (in_members p ms rest)
+      (placed_value q v after ∷ inside q v after) (in_members p ms rest)
       (pair_leaves true p k v after (value_leaves q v after)) (members_leaves p ms rest)
 
 front_leaves : (earlier : List Assertion) (by p : Place) (ns : List (List ℕ))
@@ -130,7 +130,7 @@ Once [] = Unit {0}
 Once (p ∷ ps) = AllByRecursion (λ q. p ≡ q → ⊥) ps × Once ps
 
 no_other : (p : Place) (v : Value) (made : List Assertion)
-    → AllByRecursion (λ b. p ≡ b.place → together (leaf v) b.kind ≡ true) made
+    → AllByRecursion (λ b. p ≡ b.place → are_compatible (leaf v) b.kind ≡ true) made
     → AllByRecursion (λ q. p ≡ q → ⊥) (leaves made)
 no_other p v [] h = tt
 no_other p v (b ∷ made) h = go b.kind (no_other p v made h.1)
@@ -145,11 +145,11 @@ no_other p v (b ∷ made) h = go b.kind (no_other p v made h.1)
     go array_kind more = more
     go element_kind more = more
 
-once : (made : List Assertion) → NoClash made → Once (leaves made)
+once : (made : List Assertion) → AreCompatible made → Once (leaves made)
 once [] h = tt
 once (a ∷ made) h = go a.kind h.0 (once made h.1)
   where
-    go : (k : Kind) → AllByRecursion (λ b. a.place ≡ b.place → together k b.kind ≡ true) made
+    go : (k : Kind) → AllByRecursion (λ b. a.place ≡ b.place → are_compatible k b.kind ≡ true) made
         → Once (leaves made) → Once (cons_option (if is_leaf k then Some a.place else None) (leaves made))
     go (leaf v) g more = (no_other a.place v made g, more)
     go (dotted w) g more = more
@@ -158,19 +158,21 @@ once (a ∷ made) h = go a.kind h.0 (once made h.1)
     go array_kind g more = more
     go element_kind g more = more
 
-same_one : (ws : List Valued) (w u : Valued) → Once (places ws) → Among w ws → Among u ws → w.place ≡ u.place
+same_one : (ws : List PlacedValue) (w u : PlacedValue) → Once (places ws) → Among w ws → Among u ws
+    → w.place ≡ u.place
     → w ≡ u
 same_one [] w u o m n e = absurd m
 same_one (x ∷ ws) w u o (inl p) (inl q) e = p ∙ sym q
 same_one (x ∷ ws) w u o (inl p) (inr n) e =
     absurd (among_all (λ q. x.place ≡ q → ⊥) u.place (places ws) o.0
-    (among_map (λ (z : Valued). z.place) u ws n) (ap (λ (z : Valued). z.place) (sym p) ∙ e))
+    (among_map (λ (z : PlacedValue). z.place) u ws n) (ap (λ (z : PlacedValue). z.place) (sym p) ∙ e))
 same_one (x ∷ ws) w u o (inr m) (inl q) e =
     absurd (among_all (λ r. x.place ≡ r → ⊥) w.place (places ws) o.0
-    (among_map (λ (z : Valued). z.place) w ws m) (ap (λ (z : Valued). z.place) (sym q) ∙ sym e))
+    (among_map (λ (z : PlacedValue). z.place) w ws m) (ap (λ (z : PlacedValue). z.place) (sym q) ∙ sym e))
 same_one (x ∷ ws) w u o (inr m) (inr n) e = same_one ws w u o.1 m n e
 
-pub values_unique : (form : Text) (w u : Valued) → NoClash (assertions form) → Among w (values form)
+pub values_unique : (form : Text) (w u : PlacedValue) → AreCompatible (assertions form)
+    → Among w (values form)
     → Among u (values form) → w.place ≡ u.place → w ≡ u
 values_unique form w u clash m n e = same_one (values form) w u
     (subst Once (lines_leaves [] [] form.lines) (once (assertions form) clash)) m n e
@@ -195,10 +197,10 @@ leaf_listed p (a ∷ made) e =
         later None m = m
         later (Some q) m = inr m
 
-pub value_listed : (form : Text) (p : Place) → NoClash (assertions form) → is_value_at form p ≡ true
-    → (w : Valued) × Among w (values form) × (w.place ≡ p)
+pub value_listed : (form : Text) (p : Place) → AreCompatible (assertions form) → is_value_at form p ≡ true
+    → (w : PlacedValue) × Among w (values form) × (w.place ≡ p)
 value_listed form p clash e =
-    let r = map_among (λ (w : Valued). w.place) p (values form)
+    let r = map_among (λ (w : PlacedValue). w.place) p (values form)
     (subst (λ (l : List Place). Among p l) (lines_leaves [] [] form.lines)
     (leaf_listed p (assertions form) e)) in
     (r.0, r.1, sym r.2)
@@ -224,9 +226,9 @@ told_leaf p a (b ∷ made) (inr m) e = later (same_place b.place p && is_leaf b.
     later false h = h
 
 -- and each of the values is told
-pub listed_value : (form : Text) (w : Valued) → Among w (values form) → is_value_at form w.place ≡ true
+pub listed_value : (form : Text) (w : PlacedValue) → Among w (values form) → is_value_at form w.place ≡ true
 listed_value form w m =
     let listed = subst (λ (l : List Place). Among w.place l) (sym (lines_leaves [] [] form.lines))
-    (among_map (λ (z : Valued). z.place) w (values form) m) in
+    (among_map (λ (z : PlacedValue). z.place) w (values form) m) in
     let a = filter_among leaf_place w.place (assertions form) listed in
     told_leaf w.place a.0 (assertions form) a.1 a.2

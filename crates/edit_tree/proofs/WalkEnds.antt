@@ -11,9 +11,9 @@ use Rattle.edit_syntax.specs.declared.read.marks.Mark.{Mark}
 use Rattle.edit_syntax.specs.declared.read.marks.MarkKind.{MarkKind}
 use Rattle.edit_syntax.specs.declared.read.marks.MarkKind.TheVariants as kinds
 use Rattle.edit_syntax.specs.Reading.{◌>>=◌}
-use Rattle.edit_tree.specs.Nodes.{Shape, shape_said, Spot, bytes_of, Holds}
-use Rattle.edit_tree.specs.Walk.{State, said, last_of, without_last, awaiting, entered, closed, span_of_mark, worded, act, step, start, walked}
-use Rattle.edit_tree.specs.WalkState.{Walks, Goes, SaysAt, is_said, IsToken, KeepsState}
+use Rattle.edit_tree.specs.Nodes.{Shape, scalar_shape, ModelNode, bytes_of, RepresentsNodes}
+use Rattle.edit_tree.specs.Walk.{State, said, last_of, without_last, with_key_part, value_added, value_closed, span_of_mark, worded, act, step, start, walked}
+use Rattle.edit_tree.specs.WalkState.{Walks, HasNextState, IsDecodedAt, has_token_value, IsToken, KeepsState}
 use Rattle.edit_tree.proofs.Below.{all_at}
 use Rattle.edit_tree.proofs.Ends.{take_length}
 use Rattle.edit_syntax.proofs.ListElements.{drop_from}
@@ -23,12 +23,12 @@ use Rattle.edit_tree.proofs.WalkSteps.{turns}
 
 -- ---- spans
 
-abbrev pub spanned : Spot → Option Span → Spot
+abbrev pub spanned : ModelNode → Option Span → ModelNode
 spanned s span = record s { span = span }
 
-pub holds_spanned : {text : List ℕ} (nodes : List Node) (spots : List Spot) (t : ℕ) (old : Node) (s : Spot)
-    (span : Option Span) → Holds text nodes spots → slice_get nodes t ≡ Some old → slice_get spots t ≡ Some s
-    → Holds text (slice_set nodes t (record old { span = span })) (slice_set spots t (spanned s span))
+pub holds_spanned : {text : List ℕ} (nodes : List Node) (spots : List ModelNode) (t : ℕ) (old : Node) (s : ModelNode)
+    (span : Option Span) → RepresentsNodes text nodes spots → slice_get nodes t ≡ Some old → slice_get spots t ≡ Some s
+    → RepresentsNodes text (slice_set nodes t (record old { span = span })) (slice_set spots t (spanned s span))
 holds_spanned nodes spots t old s span holds a b =
     let k = holds.each t old s a b in
     holds_set nodes spots t (record old { span = span }) (spanned s span) holds
@@ -43,9 +43,9 @@ holds_spanned nodes spots t old s span holds a b =
       span = refl;
     })
 
-closed_is : (st : State) (to number : ℕ) (s : Spot) → last_of st.tables ≡ Some number
+closed_is : (st : State) (to number : ℕ) (s : ModelNode) → last_of st.tables ≡ Some number
     → slice_get st.spots number ≡ Some s
-    → closed st to ≡ (s.span >>= λ span. let next : State = record {
+    → value_closed st to ≡ (s.span >>= λ span. let next : State = record {
       spots = slice_set st.spots number (spanned s (Some (record { from = span.from; to = to })));
       tables = without_last st.tables;
       fronts = st.fronts;
@@ -59,7 +59,7 @@ closed_is st to number s t e =
       fronts = st.fronts;
       name = st.name;
     } in Some next) t
-    ∙ ap (λ (o : Option Spot). o >>= λ x. x.span >>= λ span.
+    ∙ ap (λ (o : Option ModelNode). o >>= λ x. x.span >>= λ span.
     let next : State = record {
       spots = slice_set st.spots number (spanned x (Some (record { from = span.from; to = to })));
       tables = without_last st.tables;
@@ -74,7 +74,7 @@ pub goes_closed : {text : List ℕ} (old walk : Walk) (st : State) (to number : 
     → walk.nodes.items ≡ slice_set old.nodes.items number
     (record node { span = Some (record { from = span.from; to = to }) })
     → walk.tables.items ≡ without_last old.tables.items → walk.fronts.items ≡ old.fronts.items
-    → walk.name ≡ old.name → Goes text walk (closed st to) true
+    → walk.name ≡ old.name → HasNextState text walk (value_closed st to) true
 goes_closed {text} old walk st to number node span w top lt is has ns ts fs n =
     let there = slice_get_read old.nodes.items (length old.nodes.items) number node refl lt is in
     let s = spot_of_node old.nodes.items st.spots number node w.holds.len there in
@@ -97,7 +97,7 @@ goes_closed {text} old walk st to number node span w top lt is has ns ts fs n =
             name = st.name;
           } in Some next2) has2,
       record {
-        holds = subst (λ (xs : List Node). Holds text xs (slice_set st.spots number (spanned s.0 span2)))
+        holds = subst (λ (xs : List Node). RepresentsNodes text xs (slice_set st.spots number (spanned s.0 span2)))
             (sym ns) (holds_spanned old.nodes.items st.spots number node s.0 span2 w.holds there s.1);
         tables = ts ∙ ap without_last w.tables;
         fronts = ap (map (bytes_of text)) fs ∙ w.fronts;
@@ -107,7 +107,7 @@ goes_closed {text} old walk st to number node span w top lt is has ns ts fs n =
 
 pub closed_bare : {text : List ℕ} (old : Walk) (st : State) (to number : ℕ) (node : Node) → Walks text old st
     → last_of old.tables.items ≡ Some number → number < length old.nodes.items
-    → node ≡ get_or old.nodes.items number node → node.span ≡ None → closed st to ≡ None
+    → node ≡ get_or old.nodes.items number node → node.span ≡ None → value_closed st to ≡ None
 closed_bare old st to number node w top lt is has =
     let there = slice_get_read old.nodes.items (length old.nodes.items) number node refl lt is in
     let s = spot_of_node old.nodes.items st.spots number node w.holds.len there in
@@ -135,38 +135,39 @@ step_is bytes m st k e = ap (λ (j : MarkKind). act j bytes m st) e
 
 -- a name waits
 named_by : (walk old : Walk) (bytes : List ℕ) (m : Mark) (st : State) (s : Words) (k : MarkKind) → m.kind ≡ k
-    → is_said k ≡ true → act k bytes m st ≡ (said bytes m >>= λ n. Some (awaiting st n)) → Walks bytes old st
+    → has_token_value k ≡ true → act k bytes m st ≡ (said bytes m >>= λ n. Some (with_key_part st n)) → Walks bytes old st
     → IsToken bytes m
-    → ((n : List ℕ) → SaysAt bytes m n → bytes_of bytes s ≡ n)
-    → ((x : State) → Walks bytes old x → Walks bytes walk (awaiting x (bytes_of bytes s)))
-    → Goes bytes walk (step bytes m st) true
+    → ((n : List ℕ) → IsDecodedAt bytes m n → bytes_of bytes s ≡ n)
+    → ((x : State) → Walks bytes old x → Walks bytes walk (with_key_part x (bytes_of bytes s)))
+    → HasNextState bytes walk (step bytes m st) true
 named_by walk old bytes m st s k kind says does w token told waits =
-    let t = token (ap is_said kind ∙ says) in
-    let here : step bytes m st ≡ Some (awaiting st (bytes_of bytes s)) =
-    step_is bytes m st k kind ∙ does ∙ ap (λ (o : Option (List ℕ)). o >>= λ n. Some (awaiting st n)) t.1 ∙
-    ap (λ (n : List ℕ). Some (awaiting st n)) (sym (told t.0 t.2)) in
-    (awaiting st (bytes_of bytes s), here, waits st w)
+    let t = token (ap has_token_value kind ∙ says) in
+    let here : step bytes m st ≡ Some (with_key_part st (bytes_of bytes s)) =
+    step_is bytes m st k kind ∙ does ∙ ap (λ (o : Option (List ℕ)). o >>= λ n. Some (with_key_part st n)) t.1 ∙
+    ap (λ (n : List ℕ). Some (with_key_part st n)) (sym (told t.0 t.2)) in
+    (with_key_part st (bytes_of bytes s), here, waits st w)
 
 pub goes_named : (walk old : Walk) (bytes : List ℕ) (m : Mark) (st : State) (s : Words)
     → (m.kind ≡ kinds.BarePart) ⊎ ((m.kind ≡ kinds.BasicPart) ⊎ (m.kind ≡ kinds.LiteralPart))
     → Walks bytes old st → IsToken bytes m
-    → ((n : List ℕ) → SaysAt bytes m n → bytes_of bytes s ≡ n)
-    → ((x : State) → Walks bytes old x → Walks bytes walk (awaiting x (bytes_of bytes s)))
-    → Goes bytes walk (step bytes m st) true
+    → ((n : List ℕ) → IsDecodedAt bytes m n → bytes_of bytes s ≡ n)
+    → ((x : State) → Walks bytes old x → Walks bytes walk (with_key_part x (bytes_of bytes s)))
+    → HasNextState bytes walk (step bytes m st) true
 goes_named walk old bytes m st s (inl e) = named_by walk old bytes m st s kinds.BarePart e refl refl
 goes_named walk old bytes m st s (inr (inl e)) = named_by walk old bytes m st s kinds.BasicPart e refl refl
 goes_named walk old bytes m st s (inr (inr e)) = named_by walk old bytes m st s kinds.LiteralPart e refl refl
 
 -- a string, a number, a date or a time
-word_by : (bytes : List ℕ) (m : Mark) (st : State) (s : Shape) (k : MarkKind) → m.kind ≡ k → is_said k ≡ true
+word_by : (bytes : List ℕ) (m : Mark) (st : State) (s : Shape) (k : MarkKind) → m.kind ≡ k
+    → has_token_value k ≡ true
     → act k bytes m st ≡ worded bytes m st → IsToken bytes m
-    → ((n : List ℕ) → SaysAt bytes m n → s ≡ shape_said m.kind n)
-    → step bytes m st ≡ entered st s (Some (span_of_mark m))
+    → ((n : List ℕ) → IsDecodedAt bytes m n → s ≡ scalar_shape m.kind n)
+    → step bytes m st ≡ value_added st s (Some (span_of_mark m))
 word_by bytes m st s k kind says does token told =
-    let t = token (ap is_said kind ∙ says) in
+    let t = token (ap has_token_value kind ∙ says) in
     step_is bytes m st k kind ∙ does ∙
-    ap (λ (o : Option (List ℕ)). o >>= λ n. entered st (shape_said m.kind n) (Some (span_of_mark m))) t.1 ∙
-    ap (λ (x : Shape). entered st x (Some (span_of_mark m))) (sym (told t.0 t.2))
+    ap (λ (o : Option (List ℕ)). o >>= λ n. value_added st (scalar_shape m.kind n) (Some (span_of_mark m))) t.1 ∙
+    ap (λ (x : Shape). value_added st x (Some (span_of_mark m))) (sym (told t.0 t.2))
 
 -- a mark of a string, a number, a date or a time
 abbrev pub IsWorded : MarkKind → Type 0
@@ -176,8 +177,8 @@ IsWorded k =
     ⊎ ((k ≡ kinds.Integer) ⊎ ((k ≡ kinds.Float) ⊎ (k ≡ kinds.DateTime))))))
 
 pub word_step : (bytes : List ℕ) (m : Mark) (st : State) (s : Shape) → IsWorded m.kind → IsToken bytes m
-    → ((n : List ℕ) → SaysAt bytes m n → s ≡ shape_said m.kind n)
-    → step bytes m st ≡ entered st s (Some (span_of_mark m))
+    → ((n : List ℕ) → IsDecodedAt bytes m n → s ≡ scalar_shape m.kind n)
+    → step bytes m st ≡ value_added st s (Some (span_of_mark m))
 word_step bytes m st s (inl e) = word_by bytes m st s kinds.BasicString e refl refl
 word_step bytes m st s (inr (inl e)) = word_by bytes m st s kinds.LiteralString e refl refl
 word_step bytes m st s (inr (inr (inl e))) = word_by bytes m st s kinds.MultiBasicString e refl refl
@@ -188,7 +189,7 @@ word_step bytes m st s (inr (inr (inr (inr (inr (inr e)))))) = word_by bytes m s
 
 -- the end of an array or of an inline table
 pub close_step : (bytes : List ℕ) (m : Mark) (st : State) → (m.kind ≡ kinds.CloseArray)
-    ⊎ (m.kind ≡ kinds.CloseTable) → step bytes m st ≡ closed st m.to
+    ⊎ (m.kind ≡ kinds.CloseTable) → step bytes m st ≡ value_closed st m.to
 close_step bytes m st (inl e) = step_is bytes m st kinds.CloseArray e
 close_step bytes m st (inr e) = step_is bytes m st kinds.CloseTable e
 
@@ -205,7 +206,7 @@ pub along_start : (walk : Walk) (bytes : List ℕ) (all : List Mark) → Walks b
 along_start walk bytes all w = record { state = start; walks = w; same = refl }
 
 pub along_next : (walk next : Walk) (bytes : List ℕ) (all left : List Mark) (m : Mark)
-    → (a : Along walk bytes all (m ∷ left)) → Goes bytes next (step bytes m a.state) true
+    → (a : Along walk bytes all (m ∷ left)) → HasNextState bytes next (step bytes m a.state) true
     → Along next bytes all left
 along_next walk next bytes all left m a (st, e, w) =
     record { state = st; walks = w; same = a.same ∙ walked_first bytes m left a.state st e }
@@ -222,7 +223,7 @@ along_end walk bytes all a = subst (KeepsState bytes walk.nodes.items)
 -- a turn of the loop over all marks
 abbrev pub Turns : Walk → Walk → List ℕ → Mark → Bool → Type 0
 Turns walk new bytes m b = (st : State) → Walks bytes walk st → IsToken bytes m
-    → Goes bytes new (step bytes m st) b
+    → HasNextState bytes new (step bytes m st) b
 
 left_at : (walk : Walk) (bytes : List ℕ) (marks : List Mark) (i : ℕ) (d : Mark) → i < length marks
     → Along walk bytes marks (drop i marks) → Along walk bytes marks (get_or marks i d ∷ drop (i + 1) marks)
@@ -241,7 +242,7 @@ pub turn_on : (walk new : Walk) (bytes : List ℕ) (marks : List Mark) (i : ℕ)
 turn_on walk new bytes marks i d b lt tokens on turns a =
     let here = left_at walk bytes marks i d lt a in
     along_next walk new bytes marks (drop (i + 1) marks) (get_or marks i d) here
-    (subst (λ (x : Bool). Goes bytes new (step bytes (get_or marks i d) here.state) x) on
+    (subst (λ (x : Bool). HasNextState bytes new (step bytes (get_or marks i d) here.state) x) on
     (turns here.state here.walks (token_there bytes marks i d lt tokens)))
 
 pub turn_off : (walk new : Walk) (bytes : List ℕ) (marks : List Mark) (i : ℕ) (d : Mark) (b : Bool)
@@ -251,5 +252,5 @@ pub turn_off : (walk new : Walk) (bytes : List ℕ) (marks : List Mark) (i : ℕ
 turn_off walk new bytes marks i d b lt tokens off turns a =
     let here = left_at walk bytes marks i d lt a in
     along_stop walk bytes marks (drop (i + 1) marks) (get_or marks i d) here
-    (subst (λ (x : Bool). Goes bytes new (step bytes (get_or marks i d) here.state) x) off
+    (subst (λ (x : Bool). HasNextState bytes new (step bytes (get_or marks i d) here.state) x) off
     (turns here.state here.walks (token_there bytes marks i d lt tokens)))

@@ -5,13 +5,13 @@ use Rattle.std.proofs.lemmas.List.{map-append}
 use Rattle.edit_tree.specs.declared.nodes.Node.{Node}
 use Rattle.edit_syntax.specs.declared.span.Span.{Span}
 use Rattle.edit_tree.specs.declared.nodes.Words.{Words}
-use Rattle.edit_tree.specs.declared.nodes.Taken.{Taken}
-use Rattle.edit_tree.specs.declared.nodes.Taken.TheVariants.{Dotted, Value, Super, Header, Array, Element}
+use Rattle.edit_tree.specs.declared.nodes.DefinedBy.{DefinedBy}
+use Rattle.edit_tree.specs.declared.nodes.DefinedBy.TheVariants.{Dotted, Value, Super, Header, Array, Element}
 use Rattle.edit_tree.specs.declared.walk.Walk.{Walk}
 use Rattle.edit_syntax.specs.Reading.{◌>>=◌}
-use Rattle.edit_tree.specs.Nodes.{Shape, section, sections, Spot, bytes_of, Holds}
-use Rattle.edit_tree.specs.Walk.{State, last_of, asserted, element_added, front_shape, reached, awaiting, settled_state, is_dotted_within, settled, entered_below, entered_at, opened, turned, headed, element_headed}
-use Rattle.edit_tree.specs.WalkState.{Puts, Walks, Goes, Settles}
+use Rattle.edit_tree.specs.Nodes.{Shape, section, sections, ModelNode, bytes_of, RepresentsNodes}
+use Rattle.edit_tree.specs.Walk.{State, last_of, member_defined, element_added, front_shape, reached, with_key_part, without_pending, is_dotted_within, pending_defined, value_added_below, value_added_at, opened, turned, headed, array_table_opened}
+use Rattle.edit_tree.specs.WalkState.{HasNodeAt, Walks, HasNextState, HasDefinedState}
 
 pub if_ok_map : {A E : Type 0} {P Q : A → Type 0} (r : Result A E) → IfOk r P → ((x : A) → P x → Q x)
     → IfOk r Q
@@ -24,9 +24,9 @@ if_ok_map (Err e) h f = tt
 pub awaits : {text : List ℕ} (old walk : Walk) (st : State) (name : Words) → Walks text old st
     → walk.nodes.items ≡ old.nodes.items → walk.tables.items ≡ old.tables.items
     → walk.fronts.items ≡ old.fronts.items ++ option_to_list old.name → walk.name ≡ Some name
-    → Walks text walk (awaiting st (bytes_of text name))
+    → Walks text walk (with_key_part st (bytes_of text name))
 awaits {text} old walk st name w ns ts fs n = record {
-  holds = subst (λ (xs : List Node). Holds text xs st.spots) (sym ns) w.holds;
+  holds = subst (λ (xs : List Node). RepresentsNodes text xs st.spots) (sym ns) w.holds;
   tables = ts ∙ w.tables;
   fronts =
       ap (map (bytes_of text)) fs ∙ map-append (bytes_of text) old.fronts.items (option_to_list old.name)
@@ -40,66 +40,66 @@ awaits {text} old walk st name w ns ts fs n = record {
     listed None = refl
     listed (Some s) = refl
 
-pub settled_is : (st : State) (number : ℕ) (front : Taken) (shape : Shape) (taken : Taken)
+pub settled_is : (st : State) (number : ℕ) (front : DefinedBy) (shape : Shape) (taken : DefinedBy)
     (span : Option Span) (name : List ℕ) → st.name ≡ Some name
-    → settled st number front shape taken span
+    → pending_defined st number front shape taken span
     ≡ (reached st.spots number st.fronts
     (front_shape (is_dotted_within (length st.tables) front)) front >>= λ r.
-    asserted r.0 r.1 name shape taken span >>= λ q. Some (settled_state q.0 st.tables, q.1))
-unfolding settled
+    member_defined r.0 r.1 name shape taken span >>= λ q. Some (without_pending q.0 st.tables, q.1))
+unfolding pending_defined
 settled_is st number front shape taken span name n =
     ap (λ (o : Option (List ℕ)). o >>= λ x. reached st.spots number st.fronts
     (front_shape (is_dotted_within (length st.tables) front)) front >>= λ r.
-    asserted r.0 r.1 x shape taken span >>= λ q. Some (settled_state q.0 st.tables, q.1)) n
+    member_defined r.0 r.1 x shape taken span >>= λ q. Some (without_pending q.0 st.tables, q.1)) n
 
-pub settled_unnamed : (st : State) (number : ℕ) (front : Taken) (shape : Shape) (taken : Taken)
-    (span : Option Span) → st.name ≡ None → settled st number front shape taken span ≡ None
-unfolding settled
+pub settled_unnamed : (st : State) (number : ℕ) (front : DefinedBy) (shape : Shape) (taken : DefinedBy)
+    (span : Option Span) → st.name ≡ None → pending_defined st number front shape taken span ≡ None
+unfolding pending_defined
 settled_unnamed st number front shape taken span n = rw n refl
 
 -- the table of a key is reached, or it is not
 pub reach_of : (text : List ℕ) (nodes : List Node) (st : State) (number : ℕ) (names : List (List ℕ))
-    (within : Bool) (front : Taken) (r : Option ℕ) → names ≡ st.fronts
+    (within : Bool) (front : DefinedBy) (r : Option ℕ) → names ≡ st.fronts
     → within ≡ is_dotted_within (length st.tables) front
-    → Puts text nodes (reached st.spots number names (front_shape within) front) r
-    → Puts text nodes (reached st.spots number st.fronts
+    → HasNodeAt text nodes (reached st.spots number names (front_shape within) front) r
+    → HasNodeAt text nodes (reached st.spots number st.fronts
     (front_shape (is_dotted_within (length st.tables) front)) front) r
 reach_of text nodes st number names within front r a b h =
-    subst (λ (ns : List (List ℕ)). Puts text nodes
+    subst (λ (ns : List (List ℕ)). HasNodeAt text nodes
     (reached st.spots number ns (front_shape (is_dotted_within (length st.tables) front)) front) r) a
-    (subst (λ (x : Bool). Puts text nodes (reached st.spots number names (front_shape x) front) r) b h)
+    (subst (λ (x : Bool). HasNodeAt text nodes (reached st.spots number names (front_shape x) front) r) b h)
 
-pub settled_unreached : (st : State) (number : ℕ) (front : Taken) (shape : Shape) (taken : Taken)
+pub settled_unreached : (st : State) (number : ℕ) (front : DefinedBy) (shape : Shape) (taken : DefinedBy)
     (span : Option Span) (name : List ℕ) → st.name ≡ Some name
     → reached st.spots number st.fronts (front_shape (is_dotted_within (length st.tables) front)) front ≡ None
-    → settled st number front shape taken span ≡ None
+    → pending_defined st number front shape taken span ≡ None
 settled_unreached st number front shape taken span name n none =
     settled_is st number front shape taken span name n ∙
-    ap (λ (o : Option (List Spot × ℕ)). o >>= λ r. asserted r.0 r.1 name shape taken span >>= λ q. Some
-    (settled_state q.0 st.tables, q.1)) none
+    ap (λ (o : Option (List ModelNode × ℕ)). o >>= λ r. member_defined r.0 r.1 name shape taken span >>= λ q. Some
+    (without_pending q.0 st.tables, q.1)) none
 
-pub settles : (text : List ℕ) (walk : Walk) (st : State) (number : ℕ) (front : Taken) (shape : Shape)
-    (taken : Taken) (span : Option Span) (name : List ℕ) (spots : List Spot) (table : ℕ) (r : Option ℕ)
+pub settles : (text : List ℕ) (walk : Walk) (st : State) (number : ℕ) (front : DefinedBy) (shape : Shape)
+    (taken : DefinedBy) (span : Option Span) (name : List ℕ) (spots : List ModelNode) (table : ℕ) (r : Option ℕ)
     → st.name ≡ Some name
     → reached st.spots number st.fronts (front_shape (is_dotted_within (length st.tables) front)) front
     ≡ Some (spots, table) → walk.tables.items ≡ st.tables → walk.fronts.items ≡ [] → walk.name ≡ None
-    → Puts text walk.nodes.items (asserted spots table name shape taken span) r
-    → Settles text walk (settled st number front shape taken span) r
+    → HasNodeAt text walk.nodes.items (member_defined spots table name shape taken span) r
+    → HasDefinedState text walk (pending_defined st number front shape taken span) r
 settles text walk st number front shape taken span name spots table r n reach ts fs none puts =
-    let first : settled st number front shape taken span
-    ≡ (asserted spots table name shape taken span >>= λ q. Some (settled_state q.0 st.tables, q.1)) =
+    let first : pending_defined st number front shape taken span
+    ≡ (member_defined spots table name shape taken span >>= λ q. Some (without_pending q.0 st.tables, q.1)) =
     settled_is st number front shape taken span name n ∙
-    ap (λ (o : Option (List Spot × ℕ)). o >>= λ x. asserted x.0 x.1 name shape taken span >>= λ q. Some
-    (settled_state q.0 st.tables, q.1)) reach in
-    subst (λ (o : Option (State × ℕ)). Settles text walk o r) (sym first) (go r puts)
+    ap (λ (o : Option (List ModelNode × ℕ)). o >>= λ x. member_defined x.0 x.1 name shape taken span >>= λ q. Some
+    (without_pending q.0 st.tables, q.1)) reach in
+    subst (λ (o : Option (State × ℕ)). HasDefinedState text walk o r) (sym first) (go r puts)
   where
-    go : (r : Option ℕ) → Puts text walk.nodes.items (asserted spots table name shape taken span) r
-        → Settles text walk (asserted spots table name shape taken span >>= λ q. Some
-        (settled_state q.0 st.tables, q.1)) r
-    go None e = ap (λ (o : Option (List Spot × ℕ)). o >>= λ q. Some (settled_state q.0 st.tables, q.1)) e
+    go : (r : Option ℕ) → HasNodeAt text walk.nodes.items (member_defined spots table name shape taken span) r
+        → HasDefinedState text walk (member_defined spots table name shape taken span >>= λ q. Some
+        (without_pending q.0 st.tables, q.1)) r
+    go None e = ap (λ (o : Option (List ModelNode × ℕ)). o >>= λ q. Some (without_pending q.0 st.tables, q.1)) e
     go (Some k) (made, e, holds) = (
-      settled_state made st.tables,
-      ap (λ (o : Option (List Spot × ℕ)). o >>= λ q. Some (settled_state q.0 st.tables, q.1)) e,
+      without_pending made st.tables,
+      ap (λ (o : Option (List ModelNode × ℕ)). o >>= λ q. Some (without_pending q.0 st.tables, q.1)) e,
       record {
         holds = holds;
         tables = ts;
@@ -110,38 +110,38 @@ settles text walk st number front shape taken span name spots table r n reach ts
 
 pub entered_is : (st : State) (shape : Shape) (span : Option Span) (number : ℕ) (name : List ℕ)
     → last_of st.tables ≡ Some number → st.name ≡ Some name
-    → entered_at st shape span ≡ settled st number Dotted shape Value span
+    → value_added_at st shape span ≡ pending_defined st number Dotted shape Value span
 entered_is st shape span number name t n =
-    ap (λ (o : Option ℕ). o >>= λ k. entered_below st.name st k shape span) t ∙
-    ap (λ (o : Option (List ℕ)). entered_below o st number shape span) n
+    ap (λ (o : Option ℕ). o >>= λ k. value_added_below st.name st k shape span) t ∙
+    ap (λ (o : Option (List ℕ)). value_added_below o st number shape span) n
 
-abbrev spots_of_state : State → List Spot × ℕ → Option (State × ℕ)
+abbrev spots_of_state : State → List ModelNode × ℕ → Option (State × ℕ)
 spots_of_state st q = Some (record st { spots = q.0 }, q.1)
 
 -- where no key waits an element stands in the innermost array
 pub enters_element : (st : State) (shape : Shape) (span : Option Span) (number : ℕ)
-    → last_of st.tables ≡ Some number → st.name ≡ None → entered_at st shape span
+    → last_of st.tables ≡ Some number → st.name ≡ None → value_added_at st shape span
     ≡ (element_added st.spots number shape Value span >>= λ q. spots_of_state st q)
 enters_element st shape span number t n =
-    ap (λ (o : Option ℕ). o >>= λ k. entered_below st.name st k shape span) t ∙
-    ap (λ (o : Option (List ℕ)). entered_below o st number shape span) n
+    ap (λ (o : Option ℕ). o >>= λ k. value_added_below st.name st k shape span) t ∙
+    ap (λ (o : Option (List ℕ)). value_added_below o st number shape span) n
 
 pub settles_element : {text : List ℕ} (old walk : Walk) (st : State) (shape : Shape) (span : Option Span)
     (number : ℕ) (r : Option ℕ) → Walks text old st → last_of old.tables.items ≡ Some number → old.name ≡ None
-    → Puts text walk.nodes.items (element_added st.spots number shape Value span) r
+    → HasNodeAt text walk.nodes.items (element_added st.spots number shape Value span) r
     → walk.tables.items ≡ old.tables.items → walk.fronts.items ≡ old.fronts.items → walk.name ≡ old.name
-    → Settles text walk (entered_at st shape span) r
+    → HasDefinedState text walk (value_added_at st shape span) r
 settles_element {text} old walk st shape span number r w top bare puts ts fs n =
     let name : st.name ≡ None = sym w.name ∙ ap (option_map (bytes_of text)) bare in
-    subst (λ (o : Option (State × ℕ)). Settles text walk o r)
+    subst (λ (o : Option (State × ℕ)). HasDefinedState text walk o r)
     (sym (enters_element st shape span number (ap last_of (sym w.tables) ∙ top) name)) (go r puts)
   where
-    go : (r : Option ℕ) → Puts text walk.nodes.items (element_added st.spots number shape Value span) r
-        → Settles text walk (element_added st.spots number shape Value span >>= λ q. spots_of_state st q) r
-    go None e = ap (λ (o : Option (List Spot × ℕ)). o >>= λ q. spots_of_state st q) e
+    go : (r : Option ℕ) → HasNodeAt text walk.nodes.items (element_added st.spots number shape Value span) r
+        → HasDefinedState text walk (element_added st.spots number shape Value span >>= λ q. spots_of_state st q) r
+    go None e = ap (λ (o : Option (List ModelNode × ℕ)). o >>= λ q. spots_of_state st q) e
     go (Some k) (made, e, holds) = (
       record st { spots = made },
-      ap (λ (o : Option (List Spot × ℕ)). o >>= λ q. spots_of_state st q) e,
+      ap (λ (o : Option (List ModelNode × ℕ)). o >>= λ q. spots_of_state st q) e,
       record {
         holds = holds;
         tables = ts ∙ w.tables;
@@ -153,30 +153,30 @@ settles_element {text} old walk st shape span number r w top bare puts ts fs n =
 -- where a key waits it settles
 pub settles_named : {text : List ℕ} (old walk : Walk) (st : State) (shape : Shape) (span : Option Span)
     (number : ℕ) (name : Words) (r : Option ℕ) → Walks text old st → last_of old.tables.items ≡ Some number
-    → old.name ≡ Some name → Settles text walk (settled st number Dotted shape Value span) r
-    → Settles text walk (entered_at st shape span) r
+    → old.name ≡ Some name → HasDefinedState text walk (pending_defined st number Dotted shape Value span) r
+    → HasDefinedState text walk (value_added_at st shape span) r
 settles_named {text} old walk st shape span number name r w top waits settles =
     let named : st.name ≡ Some (bytes_of text name) = sym w.name ∙ ap (option_map (bytes_of text)) waits in
-    subst (λ (o : Option (State × ℕ)). Settles text walk o r)
+    subst (λ (o : Option (State × ℕ)). HasDefinedState text walk o r)
     (sym (entered_is st shape span number (bytes_of text name) (ap last_of (sym w.tables) ∙ top) named))
     settles
 
 pub goes_settled : (text : List ℕ) (walk : Walk) (o : Option (State × ℕ)) (r : Option ℕ)
-    → Settles text walk o r → Goes text walk (o >>= λ q. Some q.0) (is_some r)
+    → HasDefinedState text walk o r → HasNextState text walk (o >>= λ q. Some q.0) (is_some r)
 goes_settled text walk o None e = ap (λ (x : Option (State × ℕ)). x >>= λ q. Some q.0) e
 goes_settled text walk o (Some k) (st, e, w) = (st, ap (λ (x : Option (State × ℕ)). x >>= λ q. Some q.0) e, w)
 
 -- an array or an inline table is innermost
 pub goes_opened : (text : List ℕ) (middle walk : Walk) (st : State) (shape : Shape) (span : Option Span)
-    (number : ℕ) → Settles text middle (entered_at st shape span) (Some number)
+    (number : ℕ) → HasDefinedState text middle (value_added_at st shape span) (Some number)
     → walk.nodes.items ≡ middle.nodes.items → walk.tables.items ≡ middle.tables.items ++ number ∷ []
     → walk.fronts.items ≡ middle.fronts.items → walk.name ≡ middle.name
-    → Goes text walk (opened st shape span) true
+    → HasNextState text walk (opened st shape span) true
 goes_opened text middle walk st shape span number (next, e, w) ns ts fs n = (
   record next { tables = next.tables ++ number ∷ [] },
   ap (λ (o : Option (State × ℕ)). o >>= λ r. Some (record r.0 { tables = r.0.tables ++ r.1 ∷ [] })) e,
   record {
-    holds = subst (λ (xs : List Node). Holds text xs next.spots) (sym ns) w.holds;
+    holds = subst (λ (xs : List Node). RepresentsNodes text xs next.spots) (sym ns) w.holds;
     tables = ts ∙ ap (λ (xs : List ℕ). xs ++ number ∷ []) w.tables;
     fronts = ap (map (bytes_of text)) fs ∙ w.fronts;
     name = ap (option_map (bytes_of text)) n ∙ w.name;
@@ -184,7 +184,7 @@ goes_opened text middle walk st shape span number (next, e, w) ns ts fs n = (
 )
 
 pub opened_refused : (text : List ℕ) (middle : Walk) (st : State) (shape : Shape) (span : Option Span)
-    → Settles text middle (entered_at st shape span) None → opened st shape span ≡ None
+    → HasDefinedState text middle (value_added_at st shape span) None → opened st shape span ≡ None
 opened_refused text middle st shape span e =
     ap (λ (o : Option (State × ℕ)). o >>= λ r. Some (record r.0 { tables = r.0.tables ++ r.1 ∷ [] })) e
 
@@ -194,21 +194,21 @@ pub turns : {text : List ℕ} (old walk : Walk) (st : State) (number : ℕ) → 
     → walk.fronts.items ≡ old.fronts.items → walk.name ≡ old.name
     → Walks text walk (record st { tables = number ∷ [] })
 turns {text} old walk st number w ns ts fs n = record {
-  holds = subst (λ (xs : List Node). Holds text xs st.spots) (sym ns) w.holds;
+  holds = subst (λ (xs : List Node). RepresentsNodes text xs st.spots) (sym ns) w.holds;
   tables = ts;
   fronts = ap (map (bytes_of text)) fs ∙ w.fronts;
   name = ap (option_map (bytes_of text)) n ∙ w.name;
 }
 
 pub goes_headed : (text : List ℕ) (middle walk : Walk) (st : State) (number : ℕ)
-    → Settles text middle (settled st 0 Super section Header None) (Some number)
+    → HasDefinedState text middle (pending_defined st 0 Super section Header None) (Some number)
     → ((s : State) → Walks text middle s → Walks text walk (record s { tables = number ∷ [] }))
-    → Goes text walk (headed st) true
+    → HasNextState text walk (headed st) true
 goes_headed text middle walk st number (next, e, w) turn =
     (turned (next, number), ap (λ (o : Option (State × ℕ)). o >>= λ r. Some (turned r)) e, turn next w)
 
 pub headed_refused : (text : List ℕ) (middle : Walk) (st : State)
-    → Settles text middle (settled st 0 Super section Header None) None → headed st ≡ None
+    → HasDefinedState text middle (pending_defined st 0 Super section Header None) None → headed st ≡ None
 headed_refused text middle st e = ap (λ (o : Option (State × ℕ)). o >>= λ r. Some (turned r)) e
 
 abbrev pub with_element_of : State × ℕ → Option State
@@ -216,26 +216,27 @@ with_element_of r = element_added r.0.spots r.1 section Element None >>= λ q. S
     (turned (record r.0 { spots = q.0 }, q.1))
 
 pub element_unheaded : (text : List ℕ) (middle : Walk) (st : State)
-    → Settles text middle (settled st 0 Super sections Array None) None → element_headed st ≡ None
+    → HasDefinedState text middle (pending_defined st 0 Super sections Array None) None
+    → array_table_opened st ≡ None
 element_unheaded text middle st e = ap (λ (o : Option (State × ℕ)). o >>= λ r. with_element_of r) e
 
 pub element_refused : (text : List ℕ) (middle : Walk) (nodes : List Node) (st : State) (number : ℕ)
-    → Settles text middle (settled st 0 Super sections Array None) (Some number)
-    → ((spots : List Spot) → Holds text middle.nodes.items spots
-    → Puts text nodes (element_added spots number section Element None) None) → element_headed st ≡ None
+    → HasDefinedState text middle (pending_defined st 0 Super sections Array None) (Some number)
+    → ((spots : List ModelNode) → RepresentsNodes text middle.nodes.items spots
+    → HasNodeAt text nodes (element_added spots number section Element None) None) → array_table_opened st ≡ None
 element_refused text middle nodes st number (next, e, w) stops =
     ap (λ (o : Option (State × ℕ)). o >>= λ r. with_element_of r) e ∙
-    ap (λ (o : Option (List Spot × ℕ)). o >>= λ q. Some (turned (record next { spots = q.0 }, q.1)))
+    ap (λ (o : Option (List ModelNode × ℕ)). o >>= λ q. Some (turned (record next { spots = q.0 }, q.1)))
     (stops next.spots w.holds)
 
 pub goes_element : (text : List ℕ) (middle walk : Walk) (nodes : Walk) (st : State) (number element : ℕ)
-    → Settles text middle (settled st 0 Super sections Array None) (Some number)
-    → ((spots : List Spot) → Holds text middle.nodes.items spots
-    → Puts text nodes.nodes.items (element_added spots number section Element None) (Some element))
+    → HasDefinedState text middle (pending_defined st 0 Super sections Array None) (Some number)
+    → ((spots : List ModelNode) → RepresentsNodes text middle.nodes.items spots
+    → HasNodeAt text nodes.nodes.items (element_added spots number section Element None) (Some element))
     → nodes.tables.items ≡ middle.tables.items → nodes.fronts.items ≡ middle.fronts.items
     → nodes.name ≡ middle.name
     → ((s : State) → Walks text nodes s → Walks text walk (record s { tables = element ∷ [] }))
-    → Goes text walk (element_headed st) true
+    → HasNextState text walk (array_table_opened st) true
 goes_element text middle walk nodes st number element (next, e, w) puts ts fs n turn =
     let p = puts next.spots w.holds in
     let inner : Walks text nodes (record next { spots = p.0 }) =
@@ -247,7 +248,7 @@ goes_element text middle walk nodes st number element (next, e, w) puts ts fs n 
     } in (
       turned (record next { spots = p.0 }, element),
       ap (λ (o : Option (State × ℕ)). o >>= λ r. with_element_of r) e ∙
-          ap (λ (o : Option (List Spot × ℕ)). o >>= λ q. Some (turned (record next { spots = q.0 }, q.1)))
+          ap (λ (o : Option (List ModelNode × ℕ)). o >>= λ q. Some (turned (record next { spots = q.0 }, q.1)))
           p.1,
       turn (record next { spots = p.0 }) inner,
     )

@@ -10,9 +10,9 @@ use Rattle.edit_syntax.specs.Strings.{Piece, pieces, says, IsBasicPiece, Part, b
 use Rattle.edit_syntax.specs.Strings as strings
 use Rattle.edit_tree.specs.Assertions.{names}
 use Rattle.edit_syntax.specs.Reading.{◌>>=◌}
-use Rattle.edit_tree.specs.Nodes.{Spot}
-use Rattle.edit_tree.specs.Walk.{suffix, basic_said, literal_said, as_text, said, State, awaiting, settled_state, step, walked}
-use Rattle.edit_syntax.specs.Marks.{part_mark, dotted_marks, key_marks}
+use Rattle.edit_tree.specs.Nodes.{ModelNode}
+use Rattle.edit_tree.specs.Walk.{suffix, basic_value, literal_value, as_text, said, State, with_key_part, without_pending, step, walked}
+use Rattle.edit_syntax.specs.SyntaxTokens.{token_of_part, tokens_of_dotted, tokens_of_key}
 use Rattle.edit_syntax.proofs.TokenLaws.{basic_again, literal_again}
 use Rattle.edit_tree.proofs.Ends.{Ends, ends_past, ends_one, ends_part, suffix_is, take_length, text_before, text_behind, ascii_text, bare_small, says_text}
 use Rattle.edit_tree.proofs.Walks.{walked_first}
@@ -27,22 +27,22 @@ behind_mark bytes c s small u h = text_behind h.0 s c small (subst IsUtf8 h.1 u)
 
 pub said_basic : (bytes : List ℕ) (ps : List Piece) (rest : List ℕ) (n : ℕ) → AllByRecursion IsBasicPiece ps
     → IsUtf8 bytes → Ends bytes (basic_text ps rest)
-    → (basic_said (drop 1 (suffix bytes (length (basic_text ps rest)))) >>= as_text) ≡ Some (says quote ps)
+    → (basic_value (drop 1 (suffix bytes (length (basic_text ps rest)))) >>= as_text) ≡ Some (says quote ps)
 said_basic bytes ps rest n h u ends =
     let u2 = says_text [] ps rest h
     (behind_mark bytes quote (pieces quote ps (quote ∷ rest)) (lit< tt) u ends) in
-    ap (λ (s : List ℕ). basic_said (drop 1 s) >>= as_text) (suffix_is bytes (basic_text ps rest) ends)
+    ap (λ (s : List ℕ). basic_value (drop 1 s) >>= as_text) (suffix_is bytes (basic_text ps rest) ends)
     ∙ ap (λ (o : Option (List Piece × List ℕ)). option_map
     (λ (p : List Piece × List ℕ). says quote p.0) o >>= as_text) (basic_again ps rest h) ∙
     text_is (says quote ps) u2
 
 pub said_literal : (bytes text rest : List ℕ) (n : ℕ) → All is_literal_ch text → IsUtf8 bytes
     → Ends bytes (literal_text text rest)
-    → (literal_said (drop 1 (suffix bytes (length (literal_text text rest)))) >>= as_text) ≡ Some text
+    → (literal_value (drop 1 (suffix bytes (length (literal_text text rest)))) >>= as_text) ≡ Some text
 said_literal bytes text rest n h u ends =
     let u2 = text_before text rest apostrophe (lit< tt)
     (behind_mark bytes apostrophe (text ++ (apostrophe ∷ rest)) (lit< tt) u ends) in
-    ap (λ (s : List ℕ). literal_said (drop 1 s) >>= as_text) (suffix_is bytes (literal_text text rest) ends)
+    ap (λ (s : List ℕ). literal_value (drop 1 s) >>= as_text) (suffix_is bytes (literal_text text rest) ends)
     ∙ ap (λ (o : Option (List ℕ × List ℕ)). option_map (λ (p : List ℕ × List ℕ). p.0) o >>= as_text)
     (literal_again text rest h) ∙ text_is text u2
 
@@ -57,7 +57,7 @@ said_word bytes word rest u ends =
     ∙ ap (λ (k : ℕ). as_text (take k (word ++ rest))) n ∙ ap as_text (take_length word rest) ∙ text_is word u
 
 pub said_part : (bytes : List ℕ) (p : Part) (rest : List ℕ) → IsPart p → IsUtf8 bytes
-    → Ends bytes (part p rest) → said bytes (part_mark p rest) ≡ Some (name p)
+    → Ends bytes (part p rest) → said bytes (token_of_part p rest) ≡ Some (name p)
 unfolding said
 said_part bytes (bare text) rest h u ends = said_word bytes text rest
     (ascii_text is_bare bare_small text h.1) ends
@@ -67,28 +67,28 @@ said_part bytes (literal_part text) rest h u ends = said_literal bytes text rest
 -- ---- keys
 
 part_step : (bytes : List ℕ) (p : Part) (rest : List ℕ) (st : State) → IsPart p → IsUtf8 bytes
-    → Ends bytes (part p rest) → step bytes (part_mark p rest) st ≡ Some (awaiting st (name p))
+    → Ends bytes (part p rest) → step bytes (token_of_part p rest) st ≡ Some (with_key_part st (name p))
 unfolding step
-part_step bytes (bare text) rest st h u ends = ap (λ (o : Option (List ℕ)). o >>= λ n. Some (awaiting st n))
+part_step bytes (bare text) rest st h u ends = ap (λ (o : Option (List ℕ)). o >>= λ n. Some (with_key_part st n))
     (said_part bytes (bare text) rest h u ends)
 part_step bytes (basic_part ps) rest st h u ends =
-    ap (λ (o : Option (List ℕ)). o >>= λ n. Some (awaiting st n))
+    ap (λ (o : Option (List ℕ)). o >>= λ n. Some (with_key_part st n))
     (said_part bytes (basic_part ps) rest h u ends)
 part_step bytes (literal_part text) rest st h u ends =
-    ap (λ (o : Option (List ℕ)). o >>= λ n. Some (awaiting st n))
+    ap (λ (o : Option (List ℕ)). o >>= λ n. Some (with_key_part st n))
     (said_part bytes (literal_part text) rest h u ends)
 
 -- the names wait one behind the other
 abbrev pub waits : State → List (List ℕ) → State
 waits st [] = st
-waits st (n ∷ ns) = waits (awaiting st n) ns
+waits st (n ∷ ns) = waits (with_key_part st n) ns
 
 abbrev IsDotted : Dotted → Type 0
 IsDotted d = All is_blank d.before × All is_blank d.behind × IsPart d.part
 
 walked_dotted : (bytes : List ℕ) (ds : List Dotted) (rest : List ℕ) (ms : List Mark) (st : State)
     → AllByRecursion IsDotted ds → IsUtf8 bytes → Ends bytes (dotted ds rest)
-    → walked bytes (dotted_marks ds rest ++ ms) st ≡ walked bytes ms
+    → walked bytes (tokens_of_dotted ds rest ++ ms) st ≡ walked bytes ms
     (waits st (map (λ (d : Dotted). name d.part) ds))
 walked_dotted bytes [] rest ms st h u ends = refl
 walked_dotted bytes (d ∷ ds) rest ms st h u ends =
@@ -96,19 +96,19 @@ walked_dotted bytes (d ∷ ds) rest ms st h u ends =
     ends_past bytes d.behind (part d.part (dotted ds rest))
     (ends_one bytes 46 (d.behind ++ part d.part (dotted ds rest))
     (ends_past bytes d.before (46 ∷ (d.behind ++ part d.part (dotted ds rest))) ends)) in
-    walked_first bytes (part_mark d.part (dotted ds rest)) (dotted_marks ds rest ++ ms) st
-    (awaiting st (name d.part)) (part_step bytes d.part (dotted ds rest) st h.0.2 u here)
-    ∙ walked_dotted bytes ds rest ms (awaiting st (name d.part)) h.1 u
+    walked_first bytes (token_of_part d.part (dotted ds rest)) (tokens_of_dotted ds rest ++ ms) st
+    (with_key_part st (name d.part)) (part_step bytes d.part (dotted ds rest) st h.0.2 u here)
+    ∙ walked_dotted bytes ds rest ms (with_key_part st (name d.part)) h.1 u
     (ends_part bytes d.part (dotted ds rest) here)
 
 -- the marks of a key leave its names waiting
 pub walked_key : (bytes : List ℕ) (k : Key) (rest : List ℕ) (ms : List Mark) (st : State) → IsKey k
-    → IsUtf8 bytes → Ends bytes (strings.key k rest) → walked bytes (key_marks k rest ++ ms) st
+    → IsUtf8 bytes → Ends bytes (strings.key k rest) → walked bytes (tokens_of_key k rest ++ ms) st
     ≡ walked bytes ms (waits st (names k))
 walked_key bytes k rest ms st h u ends =
-    walked_first bytes (part_mark k.first (dotted k.others rest)) (dotted_marks k.others rest ++ ms) st
-    (awaiting st (name k.first)) (part_step bytes k.first (dotted k.others rest) st h.0 u ends)
-    ∙ walked_dotted bytes k.others rest ms (awaiting st (name k.first)) h.1 u
+    walked_first bytes (token_of_part k.first (dotted k.others rest)) (tokens_of_dotted k.others rest ++ ms) st
+    (with_key_part st (name k.first)) (part_step bytes k.first (dotted k.others rest) st h.0 u ends)
+    ∙ walked_dotted bytes k.others rest ms (with_key_part st (name k.first)) h.1 u
     (ends_part bytes k.first (dotted k.others rest) ends)
 
 -- the names before the last one, and the last one
@@ -120,7 +120,7 @@ abbrev pub rear : List ℕ → List (List ℕ) → List ℕ
 rear n [] = n
 rear n (m ∷ ns) = rear m ns
 
-waits_behind : (spots : List Spot) (tables : List ℕ) (fs : List (List ℕ)) (n : List ℕ) (ns : List (List ℕ))
+waits_behind : (spots : List ModelNode) (tables : List ℕ) (fs : List (List ℕ)) (n : List ℕ) (ns : List (List ℕ))
     → waits (record { spots = spots; tables = tables; fronts = fs; name = Some n }) ns
     ≡ record { spots = spots; tables = tables; fronts = fs ++ fore n ns; name = Some (rear n ns) }
 waits_behind spots tables fs n [] =
@@ -139,7 +139,7 @@ waits_behind spots tables fs n (m ∷ ns) =
       name = Some (rear m ns);
     } in st) (append_assoc fs (n ∷ []) (fore m ns))
 
-pub waits_are : (spots : List Spot) (tables : List ℕ) (n : List ℕ) (ns : List (List ℕ))
-    → waits (settled_state spots tables) (n ∷ ns)
+pub waits_are : (spots : List ModelNode) (tables : List ℕ) (n : List ℕ) (ns : List (List ℕ))
+    → waits (without_pending spots tables) (n ∷ ns)
     ≡ record { spots = spots; tables = tables; fronts = fore n ns; name = Some (rear n ns) }
 waits_are spots tables n ns = waits_behind spots tables [] n ns

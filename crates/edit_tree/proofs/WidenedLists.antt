@@ -3,7 +3,7 @@ use Rattle.std.proofs.Common.{◌≡◌, ◌≤◌, Bool, true, false, cond, Lis
 use Rattle.std.specs.List.{AllByRecursion}
 use Rattle.edit_syntax.specs.Grammar.{Value}
 use Rattle.edit_tree.specs.EditBytes.{is_within}
-use Rattle.edit_tree.specs.Assertions.{Place, same_place, Kind, leaf, Assertion, of_value, together, NoClash, AreShort}
+use Rattle.edit_tree.specs.Assertions.{Place, same_place, Kind, leaf, Assertion, of_value, are_compatible, AreCompatible, AreShort}
 use Rattle.edit_tree.specs.Tree.{kind_at}
 use Rattle.edit_tree.specs.Literals.{literal_of}
 use Rattle.edit_tree.specs.Replaces.{is_below}
@@ -25,7 +25,7 @@ IsUnder p xs = AllByRecursion (λ x. is_below p x.place ≡ true) xs
 
 -- a kind may stand with those of these at a place
 abbrev pub StandsWith : Place → Kind → List Assertion → Type 0
-StandsWith p k xs = AllByRecursion (λ b. p ≡ b.place → together k b.kind ≡ true) xs
+StandsWith p k xs = AllByRecursion (λ b. p ≡ b.place → are_compatible k b.kind ≡ true) xs
 
 pub all_append : (P : Assertion → Type 0) (xs ys : List Assertion) → AllByRecursion P xs
     → AllByRecursion P ys → AllByRecursion P (xs ++ ys)
@@ -48,8 +48,9 @@ free_with p q k [] low h = tt
 free_with p q k (x ∷ xs) low h =
     ((λ e. absurd (under_else p q x.place low h.0 e)), free_with p q k xs low h.1)
 
-apart_append : (p : Place) (xs ys : List Assertion) → IsUnder p xs → IsFree p ys → NoClash xs → NoClash ys
-    → NoClash (xs ++ ys)
+apart_append : (p : Place) (xs ys : List Assertion) → IsUnder p xs → IsFree p ys → AreCompatible xs
+    → AreCompatible ys
+    → AreCompatible (xs ++ ys)
 apart_append p [] ys under free clash more = more
 apart_append p (x ∷ xs) ys under free clash more = (
   all_append _ xs ys clash.0
@@ -119,14 +120,16 @@ widened_free p w xs ys none n h = tt
 widened_free p w xs ys (same by q j k cs bs e t) n h = (h.0, widened_free p w cs bs t n.1 h.1)
 widened_free p w xs ys (here by cs bs t) n h = absurd (n.0 refl)
 
-alike_left : (p q : Place) (j k l : Kind) → Alike p q j k → together j l ≡ true → together k l ≡ true
+alike_left : (p q : Place) (j k l : Kind) → Alike p q j k → are_compatible j l ≡ true
+    → are_compatible k l ≡ true
 alike_left p q j k l (equal m e) h = h
 alike_left p q j k l (leaves v w e s) h = leaf_left v w l h
   where
-    leaf_left : (v w : Value) (l : Kind) → together (leaf v) l ≡ true → together (leaf w) l ≡ true
+    leaf_left : (v w : Value) (l : Kind) → are_compatible (leaf v) l ≡ true → are_compatible (leaf w) l ≡ true
     leaf_left v w l h = h
 
-alike_right : (p q : Place) (j k l : Kind) → Alike p q j k → together l j ≡ true → together l k ≡ true
+alike_right : (p q : Place) (j k l : Kind) → Alike p q j k → are_compatible l j ≡ true
+    → are_compatible l k ≡ true
 alike_right p q j k l (equal m e) h = h
 alike_right p q j k l (leaves v w e s) h = leaf_alone l w ∙ sym (leaf_alone l v) ∙ h
 
@@ -143,18 +146,20 @@ widened_with p w q k xs ys under high (here by cs bs t) h = (
 )
 
 with_alike : (q : Place) (j k : Kind) (xs : List Assertion)
-    → ((l : Kind) → together j l ≡ true → together k l ≡ true) → StandsWith q j xs → StandsWith q k xs
+    → ((l : Kind) → are_compatible j l ≡ true → are_compatible k l ≡ true) → StandsWith q j xs
+    → StandsWith q k xs
 with_alike q j k [] to h = tt
 with_alike q j k (x ∷ xs) to h = ((λ e. to x.kind (h.0 e)), with_alike q j k xs to h.1)
 
 -- a plain leaf at a place is alone there
-pub leaf_none : (p : Place) (v : Value) (xs : List Assertion) → ((l : Kind) → together (leaf v) l ≡ true → ⊥)
+pub leaf_none : (p : Place) (v : Value) (xs : List Assertion)
+    → ((l : Kind) → are_compatible (leaf v) l ≡ true → ⊥)
     → StandsWith p (leaf v) xs → HasNone p xs
 leaf_none p v [] alone h = tt
 leaf_none p v (x ∷ xs) alone h = ((λ e. alone x.kind (h.0 e)), leaf_none p v xs alone h.1)
 
 pub widened_apart : (p : Place) (w : Value) (xs ys : List Assertion) → IsUnder p (of_value p w)
-    → NoClash (of_value p w) → Widened p w xs ys → IsFree p xs → NoClash xs → NoClash ys
+    → AreCompatible (of_value p w) → Widened p w xs ys → IsFree p xs → AreCompatible xs → AreCompatible ys
 widened_apart p w xs ys under own none free h = tt
 widened_apart p w xs ys under own (same by q j k cs bs e t) free h = (
   with_alike q j k bs (λ l. alike_left p q j k l e)

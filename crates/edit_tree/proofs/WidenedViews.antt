@@ -3,7 +3,7 @@ use Rattle.std.proofs.Common.{◌≡◌, Bool, true, false, cond, List, [], ◌�
 use Rattle.std.specs.List.{filter_map, cons_option}
 use Rattle.edit_syntax.specs.Grammar.{Value}
 use Rattle.edit_tree.specs.EditBytes.{is_within}
-use Rattle.edit_tree.specs.Assertions.{Place, Step, same_place, Kind, leaf, Assertion, of_value, NoClash}
+use Rattle.edit_tree.specs.Assertions.{Place, Step, same_place, Kind, leaf, Assertion, of_value, AreCompatible}
 use Rattle.edit_tree.specs.Tree.{table, view_of_kind, kind_at, view_in, step_from, once}
 use Rattle.edit_tree.specs.Literals.{literal_of}
 use Rattle.edit_tree.specs.Replaces.{is_below}
@@ -50,7 +50,7 @@ kind_front (x ∷ xs) ys q e = ap (λ o. cond (same_place x.place q) (Some x.kin
 
 -- below the place stands what the value asserts
 pub widened_below : (p : Place) (w v : Value) (q : Place) (xs ys : List Assertion) → is_below p q ≡ true
-    → Widened p w xs ys → IsFree p xs → NoClash xs → kind_at xs p ≡ Some (leaf v)
+    → Widened p w xs ys → IsFree p xs → AreCompatible xs → kind_at xs p ≡ Some (leaf v)
     → kind_at ys q ≡ kind_at (of_value p w) q
 widened_below p w v q xs ys low none free clash e = absurd cc
 widened_below p w v q xs ys low (same by r j k cs bs a t) free clash e =

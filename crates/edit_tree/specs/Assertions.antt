@@ -189,23 +189,23 @@ assertions t = of_lines [] [] t.lines
 -- ---- compatible definitions
 
 -- two definitions of one place that TOML allows, the earlier one first; all others are errors
-abbrev pub together : Kind → Kind → Bool
-together (dotted a) (dotted b) = true
-together (dotted a) super = true
-together super (dotted b) = true
-together header_kind super = true
-together super header_kind = true
-together super super = true
-together super element_kind = true
-together element_kind super = true
-together array_kind array_kind = true
-together _ _ = false
+abbrev pub are_compatible : Kind → Kind → Bool
+are_compatible (dotted a) (dotted b) = true
+are_compatible (dotted a) super = true
+are_compatible super (dotted b) = true
+are_compatible header_kind super = true
+are_compatible super header_kind = true
+are_compatible super super = true
+are_compatible super element_kind = true
+are_compatible element_kind super = true
+are_compatible array_kind array_kind = true
+are_compatible _ _ = false
 
 -- each assertion is compatible with each later one at the same place
-abbrev pub NoClash : List Assertion → Type 0
-NoClash [] = ⊤
-NoClash (a ∷ made) =
-    AllByRecursion (λ b. a.place ≡ b.place → together a.kind b.kind ≡ true) made × NoClash made
+abbrev pub AreCompatible : List Assertion → Type 0
+AreCompatible [] = ⊤
+AreCompatible (a ∷ made) =
+    AllByRecursion (λ b. a.place ≡ b.place → are_compatible a.kind b.kind ≡ true) made × AreCompatible made
 
 -- each place has at most 80 steps
 abbrev pub AreShort : List Assertion → Type 0
@@ -215,4 +215,4 @@ AreShort made = AllByRecursion (λ a. length a.place ≤ 80) made
 pub record IsDocument (bytes : List ℕ) (form : Text) : Type 0 where
   pub grammar : Spells bytes form
   pub short : AreShort (assertions form)
-  pub no_clash : NoClash (assertions form)
+  pub no_clash : AreCompatible (assertions form)

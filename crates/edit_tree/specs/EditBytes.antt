@@ -7,8 +7,8 @@ use Rattle.edit_syntax.specs.Strings.{◌·◌, LineEnd, lf, crlf, line_end}
 use Rattle.edit_syntax.specs.Grammar.{Between, blank, gap, Value, inline, value, Members, no_members, last_member, member, Statement, pair, lines, Text, text}
 use Rattle.edit_tree.specs.Assertions.{Place, same_step, same_place, resolved, prefix_after, place_named}
 use Rattle.edit_tree.specs.NewItems.{NewValue, NewItem, new_value, new_pair, new_entry}
-use Rattle.edit_tree.specs.Statements.{Stated, stated, front_parts, behind_part, Paired, paired_statement, line_pairs, inner_pairs, Headed, headers}
-use Rattle.edit_tree.specs.Written.{Valued, values}
+use Rattle.edit_tree.specs.Statements.{PlacedStatement, placed_statements, front_parts, behind_part, PlacedPair, paired_statement, line_pairs, inner_pairs, PlacedHeader, headers}
+use Rattle.edit_tree.specs.Written.{PlacedValue, values}
 
 -- ---- replacing a range of a text
 
@@ -44,14 +44,14 @@ first_of (None ∷ more) = first_of more
 first_of (Some x ∷ more) = Some x
 
 -- the first result of a partial function over a list
-abbrev pub first_made : {A B : Type 0} → (A → Option B) → List A → Option B
-first_made f [] = None
-first_made f (x ∷ xs) = first_of (f x ∷ first_made f xs ∷ [])
+abbrev pub first_result : {A B : Type 0} → (A → Option B) → List A → Option B
+first_result f [] = None
+first_result f (x ∷ xs) = first_of (f x ∷ first_result f xs ∷ [])
 
 -- the last result of a partial function over a list
-abbrev pub last_made : {A B : Type 0} → (A → Option B) → List A → Option B
-last_made f [] = None
-last_made f (x ∷ xs) = first_of (last_made f xs ∷ f x ∷ [])
+abbrev pub last_result : {A B : Type 0} → (A → Option B) → List A → Option B
+last_result f [] = None
+last_result f (x ∷ xs) = first_of (last_result f xs ∷ f x ∷ [])
 
 -- the second place is the first one or lies below it
 abbrev pub is_within : Place → Place → Bool
@@ -63,9 +63,9 @@ is_within (s ∷ ss) (t ∷ ts) = same_step s t && is_within ss ts
 
 -- the replacement of the value at the place by the new one
 abbrev pub value_set : Place → NewValue → Text → Option Splice
-value_set place v t = first_made set (values t)
+value_set place v t = first_result set (values t)
   where
-    set : Valued → Option Splice
+    set : PlacedValue → Option Splice
     set w =
         if same_place w.place place
         then Some (record { from = value w.value w.after; to = w.after; now = value (new_value v) [] })
@@ -78,22 +78,22 @@ set_text place v t = with_any (text t) (value_set place v t)
 -- ---- replace_entry
 
 -- parts of a pair's key lead to the place that they name, and not to the last element of an array of tables
-abbrev pub as_it_is : Place → Place
-as_it_is place = place
+abbrev pub unresolved : Place → Place
+unresolved place = place
 
 -- the text behind the part of a pair's key that names the place
-abbrev pub part_to : Place → Paired → Option (List ℕ)
-part_to place p = behind_part as_it_is place p.table p.parts
+abbrev pub part_to : Place → PlacedPair → Option (List ℕ)
+part_to place p = behind_part unresolved place p.table p.parts
 
 -- the replacement in the pair that names the place: from the end of that part of its key to the end of its
 -- value
 abbrev pub entry_replaced : Place → NewItem → Text → Option Splice
-entry_replaced place item t = first_made replace (line_pairs t ++ inner_pairs t)
+entry_replaced place item t = first_result replace (line_pairs t ++ inner_pairs t)
   where
     from_to : List ℕ → List ℕ → Splice
     from_to spot behind = record { from = spot; to = behind; now = new_entry item [] }
 
-    replace : Paired → Option Splice
+    replace : PlacedPair → Option Splice
     replace p = option_map (λ spot. from_to spot p.behind) (part_to place p)
 
 -- the text with the entry at a place replaced
@@ -106,7 +106,7 @@ is_pair (pair k a b v) = true
 is_pair _ = false
 
 -- the statement is a header whose key leads to or through the place
-abbrev pub is_header_of : Place → Stated → Bool
+abbrev pub is_header_of : Place → PlacedStatement → Bool
 is_header_of place s =
     not (is_pair s.statement) && is_within place (place_named s.earlier s.prefix s.statement)
 
@@ -114,7 +114,7 @@ is_header_of place s =
 abbrev pub is_one_statement : Text → Place → Bool
 is_one_statement t place =
     (length (filter (λ p. is_some (part_to place p)) (line_pairs t ++ inner_pairs t)) == 1)
-    && not (list_any (is_header_of place) (stated t))
+    && not (list_any (is_header_of place) (placed_statements t))
 
 -- ---- insert, by the kind of the table
 
@@ -157,59 +157,59 @@ inline_grown m _ after = None
 
 -- the insertion into a table that is an inline table
 abbrev pub in_inline : Place → List ℕ → Text → Option Splice
-in_inline table m t = first_made grow (values t)
+in_inline table m t = first_result grow (values t)
   where
-    grow : Valued → Option Splice
+    grow : PlacedValue → Option Splice
     grow w = if same_place w.place table then inline_grown m w.value w.after else None
 
 -- the statement is the header of the table or a pair below it; for the root, a pair before any header
-abbrev pub is_own : Place → Stated → Bool
+abbrev pub is_own : Place → PlacedStatement → Bool
 is_own table s = same_place (prefix_after s.earlier s.prefix s.statement) table
 
 -- the insertion into a table with a header, an element of an array of tables, or the root: behind its last
 -- pair or header
 abbrev pub in_section : Place → List ℕ → Text → Option Splice
-in_section table m t = last_made grow (stated t)
+in_section table m t = last_result grow (placed_statements t)
   where
-    grow : Stated → Option Splice
+    grow : PlacedStatement → Option Splice
     grow s = if is_own table s then Some (new_line s.after m) else None
 
 -- the text behind the part of a pair's key that names the table, where the key goes on from there
-abbrev pub front_to : Place → Paired → Option (List ℕ)
-front_to table p = behind_part as_it_is table p.table (front_parts p.parts)
+abbrev pub front_to : Place → PlacedPair → Option (List ℕ)
+front_to table p = behind_part unresolved table p.table (front_parts p.parts)
 
 -- the key of a pair up to a suffix of the text, a dot, and the member
-abbrev pub dotted_pair : Paired → List ℕ → List ℕ → List ℕ
+abbrev pub dotted_pair : PlacedPair → List ℕ → List ℕ → List ℕ
 dotted_pair p spot m = before p.from spot · codes "." · m
 
 -- the insertion into a table made by dotted keys: a line behind the last pair that passes through it, with
 -- the key of that pair up to the table, a dot and the member
 abbrev pub in_dotted : Place → List ℕ → Text → Option Splice
-in_dotted table m t = last_made grow (stated t)
+in_dotted table m t = last_result grow (placed_statements t)
   where
-    line_of : Stated → Paired → Option Splice
+    line_of : PlacedStatement → PlacedPair → Option Splice
     line_of s p = option_map (λ spot. new_line s.after (dotted_pair p spot m)) (front_to table p)
 
-    grow : Stated → Option Splice
-    grow s = first_made (line_of s) (paired_statement s)
+    grow : PlacedStatement → Option Splice
+    grow s = first_result (line_of s) (paired_statement s)
 
 -- the insertion into a table made by dotted keys inside an inline table: behind the value of the last pair
 -- that passes through it
 abbrev pub in_inner_dotted : Place → List ℕ → Text → Option Splice
-in_inner_dotted table m t = last_made grow (inner_pairs t)
+in_inner_dotted table m t = last_result grow (inner_pairs t)
   where
-    grow : Paired → Option Splice
+    grow : PlacedPair → Option Splice
     grow p = option_map (λ spot. put_before p.behind (codes ", " · dotted_pair p spot m)) (front_to table p)
 
 -- the insertion into a table that only headers pass through: its own header and the member, before the line
 -- of the first such header
 abbrev pub in_super : Place → List ℕ → Text → Option Splice
-in_super table m t = first_made grow (headers t)
+in_super table m t = first_result grow (headers t)
   where
     section : List ℕ → List ℕ
     section name = codes "[" · name · codes "]" · line_feed ∷ (m · line_feed ∷ [])
 
-    grow : Headed → Option Splice
+    grow : PlacedHeader → Option Splice
     grow h =
         option_map (λ spot. put_before h.line (section (before h.from spot)))
         (behind_part (resolved h.earlier) table [] (front_parts h.parts))

@@ -1,10 +1,10 @@
 pub mod Assertions
 pub mod Tree
-pub mod Shown
+pub mod DocumentViews
 pub mod Literals
 pub mod Written
 pub mod Replaces
-pub mod Taking
+pub mod Redefinition
 pub mod Nodes
 pub mod Walk
 pub mod WalkState
@@ -12,7 +12,7 @@ pub mod NewItems
 pub mod Statements
 pub mod EditBytes
 pub mod RemovedBytes
-pub mod Meant
+pub mod IntendedTrees
 pub mod Slots
 pub mod SlotTexts
 pub mod Pieces

@@ -11,7 +11,7 @@ use Rattle.edit_tree.specs.declared.nodes.Words.{Words}
 use Rattle.edit_tree.specs.declared.nodes.Words.TheVariants.{Kept, Made}
 use Rattle.edit_tree.specs.declared.nodes.Content.{Content}
 use Rattle.edit_tree.specs.declared.nodes.Content.TheVariants as content
-use Rattle.edit_tree.specs.declared.nodes.Taken.{Taken}
+use Rattle.edit_tree.specs.declared.nodes.DefinedBy.{DefinedBy}
 use Rattle.edit_tree.specs.declared.nodes.Lookup.{Lookup}
 use Rattle.edit_tree.specs.declared.nodes.Member.{Member}
 use Rattle.edit_tree.specs.declared.nodes.MemberList.{MemberList}
@@ -33,24 +33,24 @@ pub data Shape : Type 0 where
   sections : Shape
 
 -- the shape of a value with a token of this kind and this decoded text (own)
-abbrev pub shape_said : MarkKind → List ℕ → Shape
-shape_said kinds.Integer text = scalar (whole text)
-shape_said kinds.Float text = scalar (fractional text)
-shape_said kinds.DateTime text = scalar (moment text)
-shape_said _ text = scalar (string text)
+abbrev pub scalar_shape : MarkKind → List ℕ → Shape
+scalar_shape kinds.Integer text = scalar (whole text)
+scalar_shape kinds.Float text = scalar (fractional text)
+scalar_shape kinds.DateTime text = scalar (moment text)
+scalar_shape _ text = scalar (string text)
 
 -- a node of the model: its place, its shape, how it was defined, the names and node indices of its members in
 -- the order of first definitions, the node indices of its elements, and the span of its value
-pub record Spot : Type 0 where
+pub record ModelNode : Type 0 where
   pub place : Place
   pub shape : Shape
-  pub taken : Taken
+  pub taken : DefinedBy
   pub members : List (List ℕ × ℕ)
   pub elements : List ℕ
   pub span : Option Span
 
 -- the names of a node's members
-abbrev pub names_of : Spot → List (List ℕ)
+abbrev pub names_of : ModelNode → List (List ℕ)
 names_of s = map (λ e. e.0) s.members
 
 -- the view of a node with this shape, these member names and this number of elements
@@ -62,8 +62,8 @@ view_of_shape section names n = table (map key names)
 view_of_shape sections names n = table_array n
 
 -- the place of a node and its view
-abbrev pub shown_spot : Spot → Place × View
-shown_spot s = (s.place, view_of_shape s.shape (names_of s) (length s.elements))
+abbrev pub model_node_view : ModelNode → Place × View
+model_node_view s = (s.place, view_of_shape s.shape (names_of s) (length s.elements))
 
 -- ---- how the table of nodes represents the model
 
@@ -148,7 +148,7 @@ abbrev pub IsIndexed : List ℕ → Members → Type 0
 IsIndexed text members = IsIndexedBy text members.parts
 
 -- a node represents a node of the model; of its place it stores the number of steps
-pub record Keeps (text : List ℕ) (node : Node) (spot : Spot) : Type 0 where
+pub record RepresentsNode (text : List ℕ) (node : Node) (spot : ModelNode) : Type 0 where
   pub shape : shape_of text node.content ≡ spot.shape
   pub taken : node.taken ≡ spot.taken
   pub steps : node.steps ≡ length spot.place
@@ -158,25 +158,25 @@ pub record Keeps (text : List ℕ) (node : Node) (spot : Spot) : Type 0 where
   pub span : node.span ≡ spot.span
 
 -- each node represents the node of the model at its index
-pub record Holds (text : List ℕ) (nodes : List Node) (spots : List Spot) : Type 0 where
+pub record RepresentsNodes (text : List ℕ) (nodes : List Node) (spots : List ModelNode) : Type 0 where
   pub len : length nodes ≡ length spots
-  pub each : (n : ℕ) (node : Node) (spot : Spot) → slice_get nodes n ≡ Some node
-      → slice_get spots n ≡ Some spot → Keeps text node spot
+  pub each : (n : ℕ) (node : Node) (spot : ModelNode) → slice_get nodes n ≡ Some node
+      → slice_get spots n ≡ Some spot → RepresentsNode text node spot
 
 -- ---- places
 
 -- the node at this index is at this place
-abbrev pub StandsAt : List Spot → ℕ → Place → Type 0
-StandsAt spots n place = (s : Spot) × (slice_get spots n ≡ Some s) × (s.place ≡ place)
+abbrev pub StandsAt : List ModelNode → ℕ → Place → Type 0
+StandsAt spots n place = (s : ModelNode) × (slice_get spots n ≡ Some s) × (s.place ≡ place)
 
 -- the index of the child of a node at this step
-abbrev pub below : Spot → Step → Option ℕ
+abbrev pub below : ModelNode → Step → Option ℕ
 below s (key name) = lookup (λ n. bytes_eq name n) s.members
 below s (index i) = slice_get s.elements i
 
 -- the place is a child of a node of the model, which lists it at this index
-pub record IsBelow (spots : List Spot) (number : ℕ) (place : Place) : Type 0 where
-  pub upper : Spot
+pub record IsBelow (spots : List ModelNode) (number : ℕ) (place : Place) : Type 0 where
+  pub upper : ModelNode
   pub above : ℕ
   pub step : Step
   pub stands : slice_get spots above ≡ Some upper
@@ -185,10 +185,10 @@ pub record IsBelow (spots : List Spot) (number : ℕ) (place : Place) : Type 0 w
 
 -- the nodes of a tree: the root comes first, no two nodes have the same place, and each node but the root is
 -- listed as the child of its parent
-pub record IsTree (spots : List Spot) : Type 0 where
+pub record IsTree (spots : List ModelNode) : Type 0 where
   pub root : StandsAt spots 0 []
-  pub unique : (i j : ℕ) (s t : Spot) → slice_get spots i ≡ Some s → slice_get spots j ≡ Some t
+  pub unique : (i j : ℕ) (s t : ModelNode) → slice_get spots i ≡ Some s → slice_get spots j ≡ Some t
       → s.place ≡ t.place → i ≡ j
-  pub down : (i j : ℕ) (s : Spot) (step : Step) → slice_get spots i ≡ Some s → below s step ≡ Some j
+  pub down : (i j : ℕ) (s : ModelNode) (step : Step) → slice_get spots i ≡ Some s → below s step ≡ Some j
       → StandsAt spots j (at s.place step)
-  pub up : (j : ℕ) (t : Spot) → slice_get spots j ≡ Some t → (t.place ≡ []) ⊎ IsBelow spots j t.place
+  pub up : (j : ℕ) (t : ModelNode) → slice_get spots j ≡ Some t → (t.place ≡ []) ⊎ IsBelow spots j t.place

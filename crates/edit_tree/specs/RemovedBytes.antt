@@ -4,19 +4,19 @@ use Rattle.edit_syntax.specs.Characters.{comma, equals, left_bracket, right_brac
 use Rattle.edit_syntax.specs.Strings.{◌·◌, key}
 use Rattle.edit_syntax.specs.Grammar.{gap, Value, array, inline, value, Elements, no_elements, last_element, element, Members, no_members, last_member, member, members, lines, Text, text, byte_order_mark}
 use Rattle.edit_tree.specs.Assertions.{Place, index, same_place, at, names, named, place_named}
-use Rattle.edit_tree.specs.Statements.{Stated, stated}
-use Rattle.edit_tree.specs.Written.{Valued, values}
-use Rattle.edit_tree.specs.EditBytes.{before, with_splice, last_made, is_within}
+use Rattle.edit_tree.specs.Statements.{PlacedStatement, placed_statements}
+use Rattle.edit_tree.specs.Written.{PlacedValue, values}
+use Rattle.edit_tree.specs.EditBytes.{before, with_splice, last_result, is_within}
 
 -- ---- lines
 
 -- the statement names the place or one below it, so that it is removed
-abbrev pub is_gone : Place → Stated → Bool
+abbrev pub is_gone : Place → PlacedStatement → Bool
 is_gone gone s = is_within gone (place_named s.earlier s.prefix s.statement)
 
 -- What is left of lines from here on. A removed statement takes with it the blank and comment lines before
 -- it, and its own lines with their newline.
-abbrev pub lines_left : Place → List ℕ → List Stated → List ℕ
+abbrev pub lines_left : Place → List ℕ → List PlacedStatement → List ℕ
 lines_left gone from [] = from
 lines_left gone from (s ∷ ss) =
     if is_gone gone s then lines_left gone s.next ss else before from s.next ++ lines_left gone s.next ss
@@ -29,12 +29,12 @@ pub record Left : Type 0 where
   pub rest : List ℕ
 
 -- the text is left with a comma before it
-abbrev pub with_it : List ℕ → Left
-with_it rest = record { comma_stays = true; rest = rest }
+abbrev pub left_with_comma : List ℕ → Left
+left_with_comma rest = record { comma_stays = true; rest = rest }
 
 -- the text is left without a comma before it
-abbrev pub without_it : List ℕ → Left
-without_it rest = record { comma_stays = false; rest = rest }
+abbrev pub left_without_comma : List ℕ → Left
+left_without_comma rest = record { comma_stays = false; rest = rest }
 
 -- a text without the tabs and spaces at its start
 abbrev pub without_blanks : List ℕ → List ℕ
@@ -49,28 +49,28 @@ behind_comma lead l = if l.comma_stays then comma ∷ lead l.rest else l.rest
 -- removed too; where no comma follows, the comma before it is removed and the gap behind it stays.
 abbrev pub without_member : (List ℕ → List ℕ) → (List ℕ → List ℕ) → Left → Left
 without_member trail lead l =
-    if l.comma_stays then with_it (without_blanks (lead l.rest)) else without_it (trail l.rest)
+    if l.comma_stays then left_with_comma (without_blanks (lead l.rest)) else left_without_comma (trail l.rest)
 
 -- the elements of an array from an index on, without the one at a place
 abbrev pub elements_left : Place → Place → ℕ → Elements → List ℕ → Left
-elements_left gone place i no_elements rest = with_it rest
+elements_left gone place i no_elements rest = left_with_comma rest
 elements_left gone place i (last_element v g) rest =
-    if same_place (at place (index i)) gone then without_it (gap g rest) else with_it (value v (gap g rest))
+    if same_place (at place (index i)) gone then left_without_comma (gap g rest) else left_with_comma (value v (gap g rest))
 elements_left gone place i (element v g h es) rest =
     let l = elements_left gone place (suc i) es rest in
     if same_place (at place (index i)) gone then without_member (gap g) (gap h) l
-    else with_it (value v (gap g (behind_comma (gap h) l)))
+    else left_with_comma (value v (gap g (behind_comma (gap h) l)))
 
 -- the members of an inline table, without those that name a place or one below it
 abbrev pub members_left : Place → Place → Members → List ℕ → Left
-members_left gone place no_members rest = with_it rest
+members_left gone place no_members rest = left_with_comma rest
 members_left gone place (last_member k a b v c) rest =
-    if is_within gone (named place (names k)) then without_it (gap c rest)
-    else with_it (members (last_member k a b v c) rest)
+    if is_within gone (named place (names k)) then left_without_comma (gap c rest)
+    else left_with_comma (members (last_member k a b v c) rest)
 members_left gone place (member k a b v c d ms) rest =
     let l = members_left gone place ms rest in
     if is_within gone (named place (names k)) then without_member (gap c) (gap d) l
-    else with_it (key k (a · equals ∷ (b · value v (gap c (behind_comma (gap d) l)))))
+    else left_with_comma (key k (a · equals ∷ (b · value v (gap c (behind_comma (gap d) l)))))
 
 -- the text of an array or an inline table without what is at or below a place
 abbrev pub value_left : Place → Place → Value → List ℕ → List ℕ
@@ -83,20 +83,20 @@ value_left gone place v rest = value v rest
 -- ---- texts
 
 -- the place lies below a value, which thus is an array or an inline table
-abbrev pub is_around : Place → Valued → Bool
+abbrev pub is_around : Place → PlacedValue → Bool
 is_around gone w = is_within w.place gone && not (same_place w.place gone)
 
 -- the innermost array or inline table around the place
-abbrev pub innermost : Place → Text → Option Valued
-innermost gone t = last_made (λ w. if is_around gone w then Some w else None) (values t)
+abbrev pub innermost : Place → Text → Option PlacedValue
+innermost gone t = last_result (λ w. if is_around gone w then Some w else None) (values t)
 
 -- the text without the item at a place: members of the innermost array or inline table around it are removed,
 -- or else whole lines; U+FEFF stays
 abbrev pub removed_text : Place → Text → List ℕ
 removed_text gone t = without (innermost gone t)
   where
-    without : Option Valued → List ℕ
+    without : Option PlacedValue → List ℕ
     without (Some w) =
         let now = value_left gone w.place w.value [] in
         with_splice (text t) (record { from = value w.value w.after; to = w.after; now = now })
-    without None = byte_order_mark t.marked (lines_left gone (lines t.lines) (stated t))
+    without None = byte_order_mark t.marked (lines_left gone (lines t.lines) (placed_statements t))

@@ -6,7 +6,7 @@ use Rattle.edit_syntax.specs.Grammar.{Value, basic, literal, multi_basic, multi_
 use Rattle.edit_tree.specs.Assertions.{Place, index, at, names, named, same_step, same_place, Assertion, of_statement, prefix_after, IsDocument}
 use Rattle.edit_tree.specs.Tree.{View, string, view_at, is_value_at}
 use Rattle.edit_tree.specs.Literals.{literal_of}
-use Rattle.edit_tree.specs.Written.{Valued, values}
+use Rattle.edit_tree.specs.Written.{PlacedValue, values}
 
 -- edits: places, each with its new text
 abbrev pub Edits : Type 0
@@ -105,14 +105,14 @@ replaced edits t = replaced_by literal_of edits t
 -- ---- the bytes
 
 -- the values at the places of the edits, in the order of the text, each with its new text
-abbrev pub edited : Edits → Text → List (Valued × List ℕ)
+abbrev pub edited : Edits → Text → List (PlacedValue × List ℕ)
 edited edits t = filter_map (λ w. option_map (λ said. (w, said)) (new_text edits w.place)) (values t)
 
 -- from `t0 v1 t1 .. vn tn` to `t0 l1 t1 .. ln tn`: each value is replaced by its new text as written, and all
 -- other bytes stay
-pub data Swaps (write : Writer) : List (Valued × List ℕ) → List ℕ → List ℕ → Type 0 where
+pub data Swaps (write : Writer) : List (PlacedValue × List ℕ) → List ℕ → List ℕ → Type 0 where
   rest : (t : List ℕ) → Swaps write [] t t
-  next : (t : List ℕ) (w : Valued) (said : List ℕ) (more : List (Valued × List ℕ)) (new : List ℕ)
+  next : (t : List ℕ) (w : PlacedValue) (said : List ℕ) (more : List (PlacedValue × List ℕ)) (new : List ℕ)
       → Swaps write more w.after new
       → Swaps write ((w, said) ∷ more) (t ++ value w.value w.after) (t ++ value (write said) new)
 
@@ -136,8 +136,8 @@ written [] tree q = tree q
 written (e ∷ es) tree q = if same_place e.0 q then Some (string e.1) else written es tree q
 
 -- a tree with nothing below the places of the edits
-abbrev pub emptied : Edits → (Place → Option View) → Place → Option View
-emptied edits tree q = if is_below_any edits q then None else tree q
+abbrev pub tree_without_below : Edits → (Place → Option View) → Place → Option View
+tree_without_below edits tree q = if is_below_any edits q then None else tree q
 
 -- the view is that of a string
 abbrev pub is_string : Option View → Bool
@@ -170,4 +170,4 @@ pub record Replaces (edits : Edits) (old new : List ℕ) : Type 0 where
   pub kept : Swaps literal_of (edited edits form) old new
   pub is : IsDocument new (replaced edits form)
   pub tree : (place : Place)
-      → view_at (replaced edits form) place ≡ written edits (emptied edits (view_at form)) place
+      → view_at (replaced edits form) place ≡ written edits (tree_without_below edits (view_at form)) place

@@ -5,15 +5,15 @@ use Rattle.edit_syntax.specs.Depth.{depth}
 use Rattle.edit_syntax.specs.Grammar.{Between, gap, IsGap, inline, value, IsValue, Members}
 use Rattle.edit_syntax.specs.ReadingSteps.{first}
 use Rattle.edit_syntax.specs.Steps.{ends_item}
-use Rattle.edit_tree.specs.WalkState.{SaysAt}
+use Rattle.edit_tree.specs.WalkState.{IsDecodedAt}
 use Rattle.edit_tree.specs.Slots.{Slot, slot, IsSlot}
 
 -- the tokens of these parts of a key have these decoded names
-abbrev pub AreSaid : List ℕ → List Mark → List (List ℕ) → Type 0
-AreSaid text [] [] = ⊤
-AreSaid text [] (n ∷ ns) = ⊥
-AreSaid text (m ∷ ms) [] = ⊥
-AreSaid text (m ∷ ms) (n ∷ ns) = SaysAt text m n × AreSaid text ms ns
+abbrev pub AreDecodedAs : List ℕ → List Mark → List (List ℕ) → Type 0
+AreDecodedAs text [] [] = ⊤
+AreDecodedAs text [] (n ∷ ns) = ⊥
+AreDecodedAs text (m ∷ ms) [] = ⊥
+AreDecodedAs text (m ∷ ms) (n ∷ ns) = IsDecodedAt text m n × AreDecodedAs text ms ns
 
 -- the second text is a suffix of the first
 abbrev pub Ends : List ℕ → List ℕ → Type 0

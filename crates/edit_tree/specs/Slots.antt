@@ -6,7 +6,7 @@ use Rattle.edit_syntax.specs.Grammar.{Between, gap, IsGap, Value, value, IsValue
 use Rattle.edit_syntax.specs.Depth.{depth}
 use Rattle.edit_tree.specs.Assertions.{Place, key as name_step, index, same_place, names}
 use Rattle.edit_tree.specs.EditBytes.{is_within}
-use Rattle.edit_tree.specs.RemovedBytes.{Left, with_it, without_it, behind_comma, without_member}
+use Rattle.edit_tree.specs.RemovedBytes.{Left, left_with_comma, left_without_comma, behind_comma, without_member}
 
 -- ---- items between commas
 
@@ -79,13 +79,13 @@ goes below i (of_pair k a b v) = is_within below (map name_step (names k))
 
 -- the items that are left, from this index on
 abbrev pub slots_left : Place → ℕ → Slots → List ℕ → Left
-slots_left below i no_slots rest = with_it rest
+slots_left below i no_slots rest = left_with_comma rest
 slots_left below i (last_slot s c) rest =
-    if goes below i s then without_it (gap c rest) else with_it (slot s (gap c rest))
+    if goes below i s then left_without_comma (gap c rest) else left_with_comma (slot s (gap c rest))
 slots_left below i (more_slots s c d ss) rest =
     let l = slots_left below (suc i) ss rest in
     if goes below i s then without_member (gap c) (gap d) l
-    else with_it (slot s (gap c (behind_comma (gap d) l)))
+    else left_with_comma (slot s (gap c (behind_comma (gap d) l)))
 
 -- the text of an array or an inline table without what is removed
 abbrev pub enclosed_left : Bool → Place → List Between → Slots → List ℕ

@@ -2,7 +2,7 @@
 use Rattle.std.specs.Prelude.{ℕ, suc, Bool, true, false, not, ◌&&◌, if◌then◌else◌, List, [], ◌∷◌, Option, Some, None, option_map}
 use Rattle.std.specs.List.{filter, list_any, filter_map}
 use Rattle.edit_syntax.specs.Characters.{quote, apostrophe}
-use Rattle.edit_syntax.specs.Strings.{says, says_multi}
+use Rattle.edit_syntax.specs.Strings.{says, decoded_multi}
 use Rattle.edit_syntax.specs.Numbers.{integer_text, float_text, datetime_text}
 use Rattle.edit_syntax.specs.Grammar.{Value, basic, literal, multi_basic, multi_literal, boolean, integer, float, datetime, array, inline, Elements, no_elements, last_element, element, Text}
 use Rattle.edit_tree.specs.Assertions.{Step, Place, same_step, same_place, Kind, dotted, leaf, super, header_kind, array_kind, element_kind, Assertion, assertions, elements_at}
@@ -47,8 +47,8 @@ count_elements (element v g h es) = suc (count_elements es)
 abbrev pub view_of_value : List Assertion → Place → Value → View
 view_of_value made place (basic ps) = string (says quote ps)
 view_of_value made place (literal text) = string text
-view_of_value made place (multi_basic ps) = string (says_multi quote ps)
-view_of_value made place (multi_literal ps) = string (says_multi apostrophe ps)
+view_of_value made place (multi_basic ps) = string (decoded_multi quote ps)
+view_of_value made place (multi_literal ps) = string (decoded_multi apostrophe ps)
 view_of_value made place (boolean b) = truth b
 view_of_value made place (integer n) = whole (integer_text n [])
 view_of_value made place (float f) = fractional (float_text f [])

@@ -6,15 +6,15 @@ use Rattle.edit_syntax.specs.declared.read.marks.Mark.{Mark}
 use Rattle.edit_syntax.specs.declared.read.marks.MarkKind.{MarkKind}
 use Rattle.edit_syntax.specs.declared.read.marks.MarkKind.TheVariants as kinds
 use Rattle.edit_syntax.specs.declared.span.Span.{Span}
-use Rattle.edit_tree.specs.declared.nodes.Taken.{Taken}
-use Rattle.edit_tree.specs.declared.nodes.Taken.TheVariants.{Dotted, Value, Super, Header, Array, Element}
+use Rattle.edit_tree.specs.declared.nodes.DefinedBy.{DefinedBy}
+use Rattle.edit_tree.specs.declared.nodes.DefinedBy.TheVariants.{Dotted, Value, Super, Header, Array, Element}
 use Rattle.edit_syntax.specs.Characters.{quote, apostrophe}
-use Rattle.edit_syntax.specs.Strings.{says, says_multi}
+use Rattle.edit_syntax.specs.Strings.{says, decoded_multi}
 use Rattle.edit_syntax.specs.Reading.{◌>>=◌, basic_at, literal_at, multi_at}
 use Rattle.edit_tree.specs.Assertions.{Place, key, index, at}
 use Rattle.edit_tree.specs.Tree.{truth}
-use Rattle.edit_tree.specs.Nodes.{Shape, shape_said, scalar, listed, inline, section, sections, Spot, below}
-use Rattle.edit_tree.specs.Taking.{joins, stronger}
+use Rattle.edit_tree.specs.Nodes.{Shape, scalar_shape, scalar, listed, inline, section, sections, ModelNode, below}
+use Rattle.edit_tree.specs.Redefinition.{joins, merged_definition}
 
 -- the last number of a list
 abbrev pub last_of : List ℕ → Option ℕ
@@ -27,26 +27,26 @@ abbrev pub suffix : List ℕ → ℕ → List ℕ
 suffix bytes n = drop (length bytes - n) bytes
 
 -- the decoded value of a basic string; the input begins behind its opening quote
-abbrev pub basic_said : List ℕ → Option (List ℕ)
-basic_said text = option_map (λ p. says quote p.0) (basic_at text)
+abbrev pub basic_value : List ℕ → Option (List ℕ)
+basic_value text = option_map (λ p. says quote p.0) (basic_at text)
 
 -- the decoded value of a literal string; the input begins behind its opening apostrophe
-abbrev pub literal_said : List ℕ → Option (List ℕ)
-literal_said text = option_map (λ p. p.0) (literal_at text)
+abbrev pub literal_value : List ℕ → Option (List ℕ)
+literal_value text = option_map (λ p. p.0) (literal_at text)
 
 -- the decoded value of a multi-line string; the input begins behind its opening delimiter
-abbrev pub multi_said : ℕ → List ℕ → Option (List ℕ)
-multi_said mark text = option_map (λ p. says_multi mark p.0) (multi_at mark text)
+abbrev pub multi_value : ℕ → List ℕ → Option (List ℕ)
+multi_value mark text = option_map (λ p. decoded_multi mark p.0) (multi_at mark text)
 
 -- the decoded value of a token of this kind and length at the front of a text
 abbrev pub told : MarkKind → List ℕ → ℕ → Option (List ℕ)
 told kinds.BarePart text n = Some (take n text)
-told kinds.BasicPart text n = basic_said (drop 1 text)
-told kinds.LiteralPart text n = literal_said (drop 1 text)
-told kinds.BasicString text n = basic_said (drop 1 text)
-told kinds.LiteralString text n = literal_said (drop 1 text)
-told kinds.MultiBasicString text n = multi_said quote (drop 3 (take n text))
-told kinds.MultiLiteralString text n = multi_said apostrophe (drop 3 (take n text))
+told kinds.BasicPart text n = basic_value (drop 1 text)
+told kinds.LiteralPart text n = literal_value (drop 1 text)
+told kinds.BasicString text n = basic_value (drop 1 text)
+told kinds.LiteralString text n = literal_value (drop 1 text)
+told kinds.MultiBasicString text n = multi_value quote (drop 3 (take n text))
+told kinds.MultiLiteralString text n = multi_value apostrophe (drop 3 (take n text))
 told kinds.Integer text n = Some (take n text)
 told kinds.Float text n = Some (take n text)
 told kinds.DateTime text n = Some (take n text)
@@ -63,12 +63,12 @@ said bytes m = told m.kind (suffix bytes m.from) (m.from - m.to) >>= as_text
 -- ---- nodes
 
 -- a node without members and elements
-abbrev pub spot_at : Place → Shape → Taken → Option Span → Spot
-spot_at place shape taken span =
+abbrev pub model_node_at : Place → Shape → DefinedBy → Option Span → ModelNode
+model_node_at place shape taken span =
     record { place = place; shape = shape; taken = taken; members = []; elements = []; span = span }
 
 -- the index of the member of this name of the node at an index
-unfoldable pub child : List Spot → ℕ → List ℕ → Option ℕ
+unfoldable pub child : List ModelNode → ℕ → List ℕ → Option ℕ
 child spots number name = slice_get spots number >>= λ s. below s (key name)
 
 -- the index of the last table of an array of tables
@@ -77,63 +77,63 @@ last_table sections numbers = last_of numbers
 last_table _ numbers = None
 
 -- the index of the node to extend: a header that passes through an array of tables refers to its last element
-unfoldable pub target_of : List Spot → ℕ → Taken → ℕ
+unfoldable pub target_of : List ModelNode → ℕ → DefinedBy → ℕ
 target_of spots number Super =
     unwrap_or (slice_get spots number >>= λ s. last_table s.shape s.elements) number
 target_of spots number _ = number
 
 -- a node with another way in which it counts as defined
-abbrev pub with_taken : Spot → Taken → Spot
-with_taken s taken = record s { taken = stronger s.taken taken }
+abbrev pub with_definition : ModelNode → DefinedBy → ModelNode
+with_definition s taken = record s { taken = merged_definition s.taken taken }
 
 -- the nodes after one is extended; none where TOML does not allow it
-unfoldable pub taken_again : List Spot → ℕ → Taken → Option (List Spot)
-taken_again spots number taken = slice_get spots number >>= λ s.
-    if joins s.taken taken then Some (slice_set spots number (with_taken s taken)) else None
+unfoldable pub node_extended : List ModelNode → ℕ → DefinedBy → Option (List ModelNode)
+node_extended spots number taken = slice_get spots number >>= λ s.
+    if joins s.taken taken then Some (slice_set spots number (with_definition s taken)) else None
 
 -- a node with one more member
-abbrev pub with_member : Spot → List ℕ → ℕ → Spot
+abbrev pub with_member : ModelNode → List ℕ → ℕ → ModelNode
 with_member s name number = record s { members = s.members ++ (name, number) ∷ [] }
 
 -- a node with one more element
-abbrev pub with_element : Spot → ℕ → Spot
+abbrev pub with_element : ModelNode → ℕ → ModelNode
 with_element s number = record s { elements = s.elements ++ number ∷ [] }
 
 -- the nodes with a new member of one of them, and the index of the new one; none beyond 80 steps
-unfoldable pub added : List Spot → ℕ → List ℕ → Shape → Taken → Option Span → Option (List Spot × ℕ)
+unfoldable pub added : List ModelNode → ℕ → List ℕ → Shape → DefinedBy → Option Span → Option (List ModelNode × ℕ)
 added spots number name shape taken span = slice_get spots number >>= λ s.
     if nat_le 80 (length s.place) then None
     else Some (
       slice_set spots number (with_member s name (length spots))
-          ++ spot_at (at s.place (key name)) shape taken span ∷ [],
+          ++ model_node_at (at s.place (key name)) shape taken span ∷ [],
       length spots,
     )
 
 -- the nodes with a new element of one of them, and the index of the new one; none beyond 80 steps
-unfoldable pub element_added : List Spot → ℕ → Shape → Taken → Option Span → Option (List Spot × ℕ)
+unfoldable pub element_added : List ModelNode → ℕ → Shape → DefinedBy → Option Span → Option (List ModelNode × ℕ)
 element_added spots number shape taken span = slice_get spots number >>= λ s.
     if nat_le 80 (length s.place) then None
     else Some (
       slice_set spots number (with_element s (length spots))
-          ++ spot_at (at s.place (index (length s.elements))) shape taken span ∷ [],
+          ++ model_node_at (at s.place (index (length s.elements))) shape taken span ∷ [],
       length spots,
     )
 
 -- the nodes, with the index of one of them
-abbrev pub numbered : ℕ → Option (List Spot) → Option (List Spot × ℕ)
-numbered number o = option_map (λ spots. (spots, number)) o
+abbrev pub with_index : ℕ → Option (List ModelNode) → Option (List ModelNode × ℕ)
+with_index number o = option_map (λ spots. (spots, number)) o
 
 -- the nodes after the member at this index is extended, or after a member is added where there is none
-abbrev pub asserted_at : Option ℕ → List Spot → ℕ → List ℕ → Shape → Taken → Option Span
-    → Option (List Spot × ℕ)
-asserted_at None spots number name shape taken span = added spots number name shape taken span
-asserted_at (Some j) spots number name shape taken span =
-    numbered (target_of spots j taken) (taken_again spots (target_of spots j taken) taken)
+abbrev pub member_defined_at : Option ℕ → List ModelNode → ℕ → List ℕ → Shape → DefinedBy → Option Span
+    → Option (List ModelNode × ℕ)
+member_defined_at None spots number name shape taken span = added spots number name shape taken span
+member_defined_at (Some j) spots number name shape taken span =
+    with_index (target_of spots j taken) (node_extended spots (target_of spots j taken) taken)
 
 -- the nodes after a member of one of them is defined, and the index of the defined node
-unfoldable pub asserted : List Spot → ℕ → List ℕ → Shape → Taken → Option Span → Option (List Spot × ℕ)
-asserted spots number name shape taken span =
-    asserted_at (child spots number name) spots number name shape taken span
+unfoldable pub member_defined : List ModelNode → ℕ → List ℕ → Shape → DefinedBy → Option Span → Option (List ModelNode × ℕ)
+member_defined spots number name shape taken span =
+    member_defined_at (child spots number name) spots number name shape taken span
 
 -- the shape of a table that a front part of a key makes
 abbrev pub front_shape : Bool → Shape
@@ -141,17 +141,17 @@ front_shape is_inline = if is_inline then inline else section
 
 -- the nodes after all front parts of a key are followed from a table on, and the index of the table of its
 -- last part
-unfoldable pub reached : List Spot → ℕ → List (List ℕ) → Shape → Taken → Option (List Spot × ℕ)
+unfoldable pub reached : List ModelNode → ℕ → List (List ℕ) → Shape → DefinedBy → Option (List ModelNode × ℕ)
 reached spots number [] shape taken = Some (spots, number)
 reached spots number (name ∷ names) shape taken =
-    asserted spots number name shape taken None >>= λ r. reached r.0 r.1 names shape taken
+    member_defined spots number name shape taken None >>= λ r. reached r.0 r.1 names shape taken
 
 -- ---- the walk
 
 -- the state of the walk: the nodes so far, the indices of the open tables and arrays (the innermost last),
 -- and the pending key, split into its last part and the parts before it
 pub record State : Type 0 where
-  pub spots : List Spot
+  pub spots : List ModelNode
   pub tables : List ℕ
   pub fronts : List (List ℕ)
   pub name : Option (List ℕ)
@@ -161,48 +161,48 @@ abbrev pub without_last : List ℕ → List ℕ
 without_last numbers = take (length numbers - 1) numbers
 
 -- the state with a part appended to the pending key
-abbrev pub awaiting : State → List ℕ → State
-awaiting st name = record st { fronts = st.fronts ++ option_to_list st.name; name = Some name }
+abbrev pub with_key_part : State → List ℕ → State
+with_key_part st name = record st { fronts = st.fronts ++ option_to_list st.name; name = Some name }
 
 -- a state without a pending key
-abbrev pub settled_state : List Spot → List ℕ → State
-settled_state spots tables = record { spots = spots; tables = tables; fronts = []; name = None }
+abbrev pub without_pending : List ModelNode → List ℕ → State
+without_pending spots tables = record { spots = spots; tables = tables; fronts = []; name = None }
 
 -- a dotted key is in an inline table: more tables are open than that of the header
-abbrev pub is_dotted_within : ℕ → Taken → Bool
+abbrev pub is_dotted_within : ℕ → DefinedBy → Bool
 is_dotted_within count Dotted = nat_lt 1 count
 is_dotted_within count _ = false
 
 -- the state after the pending key is defined below a table, and the index of its node
-unfoldable pub settled : State → ℕ → Taken → Shape → Taken → Option Span → Option (State × ℕ)
-settled st number front shape taken span = st.name
+unfoldable pub pending_defined : State → ℕ → DefinedBy → Shape → DefinedBy → Option Span → Option (State × ℕ)
+pending_defined st number front shape taken span = st.name
     >>= λ name. reached st.spots number st.fronts
     (front_shape (is_dotted_within (length st.tables) front)) front >>= λ r.
-    asserted r.0 r.1 name shape taken span >>= λ q. Some (settled_state q.0 st.tables, q.1)
+    member_defined r.0 r.1 name shape taken span >>= λ q. Some (without_pending q.0 st.tables, q.1)
 
 -- the state after a value becomes the member of the pending key, or an element where no key is pending
-abbrev pub entered_below : Option (List ℕ) → State → ℕ → Shape → Option Span → Option (State × ℕ)
-entered_below (Some name) st number shape span = settled st number Dotted shape Value span
-entered_below None st number shape span =
+abbrev pub value_added_below : Option (List ℕ) → State → ℕ → Shape → Option Span → Option (State × ℕ)
+value_added_below (Some name) st number shape span = pending_defined st number Dotted shape Value span
+value_added_below None st number shape span =
     element_added st.spots number shape Value span >>= λ q. Some (record st { spots = q.0 }, q.1)
 
 -- the state after a value is added to the innermost table or array, and the index of its node
-abbrev pub entered_at : State → Shape → Option Span → Option (State × ℕ)
-entered_at st shape span = last_of st.tables >>= λ number. entered_below st.name st number shape span
+abbrev pub value_added_at : State → Shape → Option Span → Option (State × ℕ)
+value_added_at st shape span = last_of st.tables >>= λ number. value_added_below st.name st number shape span
 
 -- the state after a value is added to the innermost table or array
-abbrev pub entered : State → Shape → Option Span → Option State
-entered st shape span = entered_at st shape span >>= λ r. Some r.0
+abbrev pub value_added : State → Shape → Option Span → Option State
+value_added st shape span = value_added_at st shape span >>= λ r. Some r.0
 
 -- the state after an array or an inline table is opened
 abbrev pub opened : State → Shape → Option Span → Option State
 opened st shape span =
-    entered_at st shape span >>= λ r. Some (record r.0 { tables = r.0.tables ++ r.1 ∷ [] })
+    value_added_at st shape span >>= λ r. Some (record r.0 { tables = r.0.tables ++ r.1 ∷ [] })
 
 -- the state after the innermost array or inline table is closed; its text ends n bytes before the end of the
 -- text
-abbrev pub closed : State → ℕ → Option State
-closed st to = last_of st.tables >>= λ number. slice_get st.spots number >>= λ s. s.span >>= λ span.
+abbrev pub value_closed : State → ℕ → Option State
+value_closed st to = last_of st.tables >>= λ number. slice_get st.spots number >>= λ s. s.span >>= λ span.
     Some (record st {
       spots = slice_set st.spots number
           (record s { span = Some (record { from = span.from; to = to }) });
@@ -215,12 +215,12 @@ turned r = record r.0 { tables = r.1 ∷ [] }
 
 -- the state after the pending key becomes a header `[key]`
 abbrev pub headed : State → Option State
-headed st = settled st 0 Super section Header None >>= λ r. Some (turned r)
+headed st = pending_defined st 0 Super section Header None >>= λ r. Some (turned r)
 
 -- the state after the pending key becomes a header `[[key]]`
-abbrev pub element_headed : State → Option State
-element_headed st =
-    settled st 0 Super sections Array None >>= λ r. element_added r.0.spots r.1 section Element None >>= λ q.
+abbrev pub array_table_opened : State → Option State
+array_table_opened st =
+    pending_defined st 0 Super sections Array None >>= λ r. element_added r.0.spots r.1 section Element None >>= λ q.
     Some (turned (record r.0 { spots = q.0 }, q.1))
 
 -- the span of a token
@@ -229,13 +229,13 @@ span_of_mark m = record { from = m.from; to = m.to }
 
 -- the state after a string, a number, a date or a time is added
 abbrev pub worded : List ℕ → Mark → State → Option State
-worded bytes m st = said bytes m >>= λ text. entered st (shape_said m.kind text) (Some (span_of_mark m))
+worded bytes m st = said bytes m >>= λ text. value_added st (scalar_shape m.kind text) (Some (span_of_mark m))
 
 -- the state after a token of this kind
 abbrev pub act : MarkKind → List ℕ → Mark → State → Option State
-act kinds.BarePart bytes m st = said bytes m >>= λ name. Some (awaiting st name)
-act kinds.BasicPart bytes m st = said bytes m >>= λ name. Some (awaiting st name)
-act kinds.LiteralPart bytes m st = said bytes m >>= λ name. Some (awaiting st name)
+act kinds.BarePart bytes m st = said bytes m >>= λ name. Some (with_key_part st name)
+act kinds.BasicPart bytes m st = said bytes m >>= λ name. Some (with_key_part st name)
+act kinds.LiteralPart bytes m st = said bytes m >>= λ name. Some (with_key_part st name)
 act kinds.BasicString bytes m st = worded bytes m st
 act kinds.LiteralString bytes m st = worded bytes m st
 act kinds.MultiBasicString bytes m st = worded bytes m st
@@ -243,14 +243,14 @@ act kinds.MultiLiteralString bytes m st = worded bytes m st
 act kinds.Integer bytes m st = worded bytes m st
 act kinds.Float bytes m st = worded bytes m st
 act kinds.DateTime bytes m st = worded bytes m st
-act kinds.True bytes m st = entered st (scalar (truth true)) (Some (span_of_mark m))
-act kinds.False bytes m st = entered st (scalar (truth false)) (Some (span_of_mark m))
+act kinds.True bytes m st = value_added st (scalar (truth true)) (Some (span_of_mark m))
+act kinds.False bytes m st = value_added st (scalar (truth false)) (Some (span_of_mark m))
 act kinds.OpenArray bytes m st = opened st listed (Some (span_of_mark m))
-act kinds.CloseArray bytes m st = closed st m.to
+act kinds.CloseArray bytes m st = value_closed st m.to
 act kinds.OpenTable bytes m st = opened st inline (Some (span_of_mark m))
-act kinds.CloseTable bytes m st = closed st m.to
+act kinds.CloseTable bytes m st = value_closed st m.to
 act kinds.Header bytes m st = headed st
-act kinds.ElementHeader bytes m st = element_headed st
+act kinds.ElementHeader bytes m st = array_table_opened st
 
 -- the state after a token
 unfoldable pub step : List ℕ → Mark → State → Option State
@@ -258,7 +258,7 @@ step bytes m st = act m.kind bytes m st
 
 -- the state at the start, with the root alone
 abbrev pub start : State
-start = settled_state (spot_at [] section Header None ∷ []) (0 ∷ [])
+start = without_pending (model_node_at [] section Header None ∷ []) (0 ∷ [])
 
 -- the state after a list of tokens
 unfoldable pub walked : List ℕ → List Mark → State → Option State

@@ -1,51 +1,51 @@
 //! Adds the nodes that the statements of a document define, and checks that no key is defined twice (TOML
 //! 1.0.0, "Table" and "Keys").
 ghost use Rattle.std.specs.Prelude.{◌≡◌, ℕ, List, IfOk, None, map, nat_le};
-ghost use Rattle.edit_tree.specs.Nodes.{Spot, Holds, bytes_of, elements_of, shape_of};
-ghost use Rattle.edit_tree.specs.Taking as taking;
-ghost use Rattle.edit_tree.specs.declared.nodes.Taken.TheVariants.{Super};
-ghost use Rattle.edit_tree.specs.Walk.{child, last_table, target_of, taken_again, added, element_added, asserted, front_shape, reached};
-ghost use Rattle.edit_tree.specs.WalkState.{Adds, Puts};
+ghost use Rattle.edit_tree.specs.Nodes.{ModelNode, RepresentsNodes, bytes_of, elements_of, shape_of};
+ghost use Rattle.edit_tree.specs.Redefinition as taking;
+ghost use Rattle.edit_tree.specs.declared.nodes.DefinedBy.TheVariants.{Super};
+ghost use Rattle.edit_tree.specs.Walk.{child, last_table, target_of, node_extended, added, element_added, member_defined, front_shape, reached};
+ghost use Rattle.edit_tree.specs.WalkState.{HasNodes, HasNodeAt};
 
 use crate::members::Members;
-use crate::nodes::{Content, Node, Taken, Words, copied, words_in};
+use crate::nodes::{Content, DefinedBy, Node, Words, copied, decoded_str};
 use edit_syntax::Span;
 use std::alloc::{AllocError, Global};
 
 /// Whether a table or key already defined in the way `before` may be extended in the way `after`.
-fn joins(before: Taken, after: Taken) -> bool
+fn joins(before: DefinedBy, after: DefinedBy) -> bool
     ensures { result ≡ taking.joins before after }
 {
     match before {
-        Taken::Dotted => matches!(after, Taken::Dotted | Taken::Super),
-        Taken::Value => false,
-        Taken::Super => {
+        DefinedBy::Dotted => matches!(after, DefinedBy::Dotted | DefinedBy::Super),
+        DefinedBy::Value => false,
+        DefinedBy::Super => {
             matches!(
                 after,
-                Taken::Dotted | Taken::Super | Taken::Header | Taken::Element
+                DefinedBy::Dotted | DefinedBy::Super | DefinedBy::Header | DefinedBy::Element
             )
         }
-        Taken::Header => matches!(after, Taken::Super),
-        Taken::Array => matches!(after, Taken::Array),
-        Taken::Element => matches!(after, Taken::Super),
+        DefinedBy::Header => matches!(after, DefinedBy::Super),
+        DefinedBy::Array => matches!(after, DefinedBy::Array),
+        DefinedBy::Element => matches!(after, DefinedBy::Super),
     }
 }
 
 /// How a node counts as defined after it was defined in the way `before` and then extended in the way
 /// `after`.
-fn stronger(before: Taken, after: Taken) -> Taken
-    ensures { result ≡ taking.stronger before after }
+fn merged_definition(before: DefinedBy, after: DefinedBy) -> DefinedBy
+    ensures { result ≡ taking.merged_definition before after }
 {
     match before {
-        Taken::Super => after,
+        DefinedBy::Super => after,
         _ => before,
     }
 }
 
 /// Extends a node that is already defined. Returns false where TOML does not allow it.
-fn take_again(nodes: &mut Vec<Node>, number: usize, taken: Taken) -> bool
-    ensures { (text : List ℕ) (spots : List Spot) → Holds text nodes.old.items spots
-        → Adds text nodes.new.items (taken_again spots number taken) result }
+fn extend_node(nodes: &mut Vec<Node>, number: usize, taken: DefinedBy) -> bool
+    ensures { (text : List ℕ) (spots : List ModelNode) → RepresentsNodes text nodes.old.items spots
+        → HasNodes text nodes.new.items (node_extended spots number taken) result }
 {
     if number >= nodes.len() {
         return false;
@@ -55,13 +55,13 @@ fn take_again(nodes: &mut Vec<Node>, number: usize, taken: Taken) -> bool
         return false;
     }
     let node = &mut nodes[number];
-    node.taken = stronger(before, taken);
+    node.taken = merged_definition(before, taken);
     true
 }
 
 /// The index of the node's member of this name.
 fn find(text: &str, nodes: &[Node], number: usize, name: &str) -> Option<usize>
-    ensures { (spots : List Spot) → Holds text.now nodes.now spots → result ≡ child spots number name.now }
+    ensures { (spots : List ModelNode) → RepresentsNodes text.now nodes.now spots → result ≡ child spots number name.now }
 {
     if number >= nodes.len() {
         return None;
@@ -90,7 +90,7 @@ fn last_table(node: &Node) -> Option<usize>
 
 /// The index of the last element where the node is an array of tables, else `number`.
 fn last_element(nodes: &[Node], number: usize) -> usize
-    ensures { (text : List ℕ) (spots : List Spot) → Holds text nodes.now spots
+    ensures { (text : List ℕ) (spots : List ModelNode) → RepresentsNodes text nodes.now spots
         → result ≡ target_of spots number Super }
 {
     if number >= nodes.len() {
@@ -100,12 +100,12 @@ fn last_element(nodes: &[Node], number: usize) -> usize
 }
 
 /// The node to extend: a header that passes through an array of tables refers to its last element.
-fn target(nodes: &[Node], number: usize, taken: Taken) -> usize
-    ensures { (text : List ℕ) (spots : List Spot) → Holds text nodes.now spots
+fn target(nodes: &[Node], number: usize, taken: DefinedBy) -> usize
+    ensures { (text : List ℕ) (spots : List ModelNode) → RepresentsNodes text nodes.now spots
         → result ≡ target_of spots number taken }
 {
     match taken {
-        Taken::Super => last_element(nodes, number),
+        DefinedBy::Super => last_element(nodes, number),
         _ => number,
     }
 }
@@ -126,12 +126,12 @@ fn add(
     number: usize,
     name: Words,
     content: Content,
-    taken: Taken,
+    taken: DefinedBy,
     span: Option<Span>,
 ) -> Result<Option<usize>, AllocError>
-    ensures added { (spots : List Spot) → Holds text.now nodes.old.items spots
+    ensures added { (spots : List ModelNode) → RepresentsNodes text.now nodes.old.items spots
         → child spots number (bytes_of text.now name) ≡ None
-        → IfOk result (Puts text.now nodes.new.items
+        → IfOk result (HasNodeAt text.now nodes.new.items
         (added spots number (bytes_of text.now name) (shape_of text.now content) taken span)) }
 {
     let count = nodes.len();
@@ -161,11 +161,11 @@ pub(crate) fn add_element(
     nodes: &mut Vec<Node>,
     number: usize,
     content: Content,
-    taken: Taken,
+    taken: DefinedBy,
     span: Option<Span>,
 ) -> Result<Option<usize>, AllocError>
-    ensures added { (text : List ℕ) (spots : List Spot) → Holds text nodes.old.items spots
-        → IfOk result (Puts text nodes.new.items
+    ensures added { (text : List ℕ) (spots : List ModelNode) → RepresentsNodes text nodes.old.items spots
+        → IfOk result (HasNodeAt text nodes.new.items
         (element_added spots number (shape_of text content) taken span)) }
 {
     let count = nodes.len();
@@ -197,18 +197,18 @@ pub(crate) fn assert_member(
     number: usize,
     name: Words,
     content: Content,
-    taken: Taken,
+    taken: DefinedBy,
     span: Option<Span>,
 ) -> Result<Option<usize>, AllocError>
-    ensures made { (spots : List Spot) → Holds text.now nodes.old.items spots
-        → IfOk result (Puts text.now nodes.new.items
-        (asserted spots number (bytes_of text.now name) (shape_of text.now content) taken span)) }
+    ensures made { (spots : List ModelNode) → RepresentsNodes text.now nodes.old.items spots
+        → IfOk result (HasNodeAt text.now nodes.new.items
+        (member_defined spots number (bytes_of text.now name) (shape_of text.now content) taken span)) }
 {
-    let Some(member) = find(text, nodes, number, words_in(text, &name)) else {
+    let Some(member) = find(text, nodes, number, decoded_str(text, &name)) else {
         return add(alloc, text, nodes, number, name, content, taken, span);
     };
     let place = target(nodes, member, taken);
-    if !take_again(nodes, place, taken) {
+    if !extend_node(nodes, place, taken) {
         return Ok(None);
     }
     Ok(Some(place))
@@ -223,10 +223,10 @@ pub(crate) fn reach(
     number: usize,
     fronts: &[Words],
     is_inline: bool,
-    taken: Taken,
+    taken: DefinedBy,
 ) -> Result<Option<usize>, AllocError>
-    ensures made { (spots : List Spot) → Holds text.now nodes.old.items spots
-        → IfOk result (Puts text.now nodes.new.items
+    ensures made { (spots : List ModelNode) → RepresentsNodes text.now nodes.old.items spots
+        → IfOk result (HasNodeAt text.now nodes.new.items
         (reached spots number (map (bytes_of text.now) fronts.now) (front_shape is_inline) taken)) }
 {
     let mut table = number;

@@ -4,7 +4,7 @@
 
 mod assertions;
 pub mod cut;
-mod heads;
+mod header_walk;
 pub mod members;
 pub mod nodes;
 pub mod walk;

@@ -40,7 +40,7 @@ pub enum Content {
 
 /// How a table or key was defined, which decides what may still be added to it (TOML 1.0.0, "Table").
 #[derive(Clone, Copy, Debug, PartialEq, Eq)]
-pub enum Taken {
+pub enum DefinedBy {
     /// By a dotted key that passes through it.
     Dotted,
     /// As the value of a pair or the element of an array.
@@ -189,7 +189,7 @@ impl MemberList {
             ≡ slice_get (names_in (entries_listed text.now self.now)) index }
     {
         let member = self.list.get(index)?;
-        Some(words_in(text, &member.name))
+        Some(decoded_str(text, &member.name))
     }
 
     /// Appends a member.
@@ -207,7 +207,7 @@ impl MemberList {
             (λ _. IsListIndexed text.now self.new) }
     {
         if self.list.len() >= FEW {
-            let copy = String::from_str(alloc, words_in(text, &name))?;
+            let copy = String::from_str(alloc, decoded_str(text, &name))?;
             self.others.insert(alloc, copy, number)?;
         }
         push_exact(&mut self.list, Member { name, number })?;
@@ -219,7 +219,7 @@ impl MemberList {
 #[derive(Drop)]
 pub struct Node {
     pub content: Content,
-    pub taken: Taken,
+    pub taken: DefinedBy,
     /// The number of steps from the root.
     pub steps: u8,
     /// The position of its value, if it has one.
@@ -268,7 +268,7 @@ fn is_named(text: &str, words: &Words, name: &str) -> bool
 }
 
 /// The decoded text of a string or of a part of a key.
-pub fn words_in<'a>(text: &'a str, words: &'a Words) -> &'a str
+pub fn decoded_str<'a>(text: &'a str, words: &'a Words) -> &'a str
     ensures { result.now ≡ bytes_of text.now words.now }
 {
     match words {

@@ -2,14 +2,14 @@
 ghost use Rattle.std.specs.Prelude.{◌≡◌, ◌∷◌, [], ℕ, List, IfOk, IfErr, MatchResult, length, Some, None};
 ghost use Rattle.edit_base.specs.Errors.{IsMemory};
 ghost use Rattle.edit_tree.specs.Nodes.{bytes_of, shape_of};
-ghost use Rattle.edit_tree.specs.Walk.{State, awaiting, is_dotted_within, settled, entered_at, entered, opened, closed, headed, element_headed, start, step, walked};
-ghost use Rattle.edit_tree.specs.WalkState.{Walks, Goes, Settles, IsToken, KeepsState};
-ghost use Rattle.edit_syntax.specs.Marks.{IsReadRefusal};
+ghost use Rattle.edit_tree.specs.Walk.{State, with_key_part, is_dotted_within, pending_defined, value_added_at, value_added, opened, value_closed, headed, array_table_opened, start, step, walked};
+ghost use Rattle.edit_tree.specs.WalkState.{Walks, HasNextState, HasDefinedState, IsToken, KeepsState};
+ghost use Rattle.edit_syntax.specs.SyntaxTokens.{IsTokenizeError};
 ghost use Rattle.std.specs.List.{AllByRecursion};
 
 use crate::assertions::{add_element, assert_member, reach};
 use crate::members::Members;
-use crate::nodes::{Content, Node, Taken, Words};
+use crate::nodes::{Content, DefinedBy, Node, Words};
 use crate::words::{worded, words_of};
 use edit_base::errors::{CargoResult, Error};
 use edit_syntax::Span;
@@ -34,7 +34,7 @@ impl Walk {
         let mut nodes = Vec::with_capacity(alloc, count)?;
         nodes.push(Node {
             content: Content::Table,
-            taken: Taken::Header,
+            taken: DefinedBy::Header,
             steps: 0,
             span: None,
             members: Members::none(),
@@ -63,9 +63,9 @@ impl Walk {
     }
 
     /// Appends a part to the pending key.
-    fn await_name(&mut self, name: Words) -> Result<(), AllocError>
+    fn push_key_part(&mut self, name: Words) -> Result<(), AllocError>
         ensures goes { IfOk result (λ _. (text : List ℕ) (st : State) → Walks text self.old st
-            → Walks text self.new (awaiting st (bytes_of text name))) }
+            → Walks text self.new (with_key_part st (bytes_of text name))) }
     {
         if let Some(front) = self.name.take() {
             self.fronts.push(front)?;
@@ -75,11 +75,11 @@ impl Walk {
     }
 
     /// Whether a dotted key belongs to an inline table.
-    fn is_within(&self, front: Taken) -> bool
+    fn is_within(&self, front: DefinedBy) -> bool
         ensures { result ≡ is_dotted_within (length self.now.tables.items) front }
     {
         match front {
-            Taken::Dotted => self.tables.len() > 1,
+            DefinedBy::Dotted => self.tables.len() > 1,
             _ => false,
         }
     }
@@ -90,13 +90,13 @@ impl Walk {
         alloc: Global,
         text: &str,
         number: usize,
-        front: Taken,
+        front: DefinedBy,
         content: Content,
-        taken: Taken,
+        taken: DefinedBy,
         span: Option<Span>,
     ) -> Result<Option<usize>, AllocError>
         ensures goes { (st : State) → Walks text.now self.old st
-            → IfOk result (Settles text.now self.new (settled st number front
+            → IfOk result (HasDefinedState text.now self.new (pending_defined st number front
             (shape_of text.now content) taken span)) }
     {
         let Some(name) = self.name.take() else {
@@ -129,7 +129,7 @@ impl Walk {
     }
 
     /// Adds a value to the innermost open table or array. Returns the index of its node.
-    fn enter_at(
+    fn add_value_at(
         &mut self,
         alloc: Global,
         text: &str,
@@ -137,7 +137,7 @@ impl Walk {
         span: Option<Span>,
     ) -> Result<Option<usize>, AllocError>
         ensures goes { (st : State) → Walks text.now self.old st
-            → IfOk result (Settles text.now self.new (entered_at st (shape_of text.now content) span)) }
+            → IfOk result (HasDefinedState text.now self.new (value_added_at st (shape_of text.now content) span)) }
     {
         let Some(number) = self.tables.last().copied() else {
             return Ok(None);
@@ -147,12 +147,19 @@ impl Walk {
                 alloc,
                 text,
                 number,
-                Taken::Dotted,
+                DefinedBy::Dotted,
                 content,
-                Taken::Value,
+                DefinedBy::Value,
                 span,
             ),
-            None => add_element(alloc, &mut self.nodes, number, content, Taken::Value, span),
+            None => add_element(
+                alloc,
+                &mut self.nodes,
+                number,
+                content,
+                DefinedBy::Value,
+                span,
+            ),
         }
     }
 
@@ -165,19 +172,19 @@ impl Walk {
         span: Option<Span>,
     ) -> CargoResult<bool>
         ensures goes { (st : State) → Walks text.now self.old st
-            → IfOk result (Goes text.now self.new (entered st (shape_of text.now content) span)) }
+            → IfOk result (HasNextState text.now self.new (value_added st (shape_of text.now content) span)) }
         ensures refused { IfErr result IsMemory }
     {
-        Ok(self.enter_at(alloc, text, content, span)?.is_some())
+        Ok(self.add_value_at(alloc, text, content, span)?.is_some())
     }
 
     /// Opens an array or an inline table.
     fn open(&mut self, alloc: Global, text: &str, content: Content, span: Span) -> CargoResult<bool>
         ensures goes { (st : State) → Walks text.now self.old st
-            → IfOk result (Goes text.now self.new (opened st (shape_of text.now content) (Some span))) }
+            → IfOk result (HasNextState text.now self.new (opened st (shape_of text.now content) (Some span))) }
         ensures refused { IfErr result IsMemory }
     {
-        let Some(number) = self.enter_at(alloc, text, content, Some(span))? else {
+        let Some(number) = self.add_value_at(alloc, text, content, Some(span))? else {
             return Ok(false);
         };
         self.tables.push(number)?;
@@ -187,7 +194,7 @@ impl Walk {
     /// Closes the innermost array or inline table, whose text ends `to` bytes before the end of the text.
     fn close(&mut self, to: u32) -> bool
         ensures { (text : List ℕ) (st : State) → Walks text self.old st
-            → Goes text self.new (closed st to) result }
+            → HasNextState text self.new (value_closed st to) result }
     {
         let Some(number) = self.tables.pop() else {
             return false;
@@ -209,7 +216,7 @@ impl Walk {
     /// Processes the next token; returns false where TOML does not allow it here.
     fn take(&mut self, alloc: Global, text: &str, mark: Mark) -> CargoResult<bool>
         ensures goes { (st : State) → Walks text.now self.old st → IsToken text.now mark
-            → IfOk result (Goes text.now self.new (step text.now mark st)) }
+            → IfOk result (HasNextState text.now self.new (step text.now mark st)) }
         ensures refused { IfErr result IsMemory }
     {
         let span = Span {
@@ -219,7 +226,7 @@ impl Walk {
         match mark.kind {
             MarkKind::BarePart | MarkKind::BasicPart | MarkKind::LiteralPart => {
                 let name = words_of(alloc, text, mark)?;
-                self.await_name(name)?;
+                self.push_key_part(name)?;
                 Ok(true)
             }
             MarkKind::BasicString
@@ -238,7 +245,7 @@ impl Walk {
             MarkKind::OpenTable => self.open(alloc, text, Content::Inline, span),
             MarkKind::CloseArray | MarkKind::CloseTable => Ok(self.close(mark.to)),
             MarkKind::Header => self.head(alloc, text),
-            MarkKind::ElementHeader => self.head_element(alloc, text),
+            MarkKind::ElementHeader => self.open_array_table(alloc, text),
         }
     }
 }
@@ -248,7 +255,7 @@ pub fn nodes_of(alloc: Global, text: &str, marks: &[Mark]) -> CargoResult<Vec<No
     ensures nodes { AllByRecursion (IsToken text.now) marks.now
         → MatchResult result (λ v. KeepsState text.now v.items (walked text.now marks.now start))
         (λ e. (IsMemory e → ⊥) → walked text.now marks.now start ≡ None) }
-    ensures refused { IfErr result (IsReadRefusal (length text.now)) }
+    ensures refused { IfErr result (IsTokenizeError (length text.now)) }
 {
     let mut walk = Walk::new(alloc, marks.len())?;
     'marks: for mark in marks {

@@ -1,8 +1,8 @@
 //! Decodes tokens into the contents of nodes.
 ghost use Rattle.std.specs.Prelude.{◌≡◌, ℕ, List, IfOk, IfErr};
 ghost use Rattle.edit_base.specs.Errors.{IsMemory};
-ghost use Rattle.edit_tree.specs.Nodes.{bytes_of, shape_of, shape_said};
-ghost use Rattle.edit_tree.specs.WalkState.{SaysAt};
+ghost use Rattle.edit_tree.specs.Nodes.{bytes_of, shape_of, scalar_shape};
+ghost use Rattle.edit_tree.specs.WalkState.{IsDecodedAt};
 
 use crate::nodes::{Content, Words};
 use edit_base::errors::CargoResult;
@@ -12,8 +12,8 @@ use std::alloc::Global;
 
 /// Decodes a token with or without delimiters; where the decoded text is the text as written, only its
 /// position is stored.
-fn delimited_words(alloc: Global, text: &str, mark: Mark) -> CargoResult<Words>
-    ensures says { (name : List ℕ) → SaysAt text.now mark name
+fn decode_delimited(alloc: Global, text: &str, mark: Mark) -> CargoResult<Words>
+    ensures says { (name : List ℕ) → IsDecodedAt text.now mark name
         → IfOk result (λ w. bytes_of text.now w ≡ name) }
     ensures refused { IfErr result IsMemory }
 {
@@ -27,20 +27,20 @@ fn delimited_words(alloc: Global, text: &str, mark: Mark) -> CargoResult<Words>
 
 /// Decodes the token of a string or of a part of a key.
 pub fn words_of(alloc: Global, text: &str, mark: Mark) -> CargoResult<Words>
-    ensures says { (name : List ℕ) → SaysAt text.now mark name
+    ensures says { (name : List ℕ) → IsDecodedAt text.now mark name
         → IfOk result (λ w. bytes_of text.now w ≡ name) }
     ensures refused { IfErr result IsMemory }
 {
     match mark.kind {
         MarkKind::BarePart => Ok(Words::Kept(content_span(mark))),
-        _ => delimited_words(alloc, text, mark),
+        _ => decode_delimited(alloc, text, mark),
     }
 }
 
 /// The content of the node of a string, a number, a date or a time.
 pub(crate) fn worded(alloc: Global, text: &str, mark: Mark) -> CargoResult<Content>
-    ensures shows { (name : List ℕ) → SaysAt text.now mark name
-        → IfOk result (λ c. shape_of text.now c ≡ shape_said mark.kind name) }
+    ensures shows { (name : List ℕ) → IsDecodedAt text.now mark name
+        → IfOk result (λ c. shape_of text.now c ≡ scalar_shape mark.kind name) }
     ensures refused { IfErr result IsMemory }
 {
     match mark.kind {

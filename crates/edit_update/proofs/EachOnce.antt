@@ -15,7 +15,7 @@ use Rattle.edit_base.specs.declared.errors.Error.{Error}
 use Rattle.edit_record.specs.EntryRecords.{Refusal}
 use Rattle.edit_record.specs.EachOnce.{each_once}
 use Rattle.edit_update.specs.EntryUpdates.{texts_or_none}
-use Rattle.edit_record.specs.RecordViews.{IsRefused}
+use Rattle.edit_record.specs.RecordViews.{IsErrorOfResult}
 
 -- ---- texts one after the other
 
@@ -122,7 +122,8 @@ new_behind done s u = rw (list_any-append (λ t. same_bytes t u) done (s ∷ [])
     by false true = refl
     by false false = refl
 
-joined_once : (done ss : List (List ℕ)) → join_all done ss ≡ done ++ filter (is_new done) (each_once ss)
+joined_once : (done ss : List (List ℕ))
+    → join_all done ss ≡ done ++ filter (is_new done) (each_once ss)
 joined_once done [] = sym (append-nil done)
 joined_once done (s ∷ ss) = by (is_old done s) refl (λ d. joined_once d ss)
   where
@@ -154,7 +155,7 @@ join_more done (x ∷ xs) s = join_more (joins done x) xs s
 -- ---- features that cannot be read
 
 -- features that cannot be read count as none, if memory did not run out
-pub refused_texts : (told : Result (Option (List (List ℕ))) Refusal) (e : Error) → IsRefused told e
+pub refused_texts : (told : Result (Option (List (List ℕ))) Refusal) (e : Error) → IsErrorOfResult told e
     → (IsMemory e → ⊥) → [] ≡ texts_or_none told
 refused_texts told e (inl memory) not_memory = absurd (not_memory memory)
 refused_texts told e (inr h) not_memory = rw h.1 refl

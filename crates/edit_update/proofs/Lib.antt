@@ -7,5 +7,5 @@ pub mod RemovalFacts
 pub mod StaleElements
 pub mod StaleTurns
 pub mod StayingStrings
-pub mod TakenOut
-pub mod Withouts
+pub mod RemovedTables
+pub mod RemovalSteps

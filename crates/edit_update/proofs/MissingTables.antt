@@ -3,7 +3,7 @@ use Rattle.std.proofs.Common.{◌≡◌, ℕ, suc, length, arith, true, false, �
 use Rattle.edit_tree.specs.Assertions.{Place, at, key}
 use Rattle.edit_document.specs.Items.{count_in, is_tabular}
 use Rattle.edit_tree.specs.Tree.{View, string, truth, whole, fractional, moment, static_array, table_array, inline_table, table}
-use Rattle.edit_update.specs.RemovedEntries.{is_bare, missing_below}
+use Rattle.edit_update.specs.RemovedEntries.{is_empty_table, missing_below}
 use Rattle.edit_manifest.specs.Tables.{Tree, is_table_like}
 
 -- the key leads to a table, so the search goes on below it
@@ -27,7 +27,7 @@ pub more_than_none : (n : ℕ) → (suc n == 0) ≡ false
 more_than_none n = grind arith
 
 -- a table is empty exactly if it counts no keys
-pub bare_count : (v : View) → (is_tabular v && (count_in v == 0)) ≡ is_bare (Some v)
+pub bare_count : (v : View) → (is_tabular v && (count_in v == 0)) ≡ is_empty_table (Some v)
 bare_count (string s) = refl
 bare_count (truth b) = refl
 bare_count (whole s) = refl

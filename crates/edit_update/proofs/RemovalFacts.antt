@@ -2,10 +2,10 @@
 use Rattle.std.proofs.Common.{◌≡◌, [], refl}
 use Rattle.std.specs.Prelude.{ℕ, true, false, List, ◌∷◌, ◌++◌, Some, None, codes}
 use Rattle.edit_tree.specs.Assertions.{Place, Step, at, key, index}
-use Rattle.edit_tree.specs.Shown.{node_at}
+use Rattle.edit_tree.specs.DocumentViews.{node_at}
 use Rattle.edit_tree.specs.Tree.{View, inline_table, static_array, string, table, truth}
 use Rattle.edit_update.specs.Features.{features, stale_strings}
-use Rattle.edit_update.specs.RemovedEntries.{bare_table, missing_table}
+use Rattle.edit_update.specs.RemovedEntries.{empty_table_place, missing_table}
 use Rattle.edit_manifest.specs.Tables.{Tree, keyed}
 
 -- `x` below `[features]`
@@ -64,10 +64,10 @@ pub the_root : missing_table (node_at (([], table []) ∷ [])) [] ≡ None
 the_root = refl
 
 -- an empty table goes, and the empty root stays
-pub a_bare_table : bare_table (node_at ((keyed (codes "d" ∷ []), inline_table []) ∷ []))
+pub a_bare_table : empty_table_place (node_at ((keyed (codes "d" ∷ []), inline_table []) ∷ []))
     (keyed (codes "d" ∷ []))
     ≡ keyed (codes "d" ∷ []) ∷ []
 a_bare_table = refl
 
-pub the_bare_root : bare_table (node_at (([], table []) ∷ [])) [] ≡ []
+pub the_bare_root : empty_table_place (node_at (([], table []) ∷ [])) [] ≡ []
 the_bare_root = refl

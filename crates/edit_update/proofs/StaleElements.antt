@@ -9,10 +9,10 @@ use Rattle.std.specs.Global.{Vec}
 use Rattle.std.proofs.lemmas.List.{map-append}
 use Rattle.edit_document.specs.declared.place.Step.{Step as WrittenStep}
 use Rattle.edit_tree.specs.Assertions.{Place, at, index}
-use Rattle.edit_document.specs.Items.{count_in, is_static_array, place_seen, string_in}
+use Rattle.edit_document.specs.Items.{count_in, is_static_array, place_view, string_in}
 use Rattle.edit_tree.specs.Tree.{View, string, truth, whole, fractional, moment, static_array, table_array, inline_table, table}
 use Rattle.edit_update.specs.Features.{elements_back, elements_of, goes, is_stale, stale_in}
-use Rattle.edit_manifest.specs.Places.{places_seen}
+use Rattle.edit_manifest.specs.Places.{places_view}
 use Rattle.edit_manifest.specs.Tables.{Tree}
 
 -- those among so many elements of an array
@@ -40,23 +40,23 @@ module _ (t : Tree) (held : Bool) (name : List ℕ) (array : Place) where
   pub told_goes : (n m : ℕ) (xs new : List (Vec WrittenStep)) (x : Vec WrittenStep) (all : List Place)
       → n ≡ suc m
       → goes held name (t (at array (index m))) ≡ true → new ≡ xs ++ x ∷ []
-      → place_seen x.items ≡ at array (index m)
-      → places_seen xs ++ stale_back t held name array n ≡ all
-      → places_seen new ++ stale_back t held name array m ≡ all
+      → place_view x.items ≡ at array (index m)
+      → places_view xs ++ stale_back t held name array n ≡ all
+      → places_view new ++ stale_back t held name array m ≡ all
   told_goes n m xs new x all e h pushed is told =
       let before = stale_back t held name array m in
-      ap (λ l. places_seen l ++ before) pushed
-      ∙ ap (λ l. l ++ before) (map-append (λ (p : Vec WrittenStep). place_seen p.items) xs (x ∷ []))
-      ∙ append_assoc (places_seen xs) (place_seen x.items ∷ []) before
-      ∙ ap (λ q. places_seen xs ++ q ∷ before) is
-      ∙ sym (ap (λ l. places_seen xs ++ l) (back_goes n m e h)) ∙ told
+      ap (λ l. places_view l ++ before) pushed
+      ∙ ap (λ l. l ++ before) (map-append (λ (p : Vec WrittenStep). place_view p.items) xs (x ∷ []))
+      ∙ append_assoc (places_view xs) (place_view x.items ∷ []) before
+      ∙ ap (λ q. places_view xs ++ q ∷ before) is
+      ∙ sym (ap (λ l. places_view xs ++ l) (back_goes n m e h)) ∙ told
 
   -- an element that stays is not listed
   pub told_stays : (n m : ℕ) (xs : List (Vec WrittenStep)) (all : List Place) → n ≡ suc m
       → goes held name (t (at array (index m))) ≡ false
-      → places_seen xs ++ stale_back t held name array n ≡ all
-      → places_seen xs ++ stale_back t held name array m ≡ all
-  told_stays n m xs all e h told = sym (ap (λ l. places_seen xs ++ l) (back_stays n m e h)) ∙ told
+      → places_view xs ++ stale_back t held name array n ≡ all
+      → places_view xs ++ stale_back t held name array m ≡ all
+  told_stays n m xs all e h told = sym (ap (λ l. places_view xs ++ l) (back_stays n m e h)) ∙ told
 
   -- all of an array's
   of_view : (v : View) → is_static_array v ≡ true → elements_of array (Some v)

@@ -5,19 +5,19 @@ use Rattle.std.specs.List.{AllByRecursion, filter, flat_map}
 use Rattle.edit_syntax.specs.Grammar.{Text}
 use Rattle.edit_syntax.proofs.Cases.{by_test}
 use Rattle.edit_tree.specs.Assertions.{Place, key, index, at, same_bytes, assertions}
-use Rattle.edit_tree.specs.Meant.{moved}
+use Rattle.edit_tree.specs.IntendedTrees.{moved}
 use Rattle.edit_tree.specs.Tree.{View, string, truth, whole, fractional, moment, static_array, table_array, inline_table, table, view_at}
 use Rattle.edit_document.specs.Items.{viewed, names_in}
 use Rattle.edit_compare.proofs.ApartViews.{apart_view}
 use Rattle.edit_tree.proofs.SamePlace.{same_bytes_is}
-use Rattle.edit_update.specs.Features.{elements_back, elements_of, features, goes, is_plain, stale_in, stale_strings, is_offered, is_held}
-use Rattle.edit_update.specs.Removals.{AreInTurn, AreStrings, HasString, Outlives}
+use Rattle.edit_update.specs.Features.{elements_back, elements_of, features, goes, is_plain, stale_in, stale_strings, has_any_optional_entry, is_held}
+use Rattle.edit_update.specs.Removals.{AreInTurn, AreStrings, HasString, IsUnmovedBy}
 use Rattle.edit_manifest.specs.Tables.{Tree, member_names}
 
 -- ---- lists
 
 abbrev AllOutlive : List Place → List Place → Type 0
-AllOutlive xs ys = AllByRecursion (λ x. AllByRecursion (Outlives x) ys) xs
+AllOutlive xs ys = AllByRecursion (λ x. AllByRecursion (IsUnmovedBy x) ys) xs
 
 all_append : (P : Place → Type 0) (xs ys : List Place) → AllByRecursion P xs → AllByRecursion P ys
     → AllByRecursion P (xs ++ ys)
@@ -41,14 +41,14 @@ all_weaker P Q f (x ∷ xs) a = (f x a.0, all_weaker P Q f xs a.1)
 
 turn_append : (xs ys : List Place) → AreInTurn xs → AreInTurn ys → AllOutlive xs ys → AreInTurn (xs ++ ys)
 turn_append [] ys a b c = b
-turn_append (x ∷ xs) ys a b c = (all_append (Outlives x) xs ys a.0 c.0, turn_append xs ys a.1 b c.1)
+turn_append (x ∷ xs) ys a b c = (all_append (IsUnmovedBy x) xs ys a.0 c.0, turn_append xs ys a.1 b c.1)
 
 turn_filter : (test : Place → Bool) (xs : List Place) → AreInTurn xs → AreInTurn (filter test xs)
 turn_filter test [] a = tt
 turn_filter test (x ∷ xs) a = go (test x) (turn_filter test xs a.1)
   where
     go : (b : Bool) → AreInTurn (filter test xs) → AreInTurn (cond b (x ∷ filter test xs) (filter test xs))
-    go true rest = (all_filter (Outlives x) test xs a.0, rest)
+    go true rest = (all_filter (IsUnmovedBy x) test xs a.0, rest)
     go false rest = rest
 
 -- ---- elements of features
@@ -73,7 +73,7 @@ other_name f g e = by_test (same_bytes g f)
 
 -- the elements of a feature do not move for those of another
 other_feature : (f g : List ℕ) (i j : ℕ) → same_bytes f g ≡ false
-    → Outlives (at (of_feature f) (index i)) (at (of_feature g) (index j))
+    → IsUnmovedBy (at (of_feature f) (index i)) (at (of_feature g) (index j))
 other_feature f g i j e = (
   ap (λ b. b && (i == j && true)) e,
   ap (λ b. b && (j == i && true)) (other_name f g e),
@@ -90,7 +90,7 @@ not_less : (i j : ℕ) → j < i → nat_lt i j ≡ false
 not_less i j lt = search (arith)
 
 -- those of a feature do not move for a later one
-later_element : (f : List ℕ) (i j : ℕ) → j < i → Outlives (at (of_feature f) (index i))
+later_element : (f : List ℕ) (i j : ℕ) → j < i → IsUnmovedBy (at (of_feature f) (index i))
     (at (of_feature f) (index j))
 later_element f i j lt = by_test (same_bytes f f)
     (λ h. (
@@ -112,7 +112,7 @@ back_elements f (suc n) = (
 back_turns : (f : List ℕ) (n : ℕ) → AreInTurn (elements_back (of_feature f) n)
 back_turns f zero = tt
 back_turns f (suc n) = (
-  all_weaker (IsElement f n) (Outlives (at (of_feature f) (index n)))
+  all_weaker (IsElement f n) (IsUnmovedBy (at (of_feature f) (index n)))
       (λ q h. rw h.2 (later_element f n h.0 h.1)) (elements_back (of_feature f) n) (back_elements f n),
   back_turns f n,
 )
@@ -178,16 +178,16 @@ module _ (t : Tree) (held : Bool) (name : List ℕ) where
       (elements_own f (t (of_feature f)))
 
   apart_elements : (f g : List ℕ) → same_bytes f g ≡ false → (p q : Place) → IsOf f p → IsOf g q
-      → Outlives p q
+      → IsUnmovedBy p q
   apart_elements f g e p q a b = rw (a.1, b.1) (other_feature f g a.0 b.0 e)
 
   behind : (f : List ℕ) (p : Place) → IsOf f p → (ns : List (List ℕ))
       → AllByRecursion (λ m. same_bytes f m ≡ false) ns
-      → AllByRecursion (Outlives p) (of_names ns)
+      → AllByRecursion (IsUnmovedBy p) (of_names ns)
   behind f p a [] h = tt
   behind f p a (n ∷ ns) h =
-      all_append (Outlives p) (stale_in t held name (of_feature n)) (of_names ns)
-      (all_weaker (IsOf n) (Outlives p) (λ q b. apart_elements f n h.0 p q a b)
+      all_append (IsUnmovedBy p) (stale_in t held name (of_feature n)) (of_names ns)
+      (all_weaker (IsOf n) (IsUnmovedBy p) (λ q b. apart_elements f n h.0 p q a b)
       (stale_in t held name (of_feature n)) (stale_own n))
       (behind f p a ns h.1)
 
@@ -198,7 +198,7 @@ module _ (t : Tree) (held : Bool) (name : List ℕ) where
       (turn_filter (λ p. goes held name (t p)) (elements_of (of_feature n) (t (of_feature n)))
       (elements_in_turn n (t (of_feature n))))
       (names_turn ns d.1)
-      (all_weaker (IsOf n) (λ x. AllByRecursion (Outlives x) (of_names ns)) (λ q b. behind n q b ns d.0)
+      (all_weaker (IsOf n) (λ x. AllByRecursion (IsUnmovedBy x) (of_names ns)) (λ q b. behind n q b ns d.0)
       (stale_in t held name (of_feature n)) (stale_own n))
 
   -- what is removed is a string
@@ -244,7 +244,7 @@ feature_names form t shows = rw (shows features) (go (view_at form features)
 -- each place of an element to remove is unchanged after those before it are removed
 pub stale_turns : (form : Text) (t : Tree) (name : List ℕ) → ((p : Place) → t p ≡ view_at form p)
     → AreInTurn (stale_strings t name)
-stale_turns form t name shows = go (is_offered t name) (is_plain (t features))
+stale_turns form t name shows = go (has_any_optional_entry t name) (is_plain (t features))
   where
     go : (b c : Bool) → AreInTurn (cond b [] (cond c (of_names t (is_held t name) name
         (member_names (t features))) []))
@@ -255,7 +255,7 @@ stale_turns form t name shows = go (is_offered t name) (is_plain (t features))
 
 -- the elements to remove are strings
 pub stale_are_strings : (t : Tree) (name : List ℕ) → AreStrings t (stale_strings t name)
-stale_are_strings t name = go (is_offered t name) (is_plain (t features))
+stale_are_strings t name = go (has_any_optional_entry t name) (is_plain (t features))
   where
     go : (b c : Bool) → AreStrings t (cond b [] (cond c (of_names t (is_held t name) name
         (member_names (t features))) []))

@@ -2,9 +2,9 @@
 use Rattle.std.proofs.Common.{◌≡◌, ℕ, List, Option, Some, sym, ap, ◌∙◌}
 use Rattle.edit_syntax.specs.Grammar.{Text}
 use Rattle.edit_tree.specs.Assertions.{Place}
-use Rattle.edit_tree.specs.Meant.{Tree, Removed, SameButOrder, same, tables, inline_tables, moved}
+use Rattle.edit_tree.specs.IntendedTrees.{Tree, Removed, SameButOrder, same, tables, inline_tables, moved}
 use Rattle.edit_tree.specs.Tree.{View, string}
-use Rattle.edit_update.specs.Removals.{HasString, Outlives}
+use Rattle.edit_update.specs.Removals.{HasString, IsUnmovedBy}
 
 same_string : (o w : Option View) (text : List ℕ) → o ≡ Some (string text) → SameButOrder o w
     → w ≡ Some (string text)
@@ -13,7 +13,7 @@ same_string _ _ text e (tables ms ns h) = absurd cc
 same_string _ _ text e (inline_tables ms ns h) = absurd cc
 
 pub string_stays : (form : Text) (gone q : Place) (old new : Tree) → Removed form gone old new
-    → Outlives gone q → HasString old q → HasString new q
+    → IsUnmovedBy gone q → HasString old q → HasString new q
 string_stays form gone q old new removed out h = (
   h.0,
   ap new (sym out.2) ∙ same_string (old q) (new (moved gone q)) h.0 h.1 (removed.beside q out.0 out.1),

@@ -3,7 +3,7 @@ use Rattle.std.proofs.Common.{◌≡◌, [], refl}
 use Rattle.std.specs.Prelude.{ℕ, true, false, List, ◌∷◌, ◌++◌, Some, None, codes, map}
 use Rattle.edit_tree.specs.Assertions.{key}
 use Rattle.edit_tree.specs.NewItems.{a_string, a_truth, a_list, a_table}
-use Rattle.edit_tree.specs.Shown.{node_at}
+use Rattle.edit_tree.specs.DocumentViews.{node_at}
 use Rattle.edit_tree.specs.Tree.{string, table, truth}
 use Rattle.edit_record.specs.EntryRecords.{EntryRecord, from_registry, from_path, from_git, from_workspace, bare_record}
 use Rattle.edit_update.specs.EntryUpdates.{Change, writes, removes, replaced_by, changed_by, update_of}

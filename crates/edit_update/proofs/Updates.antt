@@ -12,20 +12,20 @@ use Rattle.edit_tree.specs.EditBytes.{is_one_statement, replaced_text}
 use Rattle.edit_document.specs.ItemViews.{document_of, place_of}
 use Rattle.edit_document.specs.declared.item.Item.{Item}
 use Rattle.edit_tree.specs.NewItems.{IsEntry, NewItem}
-use Rattle.edit_document.specs.NewItemViews.{value_seen}
+use Rattle.edit_document.specs.NewItemViews.{new_value_view}
 use Rattle.edit_document.specs.declared.new_item.NewValue.{NewValue as WrittenValue}
-use Rattle.edit_tree.specs.Shown.{Shown, ShowsTree, tree_of}
+use Rattle.edit_tree.specs.DocumentViews.{DocumentViews, ShowsTree, tree_of}
 use Rattle.edit_tree.specs.Tree.{View, is_value_at, view_at}
-use Rattle.edit_tree.specs.Meant.{Tree, HasSet, HasReplaced, Inserted, Removed}
+use Rattle.edit_tree.specs.IntendedTrees.{Tree, HasSet, HasReplaced, Inserted, Removed}
 use Rattle.edit_tree.proofs.EditedDocuments.{inserted_along, removed_along, replaced_along}
-use Rattle.edit_update.specs.EndViews.{end_seen, ends_seen}
+use Rattle.edit_update.specs.FinalValueViews.{final_value_view, final_values_view}
 use Rattle.edit_record.specs.EntryRecords.{EntryRecord, Origin, from_registry, from_path, from_git, from_workspace}
-use Rattle.edit_update.specs.EntryUpdates.{Change, End, changed_by, changes, ends, is_slight, removal_of, removes, replaced_by, update_of, writes}
+use Rattle.edit_update.specs.EntryUpdates.{Change, FinalValue, changed_by, changes, ends, has_single_key, removal_of, removes, replaced_by, update_of, writes}
 use Rattle.edit_record.specs.NewEntries.{is_short, item_by, item_of}
 use Rattle.edit_record.specs.ReadEntries.{below}
-use Rattle.edit_record.specs.RecordViews.{shown_at}
+use Rattle.edit_record.specs.RecordViews.{item_tree}
 use Rattle.edit_update.specs.UpdatedTexts.{ChangeFails, Changed, HasChanged, IsSame, OneFails, ReadsChanged, ReadsReplaced, changed_text, is_there, update_in}
-use Rattle.edit_update.specs.declared.ends.End.{End as WrittenEnd}
+use Rattle.edit_update.specs.declared.ends.FinalValue.{FinalValue as WrittenEnd}
 use Rattle.edit_syntax.specs.Grammar.{Text}
 
 -- ---- texts
@@ -74,7 +74,8 @@ changed_along entry (removes name) form s t u w old new h = go (is_there form (a
     go false g = λ q. sym (new q) ∙ g q ∙ old q
 
 -- a document after an edit
-pub reads_changed : (entry : Place) (c : Change) (form after : Text) (old new : Shown) → ShowsTree old form
+pub reads_changed : (entry : Place) (c : Change) (form after : Text) (old new : DocumentViews)
+    → ShowsTree old form
     → IsDocument new.bytes after → ShowsTree new after → new.bytes ≡ changed_text entry c form
     → HasChanged entry c form (tree_of old) (tree_of new) → ReadsChanged entry c form
 reads_changed entry c form after old new was again is e h = record {
@@ -84,7 +85,7 @@ reads_changed entry c form after old new was again is e h = record {
 }
 
 -- a document with another entry
-pub reads_replaced : (entry : Place) (item : NewItem) (form after : Text) (old new : Shown)
+pub reads_replaced : (entry : Place) (item : NewItem) (form after : Text) (old new : DocumentViews)
     → ShowsTree old form → IsDocument new.bytes after → ShowsTree new after
     → new.bytes ≡ replaced_text entry item form
     → HasReplaced entry item (tree_of old) (tree_of new) → ReadsReplaced entry item form
@@ -137,76 +138,76 @@ stops_behind entry cs ds old mid done h = record {
 
 -- ---- one iteration of a loop over the final values of keys
 
-module _ (f : End → Option Change) (entry : Place) (xs : List WrittenEnd) (i : ℕ) (x : WrittenEnd)
+module _ (f : FinalValue → Option Change) (entry : Place) (xs : List WrittenEnd) (i : ℕ) (x : WrittenEnd)
     (within : i < length xs) (here : x ≡ get_or xs i x) where
   -- what an end gives behind those before it
-  given : filter_map f (ends_seen (take (i + 1) xs))
-      ≡ filter_map f (ends_seen (take i xs)) ++ cons_option (f (end_seen x)) []
+  given : filter_map f (final_values_view (take (i + 1) xs))
+      ≡ filter_map f (final_values_view (take i xs)) ++ cons_option (f (final_value_view x)) []
   given =
-      ap (λ l. filter_map f (map end_seen l))
+      ap (λ l. filter_map f (map final_value_view l))
       (take_more xs i x within ∙ ap (λ (y : WrittenEnd). take i xs ++ y ∷ []) (sym here))
-      ∙ ap (filter_map f) (map-append end_seen (take i xs) (x ∷ []))
-      ∙ filter_map-append f (map end_seen (take i xs)) (end_seen x ∷ [])
+      ∙ ap (filter_map f) (map-append final_value_view (take i xs) (x ∷ []))
+      ∙ filter_map-append f (map final_value_view (take i xs)) (final_value_view x ∷ [])
 
   -- all ends are those before one, that one, and those behind it
-  parted : filter_map f (ends_seen xs)
-      ≡ filter_map f (ends_seen (take i xs)) ++ filter_map f (end_seen x ∷ ends_seen (drop (suc i) xs))
+  parted : filter_map f (final_values_view xs)
+      ≡ filter_map f (final_values_view (take i xs)) ++ filter_map f (final_value_view x ∷ final_values_view (drop (suc i) xs))
   parted =
-      ap (λ l. filter_map f (map end_seen l))
+      ap (λ l. filter_map f (map final_value_view l))
       (sym (take-append-drop i xs) ∙ ap (λ l. take i xs ++ l) (drop-cons xs i x within)
       ∙ ap (λ (y : WrittenEnd). take i xs ++ y ∷ drop (suc i) xs) (sym here))
-      ∙ ap (filter_map f) (map-append end_seen (take i xs) (x ∷ drop (suc i) xs))
-      ∙ filter_map-append f (map end_seen (take i xs)) (map end_seen (x ∷ drop (suc i) xs))
+      ∙ ap (filter_map f) (map-append final_value_view (take i xs) (x ∷ drop (suc i) xs))
+      ∙ filter_map-append f (map final_value_view (take i xs)) (map final_value_view (x ∷ drop (suc i) xs))
 
   -- a final value without an edit
-  pub none_asked : (old mid : List ℕ) → f (end_seen x) ≡ None
-      → Changed entry (filter_map f (ends_seen (take i xs))) old mid
-      → Changed entry (filter_map f (ends_seen (take (i + 1) xs))) old mid
+  pub none_asked : (old mid : List ℕ) → f (final_value_view x) ≡ None
+      → Changed entry (filter_map f (final_values_view (take i xs))) old mid
+      → Changed entry (filter_map f (final_values_view (take (i + 1) xs))) old mid
   none_asked old mid is h =
-      let same = given ∙ ap (λ (o : Option Change). filter_map f (ends_seen (take i xs)) ++ cons_option o [])
+      let same = given ∙ ap (λ (o : Option Change). filter_map f (final_values_view (take i xs)) ++ cons_option o [])
       is
-      ∙ append-nil (filter_map f (ends_seen (take i xs))) in
+      ∙ append-nil (filter_map f (final_values_view (take i xs))) in
       subst (λ cs. Changed entry cs old mid) (sym same) h
 
   -- a final value with an edit that succeeded
-  pub one_made : (c : Change) (old mid new : List ℕ) → f (end_seen x) ≡ Some c
-      → Changed entry (filter_map f (ends_seen (take i xs))) old mid
+  pub one_made : (c : Change) (old mid new : List ℕ) → f (final_value_view x) ≡ Some c
+      → Changed entry (filter_map f (final_values_view (take i xs))) old mid
       → ((form : Text) × IsDocument mid form)
       → ((form : Text) → IsDocument mid form → new ≡ changed_text entry c form)
       → ((form : Text) → IsDocument mid form → ReadsChanged entry c form)
-      → Changed entry (filter_map f (ends_seen (take (i + 1) xs))) old new
+      → Changed entry (filter_map f (final_values_view (take (i + 1) xs))) old new
   one_made c old mid new is h reads by tree =
       let same = given
-      ∙ ap (λ (o : Option Change). filter_map f (ends_seen (take i xs)) ++ cons_option o []) is in
+      ∙ ap (λ (o : Option Change). filter_map f (final_values_view (take i xs)) ++ cons_option o []) is in
       subst (λ cs. Changed entry cs old new) (sym same)
-      (one_more entry (filter_map f (ends_seen (take i xs))) c old mid new h reads by tree)
+      (one_more entry (filter_map f (final_values_view (take i xs))) c old mid new h reads by tree)
 
   -- a final value with an edit that failed
-  pub one_refused : (c : Change) (old mid : List ℕ) (e : Error) → f (end_seen x) ≡ Some c
-      → Changed entry (filter_map f (ends_seen (take i xs))) old mid
+  pub one_refused : (c : Change) (old mid : List ℕ) (e : Error) → f (final_value_view x) ≡ Some c
+      → Changed entry (filter_map f (final_values_view (take i xs))) old mid
       → IsMemory e ⊎ ((e ≡ EditRefused) × ChangeFails entry c mid)
-      → IsMemory e ⊎ ((e ≡ EditRefused) × OneFails entry (filter_map f (ends_seen xs)) old)
+      → IsMemory e ⊎ ((e ≡ EditRefused) × OneFails entry (filter_map f (final_values_view xs)) old)
   one_refused c old mid e is h (inl memory) = inl memory
   one_refused c old mid e is h (inr p) =
-      let rest = filter_map f (ends_seen (drop (suc i) xs)) in
+      let rest = filter_map f (final_values_view (drop (suc i) xs)) in
       let same = parted
-      ∙ ap (λ (o : Option Change). filter_map f (ends_seen (take i xs)) ++ cons_option o rest) is in
+      ∙ ap (λ (o : Option Change). filter_map f (final_values_view (take i xs)) ++ cons_option o rest) is in
       inr (
         p.0,
         subst (λ cs. OneFails entry cs old) (sym same)
-            (stops entry (filter_map f (ends_seen (take i xs))) c rest old mid h p.1),
+            (stops entry (filter_map f (final_values_view (take i xs))) c rest old mid h p.1),
       )
 
 -- a member that ends without a value is removed, and another one is not
 pub is_removed : (name : List ℕ) (o : Option WrittenValue) → is_some o ≡ false
-    → removal_of (name, option_map value_seen o) ≡ Some (removes name)
+    → removal_of (name, option_map new_value_view o) ≡ Some (removes name)
 is_removed name None is = refl
 is_removed name (Some v) is = absurd cc
 
-pub is_kept : (name : List ℕ) (o : Option WrittenValue) → is_some o ≡ true
-    → removal_of (name, option_map value_seen o) ≡ None
-is_kept name None is = absurd cc
-is_kept name (Some v) is = refl
+pub is_remaining : (name : List ℕ) (o : Option WrittenValue) → is_some o ≡ true
+    → removal_of (name, option_map new_value_view o) ≡ None
+is_remaining name None is = absurd cc
+is_remaining name (Some v) is = refl
 
 -- ---- the updated entry
 
@@ -224,53 +225,54 @@ pub is_entry : (root : List ℕ) (r : EntryRecord) → IsEntry (item_of root r)
 is_entry root r = entry_by root r r.origin (is_short r)
 
 -- the tree of an entry, by a document and by its form
-entry_tree : (d : Shown) (form : Text) (place : Place) → ShowsTree d form
+entry_tree : (d : DocumentViews) (form : Text) (place : Place) → ShowsTree d form
     → below (tree_of d) place ≡ below (view_at form) place
 entry_tree d form place shows = λ i rest. shows (place ++ rest) i
 
 -- it is replaced
-is_other : (d : Shown) (form : Text) (place : Place) (root : List ℕ) (r : EntryRecord)
-    → ShowsTree d form → (is_one_statement form place && is_slight (tree_of d place)) ≡ true
+is_other : (d : DocumentViews) (form : Text) (place : Place) (root : List ℕ) (r : EntryRecord)
+    → ShowsTree d form → (is_one_statement form place && has_single_key (tree_of d place)) ≡ true
     → update_in form place root r ≡ replaced_by (item_of root r)
 is_other d form place root r shows is =
     ap (λ t. update_of t (is_one_statement form place) root r) (sym (entry_tree d form place shows))
-    ∙ rw (ap (λ p. is_one_statement form place && is_slight (tree_of d p)) (append-nil place) ∙ is) refl
+    ∙ rw (ap (λ p. is_one_statement form place && has_single_key (tree_of d p)) (append-nil place) ∙ is) refl
 
 -- or its members change
-is_changed : (d : Shown) (form : Text) (place : Place) (root : List ℕ) (r : EntryRecord) (es : List End)
-    → ShowsTree d form → (is_one_statement form place && is_slight (tree_of d place)) ≡ false
+is_changed : (d : DocumentViews) (form : Text) (place : Place) (root : List ℕ) (r : EntryRecord) (es : List FinalValue)
+    → ShowsTree d form → (is_one_statement form place && has_single_key (tree_of d place)) ≡ false
     → es ≡ ends (below (tree_of d) place) root r → update_in form place root r ≡ changed_by (changes es)
 is_changed d form place root r es shows is same =
     ap (λ t. update_of t (is_one_statement form place) root r) (sym (entry_tree d form place shows))
-    ∙ rw (ap (λ p. is_one_statement form place && is_slight (tree_of d p)) (append-nil place) ∙ is) refl
+    ∙ rw (ap (λ p. is_one_statement form place && has_single_key (tree_of d p)) (append-nil place) ∙ is) refl
     ∙ ap (λ l. changed_by (changes l)) (sym same)
 
 -- the final values for an item's tree are those for the entry's place
-entry_ends : (i : Item) (d : Shown) (place : Place) (root : List ℕ) (r : EntryRecord) (es : List End)
-    → document_of i ≡ d → place_of i ≡ place → es ≡ ends (shown_at i) root r
+entry_ends : (i : Item) (d : DocumentViews) (place : Place) (root : List ℕ) (r : EntryRecord) (es : List FinalValue)
+    → document_of i ≡ d → place_of i ≡ place → es ≡ ends (item_tree i) root r
     → es ≡ ends (below (tree_of d) place) root r
 entry_ends i d place root r es same there is =
     is ∙ ap (λ t. ends t root r) (λ j. below (tree_of (same j)) (there j))
 
 -- an item at the place decides whether another entry comes there
-decided : (d : Shown) (form : Text) (place : Place) (v : Option View) (b c : Bool)
-    → tree_of d place ≡ v → b ≡ (is_one_statement form place && is_slight v) → b ≡ c
-    → (is_one_statement form place && is_slight (tree_of d place)) ≡ c
-decided d form place v b c here is same = ap (λ o. is_one_statement form place && is_slight o) here ∙ sym is
+decided : (d : DocumentViews) (form : Text) (place : Place) (v : Option View) (b c : Bool)
+    → tree_of d place ≡ v → b ≡ (is_one_statement form place && has_single_key v) → b ≡ c
+    → (is_one_statement form place && has_single_key (tree_of d place)) ≡ c
+decided d form place v b c here is same = ap (λ o. is_one_statement form place && has_single_key o) here ∙ sym is
     ∙ same
 
-pub item_other : (d : Shown) (form : Text) (place : Place) (root : List ℕ) (r : EntryRecord) (v : Option View)
+pub item_other : (d : DocumentViews) (form : Text) (place : Place) (root : List ℕ) (r : EntryRecord) (v : Option View)
     (b : Bool)
-    → ShowsTree d form → tree_of d place ≡ v → b ≡ (is_one_statement form place && is_slight v) → b ≡ true
+    → ShowsTree d form → tree_of d place ≡ v → b ≡ (is_one_statement form place && has_single_key v)
+    → b ≡ true
     → update_in form place root r ≡ replaced_by (item_of root r)
 item_other d form place root r v b shows here is same =
     is_other d form place root r shows (decided d form place v b true here is same)
 
-pub item_changed : (i : Item) (d : Shown) (form : Text) (place : Place) (root : List ℕ) (r : EntryRecord)
-    (es : List End)
+pub item_changed : (i : Item) (d : DocumentViews) (form : Text) (place : Place) (root : List ℕ) (r : EntryRecord)
+    (es : List FinalValue)
     (v : Option View) (b : Bool)
-    → ShowsTree d form → document_of i ≡ d → place_of i ≡ place → es ≡ ends (shown_at i) root r
-    → tree_of d place ≡ v → b ≡ (is_one_statement form place && is_slight v) → b ≡ false
+    → ShowsTree d form → document_of i ≡ d → place_of i ≡ place → es ≡ ends (item_tree i) root r
+    → tree_of d place ≡ v → b ≡ (is_one_statement form place && has_single_key v) → b ≡ false
     → update_in form place root r ≡ changed_by (changes es)
 item_changed i d form place root r es v b shows same there ends_are here is fails =
     is_changed d form place root r es shows (decided d form place v b false here is fails)

@@ -9,9 +9,9 @@ use Rattle.edit_base.specs.declared.errors.Error.TheVariants.{EditRefused}
 use Rattle.edit_base.specs.Errors.{IsMemory}
 use Rattle.edit_tree.specs.Assertions.{Place, at, key, index}
 use Rattle.edit_document.specs.Items.{string_in, truth_in}
-use Rattle.edit_tree.specs.Shown.{Shown, tree_of}
+use Rattle.edit_tree.specs.DocumentViews.{DocumentViews, tree_of}
 use Rattle.edit_tree.specs.Tree.{View, static_array, table}
-use Rattle.edit_update.specs.Removals.{OneStays}
+use Rattle.edit_update.specs.Removals.{HasFailedRemoval}
 use Rattle.edit_manifest.specs.Tables.{Tree, dependency_tables, keyed, member_names}
 
 -- ---- dependency tables of the package
@@ -37,8 +37,8 @@ holds t name place = is_section t place && is_some (t (at place (key name)))
 
 -- the dependency table belongs to the package itself and has an optional entry of this key: its `optional`
 -- is true
-abbrev pub offers : Tree → List ℕ → Place → Bool
-offers t name place = is_section t place
+abbrev pub has_optional_entry : Tree → List ℕ → Place → Bool
+has_optional_entry t name place = is_section t place
     && unwrap_or (option_and_then truth_in (t (at (at place (key name)) (key (codes "optional"))))) false
 
 -- some dependency table of the package has this key
@@ -46,8 +46,8 @@ abbrev pub is_held : Tree → List ℕ → Bool
 is_held t name = list_any (holds t name) (dependency_tables t)
 
 -- some dependency table of the package has an optional entry of this key
-abbrev pub is_offered : Tree → List ℕ → Bool
-is_offered t name = list_any (offers t name) (dependency_tables t)
+abbrev pub has_any_optional_entry : Tree → List ℕ → Bool
+has_any_optional_entry t name = list_any (has_optional_entry t name) (dependency_tables t)
 
 -- ---- elements of features
 
@@ -89,9 +89,9 @@ stale_in_features t held name =
 -- The places of the elements to remove, in the order of removal: none if some dependency table of the
 -- package has an optional entry of this key.
 abbrev pub stale_strings : Tree → List ℕ → List Place
-stale_strings t name = if is_offered t name then [] else stale_in_features t (is_held t name) name
+stale_strings t name = if has_any_optional_entry t name then [] else stale_in_features t (is_held t name) name
 
 -- the errors: lack of memory, or one of the elements cannot be removed
-abbrev pub IsNotCleared : List ℕ → Shown → Error → Type 0
-IsNotCleared name d e =
-    IsMemory e ⊎ ((e ≡ EditRefused) × OneStays (stale_strings (tree_of d) name) d.bytes)
+abbrev pub IsFeatureError : List ℕ → DocumentViews → Error → Type 0
+IsFeatureError name d e =
+    IsMemory e ⊎ ((e ≡ EditRefused) × HasFailedRemoval (stale_strings (tree_of d) name) d.bytes)

@@ -1,6 +1,6 @@
 pub mod EntryUpdates
 pub mod UpdatedTexts
-pub mod EndViews
+pub mod FinalValueViews
 pub mod Features
 pub mod Removals
 pub mod RemovedEntries

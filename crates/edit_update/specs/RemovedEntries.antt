@@ -5,10 +5,10 @@ use Rattle.edit_base.specs.declared.errors.Error.{Error}
 use Rattle.edit_base.specs.declared.errors.Error.TheVariants.{NoTable, NoDependency, EditRefused}
 use Rattle.edit_base.specs.Errors.{IsMemory}
 use Rattle.edit_tree.specs.Assertions.{IsDocument, Place, at, key}
-use Rattle.edit_tree.specs.Shown.{Shown, tree_of}
+use Rattle.edit_tree.specs.DocumentViews.{DocumentViews, tree_of}
 use Rattle.edit_tree.specs.Tree.{View, table, inline_table, view_at}
 use Rattle.edit_syntax.specs.Grammar.{Text}
-use Rattle.edit_update.specs.Removals.{Without, OneStays}
+use Rattle.edit_update.specs.Removals.{IsTextWithout, HasFailedRemoval}
 use Rattle.edit_manifest.specs.Tables.{Tree, is_table_like, keyed}
 
 -- ---- tables
@@ -28,36 +28,36 @@ abbrev pub entry_of : List (List ℕ) → List ℕ → Place
 entry_of path name = at (keyed path) (key name)
 
 -- an empty table or inline table
-abbrev pub is_bare : Option View → Bool
-is_bare (Some (table [])) = true
-is_bare (Some (inline_table [])) = true
-is_bare _ = false
+abbrev pub is_empty_table : Option View → Bool
+is_empty_table (Some (table [])) = true
+is_empty_table (Some (inline_table [])) = true
+is_empty_table _ = false
 
 -- the place of a table if it is empty; the root never counts
-abbrev pub bare_table : Tree → Place → List Place
-bare_table t [] = []
-bare_table t (s ∷ ss) = if is_bare (t (s ∷ ss)) then (s ∷ ss) ∷ [] else []
+abbrev pub empty_table_place : Tree → Place → List Place
+empty_table_place t [] = []
+empty_table_place t (s ∷ ss) = if is_empty_table (t (s ∷ ss)) then (s ∷ ss) ∷ [] else []
 
 -- ---- entries
 
 -- The entry existed and was removed, and then its table, if that left it empty.
-pub record TakesOut (path : List (List ℕ)) (name : List ℕ) (old new : Shown) : Type 0 where
+pub record RemovesEntry (path : List (List ℕ)) (name : List ℕ) (old new : DocumentViews) : Type 0 where
   pub tables : missing_table (tree_of old) path ≡ None
   pub stood : tree_of old (entry_of path name) ≡ None → ⊥
   pub between : List ℕ
-  pub entry : Without (entry_of path name ∷ []) old.bytes between
+  pub entry : IsTextWithout (entry_of path name ∷ []) old.bytes between
   pub form : Text
   pub reads : IsDocument between form
-  pub emptied : Without (bare_table (view_at form) (keyed path)) between new.bytes
+  pub emptied : IsTextWithout (empty_table_place (view_at form) (keyed path)) between new.bytes
 
 -- ---- errors
 
 -- the entry cannot be removed, or the table that is left empty cannot
-pub data StaysIn (path : List (List ℕ)) (name : List ℕ) (old : List ℕ) : Type 0 where
-  entry_stays : OneStays (entry_of path name ∷ []) old → StaysIn path name old
-  table_stays : (between : List ℕ) (form : Text) → Without (entry_of path name ∷ []) old between
-      → IsDocument between form → OneStays (bare_table (view_at form) (keyed path)) between
-      → StaysIn path name old
+pub data HasFailedEntryRemoval (path : List (List ℕ)) (name : List ℕ) (old : List ℕ) : Type 0 where
+  entry_stays : HasFailedRemoval (entry_of path name ∷ []) old → HasFailedEntryRemoval path name old
+  table_stays : (between : List ℕ) (form : Text) → IsTextWithout (entry_of path name ∷ []) old between
+      → IsDocument between form → HasFailedRemoval (empty_table_place (view_at form) (keyed path)) between
+      → HasFailedEntryRemoval path name old
 
 -- the error is `NoTable` with this key
 abbrev pub NamesStep : List ℕ → Error → Type 0
@@ -72,12 +72,12 @@ NamesEntry path name other = ⊥
 
 -- the error of removing an entry, given the first key that leads to no table and the item of the entry:
 -- there is no table, no entry, or an edit fails
-abbrev pub IsKept : List (List ℕ) → List ℕ → List ℕ → Option (List ℕ) → Option View → Error → Type 0
-IsKept path name old (Some step) entry e = NamesStep step e
-IsKept path name old None None e = NamesEntry path name e
-IsKept path name old None (Some view) e = (e ≡ EditRefused) × StaysIn path name old
+abbrev pub IsRemovalError : List (List ℕ) → List ℕ → List ℕ → Option (List ℕ) → Option View → Error → Type 0
+IsRemovalError path name old (Some step) entry e = NamesStep step e
+IsRemovalError path name old None None e = NamesEntry path name e
+IsRemovalError path name old None (Some view) e = (e ≡ EditRefused) × HasFailedEntryRemoval path name old
 
 -- the errors: lack of memory, or one of these
-abbrev pub IsNotTakenOut : List (List ℕ) → List ℕ → Shown → Error → Type 0
-IsNotTakenOut path name d e = IsMemory e
-    ⊎ IsKept path name d.bytes (missing_table (tree_of d) path) (tree_of d (entry_of path name)) e
+abbrev pub IsEntryRemovalError : List (List ℕ) → List ℕ → DocumentViews → Error → Type 0
+IsEntryRemovalError path name d e = IsMemory e
+    ⊎ IsRemovalError path name d.bytes (missing_table (tree_of d) path) (tree_of d (entry_of path name)) e

@@ -2,7 +2,7 @@
 use Rattle.std.specs.Prelude.{◌≡◌, ℕ, Bool, List, [], ◌∷◌, ◌++◌, None, is_some, if◌then◌else◌, MatchBool}
 use Rattle.edit_tree.specs.Assertions.{key, Place, at, IsDocument}
 use Rattle.edit_tree.specs.EditBytes.{set_text, replaced_text, inserted_text, is_one_statement}
-use Rattle.edit_tree.specs.Meant.{Tree, HasSet, HasReplaced, Inserted, Removed, ReplaceFails, InsertFails, RemoveFails}
+use Rattle.edit_tree.specs.IntendedTrees.{Tree, HasSet, HasReplaced, Inserted, Removed, ReplaceFails, InsertFails, RemoveFails}
 use Rattle.edit_tree.specs.NewItems.{NewItem}
 use Rattle.edit_tree.specs.RemovedBytes.{removed_text}
 use Rattle.edit_tree.specs.Tree.{is_value_at, view_at}
@@ -64,10 +64,10 @@ pub record ReadsReplaced (entry : Place) (item : NewItem) (form : Text) : Type 0
   pub shows : HasReplaced entry item (view_at form) (view_at after)
 
 -- the text after this update of the entry, with its tree (own)
-abbrev pub HasBecome : Place → Update → Text → List ℕ → List ℕ → Type 0
-HasBecome entry (replaced_by item) form old new =
+abbrev pub IsUpdatedText : Place → Update → Text → List ℕ → List ℕ → Type 0
+IsUpdatedText entry (replaced_by item) form old new =
     (new ≡ replaced_text entry item form) × ReadsReplaced entry item form
-HasBecome entry (changed_by edits) form old new = Changed entry edits old new
+IsUpdatedText entry (changed_by edits) form old new = Changed entry edits old new
 
 -- the update of the entry at a place of a text (own)
 abbrev pub update_in : Text → Place → List ℕ → EntryRecord → Update
@@ -76,7 +76,7 @@ update_in form entry root r = update_of (below (view_at form) entry) (is_one_sta
 -- the text after the entry is updated from a dependency (own)
 abbrev pub Updated : Place → List ℕ → EntryRecord → List ℕ → List ℕ → Type 0
 Updated entry root r old new =
-    (form : Text) → IsDocument old form → HasBecome entry (update_in form entry root r) form old new
+    (form : Text) → IsDocument old form → IsUpdatedText entry (update_in form entry root r) form old new
 
 -- ---- errors
 
@@ -100,11 +100,11 @@ pub record OneFails (entry : Place) (edits : List Change) (old : List ℕ) : Typ
   pub fails : ChangeFails entry refused bytes
 
 -- an edit of this update fails (own)
-abbrev pub BecomingFails : Place → Update → List ℕ → Type 0
-BecomingFails entry (replaced_by item) old = ReplaceFails entry item old
-BecomingFails entry (changed_by edits) old = OneFails entry edits old
+abbrev pub HasFailedUpdate : Place → Update → List ℕ → Type 0
+HasFailedUpdate entry (replaced_by item) old = ReplaceFails entry item old
+HasFailedUpdate entry (changed_by edits) old = OneFails entry edits old
 
 -- an edit fails while the entry is updated from a dependency (own)
 abbrev pub UpdateFails : Place → List ℕ → EntryRecord → List ℕ → Type 0
 UpdateFails entry root r old =
-    (form : Text) → IsDocument old form → BecomingFails entry (update_in form entry root r) old
+    (form : Text) → IsDocument old form → HasFailedUpdate entry (update_in form entry root r) old

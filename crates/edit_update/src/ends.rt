@@ -3,14 +3,14 @@ ghost use Rattle.std.specs.Prelude.{◌≡◌, ◌++◌, ◌∷◌, [], List, �
 ghost use Rattle.edit_base.specs.Errors.{IsMemory};
 ghost use Rattle.edit_base.specs.Paths.{texts};
 ghost use Rattle.edit_tree.specs.NewItems.{a_string, a_truth};
-ghost use Rattle.edit_document.specs.NewItemViews.{value_seen};
-ghost use Rattle.edit_update.specs.EndViews.{ends_seen};
+ghost use Rattle.edit_document.specs.NewItemViews.{new_value_view};
+ghost use Rattle.edit_update.specs.FinalValueViews.{final_values_view};
 ghost use Rattle.edit_record.specs.EachOnce.{each_once};
-ghost use Rattle.edit_update.specs.EntryUpdates.{ends, ends_with_version, joined_features, own_ends, other_ends, package_ends, source_ends, texts_or_none, workspace_end};
+ghost use Rattle.edit_update.specs.EntryUpdates.{ends, ends_with_version, joined_features, source_values, removed_source_keys, package_value, all_source_values, texts_or_none, workspace_removal};
 ghost use Rattle.edit_record.specs.EntryRecords.{from_git, from_registry, from_workspace};
 ghost use Rattle.edit_record.specs.NewEntries.{written_name};
 ghost use Rattle.edit_record.specs.ReadEntries.{features_at};
-ghost use Rattle.edit_record.specs.RecordViews.{path_view, record_view, repository_view, shown_at, source_view, texts_view};
+ghost use Rattle.edit_record.specs.RecordViews.{path_view, record_view, repository_view, item_tree, source_view, texts_view};
 
 use edit_base::errors::{CargoResult, Error};
 use edit_document::{Item, NewValue};
@@ -21,81 +21,86 @@ use std::collections::BTreeSet;
 
 /// A key of an entry with its final value; `None` where the key is removed.
 #[derive(Drop)]
-pub(crate) struct End {
+pub(crate) struct FinalValue {
     pub(crate) name: &'static str,
     pub(crate) value: Option<NewValue>,
 }
 
 /// Appends a key with its final value.
-fn push_end(
-    ends: &mut Vec<End>,
+fn push_final_value(
+    ends: &mut Vec<FinalValue>,
     name: &'static str,
     value: Option<NewValue>,
 ) -> Result<(), AllocError>
-    ensures { OnOk result (ends_seen ends.new.items
-        ≡ ends_seen ends.old.items ++ (name.now, option_map value_seen value) ∷ []) }
+    ensures { OnOk result (final_values_view ends.new.items
+        ≡ final_values_view ends.old.items ++ (name.now, option_map new_value_view value) ∷ []) }
 {
-    ends.push(End { name, value })?;
+    ends.push(FinalValue { name, value })?;
     Ok(())
 }
 
 /// Appends a key with a string as its final value; without one, the key is removed.
 fn push_text(
-    ends: &mut Vec<End>,
+    ends: &mut Vec<FinalValue>,
     name: &'static str,
     text: Option<&String>,
 ) -> Result<(), AllocError>
-    ensures { OnOk result (ends_seen ends.new.items ≡ ends_seen ends.old.items
+    ensures { OnOk result (final_values_view ends.new.items ≡ final_values_view ends.old.items
         ++ (name.now, option_map a_string (option_map string_bytes (option_copied text.entry))) ∷ []) }
 {
     match text {
-        Some(text) => push_end(ends, name, Some(NewValue::Str(text.clone()?))),
-        None => push_end(ends, name, None),
+        Some(text) => push_final_value(ends, name, Some(NewValue::Str(text.clone()?))),
+        None => push_final_value(ends, name, None),
     }
 }
 
 /// Appends a key with a boolean as its final value; without one, the key is removed.
 fn push_truth(
-    ends: &mut Vec<End>,
+    ends: &mut Vec<FinalValue>,
     name: &'static str,
     truth: Option<bool>,
 ) -> Result<(), AllocError>
-    ensures { OnOk result (ends_seen ends.new.items
-        ≡ ends_seen ends.old.items ++ (name.now, option_map a_truth truth) ∷ []) }
+    ensures { OnOk result (final_values_view ends.new.items
+        ≡ final_values_view ends.old.items ++ (name.now, option_map a_truth truth) ∷ []) }
 {
     match truth {
-        Some(truth) => push_end(ends, name, Some(NewValue::Bool(truth))),
-        None => push_end(ends, name, None),
+        Some(truth) => push_final_value(ends, name, Some(NewValue::Bool(truth))),
+        None => push_final_value(ends, name, None),
     }
 }
 
 /// Appends keys that are removed.
-fn push_gone(ends: &mut Vec<End>, names: &[&'static str]) -> Result<(), AllocError>
-    ensures { OnOk result (ends_seen ends.new.items
-        ≡ ends_seen ends.old.items ++ map (λ n. (n, None)) (texts names.now)) }
+fn push_removed_keys(ends: &mut Vec<FinalValue>, names: &[&'static str]) -> Result<(), AllocError>
+    ensures { OnOk result (final_values_view ends.new.items
+        ≡ final_values_view ends.old.items ++ map (λ n. (n, None)) (texts names.now)) }
 {
     'names: for name in names {
-        push_end(ends, name, None)?;
+        push_final_value(ends, name, None)?;
     }
     Ok(())
 }
 
 /// Appends the keys of a path source, with its path relative to `root`.
-fn push_path(alloc: Global, root: &str, ends: &mut Vec<End>, source: &PathSource) -> CargoResult<()>
-    ensures ok { OnOk result (ends_seen ends.new.items
-        ≡ ends_seen ends.old.items ++ own_ends root.now (path_view source.now)) }
+fn push_path(
+    alloc: Global,
+    root: &str,
+    ends: &mut Vec<FinalValue>,
+    source: &PathSource,
+) -> CargoResult<()>
+    ensures ok { OnOk result (final_values_view ends.new.items
+        ≡ final_values_view ends.old.items ++ source_values root.now (path_view source.now)) }
     ensures refused { IfErr result IsMemory }
 {
     let path = path_field(alloc, root, source.path.as_str())?;
-    push_end(ends, "path", Some(NewValue::Str(path)))?;
+    push_final_value(ends, "path", Some(NewValue::Str(path)))?;
     push_text(ends, "version", source.version.as_ref())?;
     Ok(())
 }
 
 /// Appends the keys of a Git source.
-fn push_repository(ends: &mut Vec<End>, source: &GitSource) -> Result<(), AllocError>
-    ensures { OnOk result (ends_seen ends.new.items
-        ≡ ends_seen ends.old.items ++ own_ends [] (from_git (repository_view source.now))) }
+fn push_repository(ends: &mut Vec<FinalValue>, source: &GitSource) -> Result<(), AllocError>
+    ensures { OnOk result (final_values_view ends.new.items
+        ≡ final_values_view ends.old.items ++ source_values [] (from_git (repository_view source.now))) }
 {
     push_text(ends, "git", Some(&source.git))?;
     push_text(ends, "branch", source.branch.as_ref())?;
@@ -105,9 +110,14 @@ fn push_repository(ends: &mut Vec<End>, source: &GitSource) -> Result<(), AllocE
 }
 
 /// Appends the keys of a source.
-fn push_own(alloc: Global, root: &str, ends: &mut Vec<End>, source: &Source) -> CargoResult<()>
-    ensures ok { OnOk result (ends_seen ends.new.items
-        ≡ ends_seen ends.old.items ++ own_ends root.now (source_view source.now)) }
+fn push_own(
+    alloc: Global,
+    root: &str,
+    ends: &mut Vec<FinalValue>,
+    source: &Source,
+) -> CargoResult<()>
+    ensures ok { OnOk result (final_values_view ends.new.items
+        ≡ final_values_view ends.old.items ++ source_values root.now (source_view source.now)) }
     ensures refused { IfErr result IsMemory }
 {
     match source {
@@ -120,18 +130,18 @@ fn push_own(alloc: Global, root: &str, ends: &mut Vec<End>, source: &Source) -> 
 }
 
 /// Appends the keys of other kinds of sources, which are removed.
-fn push_other(ends: &mut Vec<End>, source: &Source) -> Result<(), AllocError>
-    ensures { (root : List ℕ) → OnOk result (ends_seen ends.new.items
-        ≡ ends_seen ends.old.items ++ other_ends (own_ends root (source_view source.now))) }
+fn push_other(ends: &mut Vec<FinalValue>, source: &Source) -> Result<(), AllocError>
+    ensures { (root : List ℕ) → OnOk result (final_values_view ends.new.items
+        ≡ final_values_view ends.old.items ++ removed_source_keys (source_values root (source_view source.now))) }
 {
     match source {
-        Source::Registry(_) => push_gone(
+        Source::Registry(_) => push_removed_keys(
             ends,
             &["path", "git", "branch", "tag", "rev", "workspace"],
         ),
-        Source::Path(_) => push_gone(ends, &["git", "branch", "tag", "rev", "workspace"]),
-        Source::Git(_) => push_gone(ends, &["path", "workspace"]),
-        Source::Workspace(_) => push_gone(
+        Source::Path(_) => push_removed_keys(ends, &["git", "branch", "tag", "rev", "workspace"]),
+        Source::Git(_) => push_removed_keys(ends, &["path", "workspace"]),
+        Source::Workspace(_) => push_removed_keys(
             ends,
             &["version", "path", "git", "branch", "tag", "rev"],
         ),
@@ -141,7 +151,7 @@ fn push_other(ends: &mut Vec<End>, source: &Source) -> Result<(), AllocError>
 /// The strings of the key `features`; `None` where it is absent or no array of strings.
 fn old_features(alloc: Global, entry: Item<'_>) -> CargoResult<Option<Vec<String>>>
     ensures ok { IfOk result (λ o. unwrap_or (option_map texts_view o) []
-        ≡ texts_or_none (features_at (shown_at entry.entry) [])) }
+        ≡ texts_or_none (features_at (item_tree entry.entry) [])) }
     ensures refused { IfErr result IsMemory }
 {
     match features_at(alloc, "", entry) {
@@ -156,7 +166,7 @@ fn old_features(alloc: Global, entry: Item<'_>) -> CargoResult<Option<Vec<String
 }
 
 /// Removes duplicates; the first of equal texts stays.
-fn each_once(alloc: Global, texts: &[String]) -> Result<Vec<String>, AllocError>
+fn remove_duplicates(alloc: Global, texts: &[String]) -> Result<Vec<String>, AllocError>
     ensures { IfOk result (λ v. texts_view v ≡ each_once (map string_bytes texts.now)) }
 {
     let mut seen = BTreeSet::new(alloc);
@@ -172,13 +182,13 @@ fn each_once(alloc: Global, texts: &[String]) -> Result<Vec<String>, AllocError>
 
 /// The features of an entry followed by new ones, without duplicates.
 fn joined_features(alloc: Global, entry: Item<'_>, new: &Vec<String>) -> CargoResult<NewValue>
-    ensures ok { IfOk result (λ v. value_seen v
-        ≡ joined_features (shown_at entry.entry) (texts_view new.now)) }
+    ensures ok { IfOk result (λ v. new_value_view v
+        ≡ joined_features (item_tree entry.entry) (texts_view new.now)) }
     ensures refused { IfErr result IsMemory }
 {
     let old = old_features(alloc, entry)?;
     let all = joined(old, new.clone()?)?;
-    Ok(NewValue::Strings(each_once(alloc, &all)?))
+    Ok(NewValue::Strings(remove_duplicates(alloc, &all)?))
 }
 
 /// Appends the keys of the source and of other kinds of sources, if the dependency has a source.
@@ -186,10 +196,10 @@ fn push_sources(
     dependency: &Dependency,
     alloc: Global,
     root: &str,
-    ends: &mut Vec<End>,
+    ends: &mut Vec<FinalValue>,
 ) -> CargoResult<()>
-    ensures ok { OnOk result (ends_seen ends.new.items
-        ≡ ends_seen ends.old.items ++ source_ends root.now (record_view dependency.now).origin) }
+    ensures ok { OnOk result (final_values_view ends.new.items
+        ≡ final_values_view ends.old.items ++ all_source_values root.now (record_view dependency.now).origin) }
     ensures refused { IfErr result IsMemory }
 {
     if let Some(source) = &dependency.source {
@@ -202,21 +212,21 @@ fn push_sources(
 /// Appends a key that is removed if the source is the workspace.
 fn push_with_workspace(
     dependency: &Dependency,
-    ends: &mut Vec<End>,
+    ends: &mut Vec<FinalValue>,
     name: &'static str,
 ) -> Result<(), AllocError>
-    ensures { OnOk result (ends_seen ends.new.items
-        ≡ ends_seen ends.old.items ++ workspace_end name.now (record_view dependency.now).origin) }
+    ensures { OnOk result (final_values_view ends.new.items
+        ≡ final_values_view ends.old.items ++ workspace_removal name.now (record_view dependency.now).origin) }
 {
     match &dependency.source {
-        Some(Source::Workspace(_)) => push_end(ends, name, None),
+        Some(Source::Workspace(_)) => push_final_value(ends, name, None),
         _ => Ok(()),
     }
 }
 
 /// Whether the entry finally has a key `version`.
 fn ends_with_version(dependency: &Dependency, entry: Item<'_>) -> bool
-    ensures { result ≡ ends_with_version (shown_at entry.entry) (record_view dependency.now).origin }
+    ensures { result ≡ ends_with_version (item_tree entry.entry) (record_view dependency.now).origin }
 {
     match &dependency.source {
         Some(source) => source.version().is_some(),
@@ -228,26 +238,26 @@ fn ends_with_version(dependency: &Dependency, entry: Item<'_>) -> bool
 /// otherwise the key is removed.
 fn push_registry(
     dependency: &Dependency,
-    ends: &mut Vec<End>,
+    ends: &mut Vec<FinalValue>,
     entry: Item<'_>,
 ) -> Result<(), AllocError>
-    ensures { OnOk result (ends_seen ends.new.items ≡ ends_seen ends.old.items
+    ensures { OnOk result (final_values_view ends.new.items ≡ final_values_view ends.old.items
         ++ (
           codes "registry",
-          if ends_with_version (shown_at entry.entry) (record_view dependency.now).origin
+          if ends_with_version (item_tree entry.entry) (record_view dependency.now).origin
               then option_map a_string (record_view dependency.now).registry else None,
         ) ∷ []) }
 {
     if ends_with_version(dependency, entry) {
         return push_text(ends, "registry", dependency.registry.as_ref());
     }
-    push_end(ends, "registry", None)
+    push_final_value(ends, "registry", None)
 }
 
 /// Appends the key `package`.
-fn push_package(dependency: &Dependency, ends: &mut Vec<End>) -> Result<(), AllocError>
-    ensures { OnOk result (ends_seen ends.new.items ≡ ends_seen ends.old.items
-        ++ package_ends (written_name (record_view dependency.now)) (record_view dependency.now).origin) }
+fn push_package(dependency: &Dependency, ends: &mut Vec<FinalValue>) -> Result<(), AllocError>
+    ensures { OnOk result (final_values_view ends.new.items ≡ final_values_view ends.old.items
+        ++ package_value (written_name (record_view dependency.now)) (record_view dependency.now).origin) }
 {
     match &dependency.rename {
         Some(_) => push_text(ends, "package", Some(&dependency.name)),
@@ -259,13 +269,13 @@ fn push_package(dependency: &Dependency, ends: &mut Vec<End>) -> Result<(), Allo
 fn push_features(
     dependency: &Dependency,
     alloc: Global,
-    ends: &mut Vec<End>,
+    ends: &mut Vec<FinalValue>,
     entry: Item<'_>,
 ) -> CargoResult<()>
-    ensures ok { OnOk result (ends_seen ends.new.items ≡ ends_seen ends.old.items
+    ensures ok { OnOk result (final_values_view ends.new.items ≡ final_values_view ends.old.items
         ++ (
           codes "features",
-          option_map (joined_features (shown_at entry.entry))
+          option_map (joined_features (item_tree entry.entry))
               (record_view dependency.now).features,
         ) ∷ []) }
     ensures refused { IfErr result IsMemory }
@@ -274,7 +284,7 @@ fn push_features(
         Some(new) => Some(joined_features(alloc, entry, new)?),
         None => None,
     };
-    push_end(ends, "features", value)?;
+    push_final_value(ends, "features", value)?;
     Ok(())
 }
 
@@ -284,9 +294,9 @@ pub(crate) fn ends(
     alloc: Global,
     root: &str,
     entry: Item<'_>,
-) -> CargoResult<Vec<End>>
-    ensures ok { IfOk result (λ v. ends_seen v.items
-        ≡ ends (shown_at entry.entry) root.now (record_view dependency.now)) }
+) -> CargoResult<Vec<FinalValue>>
+    ensures ok { IfOk result (λ v. final_values_view v.items
+        ≡ ends (item_tree entry.entry) root.now (record_view dependency.now)) }
     ensures refused { IfErr result IsMemory }
 {
     let mut ends = Vec::new(alloc);

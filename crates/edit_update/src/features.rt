@@ -4,11 +4,11 @@ ghost use Rattle.edit_base.specs.Errors.{IsMemory};
 ghost use Rattle.edit_base.specs.declared.errors.Error.TheVariants.{EditRefused};
 ghost use Rattle.edit_tree.specs.Assertions.{Place as PlaceSeen, at, index as index_step};
 ghost use Rattle.edit_document.specs.ItemViews.{Finds};
-ghost use Rattle.edit_document.specs.Items.{place_seen};
-ghost use Rattle.edit_tree.specs.Shown.{Shown, tree_of};
-ghost use Rattle.edit_update.specs.Features.{IsNotCleared, goes, holds, is_held, is_in_workspace, is_offered, is_plain, is_section, offers, stale_in, stale_in_features, stale_strings};
-ghost use Rattle.edit_manifest.specs.Places.{places_seen};
-ghost use Rattle.edit_update.specs.Removals.{AreInTurn, AreStrings, OneStays, Without};
+ghost use Rattle.edit_document.specs.Items.{place_view};
+ghost use Rattle.edit_tree.specs.DocumentViews.{DocumentViews, tree_of};
+ghost use Rattle.edit_update.specs.Features.{IsFeatureError, goes, holds, is_held, is_in_workspace, has_any_optional_entry, is_plain, is_section, has_optional_entry, stale_in, stale_in_features, stale_strings};
+ghost use Rattle.edit_manifest.specs.Places.{places_view};
+ghost use Rattle.edit_update.specs.Removals.{AreInTurn, AreStrings, HasFailedRemoval, IsTextWithout};
 ghost use Rattle.edit_manifest.specs.Tables.{dependency_tables};
 
 use edit_base::errors::CargoResult;
@@ -20,7 +20,7 @@ use std::alloc::Global;
 
 /// Whether an item is a table that is not an inline table.
 fn is_plain(item: Option<Item>) -> bool
-    ensures { (d : Shown) → (place : PlaceSeen) → Finds d place item.entry
+    ensures { (d : DocumentViews) → (place : PlaceSeen) → Finds d place item.entry
         → result ≡ is_plain (tree_of d place) }
 {
     match item {
@@ -31,7 +31,7 @@ fn is_plain(item: Option<Item>) -> bool
 
 /// Whether a place is `workspace` or below it.
 fn is_in_workspace(place: &[Step]) -> bool
-    ensures { result ≡ is_in_workspace (place_seen place.now) }
+    ensures { result ≡ is_in_workspace (place_view place.now) }
 {
     match place.first() {
         Some(Step::Key(name)) => name.as_str() == "workspace",
@@ -42,22 +42,22 @@ fn is_in_workspace(place: &[Step]) -> bool
 /// Whether a place is a dependency table of the package itself: not below `workspace`, and not an inline
 /// table.
 fn is_section(document: &Document, place: &[Step]) -> bool
-    ensures { result ≡ is_section (tree_of document.now) (place_seen place.now) }
+    ensures { result ≡ is_section (tree_of document.now) (place_view place.now) }
 {
     !is_in_workspace(place) && is_plain(document.item(place))
 }
 
 /// Whether the dependency table at a place belongs to the package itself and has this key.
 fn holds(document: &Document, place: &[Step], name: &str) -> bool
-    ensures { result ≡ holds (tree_of document.now) name.now (place_seen place.now) }
+    ensures { result ≡ holds (tree_of document.now) name.now (place_view place.now) }
 {
     is_section(document, place) && item_below(document, document.item(place), name).is_some()
 }
 
 /// Whether the dependency table at a place belongs to the package itself and has an optional entry of this
 /// key.
-fn offers(document: &Document, place: &[Step], name: &str) -> bool
-    ensures { result ≡ offers (tree_of document.now) name.now (place_seen place.now) }
+fn has_optional_entry(document: &Document, place: &[Step], name: &str) -> bool
+    ensures { result ≡ has_optional_entry (tree_of document.now) name.now (place_view place.now) }
 {
     if !is_section(document, place) {
         return false;
@@ -71,7 +71,7 @@ fn offers(document: &Document, place: &[Step], name: &str) -> bool
 
 /// Whether some dependency table of the package has this key.
 fn is_held(document: &Document, tables: &[Place], name: &str) -> bool
-    requires tables { places_seen tables.now ≡ dependency_tables (tree_of document.now) }
+    requires tables { places_view tables.now ≡ dependency_tables (tree_of document.now) }
     ensures { result ≡ is_held (tree_of document.now) name.now }
 {
     'tables: for table in tables {
@@ -83,12 +83,12 @@ fn is_held(document: &Document, tables: &[Place], name: &str) -> bool
 }
 
 /// Whether some dependency table of the package has an optional entry of this key.
-fn is_offered(document: &Document, tables: &[Place], name: &str) -> bool
-    requires tables { places_seen tables.now ≡ dependency_tables (tree_of document.now) }
-    ensures { result ≡ is_offered (tree_of document.now) name.now }
+fn has_any_optional_entry(document: &Document, tables: &[Place], name: &str) -> bool
+    requires tables { places_view tables.now ≡ dependency_tables (tree_of document.now) }
+    ensures { result ≡ has_any_optional_entry (tree_of document.now) name.now }
 {
     'tables: for table in tables {
-        if offers(document, table, name) {
+        if has_optional_entry(document, table, name) {
             return true;
         }
     }
@@ -98,7 +98,7 @@ fn is_offered(document: &Document, tables: &[Place], name: &str) -> bool
 /// A removed dependency: its key, the key followed by a slash, and whether another table of the package
 /// still has the key.
 #[derive(Clone, Copy)]
-struct Gone<'a> {
+struct RemovedDependency<'a> {
     name: &'a str,
     front: &'a str,
     is_held: bool,
@@ -106,8 +106,8 @@ struct Gone<'a> {
 }
 
 /// Whether an element of a feature refers to the removed dependency.
-fn goes(item: Option<Item>, gone: Gone) -> bool
-    ensures { (d : Shown) → (place : PlaceSeen) → Finds d place item.entry
+fn goes(item: Option<Item>, gone: RemovedDependency) -> bool
+    ensures { (d : DocumentViews) → (place : PlaceSeen) → Finds d place item.entry
         → result ≡ goes gone.entry.is_held gone.entry.name.now (tree_of d place) }
 {
     let Some(item) = item else {
@@ -121,7 +121,7 @@ fn goes(item: Option<Item>, gone: Gone) -> bool
 
 /// The place of an element of an array.
 fn element_place(alloc: Global, array: &[Step], index: usize) -> CargoResult<Place>
-    ensures ok { IfOk result (λ p. place_seen p.items ≡ at (place_seen array.now) (index_step index)) }
+    ensures ok { IfOk result (λ p. place_view p.items ≡ at (place_view array.now) (index_step index)) }
     ensures refused { IfErr result IsMemory }
 {
     let mut place = copied_place(alloc, array)?;
@@ -134,11 +134,11 @@ fn push_stale(
     alloc: Global,
     document: &Document,
     array: &[Step],
-    gone: Gone,
+    gone: RemovedDependency,
     places: &mut Vec<Place>,
 ) -> CargoResult<()>
-    ensures ok { OnOk result (places_seen places.new.items ≡ places_seen places.old.items
-        ++ stale_in (tree_of document.now) gone.entry.is_held gone.entry.name.now (place_seen array.now)) }
+    ensures ok { OnOk result (places_view places.new.items ≡ places_view places.old.items
+        ++ stale_in (tree_of document.now) gone.entry.is_held gone.entry.name.now (place_view array.now)) }
     ensures refused { IfErr result IsMemory }
 {
     let Some(item) = document.item(array) else {
@@ -159,8 +159,12 @@ fn push_stale(
 }
 
 /// The places of the elements of all features that refer to the removed dependency, feature by feature.
-fn stale_in_features(alloc: Global, document: &Document, gone: Gone) -> CargoResult<Vec<Place>>
-    ensures ok { IfOk result (λ ps. places_seen ps.items
+fn stale_in_features(
+    alloc: Global,
+    document: &Document,
+    gone: RemovedDependency,
+) -> CargoResult<Vec<Place>>
+    ensures ok { IfOk result (λ ps. places_view ps.items
         ≡ stale_in_features (tree_of document.now) gone.entry.is_held gone.entry.name.now) }
     ensures refused { IfErr result IsMemory }
 {
@@ -181,16 +185,16 @@ fn stale_in_features(alloc: Global, document: &Document, gone: Gone) -> CargoRes
 
 /// The places of the elements to remove, in the order of removal.
 fn stale_strings(alloc: Global, document: &Document, name: &str) -> CargoResult<Vec<Place>>
-    ensures ok { IfOk result (λ ps. places_seen ps.items
+    ensures ok { IfOk result (λ ps. places_view ps.items
         ≡ stale_strings (tree_of document.now) name.now) }
     ensures refused { IfErr result IsMemory }
 {
     let tables = dependency_tables(alloc, document)?;
-    if is_offered(document, &tables, name) {
+    if has_any_optional_entry(document, &tables, name) {
         return Ok(Vec::new(alloc));
     }
     let front = format!(in alloc; "{name}/")?;
-    let gone = Gone {
+    let gone = RemovedDependency {
         name,
         front: front.as_str(),
         is_held: is_held(document, &tables, name),
@@ -200,28 +204,32 @@ fn stale_strings(alloc: Global, document: &Document, name: &str) -> CargoResult<
 
 /// Removes the strings at these places from a copy of the document, one after the other.
 fn without(alloc: Global, document: &Document, places: &[Place]) -> CargoResult<Document>
-    requires strings { AreStrings (tree_of document.now) (places_seen places.now) }
-    requires apart { AreInTurn (places_seen places.now) }
-    ensures without { IfOk result (λ d. Without (places_seen places.now) document.now.bytes d.bytes) }
+    requires strings { AreStrings (tree_of document.now) (places_view places.now) }
+    requires apart { AreInTurn (places_view places.now) }
+    ensures without { IfOk result (λ d. IsTextWithout (places_view places.now) document.now.bytes d.bytes) }
     ensures refused { IfErr result (λ e. IsMemory e ⊎ ((e ≡ EditRefused)
-        × OneStays (places_seen places.now) document.now.bytes)) }
+        × HasFailedRemoval (places_view places.now) document.now.bytes)) }
 {
     let mut left = document.try_clone(alloc)?;
     'places: for place in places {
-        left.has_form();
+        left.lemma_form();
         left.remove(alloc, place)?;
-        left.has_form();
+        left.lemma_form();
     }
     Ok(left)
 }
 
 /// Removes the elements of features that refer to a removed dependency from a copy of the document.
-pub(crate) fn cleared(alloc: Global, document: &Document, name: &str) -> CargoResult<Document>
-    ensures text { IfOk result (λ d. Without (stale_strings (tree_of document.now) name.now)
+pub(crate) fn remove_features(
+    alloc: Global,
+    document: &Document,
+    name: &str,
+) -> CargoResult<Document>
+    ensures text { IfOk result (λ d. IsTextWithout (stale_strings (tree_of document.now) name.now)
         document.now.bytes d.bytes) }
-    ensures refused { IfErr result (IsNotCleared name.now document.now) }
+    ensures refused { IfErr result (IsFeatureError name.now document.now) }
 {
-    document.has_form();
+    document.lemma_form();
     let places = stale_strings(alloc, document, name)?;
     without(alloc, document, &places)
 }

@@ -1,11 +1,11 @@
 //! Removes entries and features from a manifest.
 ghost use Rattle.std.specs.Prelude.{◌≡◌, None, IfErr, OnOk, map, string_bytes};
-ghost use Rattle.edit_tree.specs.Shown.{tree_of};
-ghost use Rattle.edit_update.specs.Features.{IsNotCleared, stale_strings};
-ghost use Rattle.edit_update.specs.Removals.{Without};
-ghost use Rattle.edit_update.specs.RemovedEntries.{IsNotTakenOut, TakesOut, entry_of};
+ghost use Rattle.edit_tree.specs.DocumentViews.{tree_of};
+ghost use Rattle.edit_update.specs.Features.{IsFeatureError, stale_strings};
+ghost use Rattle.edit_update.specs.Removals.{IsTextWithout};
+ghost use Rattle.edit_update.specs.RemovedEntries.{IsEntryRemovalError, RemovesEntry, entry_of};
 
-use crate::features::cleared;
+use crate::features::remove_features;
 use crate::remove::taken_out;
 use edit_base::errors::CargoResult;
 use edit_manifest::Manifest;
@@ -37,14 +37,14 @@ impl ManifestExt for Manifest {
         table_path: &[String],
         name: &str,
     ) -> CargoResult<()>
-        ensures text { OnOk result (TakesOut (map string_bytes table_path.now) name.now
+        ensures text { OnOk result (RemovesEntry (map string_bytes table_path.now) name.now
             self.old.document self.new.document) }
         // the place of the entry is empty then
         ensures gone { OnOk result
             (tree_of self.new.document (entry_of (map string_bytes table_path.now) name.now) ≡ None) }
         ensures err { IfErr result (λ _. self.new ≡ self.old) }
         ensures refused { IfErr result
-            (IsNotTakenOut (map string_bytes table_path.now) name.now self.old.document) }
+            (IsEntryRemovalError (map string_bytes table_path.now) name.now self.old.document) }
     {
         let document = taken_out(alloc, &self.document, table_path, name)?;
         self.document = document;
@@ -52,12 +52,12 @@ impl ManifestExt for Manifest {
     }
 
     fn gc_dep(&mut self, alloc: Global, dep_key: &str) -> CargoResult<()>
-        ensures text { OnOk result (Without (stale_strings (tree_of self.old.document) dep_key.now)
+        ensures text { OnOk result (IsTextWithout (stale_strings (tree_of self.old.document) dep_key.now)
             self.old.document.bytes self.new.document.bytes) }
         ensures err { IfErr result (λ _. self.new ≡ self.old) }
-        ensures refused { IfErr result (IsNotCleared dep_key.now self.old.document) }
+        ensures refused { IfErr result (IsFeatureError dep_key.now self.old.document) }
     {
-        let document = cleared(alloc, &self.document, dep_key)?;
+        let document = remove_features(alloc, &self.document, dep_key)?;
         self.document = document;
         Ok(())
     }

@@ -4,10 +4,10 @@ ghost use Rattle.edit_base.specs.Errors.{IsMemory};
 ghost use Rattle.edit_base.specs.declared.errors.Error.TheVariants.{EditRefused};
 ghost use Rattle.edit_tree.specs.Assertions.{Place as PlaceSeen, at, key};
 ghost use Rattle.edit_document.specs.ItemViews.{Finds};
-ghost use Rattle.edit_document.specs.Items.{place_seen};
-ghost use Rattle.edit_tree.specs.Shown.{Shown, tree_of};
-ghost use Rattle.edit_update.specs.Removals.{OneStays, Without};
-ghost use Rattle.edit_update.specs.RemovedEntries.{IsNotTakenOut, NamesEntry, NamesStep, TakesOut, bare_table, entry_of, is_bare, missing_table};
+ghost use Rattle.edit_document.specs.Items.{place_view};
+ghost use Rattle.edit_tree.specs.DocumentViews.{DocumentViews, tree_of};
+ghost use Rattle.edit_update.specs.Removals.{HasFailedRemoval, IsTextWithout};
+ghost use Rattle.edit_update.specs.RemovedEntries.{IsEntryRemovalError, NamesEntry, NamesStep, RemovesEntry, empty_table_place, entry_of, is_empty_table, missing_table};
 ghost use Rattle.edit_manifest.specs.Tables.{is_table_like, keyed};
 
 use edit_base::errors::{CargoResult, Error};
@@ -18,7 +18,7 @@ use std::alloc::{AllocError, Global};
 
 /// Whether an item is a table or an inline table.
 fn is_table(item: Option<Item>) -> bool
-    ensures { (d : Shown) → (place : PlaceSeen) → Finds d place item.entry
+    ensures { (d : DocumentViews) → (place : PlaceSeen) → Finds d place item.entry
         → result ≡ is_table_like (tree_of d place) }
 {
     match item {
@@ -44,7 +44,7 @@ fn missing_table<'p>(document: &Document, table_path: &'p [String]) -> Option<&'
 
 /// The place that these keys lead to from the root.
 fn path_place(alloc: Global, table_path: &[String]) -> Result<Place, AllocError>
-    ensures ok { IfOk result (λ p. place_seen p.items ≡ keyed (map string_bytes table_path.now)) }
+    ensures ok { IfOk result (λ p. place_view p.items ≡ keyed (map string_bytes table_path.now)) }
 {
     let mut place = Vec::with_capacity(alloc, table_path.len())?;
     'steps: for step in table_path {
@@ -78,32 +78,32 @@ fn no_entry(alloc: Global, table_path: &[String], name: &str) -> Error
 }
 
 /// Removes a table if it is empty; the root stays.
-fn remove_bare(alloc: Global, document: &mut Document, table: &[Step]) -> CargoResult<()>
-    ensures without { OnOk result (Without (bare_table (tree_of document.old) (place_seen table.now))
+fn remove_empty_table(alloc: Global, document: &mut Document, table: &[Step]) -> CargoResult<()>
+    ensures without { OnOk result (IsTextWithout (empty_table_place (tree_of document.old) (place_view table.now))
         document.old.bytes document.new.bytes) }
     ensures gone { OnOk result ((path : List (List ℕ)) → (name : List ℕ)
-        → place_seen table.now ≡ keyed path
-        → tree_of document.old (at (place_seen table.now) (key name)) ≡ None
-        → tree_of document.new (at (place_seen table.now) (key name)) ≡ None) }
+        → place_view table.now ≡ keyed path
+        → tree_of document.old (at (place_view table.now) (key name)) ≡ None
+        → tree_of document.new (at (place_view table.now) (key name)) ≡ None) }
     ensures refused { IfErr result (λ e. IsMemory e ⊎ ((e ≡ EditRefused)
-        × OneStays (bare_table (tree_of document.old) (place_seen table.now)) document.old.bytes)) }
+        × HasFailedRemoval (empty_table_place (tree_of document.old) (place_view table.now)) document.old.bytes)) }
 {
-    document.has_form();
+    document.lemma_form();
     if table.is_empty() {
         return Ok(());
     }
-    if !is_bare(document.item(table)) {
+    if !is_empty_table(document.item(table)) {
         return Ok(());
     }
     document.remove(alloc, table)?;
-    document.has_form();
+    document.lemma_form();
     Ok(())
 }
 
 /// Whether an item is an empty table or inline table.
-fn is_bare(item: Option<Item>) -> bool
-    ensures { (d : Shown) → (place : PlaceSeen) → Finds d place item.entry
-        → result ≡ is_bare (tree_of d place) }
+fn is_empty_table(item: Option<Item>) -> bool
+    ensures { (d : DocumentViews) → (place : PlaceSeen) → Finds d place item.entry
+        → result ≡ is_empty_table (tree_of d place) }
 {
     match item {
         Some(item) => item.is_table_like() && item.len() == 0,
@@ -118,11 +118,11 @@ pub(crate) fn taken_out(
     table_path: &[String],
     name: &str,
 ) -> CargoResult<Document>
-    ensures text { IfOk result (λ d. TakesOut (map string_bytes table_path.now) name.now document.now d) }
+    ensures text { IfOk result (λ d. RemovesEntry (map string_bytes table_path.now) name.now document.now d) }
     ensures gone { IfOk result
         (λ d. tree_of d (entry_of (map string_bytes table_path.now) name.now) ≡ None) }
     ensures refused { IfErr result
-        (IsNotTakenOut (map string_bytes table_path.now) name.now document.now) }
+        (IsEntryRemovalError (map string_bytes table_path.now) name.now document.now) }
 {
     if let Some(step) = missing_table(document, table_path) {
         return Err(no_table(alloc, step));
@@ -132,10 +132,10 @@ pub(crate) fn taken_out(
     if document.item(&entry).is_none() {
         return Err(no_entry(alloc, table_path, name));
     }
-    document.has_form();
+    document.lemma_form();
     let mut left = document.try_clone(alloc)?;
     left.remove(alloc, &entry)?;
-    left.has_form();
-    remove_bare(alloc, &mut left, &table)?;
+    left.lemma_form();
+    remove_empty_table(alloc, &mut left, &table)?;
     Ok(left)
 }

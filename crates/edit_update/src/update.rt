@@ -5,16 +5,16 @@ ghost use Rattle.edit_base.specs.Errors.{IsMemory};
 ghost use Rattle.edit_base.specs.declared.errors.Error.TheVariants.{EditRefused};
 ghost use Rattle.edit_tree.specs.EditBytes.{is_one_statement};
 ghost use Rattle.edit_document.specs.Forms.{Becomes, IfDocument};
-ghost use Rattle.edit_document.specs.Items.{place_seen};
+ghost use Rattle.edit_document.specs.Items.{place_view};
 ghost use Rattle.edit_document.specs.ItemViews.{view_of};
-ghost use Rattle.edit_document.specs.NewItemViews.{value_seen};
-ghost use Rattle.edit_tree.specs.Shown.{tree_of};
-ghost use Rattle.edit_update.specs.EndViews.{ends_seen};
-ghost use Rattle.edit_update.specs.EntryUpdates.{is_slight, removal_of, removes, write_of, writes};
+ghost use Rattle.edit_document.specs.NewItemViews.{new_value_view};
+ghost use Rattle.edit_tree.specs.DocumentViews.{tree_of};
+ghost use Rattle.edit_update.specs.FinalValueViews.{final_values_view};
+ghost use Rattle.edit_update.specs.EntryUpdates.{has_single_key, removal_of, removes, write_of, writes};
 ghost use Rattle.edit_record.specs.RecordViews.{record_view};
 ghost use Rattle.edit_update.specs.UpdatedTexts.{ChangeFails, Changed, HasChanged, OneFails, Updated, UpdateFails, changed_text};
 
-use crate::ends::{End, ends};
+use crate::ends::{FinalValue, ends};
 use edit_base::errors::CargoResult;
 use edit_changes::DocumentExt;
 use edit_document::{Document, Item, NewValue, Step, member_place};
@@ -30,14 +30,14 @@ fn write_member(
     value: &NewValue,
 ) -> CargoResult<()>
     requires room { length entry.now ≤ 70 }
-    ensures bytes { IfOk result (λ _. Becomes document.old.bytes (changed_text (place_seen entry.now)
-        (writes name.now (value_seen value.now))) document.new.bytes) }
-    ensures tree { IfOk result (λ _. IfDocument document.old.bytes (λ form. HasChanged (place_seen entry.now)
-        (writes name.now (value_seen value.now)) form (tree_of document.old) (tree_of document.new))) }
+    ensures bytes { IfOk result (λ _. Becomes document.old.bytes (changed_text (place_view entry.now)
+        (writes name.now (new_value_view value.now))) document.new.bytes) }
+    ensures tree { IfOk result (λ _. IfDocument document.old.bytes (λ form. HasChanged (place_view entry.now)
+        (writes name.now (new_value_view value.now)) form (tree_of document.old) (tree_of document.new))) }
     ensures refused { IfErr result (λ e. IsMemory e ⊎ ((e ≡ EditRefused) × ChangeFails
-        (place_seen entry.now) (writes name.now (value_seen value.now)) document.old.bytes)) }
+        (place_view entry.now) (writes name.now (new_value_view value.now)) document.old.bytes)) }
 {
-    document.has_form();
+    document.lemma_form();
     let place = member_place(alloc, entry, name)?;
     if document.is_value(&place) {
         return document.set_value(alloc, &place, value);
@@ -55,14 +55,14 @@ fn remove_member(
     entry: &[Step],
     name: &str,
 ) -> CargoResult<()>
-    ensures bytes { IfOk result (λ _. Becomes document.old.bytes (changed_text (place_seen entry.now)
+    ensures bytes { IfOk result (λ _. Becomes document.old.bytes (changed_text (place_view entry.now)
         (removes name.now)) document.new.bytes) }
-    ensures tree { IfOk result (λ _. IfDocument document.old.bytes (λ form. HasChanged (place_seen entry.now)
+    ensures tree { IfOk result (λ _. IfDocument document.old.bytes (λ form. HasChanged (place_view entry.now)
         (removes name.now) form (tree_of document.old) (tree_of document.new))) }
     ensures refused { IfErr result (λ e. IsMemory e ⊎ ((e ≡ EditRefused)
-        × ChangeFails (place_seen entry.now) (removes name.now) document.old.bytes)) }
+        × ChangeFails (place_view entry.now) (removes name.now) document.old.bytes)) }
 {
-    document.has_form();
+    document.lemma_form();
     let place = member_place(alloc, entry, name)?;
     if document.item(&place).is_none() {
         return Ok(());
@@ -75,19 +75,19 @@ fn write_members(
     alloc: Global,
     document: &mut Document,
     entry: &[Step],
-    ends: &[End],
+    ends: &[FinalValue],
 ) -> CargoResult<()>
     requires room { length entry.now ≤ 70 }
-    ensures changed { IfOk result (λ _. Changed (place_seen entry.now)
-        (filter_map write_of (ends_seen ends.now)) document.old.bytes document.new.bytes) }
+    ensures changed { IfOk result (λ _. Changed (place_view entry.now)
+        (filter_map write_of (final_values_view ends.now)) document.old.bytes document.new.bytes) }
     ensures refused { IfErr result (λ e. IsMemory e ⊎ ((e ≡ EditRefused) × OneFails
-        (place_seen entry.now) (filter_map write_of (ends_seen ends.now)) document.old.bytes)) }
+        (place_view entry.now) (filter_map write_of (final_values_view ends.now)) document.old.bytes)) }
 {
     'ends: for end in ends {
-        document.has_form();
+        document.lemma_form();
         if let Some(value) = &end.value {
             write_member(alloc, document, entry, end.name, value)?;
-            document.has_form();
+            document.lemma_form();
         }
     }
     Ok(())
@@ -98,26 +98,26 @@ fn remove_members(
     alloc: Global,
     document: &mut Document,
     entry: &[Step],
-    ends: &[End],
+    ends: &[FinalValue],
 ) -> CargoResult<()>
-    ensures changed { IfOk result (λ _. Changed (place_seen entry.now)
-        (filter_map removal_of (ends_seen ends.now)) document.old.bytes document.new.bytes) }
+    ensures changed { IfOk result (λ _. Changed (place_view entry.now)
+        (filter_map removal_of (final_values_view ends.now)) document.old.bytes document.new.bytes) }
     ensures refused { IfErr result (λ e. IsMemory e ⊎ ((e ≡ EditRefused) × OneFails
-        (place_seen entry.now) (filter_map removal_of (ends_seen ends.now)) document.old.bytes)) }
+        (place_view entry.now) (filter_map removal_of (final_values_view ends.now)) document.old.bytes)) }
 {
     'ends: for end in ends {
-        document.has_form();
+        document.lemma_form();
         if end.value.is_none() {
             remove_member(alloc, document, entry, end.name)?;
-            document.has_form();
+            document.lemma_form();
         }
     }
     Ok(())
 }
 
 /// Whether an entry is a string, or a table with a single key.
-fn is_slight(entry: Item<'_>) -> bool
-    ensures { result ≡ is_slight (Some (view_of entry.entry)) }
+fn has_single_key(entry: Item<'_>) -> bool
+    ensures { result ≡ has_single_key (Some (view_of entry.entry)) }
 {
     entry.is_str() || (entry.is_table_like() && entry.len() == 1)
 }
@@ -126,9 +126,9 @@ fn is_slight(entry: Item<'_>) -> bool
 /// defined by a single key/value pair.
 fn is_replaced(document: &Document, place: &[Step], entry: Item<'_>) -> bool
     ensures { IfDocument document.now.bytes (λ form. result ≡ (is_one_statement form
-        (place_seen place.now) && is_slight (Some (view_of entry.entry)))) }
+        (place_view place.now) && has_single_key (Some (view_of entry.entry)))) }
 {
-    document.one_statement(place) && is_slight(entry)
+    document.one_statement(place) && has_single_key(entry)
 }
 
 /// Updates an entry in a document that may be left incomplete after an error.
@@ -139,21 +139,21 @@ fn update_copy(
     document: &mut Document,
     entry: &[Step],
 ) -> CargoResult<()>
-    requires item { tree_of document.old (place_seen entry.now) ≡ None → ⊥ }
+    requires item { tree_of document.old (place_view entry.now) ≡ None → ⊥ }
     requires room { length entry.now ≤ 70 }
-    ensures text { IfOk result (λ _. Updated (place_seen entry.now) crate_root.now (record_view dependency.now)
+    ensures text { IfOk result (λ _. Updated (place_view entry.now) crate_root.now (record_view dependency.now)
         document.old.bytes document.new.bytes) }
     ensures refused { IfErr result (λ e. IsMemory e ⊎ ((e ≡ EditRefused) × UpdateFails
-        (place_seen entry.now) crate_root.now (record_view dependency.now) document.old.bytes)) }
+        (place_view entry.now) crate_root.now (record_view dependency.now) document.old.bytes)) }
 {
-    document.has_form();
+    document.lemma_form();
     let Some(item) = document.item(entry) else {
         unreachable!()
     };
     if is_replaced(document, entry, item) {
         let new = dependency.to_toml(alloc, crate_root)?;
         document.replace_entry(alloc, entry, &new)?;
-        document.has_form();
+        document.lemma_form();
         return Ok(());
     }
     let ends = ends(dependency, alloc, crate_root, item)?;
@@ -182,7 +182,7 @@ pub trait DependencyExt {
         document: &mut Document,
         entry: &[Step],
     ) -> CargoResult<()>
-        requires item { tree_of document.old (place_seen entry.now) ≡ None → ⊥ }
+        requires item { tree_of document.old (place_view entry.now) ≡ None → ⊥ }
         requires room { length entry.now ≤ 70 };
 }
 
@@ -194,13 +194,13 @@ impl DependencyExt for Dependency {
         document: &mut Document,
         entry: &[Step],
     ) -> CargoResult<()>
-        requires item { tree_of document.old (place_seen entry.now) ≡ None → ⊥ }
+        requires item { tree_of document.old (place_view entry.now) ≡ None → ⊥ }
         requires room { length entry.now ≤ 70 }
-        ensures text { IfOk result (λ _. Updated (place_seen entry.now) crate_root.now (record_view self.now)
+        ensures text { IfOk result (λ _. Updated (place_view entry.now) crate_root.now (record_view self.now)
             document.old.bytes document.new.bytes) }
         ensures err { IfErr result (λ _. document.new ≡ document.old) }
         ensures refused { IfErr result (λ e. IsMemory e ⊎ ((e ≡ EditRefused) × UpdateFails
-            (place_seen entry.now) crate_root.now (record_view self.now) document.old.bytes)) }
+            (place_view entry.now) crate_root.now (record_view self.now) document.old.bytes)) }
     {
         let mut copy = document.try_clone(alloc)?;
         update_copy(self, alloc, crate_root, &mut copy, entry)?;

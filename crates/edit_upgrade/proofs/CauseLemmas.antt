@@ -11,7 +11,7 @@ use Rattle.edit_sources.specs.declared.config.Config.{Config}
 use Rattle.edit_upgrade.specs.Caches.{CacheView, LeavesCache, StopsDocuments, StopsInputs, StopsManifest}
 use Rattle.edit_upgrade.specs.Causes.{FirstInput, InputPasses, HasBadEntry}
 use Rattle.edit_upgrade.specs.Looked.{Stays}
-use Rattle.edit_upgrade.specs.Looks.{Kept}
+use Rattle.edit_upgrade.specs.Looks.{CachedAnswers}
 use Rattle.edit_report.specs.declared.row.Row.{Row}
 use Rattle.edit_upgrade.specs.Drafts.{ArePlanned}
 use Rattle.edit_upgrade.specs.Lines.{line_of}
@@ -95,7 +95,7 @@ module _ {o : Options} {inputs : List Input} {configs : List (Vec Config)} {k : 
       (inr (entry-here bad))
 
 -- memory ran out after all inputs were planned
-pub finish-refused : {o : Options} {kept : Kept} {ls : List Line} {os : List Output} {ts : List Told}
+pub finish-refused : {o : Options} {kept : CachedAnswers} {ls : List Line} {os : List Output} {ts : List Told}
     (inputs : List Input) (configs : List (Vec Config)) (was next : CacheView) (e : Error)
     → ArePlanned o kept inputs configs ls os ts → length configs ≡ length inputs → (ls ≡ [] → ⊥)
     → All (λ (x : Input). IsUtf8 x.bytes.items) inputs → IsMemory e
@@ -113,7 +113,7 @@ finish-refused (x ∷ xs) (own ∷ cs) was next e p long some utf8 memory = reco
 }
 
 -- memory ran out while a manifest was planned that was read
-pub read-cause : (own : List Config) (gives : Outcomes) (old new : Kept) (a c : ℕ) (bytes : List ℕ)
+pub read-cause : (own : List Config) (gives : Outcomes) (old new : CachedAnswers) (a c : ℕ) (bytes : List ℕ)
     (e : Error) → IsUtf8 bytes
     → IsMemory e ⊎ HasBadEntry own gives old new a c bytes e → IsBadManifest bytes e
     ⊎ HasBadEntry own gives old new a c bytes e

@@ -8,19 +8,19 @@ use Rattle.semver.specs.Grammar.{IsValid}
 use Rattle.semver.specs.Parse.{Held, Parts, req_of}
 use Rattle.semver.specs.declared.Op.{Op}
 use Rattle.edit_version.specs.Laws.{HasSameOperators}
-use Rattle.edit_version.specs.Requirement.{Nothing, Raised, Text, Unread, Unsupported, raise}
+use Rattle.edit_version.specs.Requirement.{Nothing, UpgradeResult, Text, Unread, Unsupported, raise}
 use Rattle.edit_version.specs.Selection.{IsCompatible, IsLatest, is_admitted, is_offered}
 use Rattle.edit_version.proofs.Orders.{greatest-has, greatest-same}
 use Rattle.edit_version.proofs.Outcomes.{form-of, text-outcome, valid-version}
-use Rattle.edit_upgrade.specs.Decision.{Case, decision, first_row, has_pin_read, is_pin, is_too_low, newer, row_change, row_of, row_text, text_or, unless, when}
-use Rattle.edit_upgrade.specs.Records.{Seen}
+use Rattle.edit_upgrade.specs.Decision.{Case, decision, first_row, has_pin_read, is_pin, is_too_low, newer, row_change, row_of, row_text, text_or, unless, some_if}
+use Rattle.edit_upgrade.specs.Records.{RowEntry}
 use Rattle.edit_upgrade.specs.Rows.{case_for}
 use Rattle.edit_upgrade.specs.Words.{is_excluded, requirement_for}
 use Rattle.edit_upgrade.specs.declared.decision.options.Options.{Options}
 use Rattle.edit_upgrade.proofs.LowAgain.{low-again}
 use Rattle.edit_upgrade.proofs.Narrowing.{latest-lands}
 use Rattle.edit_upgrade.proofs.RaisedAgain.{compatible-far, compatible-near, latest-settles}
-use Rattle.edit_upgrade.proofs.TakenVersions.{far-some, far_text, near-some, near_text, newer-latest, unless-some, when-some}
+use Rattle.edit_upgrade.proofs.TakenVersions.{far-some, far_text, near-some, near_text, newer-latest, unless-some, some_if-some}
 
 -- ---- pinned entries
 
@@ -56,7 +56,7 @@ case_of x r m old near far =
     }
 
 -- where words give no requirement, the decision for an entry is one without
-pub case-plain : (o : Options) (e : Seen) (old : List ℕ) (near far : Option Parts)
+pub case-plain : (o : Options) (e : RowEntry) (old : List ℕ) (near far : Option Parts)
     → requirement_for o e.name ≡ None
     → case_for o e old near far ≡ case_of (is_excluded o e.name) (is_some e.rename) o.never_lower old near far
 case-plain o e old near far h =
@@ -67,17 +67,17 @@ abbrev jump : Options → Bool → List ℕ → Bool
 jump o r old = if r || has_pin_read (req_of old) then o.pinned else o.incompatible
 
 -- nothing may be written where there is nothing
-when-none : (b : Bool) → when {A = List ℕ} b None ≡ None
-when-none true = refl
-when-none false = refl
+some_if-none : (b : Bool) → some_if {A = List ℕ} b None ≡ None
+some_if-none true = refl
+some_if-none false = refl
 
 -- nothing is written where it may not be
-when-off : (b : Bool) (a : Option (List ℕ)) → b ≡ false → when b a ≡ None
-when-off b a h = rw h refl
+some_if-off : (b : Bool) (a : Option (List ℕ)) → b ≡ false → some_if b a ≡ None
+some_if-off b a h = rw h refl
 
 -- where it may be and nothing is, there is nothing
-when-on : (b : Bool) (a : Option (List ℕ)) → b ≡ true → when b a ≡ None → a ≡ None
-when-on b a e h = rw e at h
+some_if-on : (b : Bool) (a : Option (List ℕ)) → b ≡ true → some_if b a ≡ None → a ≡ None
+some_if-on b a e h = rw e at h
 
 -- without another text nothing changes
 rest-none : (old : List ℕ) (x b : Bool) → row_change old (first_row x None b None None) ≡ None
@@ -90,15 +90,16 @@ abbrev far_for : Bool → List ℕ → Option Parts → Option Parts → Option 
 far_for m t far near = unless (is_too_low m t (newer far near)) (far_text t far near)
 
 -- without a text there is none that is not too low
-quiet-for : (b low : Bool) (a : Option (List ℕ)) → a ≡ None → when b (unless low a) ≡ None
+quiet-for : (b low : Bool) (a : Option (List ℕ)) → a ≡ None → some_if b (unless low a) ≡ None
 quiet-for true true a h = refl
 quiet-for true false a h = h
 quiet-for false low a h = refl
 
 -- where no other text can be written, the text stays
 stays : (o : Options) (x r m : Bool) (t : List ℕ) (near far : Option Parts)
-    → when (jump o r t) (far_for m t far near) ≡ None
-    → when o.compatible (near_text t near) ≡ None → row_change t (row_of o (case_of x r m t near far)) ≡ None
+    → some_if (jump o r t) (far_for m t far near) ≡ None
+    → some_if o.compatible (near_text t near) ≡ None
+    → row_change t (row_of o (case_of x r m t near far)) ≡ None
 stays o x r m t near far h g = rw (h, g) (rest-none t x (is_ok (req_of t)))
 
 -- the latest version was written
@@ -113,11 +114,12 @@ latest-row o r m xs old t near0 far0 near far all islatest h isnear isfar =
     let s = latest-settles xs old t f.0 far near l kept isfar isnear in
     stays o false r m t near far
     (quiet-for (jump o r t) (is_too_low m t (newer far near)) (far_text t far near) s.0)
-    (ap (λ (x : Option (List ℕ)). when o.compatible x) s.1 ∙ when-none o.compatible)
+    (ap (λ (x : Option (List ℕ)). some_if o.compatible x) s.1 ∙ some_if-none o.compatible)
 
 -- writing the old text is no change
 self-none : (o : Options) (r m : Bool) (old : List ℕ) (near far : Option Parts) → is_ok (req_of old) ≡ true
-    → when (jump o r old) (far_for m old far near) ≡ None → when o.compatible (near_text old near) ≡ Some old
+    → some_if (jump o r old) (far_for m old far near) ≡ None
+    → some_if o.compatible (near_text old near) ≡ Some old
     → row_change old (row_of o (case_of false r m old near far)) ≡ None
 self-none o r m old near far b h g =
     let self : pointwise nat_eq old old ≡ true = nat_list_eq_equiv.refl old in
@@ -128,12 +130,12 @@ for-compatible : (o : Options) (r m : Bool) (xs : List Parts) (old t : List ℕ)
     (far0 far : Option Parts) → All IsValid xs
     → raise old u ≡ Text t → IsCompatible old xs (Some u) → IsLatest old xs far0
     → far_for m old far0 (Some u) ≡ None → IsLatest t xs far
-    → when (jump o r t) (far_for m t far (Some u)) ≡ None
+    → some_if (jump o r t) (far_for m t far (Some u)) ≡ None
 for-compatible o r m xs old t u far0 far all raised near islatest none isfar =
     elim (cases_Bool (is_too_low m old (newer far0 (Some u)))) [
       | inl low ↦
           let again = low-again m xs old t u far0 far all raised near islatest low isfar in
-          rw again (when-none (jump o r t))
+          rw again (some_if-none (jump o r t))
       | inr high ↦
           let first : far_text old far0 (Some u) ≡ None = rw high at none in
           quiet-for (jump o r t) (is_too_low m t (newer far (Some u))) (far_text t far (Some u))
@@ -142,11 +144,11 @@ for-compatible o r m xs old t u far0 far all raised near islatest none isfar =
 
 -- the compatible version was written
 compatible-row : (o : Options) (r m : Bool) (xs : List Parts) (old t : List ℕ) (u : Parts)
-    (far0 near far : Option Parts) (raised : Raised)
+    (far0 near far : Option Parts) (raised : UpgradeResult)
     → All IsValid xs → is_ok (req_of old) ≡ true → raise old u ≡ raised → text_or old raised ≡ Some t
     → IsCompatible old xs (Some u) → IsLatest old xs far0
-    → when (jump o r old) (far_for m old far0 (Some u)) ≡ None
-    → when o.compatible (near_text old (Some u)) ≡ Some t
+    → some_if (jump o r old) (far_for m old far0 (Some u)) ≡ None
+    → some_if o.compatible (near_text old (Some u)) ≡ Some t
     → IsCompatible t xs near → IsLatest t xs far
     → row_change t (row_of o (case_of false r m t near far)) ≡ None
 compatible-row o r m xs old t u far0 near far Unread all b e h iscomp islatest none some isnear isfar = cc h
@@ -160,9 +162,9 @@ compatible-row o r m xs old t u far0 near far
     let f : far ≡ far0 = greatest-same (is_offered old) xs far far0 far1 islatest in
     subst (λ (x : List ℕ). row_change x (row_of o (case_of false r m x near far)) ≡ None) same
     (self-none o r m old near far b
-    (ap (λ (x : Option Parts). when (jump o r old) (far_for m old x near)) f
-    ∙ ap (λ (x : Option Parts). when (jump o r old) (far_for m old far0 x)) n ∙ none)
-    (ap (λ (x : Option Parts). when o.compatible (near_text old x)) n ∙ some
+    (ap (λ (x : Option Parts). some_if (jump o r old) (far_for m old x near)) f
+    ∙ ap (λ (x : Option Parts). some_if (jump o r old) (far_for m old far0 x)) n ∙ none)
+    (ap (λ (x : Option Parts). some_if o.compatible (near_text old x)) n ∙ some
     ∙ ap (λ (x : List ℕ). Some x) (sym same)))
 compatible-row o r m xs old t u far0 near far (Text s) all b e h iscomp islatest none some isnear isfar =
     let same : s ≡ t = cc h in
@@ -172,15 +174,15 @@ compatible-row o r m xs old t u far0 near far (Text s) all b e h iscomp islatest
     let pins = pin-same old t (form-of old u t (valid-version u valid) (text-outcome old u t raised)).0 in
     let jumps : jump o r t ≡ jump o r old = ap
     (λ (p : Bool). if r || p then o.pinned else o.incompatible) pins in
-    let quiet : when (jump o r t) (far_for m t far near) ≡ None = elim (cases_Bool (jump o r old)) [
+    let quiet : some_if (jump o r t) (far_for m t far near) ≡ None = elim (cases_Bool (jump o r old)) [
       | inl on ↦
-          let first = when-on (jump o r old) (far_for m old far0 (Some u)) on none in
-          ap (λ (x : Option Parts). when (jump o r t) (far_for m t far x)) c.0
+          let first = some_if-on (jump o r old) (far_for m old far0 (Some u)) on none in
+          ap (λ (x : Option Parts). some_if (jump o r t) (far_for m t far x)) c.0
           ∙ for-compatible o r m xs old t u far0 far all raised iscomp islatest first isfar
-      | inr off ↦ when-off (jump o r t) (far_for m t far near) (jumps ∙ off)
+      | inr off ↦ some_if-off (jump o r t) (far_for m t far near) (jumps ∙ off)
     ] in
     stays o false r m t near far quiet
-    (ap (λ (x : Option (List ℕ)). when o.compatible x) c.1 ∙ when-none o.compatible)
+    (ap (λ (x : Option (List ℕ)). some_if o.compatible x) c.1 ∙ some_if-none o.compatible)
 
 -- the text that stands in a row that was the first to hold
 abbrev stands : Bool → List ℕ → Bool → Option (List ℕ) → Option (List ℕ) → List ℕ
@@ -190,30 +192,30 @@ stands x old b l c = row_text old (first_row x None b l c)
 rows : (o : Options) (x r m : Bool) (xs : List Parts) (old : List ℕ) (near0 far0 near far : Option Parts)
     (b : Bool) (l c : Option (List ℕ))
     → All IsValid xs → IsCompatible old xs near0 → IsLatest old xs far0
-    → is_ok (req_of old) ≡ b → when (jump o r old) (far_for m old far0 near0) ≡ l
-    → when o.compatible (near_text old near0) ≡ c
+    → is_ok (req_of old) ≡ b → some_if (jump o r old) (far_for m old far0 near0) ≡ l
+    → some_if o.compatible (near_text old near0) ≡ c
     → IsCompatible (stands x old b l c) xs near → IsLatest (stands x old b l c) xs far
     → row_change (stands x old b l c) (row_of o (case_of x r m (stands x old b l c) near far)) ≡ None
 rows o true r m xs old near0 far0 near far b l c all iscomp islatest p q s isnear isfar = refl
 rows o false r m xs old near0 far0 near far false l c all iscomp islatest p q s isnear isfar = rw p refl
 rows o false r m xs old near0 far0 near far true (Some t) c all iscomp islatest p q s isnear isfar =
     let u = unless-some (is_too_low m old (newer far0 near0)) (far_text old far0 near0) t
-    (when-some (jump o r old) (far_for m old far0 near0) t q) in
+    (some_if-some (jump o r old) (far_for m old far0 near0) t q) in
     latest-row o r m xs old t near0 far0 near far all islatest u.1 isnear isfar
 rows o false r m xs old near0 far0 near far true None (Some t) all iscomp islatest p q s isnear isfar =
     let n = near-some o old t near0 s in
     let first = subst (λ (y : Option Parts). IsCompatible old xs y) n.1 iscomp in
-    let none = subst (λ (y : Option Parts). when (jump o r old) (far_for m old far0 y) ≡ None) n.1 q in
-    let some = subst (λ (y : Option Parts). when o.compatible (near_text old y) ≡ Some t) n.1 s in
+    let none = subst (λ (y : Option Parts). some_if (jump o r old) (far_for m old far0 y) ≡ None) n.1 q in
+    let some = subst (λ (y : Option Parts). some_if o.compatible (near_text old y) ≡ Some t) n.1 s in
     compatible-row o r m xs old t n.0 far0 near far
     (raise old n.0) all p refl n.2 first islatest none some isnear isfar
 rows o false r m xs old near0 far0 near far true None None all iscomp islatest p q s isnear isfar =
     let n : near ≡ near0 = greatest-same (is_admitted old) xs near near0 isnear iscomp in
     let f : far ≡ far0 = greatest-same (is_offered old) xs far far0 isfar islatest in
     stays o false r m old near far
-    (ap (λ (y : Option Parts). when (jump o r old) (far_for m old y near)) f
-    ∙ ap (λ (y : Option Parts). when (jump o r old) (far_for m old far0 y)) n ∙ q)
-    (ap (λ (y : Option Parts). when o.compatible (near_text old y)) n ∙ s)
+    (ap (λ (y : Option Parts). some_if (jump o r old) (far_for m old y near)) f
+    ∙ ap (λ (y : Option Parts). some_if (jump o r old) (far_for m old far0 y)) n ∙ q)
+    (ap (λ (y : Option Parts). some_if o.compatible (near_text old y)) n ∙ s)
 
 -- the requirement that an entry got, decided again, stays
 pub again : (o : Options) (x r m : Bool) (xs : List Parts) (old : List ℕ)
@@ -224,5 +226,5 @@ pub again : (o : Options) (x r m : Bool) (xs : List Parts) (old : List ℕ)
     → (decision o (case_of x r m (decision o (case_of x r m old near0 far0)).new near far)).change ≡ None
 again o x r m xs old near0 far0 near far all iscomp islatest isnear isfar =
     rows o x r m xs old near0 far0 near far (is_ok (req_of old))
-    (when (jump o r old) (far_for m old far0 near0)) (when o.compatible (near_text old near0))
+    (some_if (jump o r old) (far_for m old far0 near0)) (some_if o.compatible (near_text old near0))
     all iscomp islatest refl refl refl isnear isfar

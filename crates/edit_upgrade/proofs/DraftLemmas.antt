@@ -15,12 +15,12 @@ use Rattle.edit_metadata.specs.declared.input.Input.{Input}
 use Rattle.edit_report.specs.declared.output.Output.{Output}
 use Rattle.edit_sources.specs.declared.config.Config.{Config}
 use Rattle.edit_version.specs.RustVersions.{numbers_of}
-use Rattle.edit_upgrade.specs.Drafts.{ArePlanned, IsPathAmong, IsPlanned, lines_on, outputs_on, told_on}
+use Rattle.edit_upgrade.specs.Drafts.{ArePlanned, IsPathAmong, IsPlanned, lines_on, outputs_on, warnings_among}
 use Rattle.edit_metadata.specs.Inputs.{path_of}
 use Rattle.edit_upgrade.specs.Inputs.{below, output_path}
 use Rattle.edit_upgrade.specs.Lists.{Told}
 use Rattle.edit_upgrade.specs.Looked.{Stays}
-use Rattle.edit_upgrade.specs.Looks.{Kept}
+use Rattle.edit_upgrade.specs.Looks.{CachedAnswers}
 use Rattle.edit_upgrade.specs.Records.{seen}
 use Rattle.edit_upgrade.specs.Rows.{Line}
 use Rattle.edit_upgrade.specs.declared.decision.options.Options.{Options}
@@ -30,7 +30,7 @@ use Rattle.edit_upgrade.proofs.InputRows.{decided-inputs, one-path-order, warned
 use Rattle.edit_upgrade.proofs.WalkLemmas.{passed-stays, rows-stay}
 
 -- what is planned of an input stays, where more answers are kept
-planned-stays : (i : ℕ) (o : Options) (x : Input) (configs : List Config) (now next : Kept)
+planned-stays : (i : ℕ) (o : Options) (x : Input) (configs : List Config) (now next : CachedAnswers)
     (ls : List Line) (os : List Output) (ts : List Told)
     → Stays now next → IsPlanned i o x configs now ls os ts → IsPlanned i o x configs next ls os ts
 planned-stays i o x configs now next ls os ts stays p = record {
@@ -129,7 +129,7 @@ abbrev has_some : List Output → List ℕ → Bool
 has_some os path = not (length (outputs_on path os) == 0)
 
 -- the rows, outputs and warnings of inputs with one more
-module _ (o : Options) (now next : Kept) (xs : List Input) (cs : List (Vec Config)) (ls lines : List Line)
+module _ (o : Options) (now next : CachedAnswers) (xs : List Input) (cs : List (Vec Config)) (ls lines : List Line)
     (os outputs : List Output)
     (ts told : List Told) (x : Input) (own : Vec Config) (stays : Stays now next)
     (p : ArePlanned o now xs cs ls os ts)
@@ -154,11 +154,11 @@ module _ (o : Options) (now next : Kept) (xs : List Input) (cs : List (Vec Confi
       (lows (λ (l : Line). l.input) (length xs) ls p.rows_below)
       (owns (λ (l : Line). l.input) (length xs) lines rows-own)
 
-  told-front : (i : ℕ) → i < length xs → told_on i (ts ++ told) ≡ told_on i ts
+  told-front : (i : ℕ) → i < length xs → warnings_among i (ts ++ told) ≡ warnings_among i ts
   told-front i low = filter-front (λ (t : Told). t.input == i) ts told
       (others (λ (t : Told). t.input) (length xs) i told low told-own)
 
-  told-last : told_on (length xs) (ts ++ told) ≡ told
+  told-last : warnings_among (length xs) (ts ++ told) ≡ told
   told-last = filter-last (λ (t : Told). t.input == length xs) ts told
       (lows (λ (t : Told). t.input) (length xs) ts p.told_below)
       (owns (λ (t : Told). t.input) (length xs) told told-own)
@@ -176,21 +176,21 @@ module _ (o : Options) (now next : Kept) (xs : List Input) (cs : List (Vec Confi
   each-more : (i : ℕ) (y : Input) (c : Vec Config) → slice_get (xs ++ x ∷ []) i ≡ Some y
       → slice_get (cs ++ own ∷ []) i ≡ Some c
       → IsPlanned i o y c.items next (lines_on i (ls ++ lines)) (outputs_on (path_of y) (os ++ outputs))
-      (told_on i (ts ++ told))
+      (warnings_among i (ts ++ told))
   each-more i y c e f = by (get-cases xs x i y e) (get-cases cs own i c f)
     where
       by : (slice_get xs i ≡ Some y) ⊎ ((i ≡ length xs) × (x ≡ y)) → (slice_get cs i ≡ Some c)
           ⊎ ((i ≡ length cs) × (own ≡ c))
           → IsPlanned i o y c.items next (lines_on i (ls ++ lines))
-          (outputs_on (path_of y) (os ++ outputs)) (told_on i (ts ++ told))
+          (outputs_on (path_of y) (os ++ outputs)) (warnings_among i (ts ++ told))
       by (inl a) (inl b) =
           let low : i < length xs = slice_get_within xs i y a in
           let before = planned-stays i o y c.items now next (lines_on i ls) (outputs_on (path_of y) os)
-          (told_on i ts) stays (p.each i y c a b) in
+          (warnings_among i ts) stays (p.each i y c a b) in
           subst (λ (l : List Line). IsPlanned i o y c.items next l (outputs_on (path_of y) (os ++ outputs))
-          (told_on i (ts ++ told))) (sym (lines-front i low))
+          (warnings_among i (ts ++ told))) (sym (lines-front i low))
           (subst (λ (q : List Output). IsPlanned i o y c.items next (lines_on i ls) q
-          (told_on i (ts ++ told))) (sym (outputs-front (path_of y) (new i y a)))
+          (warnings_among i (ts ++ told))) (sym (outputs-front (path_of y) (new i y a)))
           (subst (λ (t : List Told). IsPlanned i o y c.items next (lines_on i ls)
           (outputs_on (path_of y) os) t) (sym (told-front i low)) before))
       by (inl a) (inr b) =
@@ -201,17 +201,17 @@ module _ (o : Options) (now next : Kept) (xs : List Input) (cs : List (Vec Confi
           absurd (omega (arith, low, a.0, long))
       by (inr a) (inr b) =
           subst (λ (k : ℕ). IsPlanned k o y c.items next (lines_on k (ls ++ lines))
-          (outputs_on (path_of y) (os ++ outputs)) (told_on k (ts ++ told))) (sym a.0)
+          (outputs_on (path_of y) (os ++ outputs)) (warnings_among k (ts ++ told))) (sym a.0)
           (subst (λ (z : Input). IsPlanned (length xs) o z c.items next
           (lines_on (length xs) (ls ++ lines)) (outputs_on (path_of z) (os ++ outputs))
-          (told_on (length xs) (ts ++ told))) a.1
+          (warnings_among (length xs) (ts ++ told))) a.1
           (subst (λ (d : Vec Config). IsPlanned (length xs) o x d.items next
           (lines_on (length xs) (ls ++ lines)) (outputs_on (path_of x) (os ++ outputs))
-          (told_on (length xs) (ts ++ told))) b.1
+          (warnings_among (length xs) (ts ++ told))) b.1
           (subst (λ (l : List Line). IsPlanned (length xs) o x own.items next l
-          (outputs_on (path_of x) (os ++ outputs)) (told_on (length xs) (ts ++ told))) (sym lines-last)
+          (outputs_on (path_of x) (os ++ outputs)) (warnings_among (length xs) (ts ++ told))) (sym lines-last)
           (subst (λ (q : List Output). IsPlanned (length xs) o x own.items next lines q
-          (told_on (length xs) (ts ++ told))) (sym outputs-last)
+          (warnings_among (length xs) (ts ++ told))) (sym outputs-last)
           (subst (λ (t : List Told). IsPlanned (length xs) o x own.items next lines outputs t)
           (sym told-last) one)))))
 
@@ -219,7 +219,7 @@ module _ (o : Options) (now next : Kept) (xs : List Input) (cs : List (Vec Confi
   rows-more = in-turn-more (λ (l : Line). l.input) (length xs) (length (xs ++ x ∷ [])) ls lines
       (length-more xs x) p.rows_below rows-own p.rows_in_order
 
-  told-more : ts ++ told ≡ flat_map (λ i. told_on i (ts ++ told)) (below (length (xs ++ x ∷ [])))
+  told-more : ts ++ told ≡ flat_map (λ i. warnings_among i (ts ++ told)) (below (length (xs ++ x ∷ [])))
   told-more = in-turn-more (λ (t : Told). t.input) (length xs) (length (xs ++ x ∷ [])) ts told
       (length-more xs x) p.told_below told-own p.told_in_order
 

@@ -14,11 +14,11 @@ use Rattle.edit_upgrade.specs.Headline.{IsSettled, KeepsFloor, LatestIsNotLess, 
 use Rattle.edit_metadata.specs.Inputs.{path_of}
 use Rattle.edit_upgrade.specs.Inputs.{EachInput, Setting, below, outputs_at, rows_of, setting_of}
 use Rattle.edit_upgrade.specs.Lines.{line_of}
-use Rattle.edit_upgrade.specs.Lists.{Tells, warning_view}
+use Rattle.edit_upgrade.specs.Lists.{HasRowLists, warning_view}
 use Rattle.edit_upgrade.specs.LookOrder.{AreInOrder}
-use Rattle.edit_upgrade.specs.Looks.{AreLooks}
-use Rattle.edit_upgrade.specs.Missing.{TellsMissing}
-use Rattle.edit_upgrade.specs.Plans.{HasLooks, IsPlan, LooksInOrder}
+use Rattle.edit_upgrade.specs.Looks.{AreLookups}
+use Rattle.edit_upgrade.specs.Missing.{ListsMissing}
+use Rattle.edit_upgrade.specs.Plans.{HasLookups, IsPlan, AreLookupsInOrder}
 use Rattle.edit_upgrade.specs.Records.{seen}
 use Rattle.edit_upgrade.specs.Rows.{Line}
 use Rattle.edit_upgrade.specs.Upgraded.{HasItsOutputs, HasItsRows, HasItsWarnings, HasRows, IsNeeded}
@@ -29,7 +29,7 @@ use Rattle.edit_upgrade.specs.declared.decision.options.Options.{Options}
 use Rattle.edit_upgrade.specs.declared.upgrade.UpgradePlan.{UpgradePlan}
 use Rattle.edit_upgrade.proofs.EndLemmas.{all-below, all-flat, each-some, get-some}
 use Rattle.edit_upgrade.proofs.HeadlineRows.{rows-floor, rows-latest, rows-narrow, rows-reach}
-use Rattle.edit_upgrade.proofs.PlannedAgain.{need-same, settled}
+use Rattle.edit_upgrade.proofs.PlannedAgain.{need-same, pending_defined}
 use Rattle.edit_upgrade.proofs.WalkLemmas.{rows-told}
 
 -- a plan that has all that was planned of the inputs, and the looks that they need in their order, from a
@@ -38,23 +38,23 @@ pub record IsFinished (o : Options) (inputs : List Input) (configs : List (Vec C
     (plan : UpgradePlan) : Type 0 where
   pub planned : ArePlanned o new.kept inputs configs (map line_of plan.rows.items) plan.outputs.items
       (map warning_view plan.warnings.items)
-  pub looks : HasLooks inputs configs old new plan
-  pub in_order : LooksInOrder inputs configs plan
+  pub looks : HasLookups inputs configs old new plan
+  pub in_order : AreLookupsInOrder inputs configs plan
 
 -- the plan that a draft has
-pub finished-draft : (o : Options) (inputs : List Input) (configs : List (Vec Config)) (old new : CacheView)
+pub finish_plan-draft : (o : Options) (inputs : List Input) (configs : List (Vec Config)) (old new : CacheView)
     (d : Draft) (plan : UpgradePlan) → IsDraft o inputs configs old.gives old.kept new.kept d
     → (plan.rows ≡ d.rows) × (plan.looks ≡ d.books.looks)
     → (plan.outputs ≡ d.outputs) × (plan.warnings ≡ d.warnings)
     → IsFinished o inputs configs old new plan
-finished-draft o inputs configs old new d plan h a b = record {
+finish_plan-draft o inputs configs old new d plan h a b = record {
   planned = subst (λ (rows : Vec Row). ArePlanned o new.kept inputs configs (map line_of rows.items)
       plan.outputs.items (map warning_view plan.warnings.items)) (sym a.0)
       (subst (λ (outputs : Vec Output). ArePlanned o new.kept inputs configs (map line_of d.rows.items)
       outputs.items (map warning_view plan.warnings.items)) (sym b.0)
       (subst (λ (warnings : Vec Warning). ArePlanned o new.kept inputs configs (map line_of d.rows.items)
       d.outputs.items (map warning_view warnings.items)) (sym b.1) h.planned));
-  looks = subst (λ (looks : Vec Look). AreLooks (IsNeeded inputs configs) old.gives old.kept new.kept
+  looks = subst (λ (looks : Vec Look). AreLookups (IsNeeded inputs configs) old.gives old.kept new.kept
       looks.items) (sym a.1) h.so_far.looked;
   in_order = subst (λ (looks : Vec Look). AreInOrder inputs configs looks.items) (sym a.1) h.ordered.looked;
 }
@@ -104,8 +104,8 @@ module _ (o : Options) (inputs : List Input) (configs : List (Vec Config)) (old 
   all-warnings : EachInput o inputs configs HasItsWarnings plan
   all-warnings = each-of HasItsWarnings (λ i x own e f. (p.each i x own e f).warned)
 
-  all-settled : EachInput o inputs configs IsSettled plan
-  all-settled = each-of IsSettled (λ i x own e f. settled (setting_of i o x own.items plan.looks.items)
+  all-pending_defined : EachInput o inputs configs IsSettled plan
+  all-pending_defined = each-of IsSettled (λ i x own e f. pending_defined (setting_of i o x own.items plan.looks.items)
       (path_of x) x.bytes.items (rows_of i plan)
       (outputs_at (path_of x) plan) (rows-at i x own e f) (p.each i x own e f).writes)
 
@@ -129,7 +129,7 @@ module _ (o : Options) (inputs : List Input) (configs : List (Vec Config)) (old 
       (rows-at i x.0 own.0 x.1 own.1))))
 
   -- the plan has each promise, where its lists and its missing names are told
-  pub plan-of : length configs ≡ length inputs → Tells plan → TellsMissing o inputs plan
+  pub plan-of : length configs ≡ length inputs → HasRowLists plan → ListsMissing o inputs plan
       → IsPlan o inputs configs old new plan
   plan-of long lists missing = record {
     rows = all-rows_each;
@@ -143,7 +143,7 @@ module _ (o : Options) (inputs : List Input) (configs : List (Vec Config)) (old 
     latest = all-lines LatestIsNotLess long (λ s bytes lines same k. rows-latest s bytes lines k);
     never_lower = λ on. all-lines KeepsFloor long
         (λ s bytes lines same k. rows-floor s bytes lines (ap (λ (x : Options). x.never_lower) same ∙ on) k);
-    fixed_point = all-settled;
+    fixed_point = all-pending_defined;
     needs = all-needs;
     missing = missing;
     looks = h.looks;

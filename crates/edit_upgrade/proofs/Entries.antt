@@ -15,9 +15,9 @@ use Rattle.std.proofs.lemmas.Map.Text.{is_eq-slice_cmp}
 use Rattle.semver.specs.Parse.{Held, Parts}
 use Rattle.edit_version.specs.Greatest.{advance, pick}
 use Rattle.edit_version.specs.VersionOrder.{full_order}
-use Rattle.edit_upgrade.specs.PinViews.{entry_seen, pin_seen}
+use Rattle.edit_upgrade.specs.PinViews.{pin_entry_view, pin_view}
 use Rattle.edit_upgrade.specs.Pins as spec
-use Rattle.edit_upgrade.specs.Pins.{greatest, named_version, pin_at, pins_of, precise_version, with_word}
+use Rattle.edit_upgrade.specs.Pins.{greatest, named_version, pin_at, pins_of, precise_version, with_package_arg}
 use Rattle.edit_upgrade.specs.declared.update.pins.Pin.{Pin}
 
 option-cond : {A B : Type 0} (f : A → B) (b : Bool) (x : A) (o : Option A)
@@ -27,14 +27,14 @@ option-cond f false x o = refl
 
 -- what a look-up of a name finds
 pub lookup-seen : (name : List ℕ) (es : List (String Global × Option Pin))
-    → lookup (bytes_eq name) (map entry_seen es)
-    ≡ option_map (option_map pin_seen) (lookup (is_at (λ k. slice_cmp nat_cmp name (string_bytes k))) es)
+    → lookup (bytes_eq name) (map pin_entry_view es)
+    ≡ option_map (option_map pin_view) (lookup (is_at (λ k. slice_cmp nat_cmp name (string_bytes k))) es)
 lookup-seen name [] = refl
 lookup-seen name (e ∷ es) =
-    ap (cond (bytes_eq name (string_bytes e.0)) (Some (option_map pin_seen e.1))) (lookup-seen name es)
-    ∙ option-cond (option_map pin_seen) (bytes_eq name (string_bytes e.0)) e.1
+    ap (cond (bytes_eq name (string_bytes e.0)) (Some (option_map pin_view e.1))) (lookup-seen name es)
+    ∙ option-cond (option_map pin_view) (bytes_eq name (string_bytes e.0)) e.1
     (lookup (is_at (λ k. slice_cmp nat_cmp name (string_bytes k))) es)
-    ∙ ap (λ b. option_map (option_map pin_seen) (cond b (Some e.1)
+    ∙ ap (λ b. option_map (option_map pin_view) (cond b (Some e.1)
     (lookup (is_at (λ k. slice_cmp nat_cmp name (string_bytes k))) es)))
     (sym (is_eq-slice_cmp name (string_bytes e.0)))
 
@@ -45,27 +45,27 @@ seen-by Equal a b c a' b' c' p q r = q
 seen-by Greater a b c a' b' c' p q r = r
 
 map-by : (o : Ordering) (a b c : List (String Global × Option Pin))
-    → map entry_seen (match_ordering o a b c)
-    ≡ match_ordering o (map entry_seen a) (map entry_seen b) (map entry_seen c)
+    → map pin_entry_view (match_ordering o a b c)
+    ≡ match_ordering o (map pin_entry_view a) (map pin_entry_view b) (map pin_entry_view c)
 map-by Less a b c = refl
 map-by Equal a b c = refl
 map-by Greater a b c = refl
 
 -- an entry more
 pub insert-seen : (es : List (String Global × Option Pin)) (name : String Global) (pin : Option Pin)
-    → map entry_seen (insert_entry string_cmp es name pin)
-    ≡ insert_entry (slice_cmp nat_cmp) (map entry_seen es) (string_bytes name) (option_map pin_seen pin)
+    → map pin_entry_view (insert_entry string_cmp es name pin)
+    ≡ insert_entry (slice_cmp nat_cmp) (map pin_entry_view es) (string_bytes name) (option_map pin_view pin)
 insert-seen [] name pin = refl
 insert-seen (e ∷ es) name pin =
     map-by (string_cmp name e.0) ((name, pin) ∷ e ∷ es) ((e.0, pin) ∷ es)
     (e ∷ insert_entry string_cmp es name pin)
     ∙ seen-by (string_cmp name e.0) _ _ _ _ _ _ refl refl
-    (ap (λ l. entry_seen e ∷ l) (insert-seen es name pin))
+    (ap (λ l. pin_entry_view e ∷ l) (insert-seen es name pin))
 
 -- a word more
 pub word-more : (words : List (List ℕ)) (word : List ℕ)
-    → pins_of (words ++ word ∷ []) ≡ with_word (pins_of words) word
-word-more words word = fold-append with_word [] words (word ∷ [])
+    → pins_of (words ++ word ∷ []) ≡ with_package_arg (pins_of words) word
+word-more words word = fold-append with_package_arg [] words (word ∷ [])
 
 -- a comparator more
 pub precise-more : (cs : List Held) (c : Held) (named : Option Parts) → named ≡ named_version c
@@ -82,14 +82,14 @@ greatest-more vs v = fold-append (advance (λ w. true) full_order) None vs (v �
 -- the pin of a name that is there, and of one that is not
 pub joined-seen : (name : List ℕ) (es : List (String Global × Option Pin)) (pin : Option Pin)
     → Some pin ≡ lookup (is_at (λ k. slice_cmp nat_cmp name (string_bytes k))) es
-    → option_map pin_seen pin ≡ pin_at (map entry_seen es) name
+    → option_map pin_view pin ≡ pin_at (map pin_entry_view es) name
 joined-seen name es pin found =
-    ap (λ (o : Option (Option Pin)). option_and_then (λ p. p) (option_map (option_map pin_seen) o)) found
+    ap (λ (o : Option (Option Pin)). option_and_then (λ p. p) (option_map (option_map pin_view) o)) found
     ∙ ap (option_and_then (λ (p : Option spec.Pin). p)) (sym (lookup-seen name es))
 
 pub missing-seen : (name : List ℕ) (es : List (String Global × Option Pin))
     → None ≡ lookup (is_at (λ k. slice_cmp nat_cmp name (string_bytes k))) es
-    → None ≡ pin_at (map entry_seen es) name
+    → None ≡ pin_at (map pin_entry_view es) name
 missing-seen name es missing =
-    ap (λ (o : Option (Option Pin)). option_and_then (λ p. p) (option_map (option_map pin_seen) o)) missing
+    ap (λ (o : Option (Option Pin)). option_and_then (λ p. p) (option_map (option_map pin_view) o)) missing
     ∙ ap (option_and_then (λ (p : Option spec.Pin). p)) (sym (lookup-seen name es))

@@ -9,7 +9,7 @@ use Rattle.edit_sources.specs.declared.index.IndexKrate.{IndexKrate}
 use Rattle.url.specs.Parts as url
 use Rattle.url.specs.Parts.{serialize}
 use Rattle.edit_upgrade.specs.Looked.{IsAt}
-use Rattle.edit_upgrade.specs.Looks.{AddsNeeded, Answer, IsGiven}
+use Rattle.edit_upgrade.specs.Looks.{AddsNeeded, Answer, IsIndexAnswer}
 use Rattle.edit_upgrade.proofs.Bytes.{apart, both-true, same-eq}
 
 -- the answers that a cache keeps, as it has them
@@ -52,7 +52,7 @@ seen-none (Some k) h = cc h
 
 -- what is said of a new answer
 abbrev Added : Outcomes → List ℕ → List ℕ → List ℕ → List ℕ → Option Answer → Type 0
-Added gives at name a n o = IfSome o (λ answer. IsAt at name a n × IsGiven gives a n answer)
+Added gives at name a n o = IfSome o (λ answer. IsAt at name a n × IsIndexAnswer gives a n answer)
 
 no-answer : (gives : Outcomes) (at name a n : List ℕ) (o : Option Answer) → o ≡ None
     → Added gives at name a n o

@@ -10,7 +10,7 @@ use Rattle.semver.specs.OrderLaws.{same_text}
 use Rattle.semver.specs.Parse.{Parts, req_of}
 use Rattle.edit_tree.specs.Assertions.{Place}
 use Rattle.edit_version.specs.Laws.{holds_plus}
-use Rattle.edit_version.specs.Requirement.{Nothing, Raised, Text, Unread, Unsupported, cut, plain_text, raise}
+use Rattle.edit_version.specs.Requirement.{Nothing, UpgradeResult, Text, Unread, Unsupported, cut, plain_text, raise}
 use Rattle.edit_version.specs.Selection.{IsCompatible, IsLatest, is_admitted, is_offered}
 use Rattle.edit_version.proofs.NoPlus.{cut-none, plain-whole, raised-whole}
 use Rattle.edit_version.proofs.Orders.{greatest-has}
@@ -18,11 +18,11 @@ use Rattle.edit_version.proofs.Outcomes.{valid-version}
 use Rattle.edit_sources.proofs.AddressLemmas.{one_url}
 use Rattle.url.specs.Parts as url
 use Rattle.url.specs.Parts.{serialize}
-use Rattle.edit_upgrade.specs.Decision.{Case, Outcome, compatible_text, decision, first_row, given, is_too_low, kept, latest_text, left_out, may_jump, newer, row_change, row_of, row_text, text_or, to_compatible, to_latest, unless_old, unread, when}
+use Rattle.edit_upgrade.specs.Decision.{Case, Outcome, compatible_text, decision, first_row, given, is_too_low, kept, latest_text, left_out, may_jump, newer, row_change, row_of, row_text, text_or, to_compatible, to_latest, unless_old, unread, some_if}
 use Rattle.edit_upgrade.specs.Headline.{HasNoChange}
 use Rattle.edit_upgrade.specs.Inputs.{Setting}
 use Rattle.edit_upgrade.specs.Looks.{told}
-use Rattle.edit_upgrade.specs.Records.{Seen, at_registry}
+use Rattle.edit_upgrade.specs.Records.{RowEntry, at_registry}
 use Rattle.edit_sources.specs.Configured.{HasAddress}
 use Rattle.edit_sources.specs.declared.config.Config.{Config}
 use Rattle.edit_upgrade.specs.Rows.{AreVersionsFor, IsDecided, IsRowOver, Line, Needs, case_for, elsewhere, is_elsewhere, told_there, write_at, write_on}
@@ -32,7 +32,7 @@ use Rattle.edit_report.specs.declared.row.Change.{Change}
 use Rattle.edit_upgrade.specs.declared.decision.options.Options.{Options}
 use Rattle.edit_upgrade.proofs.DecidedAgain.{again, case-plain, case_of}
 use Rattle.edit_upgrade.proofs.HeadlineRows.{offered-valid}
-use Rattle.edit_upgrade.proofs.TakenVersions.{far-some, far_text, near-some, newer-latest, unless-some, when-some}
+use Rattle.edit_upgrade.proofs.TakenVersions.{far-some, far_text, near-some, newer-latest, unless-some, some_if-some}
 use Rattle.edit_upgrade.proofs.WrittenEntries.{old_after, renew, renewed}
 use Rattle.edit_upgrade.proofs.SomeRows.{other-versions}
 
@@ -54,7 +54,7 @@ pub cut-whole : (xs : List ℕ) → cut (cut xs) ≡ cut xs
 cut-whole xs = cut-none (cut xs) (cut-no_plus xs)
 
 -- a text that could be written is cut already
-whole-of : (old other : List ℕ) (v : Parts) (t : List ℕ) (r : Raised) → IsValid v → cut other ≡ other
+whole-of : (old other : List ℕ) (v : Parts) (t : List ℕ) (r : UpgradeResult) → IsValid v → cut other ≡ other
     → raise old v ≡ r → text_or other r ≡ Some t → cut t ≡ t
 whole-of old other v t Unread valid e q h = cc h
 whole-of old other v t Nothing valid e q h = cc h
@@ -81,11 +81,11 @@ case-whole : (o : Options) (x r m : Bool) (xs : List Parts) (old : List ℕ) (ne
     → cut (decision o (case_of x r m old near far)).new ≡ (decision o (case_of x r m old near far)).new
 case-whole o x r m xs old near far all h ic il =
     let k = case_of x r m old near far in
-    whole-row x (is_ok (req_of old)) old (when (may_jump o k) (latest_text k))
-    (when o.compatible (compatible_text k)) h
+    whole-row x (is_ok (req_of old)) old (some_if (may_jump o k) (latest_text k))
+    (some_if o.compatible (compatible_text k)) h
     (λ t q.
     let u = unless-some (is_too_low m old (newer far near)) (far_text old far near) t
-    (when-some (may_jump o k) (latest_text k) t q) in
+    (some_if-some (may_jump o k) (latest_text k) t q) in
     let f = far-some old t far near u.1 in
     let valid = greatest-has IsValid (is_offered old) xs f.0 all
     (subst (λ (y : Option Parts). IsLatest old xs y) (newer-latest far near f.0 f.1) il) in
@@ -97,7 +97,7 @@ case-whole o x r m xs old near far all h ic il =
     whole-of old old n.0 t (raise old n.0) valid h refl n.2)
 
 -- the same of an entry, where words give it no requirement
-decided-whole : (o : Options) (xs : List Parts) (e : Seen) (old : List ℕ) (near far : Option Parts)
+decided-whole : (o : Options) (xs : List Parts) (e : RowEntry) (old : List ℕ) (near far : Option Parts)
     → requirement_for o e.name ≡ None → All IsValid xs → cut old ≡ old
     → IsCompatible old xs near → IsLatest old xs far
     → cut (decision o (case_for o e old near far)).new ≡ (decision o (case_for o e old near far)).new
@@ -125,7 +125,7 @@ old-stays old (to_compatible text) h = same-stays old text _ h
 old-stays old kept h = refl
 
 -- so the row tells the old requirement
-line-stays : (i : ℕ) (o : Options) (xs : List Parts) (e : Seen) (old : List ℕ) (line : Line)
+line-stays : (i : ℕ) (o : Options) (xs : List Parts) (e : RowEntry) (old : List ℕ) (line : Line)
     → IsDecided i o xs e old line → line.change ≡ None → line.new ≡ Some old
 line-stays i o xs e old line d h =
     let k = case_for o e old d.near d.far in
@@ -133,25 +133,25 @@ line-stays i o xs e old line d h =
     ap (λ (l : Line). l.new) d.is ∙ ap (λ (x : List ℕ). Some x) (old-stays old (row_of o k) q)
 
 -- a row without a change writes nothing
-pub none-written : (e : Seen) (line : Line) → line.change ≡ None → write_on e line ≡ None
+pub none-written : (e : RowEntry) (line : Line) → line.change ≡ None → write_on e line ≡ None
 none-written e line h = by-old e.old
   where
-    by-old : (o : Option (List ℕ)) → when (is_some o) (write_at e.literal line) ≡ None
+    by-old : (o : Option (List ℕ)) → some_if (is_some o) (write_at e.literal line) ≡ None
     by-old None = refl
     by-old (Some old) = rw h refl
 
 -- a row with a change writes its requirement
-some-written : (e : Seen) (old : List ℕ) (line : Line) (kind : Change) (new : List ℕ) → e.old ≡ Some old
+some-written : (e : RowEntry) (old : List ℕ) (line : Line) (kind : Change) (new : List ℕ) → e.old ≡ Some old
     → line.change ≡ Some kind → line.new ≡ Some new
     → write_on e line ≡ Some (e.literal, new)
 some-written e old line kind new q h n = rw (q, h, n) refl
 
 -- the entry after its row was written is the old one with the row's requirement
-abbrev HasNew : Seen → Line → Type 0
+abbrev HasNew : RowEntry → Line → Type 0
 HasNew e line = (new : List ℕ) × (line.new ≡ Some new) × (renew e line ≡ record e { old = Some new })
 
 -- by whether the row has a change
-new-by : (i : ℕ) (o : Options) (xs : List Parts) (e : Seen) (old : List ℕ) (line : Line) (c : Option Change)
+new-by : (i : ℕ) (o : Options) (xs : List Parts) (e : RowEntry) (old : List ℕ) (line : Line) (c : Option Change)
     → requirement_for o e.name ≡ None → All IsValid xs → e.old ≡ Some old → cut old ≡ old
     → IsDecided i o xs e old line → line.change ≡ c → HasNew e line
 new-by i o xs e old line None plain all g h d q = (
@@ -178,7 +178,7 @@ some-same : (a b : List ℕ) → Some a ≡ Some b → a ≡ b
 some-same a b h = cc h
 
 -- one entry, decided on the requirement that its row left
-entry-again : (i : ℕ) (o : Options) (xs : List Parts) (e : Seen) (old : List ℕ) (line next : Line)
+entry-again : (i : ℕ) (o : Options) (xs : List Parts) (e : RowEntry) (old : List ℕ) (line next : Line)
     (new : List ℕ)
     → requirement_for o e.name ≡ None → All IsValid xs → IsDecided i o xs e old line → line.new ≡ Some new
     → IsDecided i o xs (record e { old = Some new }) new next → next.change ≡ None
@@ -197,7 +197,7 @@ entry-again i o xs e old line next new plain all d n g =
     ∙ ap (λ (t : List ℕ). (decision o (case_of x r o.never_lower t g.near g.far)).change) text
     ∙ again o x r o.never_lower xs old d.near d.far g.near g.far all d.compatible d.latest near far
 
-pub one-named : (e : Seen) (named other : Option (List ℕ)) → e.source ≡ at_registry named
+pub one-named : (e : RowEntry) (named other : Option (List ℕ)) → e.source ≡ at_registry named
     → e.source ≡ at_registry other → named ≡ other
 one-named e named other p q = source-inj named other (sym p ∙ q)
   where
@@ -205,7 +205,8 @@ one-named e named other p q = source-inj named other (sym p ∙ q)
     source-inj a b h = cc h
 
 -- the address that an entry needs is one
-pub one-address : (configs : List Config) (e : Seen) (a b : url.Parts) (n m : List ℕ) → Needs configs e a n
+pub one-address : (configs : List Config) (e : RowEntry) (a b : url.Parts) (n m : List ℕ)
+    → Needs configs e a n
     → Needs configs e b m → a ≡ b
 one-address configs e a b n m x y =
     let has = subst (λ (r : Option (List ℕ)). HasAddress configs r b)
@@ -213,12 +214,12 @@ one-address configs e a b n m x y =
     one_url configs x.named a b x.has has
 
 -- an entry of a registry is not one from elsewhere
-pub not-both : (e : Seen) (named : Option (List ℕ)) → e.source ≡ at_registry named
+pub not-both : (e : RowEntry) (named : Option (List ℕ)) → e.source ≡ at_registry named
     → is_elsewhere e.source ≡ true → ⊥
 not-both e named p q = cc (sym (ap is_elsewhere p) ∙ q)
 
 -- the versions that may be taken for an entry are the same
-same-versions : (s : Setting) (e : Seen) (xs ys : List Parts) → AreVersionsFor (basis_of s) e xs
+same-versions : (s : Setting) (e : RowEntry) (xs ys : List Parts) → AreVersionsFor (basis_of s) e xs
     → AreVersionsFor (basis_of s) e ys → xs ≡ ys
 same-versions s e xs ys (told_there a needs are) (told_there b need is) =
     are ∙ ap (λ (u : url.Parts). told s.rust s.looks (serialize u) e.name)
@@ -230,7 +231,7 @@ same-versions s e xs ys (elsewhere other none) (told_there b need is) =
 same-versions s e xs ys (elsewhere other none) (elsewhere more nothing) = none ∙ sym nothing
 
 -- one entry by its requirement, where it has one
-row-again : (s : Setting) (e : Seen) (o : Option (List ℕ)) (l m : Line)
+row-again : (s : Setting) (e : RowEntry) (o : Option (List ℕ)) (l m : Line)
     → requirement_for s.options e.name ≡ None → ((old : List ℕ) → e.old ≡ Some old → cut old ≡ old)
     → e.old ≡ o → IsRow s e l
     → IsRow s (renew e l) m → m.change ≡ None
@@ -245,15 +246,15 @@ row-again s e (Some old) l m plain h q d g =
     let first = subst (λ (x : Option (List ℕ)). IsRowOver s.input s.options d.versions e x l) q d.decided in
     let valid = offered-valid s e d.versions d.offered in
     let n = new-by s.input s.options d.versions e old l l.change plain valid q (h old q) first refl in
-    let next : Seen = record e { old = Some n.0 } in
-    let row = subst (λ (x : Seen). IsRow s x m) n.2 g in
+    let next : RowEntry = record e { old = Some n.0 } in
+    let row = subst (λ (x : RowEntry). IsRow s x m) n.2 g in
     let same = same-versions s next row.versions d.versions row.offered
     (other-versions (basis_of s) e next d.versions refl refl d.offered) in
     let again = subst (λ (ys : List Parts). IsDecided s.input s.options ys next n.0 m) same row.decided in
     entry-again s.input s.options d.versions e old l m n.0 plain valid first n.1 again
 
 -- all entries, decided on the requirements that their rows left
-pub all-again : (s : Setting) (es : List Seen) (ls ms : List Line)
+pub all-again : (s : Setting) (es : List RowEntry) (ls ms : List Line)
     → ((name : List ℕ) → requirement_for s.options name ≡ None)
     → AllByRecursion (λ e. (old : List ℕ) → e.old ≡ Some old → cut old ≡ old) es
     → AllZip (IsRow s) es ls → AllZip (IsRow s) (renewed es ls) ms → All HasNoChange ms

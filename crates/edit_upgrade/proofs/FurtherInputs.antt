@@ -5,7 +5,7 @@ use Rattle.std.specs.Global.{Vec}
 use Rattle.std.proofs.lemmas.List.{length-take-le}
 use Rattle.std.proofs.lemmas.List.Elements.{All-nil}
 use Rattle.std.proofs.lemmas.Option.{get_or_from_slice_get, slice_get_within}
-use Rattle.edit_tree.specs.Shown.{Shown}
+use Rattle.edit_tree.specs.DocumentViews.{DocumentViews}
 use Rattle.edit_tree.specs.Tree.{view_at}
 use Rattle.edit_metadata.specs.declared.input.Input.{Input}
 use Rattle.edit_report.specs.declared.output.Output.{Output}
@@ -18,8 +18,8 @@ use Rattle.edit_metadata.specs.Inputs.{HaveOwnPaths, path_of}
 use Rattle.edit_upgrade.specs.Inputs.{output_path}
 use Rattle.edit_upgrade.specs.Lines.{line_of}
 use Rattle.edit_upgrade.specs.Lists.{Told, warning_view}
-use Rattle.edit_upgrade.specs.Looked.{AreKept, Stays}
-use Rattle.edit_upgrade.specs.Looks.{Kept}
+use Rattle.edit_upgrade.specs.Looked.{AreAllCached, Stays}
+use Rattle.edit_upgrade.specs.Looks.{CachedAnswers}
 use Rattle.edit_upgrade.specs.PairSets.{holds_pair}
 use Rattle.edit_upgrade.specs.Records.{seen}
 use Rattle.edit_upgrade.specs.Rows.{Line}
@@ -40,7 +40,7 @@ use Rattle.edit_upgrade.proofs.Steps.{taken-more}
 nothing-needed : (a n : List ℕ) → IsNeeded [] [] a n → ⊥
 nothing-needed a n h = cc h.at
 
-planned-start : (o : Options) (kept : Kept) (rows : List Row) (outputs : List Output)
+planned-start : (o : Options) (kept : CachedAnswers) (rows : List Row) (outputs : List Output)
     (warnings : List Warning) → rows ≡ [] → outputs ≡ [] → warnings ≡ []
     → ArePlanned o kept [] [] (map line_of rows) outputs (map warning_view warnings)
 planned-start o kept rows outputs warnings a b c =
@@ -61,7 +61,8 @@ planned-start o kept rows outputs warnings a b c =
     no : (x : Input) → slice_get [] 0 ≡ Some x → ⊥
     no x h = cc h
 
-pub draft-start : (o : Options) (gives : Outcomes) (old : Kept) (d : Draft) → d.books.looks.items ≡ []
+pub draft-start : (o : Options) (gives : Outcomes) (old : CachedAnswers) (d : Draft)
+    → d.books.looks.items ≡ []
     → ((a n : List ℕ) → holds_pair d.books.pairs a n ≡ false) → d.outputs.items ≡ [] → d.rows.items ≡ []
     → d.warnings.items ≡ []
     → IsDraft o [] [] gives old old d
@@ -76,10 +77,10 @@ draft-start o gives old d looks pairs outputs rows warnings = record {
 -- ---- one input more
 
 module _ (o : Options) (xs : List Input) (cs : List (Vec Config)) (x : Input) (own : Vec Config)
-    (first last : Outcomes) (old now next : Kept) (d e : Draft)
+    (first last : Outcomes) (old now next : CachedAnswers) (d e : Draft)
     (draft : IsDraft o xs cs first old now d) (same : SameOutcomes first last) (stays : Stays now next)
     (adds : AddsInput (length xs) o x own.items last now next d e)
-    (kept : AreKept (holds_pair e.books.pairs) next) (long : length cs ≡ length xs)
+    (kept : AreAllCached (holds_pair e.books.pairs) next) (long : length cs ≡ length xs)
     (new : (j : ℕ) (y : Input) → slice_get xs j ≡ Some y → path_of y ≢ path_of x) where
   needs-also : (a n : List ℕ) → Also (IsNeeded xs cs) own.items (seen (view_at adds.walked.form)) a n
       → IsNeeded (xs ++ x ∷ []) (cs ++ own ∷ []) a n
@@ -205,7 +206,8 @@ pub draft-next : (o : Options) {inputs : List Input} {configs : List (Vec Config
     → IsInputAt inputs configs k x own here → HaveOwnPaths inputs
     → IsDraft o (take k inputs) (take k configs) was.gives was.kept now.kept d
     → SameOutcomes was.gives now.gives → Stays now.kept next.kept
-    → AddsInput k o x here now.gives now.kept next.kept d e → AreKept (holds_pair e.books.pairs) next.kept
+    → AddsInput k o x here now.gives now.kept next.kept d e
+    → AreAllCached (holds_pair e.books.pairs) next.kept
     → IsDraft o (take (k + 1) inputs) (take (k + 1) configs) was.gives was.kept next.kept e
 draft-next o {inputs} {configs} {k} {x} {own} was now next d e at apart draft same stays adds kept =
     let le : k ≤ length inputs = omega (arith, at.low) in
@@ -225,32 +227,33 @@ draft-next o {inputs} {configs} {k} {x} {own} was now next d e at apart draft sa
 
 -- ---- the documents that are given
 
-given-by : (inputs : List Input) (documents : List Shown) (i : ℕ) (x : Input) (d : Shown)
-    → map (λ (z : Shown). z.bytes) documents ≡ map (λ (z : Input). z.bytes.items) inputs
+given-by : (inputs : List Input) (documents : List DocumentViews) (i : ℕ) (x : Input) (d : DocumentViews)
+    → map (λ (z : DocumentViews). z.bytes) documents ≡ map (λ (z : Input). z.bytes.items) inputs
     → slice_get inputs i ≡ Some x → slice_get documents i ≡ Some d
     → d.bytes ≡ x.bytes.items
 given-by [] documents i x d e f g = cc f
 given-by (y ∷ ys) [] i x d e f g = cc g
 given-by (y ∷ ys) (z ∷ zs) zero x d e f g =
-    let heads : z.bytes ≡ y.bytes.items = cc e in
+    let header_walk : z.bytes ≡ y.bytes.items = cc e in
     let own : z ≡ d = cc g in
     let other : y ≡ x = cc f in
-    ap (λ (q : Shown). q.bytes) (sym own) ∙ heads ∙ ap (λ (q : Input). q.bytes.items) other
+    ap (λ (q : DocumentViews). q.bytes) (sym own) ∙ header_walk ∙ ap (λ (q : Input). q.bytes.items) other
 given-by (y ∷ ys) (z ∷ zs) (suc i) x d e f g = given-by ys zs i x d (cc e) f g
 
-some-given : (o : Option Shown) (x : Input) → ((d : Shown) → o ≡ Some d → d.bytes ≡ x.bytes.items)
+some-given : (o : Option DocumentViews) (x : Input)
+    → ((d : DocumentViews) → o ≡ Some d → d.bytes ≡ x.bytes.items)
     → IfSome o (λ d. d.bytes ≡ x.bytes.items)
 some-given None x h = tt
 some-given (Some d) x h = h d refl
 
 -- a document that is given has the bytes of its input
-pub given-at : (inputs : List Input) (documents : List Shown) (i : ℕ) (x : Input) (o : Option Shown)
+pub given-at : (inputs : List Input) (documents : List DocumentViews) (i : ℕ) (x : Input) (o : Option DocumentViews)
     → AreGiven inputs documents → i < length inputs
     → x ≡ get_or inputs i x → o ≡ slice_get documents i → IfSome o (λ d. d.bytes ≡ x.bytes.items)
 given-at inputs documents i x o (inl none) low is e = some-given o x
-    (λ d f. absurd (no d (sym (e ∙ ap (λ (ds : List Shown). slice_get ds i) none) ∙ f)))
+    (λ d f. absurd (no d (sym (e ∙ ap (λ (ds : List DocumentViews). slice_get ds i) none) ∙ f)))
   where
-    no : (d : Shown) → slice_get [] i ≡ Some d → ⊥
+    no : (d : DocumentViews) → slice_get [] i ≡ Some d → ⊥
     no d h = cc h
 given-at inputs documents i x o (inr same) low is e =
     some-given o x (λ d f. given-by inputs documents i x d same (get-at inputs i x low is) (sym e ∙ f))

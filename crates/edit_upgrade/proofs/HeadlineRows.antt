@@ -20,10 +20,10 @@ use Rattle.edit_version.proofs.GreatestEntries.{all-valid}
 use Rattle.edit_version.proofs.Orders.{greatest-has}
 use Rattle.edit_sources.specs.Index.{answer_of}
 use Rattle.edit_upgrade.specs.Decision.{decision, newer, or_else}
-use Rattle.edit_upgrade.specs.Headline.{IsVersionTold, KeepsFloor, LatestIsNotLess, Narrows, Reaches}
+use Rattle.edit_upgrade.specs.Headline.{IsTextOfVersion, KeepsFloor, LatestIsNotLess, Narrows, Reaches}
 use Rattle.edit_upgrade.specs.Inputs.{Setting}
-use Rattle.edit_upgrade.specs.Looks.{Answer, look_at, versions_in}
-use Rattle.edit_upgrade.specs.Records.{Seen, seen}
+use Rattle.edit_upgrade.specs.Looks.{Answer, lookup_at, versions_in}
+use Rattle.edit_upgrade.specs.Records.{RowEntry, seen}
 use Rattle.edit_upgrade.specs.Rows.{AreVersionsFor, IsDecided, IsRowOver, Line, case_for, dashes, elsewhere, line_for, told_there}
 use Rattle.edit_upgrade.specs.Upgraded.{HasRows, IsRow, basis_of}
 use Rattle.edit_upgrade.specs.declared.decision.options.Options.{Options}
@@ -40,12 +40,12 @@ versions-valid rust (Some None) = All-nil IsValid
 versions-valid rust (Some (Some entries)) = all-valid rust entries
 
 -- so is each that may be taken for an entry
-pub offered-valid : (s : Setting) (e : Seen) (xs : List Parts) → AreVersionsFor (basis_of s) e xs
+pub offered-valid : (s : Setting) (e : RowEntry) (xs : List Parts) → AreVersionsFor (basis_of s) e xs
     → All IsValid xs
 offered-valid s e xs (told_there address needs are) =
     subst (λ (ys : List Parts). All IsValid ys) (sym are)
     (versions-valid s.rust
-    (option_map (λ look. answer_of look.answer) (look_at s.looks (serialize address) e.name)))
+    (option_map (λ look. answer_of look.answer) (lookup_at s.looks (serialize address) e.name)))
 offered-valid s e xs (elsewhere other none) =
     subst (λ (ys : List Parts). All IsValid ys) (sym none) (All-nil IsValid)
 
@@ -54,7 +54,7 @@ admits-plain : (text : List ℕ) (v : Parts) → Admits text v → Admits text (
 admits-plain text v a = (a.0, a.1, admits-without_build a.0 v ∙ a.2)
 
 -- the text of a version tells it, but for its build metadata
-told-plain : (v : Parts) → IsValid v → IsVersionTold (Some (plain_text v)) (without_build v)
+told-plain : (v : Parts) → IsValid v → IsTextOfVersion (Some (plain_text v)) (without_build v)
 told-plain v valid = plain_text-read v valid
 
 -- ---- one row
@@ -64,7 +64,7 @@ read-admits : (text : List ℕ) (v : Parts) → Admits text v → IsOk (req_of t
 read-admits text v a = rw a.1 refl
 
 -- a decided row narrows
-pub line-narrows : (i : ℕ) (o : Options) (xs : List Parts) (e : Seen) (old : List ℕ) (line : Line)
+pub line-narrows : (i : ℕ) (o : Options) (xs : List Parts) (e : RowEntry) (old : List ℕ) (line : Line)
     → All IsValid xs → IsDecided i o xs e old line → Narrows line
 line-narrows i o xs e old line all d =
     subst Narrows (sym d.is) (λ h.
@@ -72,7 +72,7 @@ line-narrows i o xs e old line all d =
     (read-admits (decision o (case_for o e old d.near d.far)).new n.0 n.2.0, λ v a. n.2.1 v a))
 
 -- a decided row reaches its version
-pub line-reaches : (i : ℕ) (o : Options) (xs : List Parts) (e : Seen) (old : List ℕ) (line : Line)
+pub line-reaches : (i : ℕ) (o : Options) (xs : List Parts) (e : RowEntry) (old : List ℕ) (line : Line)
     → All IsValid xs → IsDecided i o xs e old line → Reaches line
 line-reaches i o xs e old line all d =
     let c = case_for o e old d.near d.far in
@@ -82,14 +82,14 @@ line-reaches i o xs e old line all d =
           let near = subst (λ (x : Option Parts). IsCompatible old xs x) n.1 d.compatible in
           let valid = greatest-has IsValid (is_admitted old) xs n.0 all near in (
             without_build n.0,
-            subst (λ (x : Option Parts). IsVersionTold (option_map plain_text x) (without_build n.0))
+            subst (λ (x : Option Parts). IsTextOfVersion (option_map plain_text x) (without_build n.0))
                 (sym n.1) (told-plain n.0 valid),
             admits-plain (decision o c).new n.0 n.2.0,
           );
       latest = λ h.
           let r = reach o xs c all d.latest h in (
             without_build r.0,
-            subst (λ (x : Option Parts). IsVersionTold (option_map plain_text (or_else x d.near))
+            subst (λ (x : Option Parts). IsTextOfVersion (option_map plain_text (or_else x d.near))
                 (without_build r.0)) (sym r.2) (told-plain r.0 r.1),
             λ plain. admits-plain (decision o c).new r.0 (r.3 plain),
           );
@@ -98,7 +98,7 @@ line-reaches i o xs e old line all d =
 
 -- the latest version that a row tells, where there are both
 told-latest : (u v : Parts) → IsValid u → IsValid v → is_le (full_order u v) ≡ true
-    → (w : Parts) × IsVersionTold (option_map plain_text (or_else (newer (Some v) (Some u)) (Some u))) w
+    → (w : Parts) × IsTextOfVersion (option_map plain_text (or_else (newer (Some v) (Some u)) (Some u))) w
     × IsTrue (is_ge (precedence w (without_build u)))
 told-latest u v a b le = elim (cases_Bool (pointwise nat_eq (plain_text v) (plain_text u))) [
   | inl same ↦ (without_build u, rw same (told-plain u a), not-less-itself (without_build u))
@@ -109,8 +109,8 @@ told-latest u v a b le = elim (cases_Bool (pointwise nat_eq (plain_text v) (plai
 latest-of : (xs : List Parts) (old : List ℕ) (near far : Option Parts) → All IsValid xs
     → IsCompatible old xs near → IsLatest old xs far
     → IsSome (option_map plain_text near)
-    → (u : Parts) × (v : Parts) × IsVersionTold (option_map plain_text near) u
-    × IsVersionTold (option_map plain_text (or_else (newer far near) near)) v
+    → (u : Parts) × (v : Parts) × IsTextOfVersion (option_map plain_text near) u
+    × IsTextOfVersion (option_map plain_text (or_else (newer far near) near)) v
     × IsTrue (is_ge (precedence v u))
 latest-of xs old None far all a b h = cc h
 latest-of xs old (Some u) far all a b h =
@@ -122,13 +122,13 @@ latest-of xs old (Some u) far all a b h =
       without_build u,
       t.0,
       told-plain u valid,
-      subst (λ (x : Option Parts). IsVersionTold
+      subst (λ (x : Option Parts). IsTextOfVersion
           (option_map plain_text (or_else (newer x (Some u)) (Some u))) t.0) (sym l.1) t.1,
       t.2,
     )
 
 -- a decided row keeps its floor, where requirements are never to be lowered
-pub line-floor : (i : ℕ) (o : Options) (xs : List Parts) (e : Seen) (old : List ℕ) (line : Line)
+pub line-floor : (i : ℕ) (o : Options) (xs : List Parts) (e : RowEntry) (old : List ℕ) (line : Line)
     → o.never_lower ≡ true → All IsValid xs
     → IsDecided i o xs e old line → KeepsFloor line
 line-floor i o xs e old line on all d =
@@ -140,40 +140,40 @@ line-floor i o xs e old line on all d =
     subst KeepsFloor (sym d.is) there
 
 -- a decided row's latest version is not less
-pub line-latest : (i : ℕ) (o : Options) (xs : List Parts) (e : Seen) (old : List ℕ) (line : Line)
+pub line-latest : (i : ℕ) (o : Options) (xs : List Parts) (e : RowEntry) (old : List ℕ) (line : Line)
     → All IsValid xs → IsDecided i o xs e old line → LatestIsNotLess line
 line-latest i o xs e old line all d =
     subst LatestIsNotLess (sym d.is) (latest-of xs old d.near d.far all d.compatible d.latest)
 
 -- a row of dashes narrows nothing, reaches nothing and tells no version
-dashes-narrow : (i : ℕ) (o : Options) (e : Seen) → Narrows (dashes i o e)
+dashes-narrow : (i : ℕ) (o : Options) (e : RowEntry) → Narrows (dashes i o e)
 dashes-narrow i o e h = cc h
 
-dashes-reach : (i : ℕ) (o : Options) (e : Seen) → Reaches (dashes i o e)
+dashes-reach : (i : ℕ) (o : Options) (e : RowEntry) → Reaches (dashes i o e)
 dashes-reach i o e = record { compatible = λ h. cc h; latest = λ h. cc h }
 
-dashes-latest : (i : ℕ) (o : Options) (e : Seen) → LatestIsNotLess (dashes i o e)
+dashes-latest : (i : ℕ) (o : Options) (e : RowEntry) → LatestIsNotLess (dashes i o e)
 dashes-latest i o e h = cc h
 
-dashes-floor : (i : ℕ) (o : Options) (e : Seen) → KeepsFloor (dashes i o e)
+dashes-floor : (i : ℕ) (o : Options) (e : RowEntry) → KeepsFloor (dashes i o e)
 dashes-floor i o e h f has = absurd has
 
 -- ---- all rows
 
 -- what holds of each decided row and of each row of dashes holds of a row
-row-has : (i : ℕ) (o : Options) (P : Line → Type 0) → ((e : Seen) → P (dashes i o e))
-    → ((xs : List Parts) (e : Seen) (old : List ℕ) (line : Line) → All IsValid xs
+row-has : (i : ℕ) (o : Options) (P : Line → Type 0) → ((e : RowEntry) → P (dashes i o e))
+    → ((xs : List Parts) (e : RowEntry) (old : List ℕ) (line : Line) → All IsValid xs
     → IsDecided i o xs e old line → P line)
-    → (xs : List Parts) (e : Seen) (old : Option (List ℕ)) (line : Line) → All IsValid xs
+    → (xs : List Parts) (e : RowEntry) (old : Option (List ℕ)) (line : Line) → All IsValid xs
     → IsRowOver i o xs e old line → P line
 row-has i o P d f xs e None line all h = subst P (sym h) (d e)
 row-has i o P d f xs e (Some old) line all h = f xs e old line all h
 
 -- so it holds of all rows
-all-rows : (s : Setting) (P : Line → Type 0) → ((e : Seen) → P (dashes s.input s.options e))
-    → ((xs : List Parts) (e : Seen) (old : List ℕ) (line : Line) → All IsValid xs
+all-rows : (s : Setting) (P : Line → Type 0) → ((e : RowEntry) → P (dashes s.input s.options e))
+    → ((xs : List Parts) (e : RowEntry) (old : List ℕ) (line : Line) → All IsValid xs
     → IsDecided s.input s.options xs e old line → P line)
-    → (es : List Seen) (ls : List Line) → AllZip (IsRow s) es ls → All P ls
+    → (es : List RowEntry) (ls : List Line) → AllZip (IsRow s) es ls → All P ls
 all-rows s P d f [] [] h = All-nil P
 all-rows s P d f [] (l ∷ ls) h = absurd h
 all-rows s P d f (e ∷ es) [] h = absurd h

@@ -13,7 +13,7 @@ use Rattle.edit_upgrade.specs.Causes.{FirstInput, HasBadEntry, IsEntryCause}
 use Rattle.edit_upgrade.specs.Drafts.{outputs_on}
 use Rattle.edit_metadata.specs.Inputs.{HaveOwnPaths, path_of}
 use Rattle.edit_upgrade.specs.Inputs.{EachInput, OutputsInOrder, Setting, output_path, outputs_at, setting_of}
-use Rattle.edit_upgrade.specs.Looks.{Kept}
+use Rattle.edit_upgrade.specs.Looks.{CachedAnswers}
 use Rattle.edit_upgrade.specs.Upgraded.{IsNeeded, IsNeededBy}
 use Rattle.edit_upgrade.specs.declared.decision.options.Options.{Options}
 use Rattle.edit_upgrade.specs.declared.upgrade.UpgradePlan.{UpgradePlan}
@@ -107,7 +107,7 @@ only-outputs inputs x p e h =
     (subst (λ (xs : List Input). OutputsInOrder xs p) e h)
 
 -- the only input is the first at which a plan does not go on
-of-first : (x : Input) (own : Vec Config) (new : Kept) (Stops : List Config → List ℕ → Type 0)
+of-first : (x : Input) (own : Vec Config) (new : CachedAnswers) (Stops : List Config → List ℕ → Type 0)
     → FirstInput (x ∷ []) (own ∷ []) new Stops
     → Stops own.items x.bytes.items
 of-first x own new Stops f = by f.i f.input f.own f.at f.configured f.stops
@@ -122,7 +122,7 @@ of-first x own new Stops f = by f.i f.input f.own f.at f.configured f.stops
 
 -- why a plan over the only input is refused
 pub of-entry_cause : (inputs : List Input) (configs : List (Vec Config)) (x : Input) (own : Vec Config)
-    (gives : Outcomes) (old new : Kept) (before now : ℕ)
+    (gives : Outcomes) (old new : CachedAnswers) (before now : ℕ)
     (e : Error) → inputs ≡ x ∷ [] → configs ≡ own ∷ [] → IsEntryCause inputs configs gives old new before
     now e
     → IsMemory e ⊎ HasBadEntry own.items gives old new before now x.bytes.items e

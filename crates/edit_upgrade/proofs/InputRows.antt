@@ -14,24 +14,24 @@ use Rattle.edit_version.specs.RustVersions.{Numbers}
 use Rattle.semver.specs.Parse.{Parts}
 use Rattle.edit_upgrade.specs.Drafts.{outputs_on}
 use Rattle.edit_upgrade.specs.Inputs.{output_path}
-use Rattle.edit_upgrade.specs.Lists.{IsWarningBy, IsWarningOn, Told, kept_unread, unreadable_text, warned, warning_by}
-use Rattle.edit_upgrade.specs.Looks.{Kept, kept_basis}
+use Rattle.edit_upgrade.specs.Lists.{IsWarningBy, IsWarningOn, Told, unparsed_requirement, unreadable_text, warned, warning_by}
+use Rattle.edit_upgrade.specs.Looks.{CachedAnswers, cached_basis}
 use Rattle.edit_upgrade.specs.Outputs.{AreOutputs, HasOutputs, changed, unchanged}
-use Rattle.edit_upgrade.specs.Records.{Seen, Source, seen, source_of, version_of}
+use Rattle.edit_upgrade.specs.Records.{RowEntry, Source, seen, source_of, version_of}
 use Rattle.edit_upgrade.specs.Rows.{AreDecided, IsRowOver, Line, writes}
 use Rattle.edit_upgrade.specs.Upgraded.{HasWarnings}
 use Rattle.edit_upgrade.specs.declared.decision.options.Options.{Options}
 
 -- ---- rows
 
-row-input : (i : ℕ) (o : Options) (versions : List Parts) (e : Seen) (old : Option (List ℕ)) (line : Line)
+row-input : (i : ℕ) (o : Options) (versions : List Parts) (e : RowEntry) (old : Option (List ℕ)) (line : Line)
     → IsRowOver i o versions e old line → line.input ≡ i
 row-input i o versions e None line d = ap (λ (l : Line). l.input) d
 row-input i o versions e (Some old) line d = ap (λ (l : Line). l.input) d.is
 
-pub decided-inputs : (i : ℕ) (o : Options) (rust : Option Numbers) (configs : List Config) (kept : Kept)
-    (es : List Seen) (ls : List Line)
-    → AreDecided (kept_basis i o rust configs kept) es ls → All (λ (l : Line). l.input ≡ i) ls
+pub decided-inputs : (i : ℕ) (o : Options) (rust : Option Numbers) (configs : List Config) (kept : CachedAnswers)
+    (es : List RowEntry) (ls : List Line)
+    → AreDecided (cached_basis i o rust configs kept) es ls → All (λ (l : Line). l.input ≡ i) ls
 decided-inputs i o rust configs kept [] [] h = All-nil (λ (l : Line). l.input ≡ i)
 decided-inputs i o rust configs kept [] (l ∷ ls) h = absurd h
 decided-inputs i o rust configs kept (e ∷ es) [] h = absurd h
@@ -94,7 +94,7 @@ by-source o i name r None w h = sym (ap told-input h)
     told-input None = i
     told-input (Some t) = t.input
 by-source o i name r (Some source) w h =
-    warned-input i name (option_and_then (kept_unread o r) (version_of r)) w h
+    warned-input i name (option_and_then (unparsed_requirement o r) (version_of r)) w h
 
 by-record : (o : Options) (i : ℕ) (name : List ℕ) (said : Option EntryRecord) (told : Option Told) (w : Told)
     → IsWarningBy o i name said told → told ≡ Some w → w.input ≡ i

@@ -11,7 +11,7 @@ use Rattle.semver.specs.declared.error.Error.{Error}
 use Rattle.semver.specs.declared.Op.TheVariants as op
 use Rattle.edit_version.specs.Admits.{admits}
 use Rattle.edit_version.specs.Laws.{IsVersion, precedence}
-use Rattle.edit_version.specs.Requirement.{Nothing, Raised, Text, Unread, Unsupported, plain_text, raise, raised}
+use Rattle.edit_version.specs.Requirement.{Nothing, UpgradeResult, Text, Unread, Unsupported, plain_text, raise, raised}
 use Rattle.edit_version.specs.Selection.{IsCompatible, IsLatest, is_admitted, is_offered}
 use Rattle.edit_version.proofs.ComparatorReadings.{tidy}
 use Rattle.edit_version.proofs.Cuts.{plain_text-plain}
@@ -21,22 +21,22 @@ use Rattle.edit_version.proofs.Orders.{greatest-has}
 use Rattle.edit_version.proofs.Outcomes.{admitted, reads-same, valid-version}
 use Rattle.edit_version.proofs.Shapes.{req-shape}
 use Rattle.edit_report.specs.declared.row.Change.TheVariants as change
-use Rattle.edit_upgrade.specs.Decision.{Case, compatible_text, decision, is_set_aside, is_too_low, latest_text, may_jump, newer, text_or, unless, when}
+use Rattle.edit_upgrade.specs.Decision.{Case, compatible_text, decision, is_set_aside, is_too_low, latest_text, may_jump, newer, text_or, unless, some_if}
 use Rattle.edit_upgrade.specs.Floors.{HasFloor, IsFloor, is_below, is_end, one_begins_after, read_begins_after}
 use Rattle.edit_upgrade.specs.declared.decision.options.Options.{Options}
 use Rattle.edit_upgrade.proofs.FloorLemmas.{Rises, all-rise, all-rise_accepted, begins-of, floor-below, later-not_after, none-after, not-after, or-left, some-floor}
-use Rattle.edit_upgrade.proofs.TakenVersions.{compatible-taken, far-some, far_text, latest-taken, near-some, newer-latest, unless-some, when-some}
+use Rattle.edit_upgrade.proofs.TakenVersions.{compatible-taken, far-some, far_text, latest-taken, near-some, newer-latest, unless-some, some_if-some}
 
 -- the new text has a floor that is not lower, where the old one has one
-abbrev pub Keeps : List ℕ → List ℕ → Type 0
-Keeps old new = (f : Parts) → HasFloor old f → (g : Parts) × HasFloor new g × IsTrue (is_ge (precedence g f))
+abbrev pub KeepsFloors : List ℕ → List ℕ → Type 0
+KeepsFloors old new = (f : Parts) → HasFloor old f → (g : Parts) × HasFloor new g × IsTrue (is_ge (precedence g f))
 
 -- ---- a raised text
 
 -- a text whose comparators rise to the version
 pub raised-keeps : (old t : List ℕ) (v : Parts) (c : Held) (cs : List Held) → IsVersion v
     → IsRaised old v t c cs
-    → AllByRecursion (Rises v) (c ∷ cs) → Keeps old t
+    → AllByRecursion (Rises v) (c ∷ cs) → KeepsFloors old t
 raised-keeps old t v c cs w r rise f has =
     let ds = map tidy (map (raised v) (c ∷ cs)) in
     let floor = subst (λ (x : List Held). IsFloor x f) (reads-same old has.0 (c ∷ cs) has.1 r.0) has.2 in
@@ -71,9 +71,9 @@ some-text s t h = cc h
 
 -- ---- the compatible version
 
-compatible-keeps : (xs : List Parts) (old t : List ℕ) (u : Parts) (r : Raised) → All IsValid xs
+compatible-keeps : (xs : List Parts) (old t : List ℕ) (u : Parts) (r : UpgradeResult) → All IsValid xs
     → IsCompatible old xs (Some u)
-    → raise old u ≡ r → text_or old r ≡ Some t → pointwise nat_eq t old ≡ false → Keeps old t
+    → raise old u ≡ r → text_or old r ≡ Some t → pointwise nat_eq t old ≡ false → KeepsFloors old t
 compatible-keeps xs old t u Unread all near e h other = no-text t h
 compatible-keeps xs old t u Nothing all near e h other = no-text t h
 compatible-keeps xs old t u (Unsupported d) all near e h other =
@@ -96,7 +96,7 @@ none-read old cs v read high =
 
 -- the version's own text, where the version is not lower
 plain-keeps : (old : List ℕ) (v : Parts) → IsValid v → is_below old (Some v) ≡ false
-    → Keeps old (plain_text v)
+    → KeepsFloors old (plain_text v)
 plain-keeps old v valid high f has =
     let ds : List Held = (op.Caret, v.0, Some v.1, Some v.2, v.3) ∷ [] in
     let none = none-read old has.0 v has.1 high in
@@ -108,14 +108,14 @@ plain-keeps old v valid high f has =
           (later-not_after v g.0 has.0 above none),
     )
 
-latest-keeps : (old : List ℕ) (v : Parts) (t : List ℕ) (r : Raised) → IsValid v
+latest-keeps : (old : List ℕ) (v : Parts) (t : List ℕ) (r : UpgradeResult) → IsValid v
     → is_below old (Some v) ≡ false → raise old v ≡ r
-    → text_or (plain_text v) r ≡ Some t → Keeps old t
+    → text_or (plain_text v) r ≡ Some t → KeepsFloors old t
 latest-keeps old v t Unread valid high e h = no-text t h
 latest-keeps old v t Nothing valid high e h = no-text t h
 latest-keeps old v t (Unsupported d) valid high e h =
     let same = some-text (plain_text v) t h in
-    subst (λ (x : List ℕ). Keeps old x) same (plain-keeps old v valid high)
+    subst (λ (x : List ℕ). KeepsFloors old x) same (plain-keeps old v valid high)
 latest-keeps old v t (Text s) valid high e h =
     let same = some-text s t h in
     let r = raised-read old v t (e ∙ ap Text same) in
@@ -139,31 +139,31 @@ high-of never old far v on is h =
 -- a change to the compatible version
 pub compatible-kept : (o : Options) (xs : List Parts) (c : Case) → All IsValid xs
     → IsCompatible c.old xs c.compatible
-    → (decision o c).change ≡ Some change.Compatible → Keeps c.old (decision o c).new
+    → (decision o c).change ≡ Some change.Compatible → KeepsFloors c.old (decision o c).new
 compatible-kept o xs c all iscomp h =
     let k = compatible-taken c.old c.excluded (unless (is_set_aside o c) c.selected)
-    (is_ok (req_of c.old)) (when (may_jump o c) (latest_text c))
-    (when o.compatible (compatible_text c)) h in
+    (is_ok (req_of c.old)) (some_if (may_jump o c) (latest_text c))
+    (some_if o.compatible (compatible_text c)) h in
     let n = near-some o c.old k.0 c.compatible k.1 in
     let near = subst (λ (x : Option Parts). IsCompatible c.old xs x) n.1 iscomp in
-    subst (λ (x : List ℕ). Keeps c.old x) (sym k.2)
+    subst (λ (x : List ℕ). KeepsFloors c.old x) (sym k.2)
     (compatible-keeps xs c.old k.0 n.0 (raise c.old n.0) all near refl n.2 k.3)
 
 -- a change to the latest version, where requirements are never to be lowered
 pub latest-kept : (o : Options) (xs : List Parts) (c : Case) → All IsValid xs → IsLatest c.old xs c.latest
     → c.never_lower ≡ true
-    → (decision o c).change ≡ Some change.Latest → Keeps c.old (decision o c).new
+    → (decision o c).change ≡ Some change.Latest → KeepsFloors c.old (decision o c).new
 latest-kept o xs c all islatest on h =
     let k = latest-taken c.old c.excluded (unless (is_set_aside o c) c.selected) (is_ok (req_of c.old))
-    (when (may_jump o c) (latest_text c))
-    (when o.compatible (compatible_text c)) h in
+    (some_if (may_jump o c) (latest_text c))
+    (some_if o.compatible (compatible_text c)) h in
     let u = unless-some (is_too_low c.never_lower c.old (newer c.latest c.compatible))
     (far_text c.old c.latest c.compatible) k.0
-    (when-some (may_jump o c) (latest_text c) k.0 k.1) in
+    (some_if-some (may_jump o c) (latest_text c) k.0 k.1) in
     let f = far-some c.old k.0 c.latest c.compatible u.1 in
     let far = subst (λ (x : Option Parts). IsLatest c.old xs x)
     (newer-latest c.latest c.compatible f.0 f.1) islatest in
     let valid = greatest-has IsValid (is_offered c.old) xs f.0 all far in
     let high = high-of c.never_lower c.old (newer c.latest c.compatible) f.0 on f.1 u.0 in
-    subst (λ (x : List ℕ). Keeps c.old x) (sym k.2)
+    subst (λ (x : List ℕ). KeepsFloors c.old x) (sym k.2)
     (latest-keeps c.old f.0 k.0 (raise c.old f.0) valid high refl f.2)

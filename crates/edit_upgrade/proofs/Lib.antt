@@ -43,6 +43,6 @@ pub mod RaisedAgain
 pub mod LowAgain
 mod DecisionFacts
 pub mod Entries
-pub mod Kept
+pub mod CachedAnswer
 mod PinFacts
 mod UpdateFacts

@@ -22,9 +22,9 @@ use Rattle.edit_sources.specs.declared.config.Config.{Config}
 use Rattle.url.specs.Parts.{serialize}
 use Rattle.edit_upgrade.specs.Inputs.{below}
 use Rattle.edit_upgrade.specs.LookOrder.{AreInOrder, AreInOrderSoFar, AreNeedsOf, HoldsPairs, NeedsPair, Pair, from_registries, is_pair, pair_of, pairs_once}
-use Rattle.edit_upgrade.specs.Looked.{AreSteps, IsEntryStep, IsLook, IsStep, Pairs, further, start}
-use Rattle.edit_upgrade.specs.Looks.{Kept}
-use Rattle.edit_upgrade.specs.Records.{Seen, at_registry, seen}
+use Rattle.edit_upgrade.specs.Looked.{AreSteps, IsEntryStep, IsLookupMade, IsStep, PairSet, further, start}
+use Rattle.edit_upgrade.specs.Looks.{CachedAnswers}
+use Rattle.edit_upgrade.specs.Records.{RowEntry, at_registry, seen}
 use Rattle.edit_upgrade.specs.Rows.{is_elsewhere}
 use Rattle.edit_upgrade.specs.declared.upgrade.Look.{Look}
 use Rattle.edit_upgrade.proofs.Bytes.{same-swap}
@@ -79,7 +79,7 @@ one-more true false = refl
 one-more false true = refl
 one-more false false = refl
 
-held-more : (address name : List ℕ) (set now : Pairs) (ps : List Pair)
+held-more : (address name : List ℕ) (set now : PairSet) (ps : List Pair)
     → ((a n : List ℕ) → now a n
     ≡ (if bytes_eq address a && bytes_eq name n then true else set a n))
     → HoldsPairs set ps → HoldsPairs now (ps ++ (address, name) ∷ [])
@@ -108,8 +108,8 @@ pairs-again : (ps : List Pair) (p : Pair) (looks more : List Look) → more ≡ 
 pairs-again ps p looks more is so_far among = ap (map pair_of) is ∙ so_far ∙ sym (once-again ps p among)
 
 -- a step for an address and a name
-step-pairs : (address name : List ℕ) (gives : Outcomes) (old new : Kept) (looks more : List Look)
-    (set now : Pairs) (ps : List Pair) → IsStep address name gives old new looks more set now
+step-pairs : (address name : List ℕ) (gives : Outcomes) (old new : CachedAnswers) (looks more : List Look)
+    (set now : PairSet) (ps : List Pair) → IsStep address name gives old new looks more set now
     → HoldsPairs set ps → map pair_of looks ≡ pairs_once ps
     → map pair_of more ≡ pairs_once (ps ++ (address, name) ∷ [])
 step-pairs address name gives old new looks more set now ps step held so_far = elim step.done [
@@ -121,7 +121,7 @@ step-pairs address name gives old new looks more set now ps step held so_far = e
 -- ---- a walk over entries
 
 -- the looks and the set of pairs, after a walk, are those before it and those that its entries need
-record AreAdded (configs : List Config) (es : List Seen) (looks more : List Look) (set now : Pairs)
+record AreAdded (configs : List Config) (es : List RowEntry) (looks more : List Look) (set now : PairSet)
     : Type 0 where
   needs : List Pair
   are : AllZip (NeedsPair configs) (from_registries es) needs
@@ -129,7 +129,7 @@ record AreAdded (configs : List Config) (es : List Seen) (looks more : List Look
   looked : (ps : List Pair) → HoldsPairs set ps → map pair_of looks ≡ pairs_once ps
       → map pair_of more ≡ pairs_once (ps ++ needs)
 
-added-none : (configs : List Config) (looks : List Look) (set : Pairs)
+added-none : (configs : List Config) (looks : List Look) (set : PairSet)
     → AreAdded configs [] looks looks set set
 added-none configs looks set = record {
   needs = [];
@@ -139,14 +139,14 @@ added-none configs looks set = record {
 }
 
 -- the entries of registries, with one more entry
-registries-more : (es : List Seen) (e : Seen) (b : Bool) → not (is_elsewhere e.source) ≡ b
+registries-more : (es : List RowEntry) (e : RowEntry) (b : Bool) → not (is_elsewhere e.source) ≡ b
     → from_registries (es ++ e ∷ []) ≡ from_registries es ++ cond b (e ∷ []) []
 registries-more es e b is =
-    filter-append (λ (x : Seen). not (is_elsewhere x.source)) es (e ∷ [])
+    filter-append (λ (x : RowEntry). not (is_elsewhere x.source)) es (e ∷ [])
     ∙ ap (λ (t : Bool). from_registries es ++ cond t (e ∷ []) []) is
 
-added-more : (configs : List Config) (es : List Seen) (e : Seen) (gives : Outcomes) (old new : Kept)
-    (looks between more : List Look) (set then_set now : Pairs)
+added-more : (configs : List Config) (es : List RowEntry) (e : RowEntry) (gives : Outcomes) (old new : CachedAnswers)
+    (looks between more : List Look) (set then_set now : PairSet)
     → AreAdded configs es looks between set then_set
     → IsEntryStep configs e gives old new between more then_set now
     → AreAdded configs (es ++ e ∷ []) looks more set now
@@ -165,7 +165,7 @@ added-more configs es e gives old new looks between more set then_set now h step
         let keeps : not (is_elsewhere e.source) ≡ true = ap (λ s. not (is_elsewhere s)) registry.1 in
         record {
           needs = h.needs ++ pair ∷ [];
-          are = subst (λ (xs : List Seen). AllZip (NeedsPair configs) xs (h.needs ++ pair ∷ []))
+          are = subst (λ (xs : List RowEntry). AllZip (NeedsPair configs) xs (h.needs ++ pair ∷ []))
               (sym (registries-more es e true keeps))
               (all_zipped_more (NeedsPair configs) (from_registries es) h.needs e pair h.are need);
           held = λ ps k. subst (λ (xs : List Pair). HoldsPairs now xs) (append_assoc ps h.needs (pair ∷ []))
@@ -180,14 +180,14 @@ added-more configs es e gives old new looks between more set then_set now h step
         let drops : not (is_elsewhere e.source) ≡ false = ap not other in
         record {
           needs = h.needs;
-          are = subst (λ (xs : List Seen). AllZip (NeedsPair configs) xs h.needs)
+          are = subst (λ (xs : List RowEntry). AllZip (NeedsPair configs) xs h.needs)
               (sym (registries-more es e false drops ∙ append-nil (from_registries es))) h.are;
-          held = λ ps k. subst (λ (q : Pairs). HoldsPairs q (ps ++ h.needs)) (sym i.1) (h.held ps k);
+          held = λ ps k. subst (λ (q : PairSet). HoldsPairs q (ps ++ h.needs)) (sym i.1) (h.held ps k);
           looked = λ ps k so_far. ap (map pair_of) i.0 ∙ h.looked ps k so_far;
         }
 
-added-by : (configs : List Config) (gives : Outcomes) (es : List Seen) (old new : Kept)
-    (looks more : List Look) (set now : Pairs) → AreSteps configs gives es old new looks more set now
+added-by : (configs : List Config) (gives : Outcomes) (es : List RowEntry) (old new : CachedAnswers)
+    (looks more : List Look) (set now : PairSet) → AreSteps configs gives es old new looks more set now
     → AreAdded configs es looks more set now
 added-by configs gives _ _ _ _ _ _ _ (start kept looks set) = added-none configs looks set
 added-by configs gives _ _ _ _ _ _ _
@@ -197,7 +197,7 @@ added-by configs gives _ _ _ _ _ _ _
 
 -- ---- an input further
 
-pub order-start : (looks : List Look) (set : Pairs) → looks ≡ []
+pub order-start : (looks : List Look) (set : PairSet) → looks ≡ []
     → ((a n : List ℕ) → set a n ≡ false) → AreInOrderSoFar [] [] looks set
 order-start looks set none empty = record {
   looked = record {
@@ -220,7 +220,7 @@ number-differs m n low = elim (cases_Bool (m == n)) [
 ]
 
 module _ (xs : List Input) (cs : List (Vec Config)) (x : Input) (own : Vec Config)
-    (looks more : List Look) (set now : Pairs) (long : length cs ≡ length xs)
+    (looks more : List Look) (set now : PairSet) (long : length cs ≡ length xs)
     (h : AreInOrderSoFar xs cs looks set) (own_needs : List Pair)
     (own_are : AreNeedsOf own.items x.bytes.items own_needs) where
   abbrev needs-more : ℕ → List Pair
@@ -276,7 +276,7 @@ module _ (xs : List Input) (cs : List (Vec Config)) (x : Input) (own : Vec Confi
 
 -- the looks of one input more
 pub order-more : (xs : List Input) (cs : List (Vec Config)) (x : Input) (own : Vec Config)
-    (gives : Outcomes) (old new : Kept) (looks more : List Look) (set now : Pairs)
+    (gives : Outcomes) (old new : CachedAnswers) (looks more : List Look) (set now : PairSet)
     → length cs ≡ length xs → AreInOrderSoFar xs cs looks set → (form : Text)
     → IsDocument x.bytes.items form
     → AreSteps own.items gives (seen (view_at form)) old new looks more set now

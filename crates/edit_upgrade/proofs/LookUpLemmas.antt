@@ -10,11 +10,11 @@ use Rattle.edit_sources.specs.Index.{Outcomes, SameOutcomes, answer_of, lookup_e
 use Rattle.edit_store.specs.Store.{raised}
 use Rattle.url.specs.Parts as url
 use Rattle.url.specs.Parts.{serialize}
-use Rattle.edit_upgrade.specs.Looked.{IsLook, IsRefusedAt, IsSoFar, IsStep, Leaves, Pairs}
-use Rattle.edit_upgrade.specs.Looks.{AddsNeeded, Answer, AreLooks, IsGiven, Kept, is_look_at, look_at}
+use Rattle.edit_upgrade.specs.Looked.{IsLookupMade, IsLookupError, IsWalkState, IsStep, Leaves, PairSet}
+use Rattle.edit_upgrade.specs.Looks.{AddsNeeded, Answer, AreLookups, IsIndexAnswer, CachedAnswers, is_lookup_at, lookup_at}
 use Rattle.edit_upgrade.specs.declared.upgrade.Look.{Look}
 use Rattle.edit_upgrade.proofs.Bytes.{both-true, same-eq}
-use Rattle.edit_upgrade.proofs.LookedLemmas.{at-pair, find-one, look_at-more, looks-again, looks-more, looks-start}
+use Rattle.edit_upgrade.proofs.LookedLemmas.{at-pair, find-one, lookup_at-more, looks-again, looks-more, looks-start}
 
 pub gives-trans : (a b c : Outcomes) → SameOutcomes a b → SameOutcomes b c → SameOutcomes a c
 gives-trans a b c h g address name outcome =
@@ -25,20 +25,20 @@ gives-trans a b c h g address name outcome =
 -- ---- what a call leaves
 
 -- a call that changes nothing
-pub leaves-same : (Needed : List ℕ → List ℕ → Type 0) (gives : Outcomes) (count : ℕ) (old : Kept)
+pub leaves-same : (Needed : List ℕ → List ℕ → Type 0) (gives : Outcomes) (count : ℕ) (old : CachedAnswers)
     → Leaves Needed gives gives count count old old
 leaves-same Needed gives count old = record {
   adds = record {
     stays = λ a n some. refl;
     added = λ a n none. subst (λ (o : Option Answer). IfSome o
-        (λ answer. Needed a n × IsGiven gives a n answer)) (sym none) tt;
+        (λ answer. Needed a n × IsIndexAnswer gives a n answer)) (sym none) tt;
   };
   same = λ a n o. (λ k. k, λ k. k);
   later = omega arith;
 }
 
 given-along : (first last : Outcomes) (a n : List ℕ) (answer : Answer) → SameOutcomes first last
-    → IsGiven last a n answer → IsGiven first a n answer
+    → IsIndexAnswer last a n answer → IsIndexAnswer first a n answer
 given-along first last a n answer h g = record {
   registry = g.registry;
   at = g.at;
@@ -61,7 +61,7 @@ added-by P (Some x) now new e stays first rest =
 
 -- a call after another
 pub leaves-more : (Needed More : List ℕ → List ℕ → Type 0) (first last next : Outcomes) (a b c : ℕ)
-    (old now new : Kept)
+    (old now new : CachedAnswers)
     → ((at name : List ℕ) → More at name → Needed at name) → Leaves Needed first last a b old now
     → Leaves More last next b c now new
     → Leaves Needed first next a c old new
@@ -71,11 +71,11 @@ leaves-more Needed More first last next a b c old now new h l m = record {
         m.adds.stays at name (subst (λ (o : Option Answer). IsSome o) (sym (l.adds.stays at name some))
         some) ∙ l.adds.stays at name some;
     added = λ at name none.
-        added-by (λ answer. Needed at name × IsGiven first at name answer) (now at name) (now at name)
+        added-by (λ answer. Needed at name × IsIndexAnswer first at name answer) (now at name) (now at name)
         (new at name) refl (m.adds.stays at name)
         (l.adds.added at name none)
-        (λ e. added-along (λ answer. More at name × IsGiven last at name answer)
-        (λ answer. Needed at name × IsGiven first at name answer) (new at name)
+        (λ e. added-along (λ answer. More at name × IsIndexAnswer last at name answer)
+        (λ answer. Needed at name × IsIndexAnswer first at name answer) (new at name)
         (λ answer k. (h at name k.0, given-along first last at name answer l.same k.1))
         (m.adds.added at name e));
   };
@@ -84,20 +84,20 @@ leaves-more Needed More first last next a b c old now new h l m = record {
 }
 
 -- what is needed by some is needed by more
-pub adds-wider : (Needed More : List ℕ → List ℕ → Type 0) (gives : Outcomes) (old new : Kept)
+pub adds-wider : (Needed More : List ℕ → List ℕ → Type 0) (gives : Outcomes) (old new : CachedAnswers)
     → ((at name : List ℕ) → More at name → Needed at name)
     → AddsNeeded More gives old new → AddsNeeded Needed gives old new
 adds-wider Needed More gives old new h m = record {
   stays = m.stays;
   added = λ at name none.
-      added-along (λ answer. More at name × IsGiven gives at name answer)
-      (λ answer. Needed at name × IsGiven gives at name answer) (new at name)
+      added-along (λ answer. More at name × IsIndexAnswer gives at name answer)
+      (λ answer. Needed at name × IsIndexAnswer gives at name answer) (new at name)
       (λ answer k. (h at name k.0, k.1)) (m.added at name none);
 }
 
 -- the same of all that is left
 pub leaves-wider : (Needed More : List ℕ → List ℕ → Type 0) (first last : Outcomes) (a b : ℕ)
-    (old new : Kept)
+    (old new : CachedAnswers)
     → ((at name : List ℕ) → More at name → Needed at name) → Leaves More first last a b old new
     → Leaves Needed first last a b old new
 leaves-wider Needed More first last a b old new h m =
@@ -114,9 +114,9 @@ none-of : {A : Type 0} (o : Option A) → is_some o ≡ false → o ≡ None
 none-of None h = refl
 none-of (Some x) h = cc h
 
-pub look-with : (address name : List ℕ) (first last : Outcomes) (now next : Kept) (look : Look)
+pub look-with : (address name : List ℕ) (first last : Outcomes) (now next : CachedAnswers) (look : Look)
     → SameOutcomes first last
-    → IsLook address name last now next look → IsLook address name first now next look
+    → IsLookupMade address name last now next look → IsLookupMade address name first now next look
 look-with address name first last now next look h l = record {
   at = l.at;
   of_name = l.of_name;
@@ -140,25 +140,25 @@ some-over (Some x) look false = refl
 -- which pairs are found with one look more
 found-by : (address name : List ℕ) (looks : List Look) (look : Look) → serialize look.registry ≡ address
     → string_bytes look.name ≡ name → (a n : List ℕ)
-    → is_some (look_at (looks ++ look ∷ []) a n) ≡ (if bytes_eq address a && bytes_eq name n then true else
-    is_some (look_at looks a n))
+    → is_some (lookup_at (looks ++ look ∷ []) a n) ≡ (if bytes_eq address a && bytes_eq name n then true else
+    is_some (lookup_at looks a n))
 found-by address name looks look p q a n =
-    ap is_some (look_at-more looks look a n
-    ∙ ap (λ (o : Option Look). option_or (look_at looks a n) o)
+    ap is_some (lookup_at-more looks look a n
+    ∙ ap (λ (o : Option Look). option_or (lookup_at looks a n) o)
     (find-one a n look (bytes_eq address a && bytes_eq name n) (at-pair address name look p q a n)))
-    ∙ some-over (look_at looks a n) look (bytes_eq address a && bytes_eq name n)
+    ∙ some-over (lookup_at looks a n) look (bytes_eq address a && bytes_eq name n)
 
 -- a walk of which nothing was done
-pub so-far-start : (Needed : List ℕ → List ℕ → Type 0) (first : Outcomes) (old : Kept) (looks : List Look)
-    (pairs : Pairs) → looks ≡ []
+pub so-far-start : (Needed : List ℕ → List ℕ → Type 0) (first : Outcomes) (old : CachedAnswers) (looks : List Look)
+    (pairs : PairSet) → looks ≡ []
     → ((a n : List ℕ) → Needed a n → ⊥) → ((a n : List ℕ) → pairs a n ≡ false)
-    → IsSoFar Needed first old old looks pairs
+    → IsWalkState Needed first old old looks pairs
 so-far-start Needed first old looks pairs none nothing h =
-    subst (λ (l : List Look). IsSoFar Needed first old old l pairs) (sym none)
+    subst (λ (l : List Look). IsWalkState Needed first old old l pairs) (sym none)
     (record { looked = looks-start Needed first old nothing; set = h })
 
 -- a pair that the test tells is the pair
-pair-is : (address name a n : List ℕ) (pairs : Pairs) → pairs address name ≡ true
+pair-is : (address name a n : List ℕ) (pairs : PairSet) → pairs address name ≡ true
     → (bytes_eq address a && bytes_eq name n) ≡ true → pairs a n ≡ true
 pair-is address name a n pairs h e =
     let b = both-true (bytes_eq address a) (bytes_eq name n) e in
@@ -166,41 +166,41 @@ pair-is address name a n pairs h e =
     ∙ ap (pairs address) (sym (same-eq name n b.1)) ∙ h
 
 -- a step for a pair that is needed
-pub so-far-step : (P Q : List ℕ → List ℕ → Type 0) (first last : Outcomes) (old now next : Kept)
-    (looks more : List Look) (pairs then_pairs : Pairs)
+pub so-far-step : (P Q : List ℕ → List ℕ → Type 0) (first last : Outcomes) (old now next : CachedAnswers)
+    (looks more : List Look) (pairs then_pairs : PairSet)
     (address name : List ℕ) → ((a n : List ℕ) → P a n → Q a n)
     → ((a n : List ℕ) → Q a n → P a n ⊎ ((a ≡ address) × (n ≡ name))) → Q address name
-    → SameOutcomes first last → IsSoFar P first old now looks pairs
+    → SameOutcomes first last → IsWalkState P first old now looks pairs
     → IsStep address name last now next looks more pairs then_pairs
-    → IsSoFar Q first old next more then_pairs
+    → IsWalkState Q first old next more then_pairs
 so-far-step P Q first last old now next looks more pairs then_pairs address name wider cases pair same s
     step = by step.done
   where
     by : ((pairs address name ≡ true) × (more ≡ looks) × (next ≡ now))
         ⊎ ((look : Look) × (pairs address name ≡ false) × (more ≡ looks ++ look ∷ [])
-        × IsLook address name last now next look)
-        → IsSoFar Q first old next more then_pairs
+        × IsLookupMade address name last now next look)
+        → IsWalkState Q first old next more then_pairs
     by (inl done) =
-        let here : IsSome (look_at looks address name) = sym (s.set address name) ∙ done.0 in
-        let found : (a n : List ℕ) → Q a n → IsSome (look_at looks a n) = λ a n h. elim (cases a n h) [
+        let here : IsSome (lookup_at looks address name) = sym (s.set address name) ∙ done.0 in
+        let found : (a n : List ℕ) → Q a n → IsSome (lookup_at looks a n) = λ a n h. elim (cases a n h) [
           | inl before ↦ s.looked.complete a n before
-          | inr it ↦ subst (λ (x : List ℕ). IsSome (look_at looks x n)) (sym it.0)
-              (subst (λ (x : List ℕ). IsSome (look_at looks address x)) (sym it.1) here)
+          | inr it ↦ subst (λ (x : List ℕ). IsSome (lookup_at looks x n)) (sym it.0)
+              (subst (λ (x : List ℕ). IsSome (lookup_at looks address x)) (sym it.1) here)
         ] in
-        let set : (a n : List ℕ) → then_pairs a n ≡ is_some (look_at looks a n) = λ a n.
+        let set : (a n : List ℕ) → then_pairs a n ≡ is_some (lookup_at looks a n) = λ a n.
         step.set a n ∙ added-again (bytes_eq address a && bytes_eq name n) (pairs a n)
         (pair-is address name a n pairs done.0) ∙ s.set a n in
-        subst (λ (k : Kept). IsSoFar Q first old k more then_pairs) (sym done.2)
-        (subst (λ (l : List Look). IsSoFar Q first old now l then_pairs) (sym done.1)
+        subst (λ (k : CachedAnswers). IsWalkState Q first old k more then_pairs) (sym done.2)
+        (subst (λ (l : List Look). IsWalkState Q first old now l then_pairs) (sym done.1)
         (record { looked = looks-again P Q first old now looks wider found s.looked; set = set }))
     by (inr one) =
-        let none = none-of (look_at looks address name) (sym (s.set address name) ∙ one.1) in
+        let none = none-of (lookup_at looks address name) (sym (s.set address name) ∙ one.1) in
         let look = look-with address name first last now next one.0 same one.3 in
-        let set : (a n : List ℕ) → then_pairs a n ≡ is_some (look_at (looks ++ one.0 ∷ []) a n) = λ a n.
+        let set : (a n : List ℕ) → then_pairs a n ≡ is_some (lookup_at (looks ++ one.0 ∷ []) a n) = λ a n.
         step.set a n ∙ ap (λ (b : Bool). if bytes_eq address a && bytes_eq name n then true else b)
         (s.set a n)
         ∙ sym (found-by address name looks one.0 look.at look.of_name a n) in
-        subst (λ (l : List Look). IsSoFar Q first old next l then_pairs) (sym one.2)
+        subst (λ (l : List Look). IsWalkState Q first old next l then_pairs) (sym one.2)
         (record {
           looked = looks-more P Q first old now next looks one.0 address name wider cases pair none
               look s.looked;
@@ -208,15 +208,15 @@ so-far-step P Q first last old now next looks more pairs then_pairs address name
         })
 
 -- a step of which nothing is needed
-pub so-far-idle : (P Q : List ℕ → List ℕ → Type 0) (first : Outcomes) (old now next : Kept)
-    (looks more : List Look) (pairs then_pairs : Pairs)
+pub so-far-idle : (P Q : List ℕ → List ℕ → Type 0) (first : Outcomes) (old now next : CachedAnswers)
+    (looks more : List Look) (pairs then_pairs : PairSet)
     → ((a n : List ℕ) → P a n → Q a n) → ((a n : List ℕ) → Q a n → P a n) → more ≡ looks → then_pairs
     ≡ pairs → next ≡ now
-    → IsSoFar P first old now looks pairs → IsSoFar Q first old next more then_pairs
+    → IsWalkState P first old now looks pairs → IsWalkState Q first old next more then_pairs
 so-far-idle P Q first old now next looks more pairs then_pairs wider same a b c s =
-    subst (λ (k : Kept). IsSoFar Q first old k more then_pairs) (sym c)
-    (subst (λ (l : List Look). IsSoFar Q first old now l then_pairs) (sym a)
-    (subst (λ (p : Pairs). IsSoFar Q first old now looks p) (sym b)
+    subst (λ (k : CachedAnswers). IsWalkState Q first old k more then_pairs) (sym c)
+    (subst (λ (l : List Look). IsWalkState Q first old now l then_pairs) (sym a)
+    (subst (λ (p : PairSet). IsWalkState Q first old now looks p) (sym b)
     (record {
       looked = looks-again P Q first old now looks wider
           (λ x n h. s.looked.complete x n (same x n h)) s.looked;
@@ -236,12 +236,12 @@ find-some p (y ∷ ys) h = elim (cases_Bool (p y)) [
 ]
 
 -- each pair that is needed has an answer
-pub answered : (Needed : List ℕ → List ℕ → Type 0) (first : Outcomes) (old now : Kept) (looks : List Look)
+pub answered : (Needed : List ℕ → List ℕ → Type 0) (first : Outcomes) (old now : CachedAnswers) (looks : List Look)
     (address n : List ℕ)
-    → AreLooks Needed first old now looks → Needed address n → (x : Look)
-    × (look_at looks address n ≡ Some x) × (now address n ≡ Some (answer_of x.answer))
+    → AreLookups Needed first old now looks → Needed address n → (x : Look)
+    × (lookup_at looks address n ≡ Some x) × (now address n ≡ Some (answer_of x.answer))
 answered Needed first old now looks address n m need =
-    let f = find-some (is_look_at address n) looks (m.complete address n need) in
+    let f = find-some (is_lookup_at address n) looks (m.complete address n need) in
     let b = both-true (bytes_eq (serialize f.0.registry) address) (bytes_eq (string_bytes f.0.name) n) f.2 in
     let kept = All-contains (λ look. now (serialize look.registry) (string_bytes look.name)
     ≡ Some (answer_of look.answer)) looks f.0 m.as_kept f.3 in (
@@ -258,7 +258,7 @@ later a b c d h (inr end) = elim (cases_lt a c) [ inl up ↦ inl up | inr down �
 
 pub refused-with : (first last : Outcomes) (address : url.Parts) (name : List ℕ) (a b c : ℕ) (e : Error)
     → SameOutcomes first last → a ≤ b
-    → IsRefusedAt last address name b c e → IsRefusedAt first address name a c e
+    → IsLookupError last address name b c e → IsLookupError first address name a c e
 refused-with first last address name a b c e h l (inr device) = inr (device.0, later a b c 0 l device.1)
 refused-with first last address name a b c e h l (inl refusal) = inl
     (refusal.0, (h address name (Err (lookup_error e))).0 refusal.1)

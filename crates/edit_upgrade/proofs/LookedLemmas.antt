@@ -8,26 +8,26 @@ use Rattle.std.proofs.lemmas.List.Folds.{find-append}
 use Rattle.std.proofs.lemmas.List.Elements.{All-cons, All-head, All-nil, All-push, All-tail, All-weaker}
 use Rattle.edit_sources.specs.Index.{Outcomes, answer_of}
 use Rattle.url.specs.Parts.{serialize}
-use Rattle.edit_upgrade.specs.Looked.{IsLook}
-use Rattle.edit_upgrade.specs.Looks.{AreApart, AreLooks, Kept, is_look_at, look_at}
+use Rattle.edit_upgrade.specs.Looked.{IsLookupMade}
+use Rattle.edit_upgrade.specs.Looks.{AreApart, AreLookups, CachedAnswers, is_lookup_at, lookup_at}
 use Rattle.edit_upgrade.specs.declared.upgrade.Look.{Look}
 use Rattle.edit_upgrade.proofs.Bytes.{same-refl, same-swap}
 
 -- ---- a look more
 
 -- a look that a pair finds, or the new one if it is at that pair
-pub find-one : (a n : List ℕ) (look : Look) (b : Bool) → is_look_at a n look ≡ b
-    → find (is_look_at a n) (look ∷ []) ≡ (if b then Some look else None)
+pub find-one : (a n : List ℕ) (look : Look) (b : Bool) → is_lookup_at a n look ≡ b
+    → find (is_lookup_at a n) (look ∷ []) ≡ (if b then Some look else None)
 find-one a n look b e = rw e refl
 
-pub look_at-more : (looks : List Look) (look : Look) (a n : List ℕ)
-    → look_at (looks ++ look ∷ []) a n ≡ option_or (look_at looks a n) (find (is_look_at a n) (look ∷ []))
-look_at-more looks look a n = find-append (is_look_at a n) looks (look ∷ [])
+pub lookup_at-more : (looks : List Look) (look : Look) (a n : List ℕ)
+    → lookup_at (looks ++ look ∷ []) a n ≡ option_or (lookup_at looks a n) (find (is_lookup_at a n) (look ∷ []))
+lookup_at-more looks look a n = find-append (is_lookup_at a n) looks (look ∷ [])
 
 -- whether a look is at a pair, by its own
 pub at-pair : (address name : List ℕ) (look : Look) → serialize look.registry ≡ address
     → string_bytes look.name ≡ name
-    → (a n : List ℕ) → is_look_at a n look ≡ (bytes_eq address a && bytes_eq name n)
+    → (a n : List ℕ) → is_lookup_at a n look ≡ (bytes_eq address a && bytes_eq name n)
 at-pair address name look p q a n = rw (p, q) refl
 
 or-some : (o p : Option Look) → IsSome o → IsSome (option_or o p)
@@ -43,50 +43,50 @@ or-none None p h = (refl, h)
 or-none (Some x) p h = cc h
 
 -- a pair that was found is found
-pub found-stays : (looks : List Look) (look : Look) (a n : List ℕ) → IsSome (look_at looks a n)
-    → IsSome (look_at (looks ++ look ∷ []) a n)
+pub found-stays : (looks : List Look) (look : Look) (a n : List ℕ) → IsSome (lookup_at looks a n)
+    → IsSome (lookup_at (looks ++ look ∷ []) a n)
 found-stays looks look a n h =
-    subst (λ (o : Option Look). IsSome o) (sym (look_at-more looks look a n))
-    (or-some (look_at looks a n) (find (is_look_at a n) (look ∷ [])) h)
+    subst (λ (o : Option Look). IsSome o) (sym (lookup_at-more looks look a n))
+    (or-some (lookup_at looks a n) (find (is_lookup_at a n) (look ∷ [])) h)
 
 -- the pair of the new look is found
-found-new : (looks : List Look) (look : Look) (a n : List ℕ) → look_at looks a n ≡ None
-    → is_look_at a n look ≡ true
-    → look_at (looks ++ look ∷ []) a n ≡ Some look
+found-new : (looks : List Look) (look : Look) (a n : List ℕ) → lookup_at looks a n ≡ None
+    → is_lookup_at a n look ≡ true
+    → lookup_at (looks ++ look ∷ []) a n ≡ Some look
 found-new looks look a n none here =
-    look_at-more looks look a n ∙ or-last (look_at looks a n) (find (is_look_at a n) (look ∷ [])) none
+    lookup_at-more looks look a n ∙ or-last (lookup_at looks a n) (find (is_lookup_at a n) (look ∷ [])) none
     ∙ find-one a n look true here
 
 -- a pair that none was at, nor the new look, is not found
-unfound : (looks : List Look) (look : Look) (a n : List ℕ) → look_at looks a n ≡ None
-    → is_look_at a n look ≡ false
-    → look_at (looks ++ look ∷ []) a n ≡ None
+unfound : (looks : List Look) (look : Look) (a n : List ℕ) → lookup_at looks a n ≡ None
+    → is_lookup_at a n look ≡ false
+    → lookup_at (looks ++ look ∷ []) a n ≡ None
 unfound looks look a n none here =
-    look_at-more looks look a n ∙ or-last (look_at looks a n) (find (is_look_at a n) (look ∷ [])) none
+    lookup_at-more looks look a n ∙ or-last (lookup_at looks a n) (find (is_lookup_at a n) (look ∷ [])) none
     ∙ find-one a n look false here
 
 some-not-none : (x : Look) → Some x ≡ None → ⊥
 some-not-none x h = cc h
 
-unfound-cases : (looks : List Look) (look : Look) (a n : List ℕ) → look_at (looks ++ look ∷ []) a n ≡ None
-    → (look_at looks a n ≡ None) × (is_look_at a n look ≡ false)
+unfound-cases : (looks : List Look) (look : Look) (a n : List ℕ) → lookup_at (looks ++ look ∷ []) a n ≡ None
+    → (lookup_at looks a n ≡ None) × (is_lookup_at a n look ≡ false)
 unfound-cases looks look a n h =
-    let b = or-none (look_at looks a n) (find (is_look_at a n) (look ∷ []))
-    (sym (look_at-more looks look a n) ∙ h) in
-    (b.0, not-here (cases_Bool (is_look_at a n look)) b.1)
+    let b = or-none (lookup_at looks a n) (find (is_lookup_at a n) (look ∷ []))
+    (sym (lookup_at-more looks look a n) ∙ h) in
+    (b.0, not-here (cases_Bool (is_lookup_at a n look)) b.1)
   where
-    not-here : (is_look_at a n look ≡ true) ⊎ (is_look_at a n look ≡ false)
-        → find (is_look_at a n) (look ∷ []) ≡ None → is_look_at a n look ≡ false
+    not-here : (is_lookup_at a n look ≡ true) ⊎ (is_lookup_at a n look ≡ false)
+        → find (is_lookup_at a n) (look ∷ []) ≡ None → is_lookup_at a n look ≡ false
     not-here (inl here) e = absurd (some-not-none look (sym (find-one a n look true here) ∙ e))
     not-here (inr other) e = other
 
 -- where a pair is not found, no look is at it
-none-at : (a n : List ℕ) (looks : List Look) → look_at looks a n ≡ None
-    → All (λ x. is_look_at a n x ≡ false) looks
-none-at a n [] h = All-nil (λ x. is_look_at a n x ≡ false)
-none-at a n (x ∷ xs) h = elim (cases_Bool (is_look_at a n x)) [
+none-at : (a n : List ℕ) (looks : List Look) → lookup_at looks a n ≡ None
+    → All (λ x. is_lookup_at a n x ≡ false) looks
+none-at a n [] h = All-nil (λ x. is_lookup_at a n x ≡ false)
+none-at a n (x ∷ xs) h = elim (cases_Bool (is_lookup_at a n x)) [
   | inl here ↦ cc (rw here at h)
-  | inr other ↦ All-cons (λ x. is_look_at a n x ≡ false) x xs other (none-at a n xs (rw other at h))
+  | inr other ↦ All-cons (λ x. is_lookup_at a n x ≡ false) x xs other (none-at a n xs (rw other at h))
 ]
 
 -- ---- the looks that were made
@@ -98,8 +98,8 @@ abbrev name_in : Look → List ℕ
 name_in look = string_bytes look.name
 
 -- where nothing is needed, no look was made
-pub looks-start : (Needed : List ℕ → List ℕ → Type 0) (gives : Outcomes) (old : Kept)
-    → ((a n : List ℕ) → Needed a n → ⊥) → AreLooks Needed gives old old []
+pub looks-start : (Needed : List ℕ → List ℕ → Type 0) (gives : Outcomes) (old : CachedAnswers)
+    → ((a n : List ℕ) → Needed a n → ⊥) → AreLookups Needed gives old old []
 looks-start Needed gives old nothing = record {
   complete = λ a n h. absurd (nothing a n h);
   needed = All-nil (λ look. Needed (registry_of look) (name_in look));
@@ -111,10 +111,10 @@ looks-start Needed gives old nothing = record {
 }
 
 -- where all that is needed more was looked up, the looks stay
-pub looks-again : (P Q : List ℕ → List ℕ → Type 0) (gives : Outcomes) (old now : Kept) (looks : List Look)
+pub looks-again : (P Q : List ℕ → List ℕ → Type 0) (gives : Outcomes) (old now : CachedAnswers) (looks : List Look)
     → ((a n : List ℕ) → P a n → Q a n)
-    → ((a n : List ℕ) → Q a n → IsSome (look_at looks a n)) → AreLooks P gives old now looks
-    → AreLooks Q gives old now looks
+    → ((a n : List ℕ) → Q a n → IsSome (lookup_at looks a n)) → AreLookups P gives old now looks
+    → AreLookups Q gives old now looks
 looks-again P Q gives old now looks wider found m = record {
   complete = found;
   needed = All-weaker (λ look. P (registry_of look) (name_in look))
@@ -130,10 +130,10 @@ looks-again P Q gives old now looks wider found m = record {
 abbrev Far : List ℕ → List ℕ → Look → Type 0
 Far address name x = (bytes_eq address (registry_of x) && bytes_eq name (name_in x)) ≡ false
 
-far-from : (address name : List ℕ) (looks : List Look) → look_at looks address name ≡ None
+far-from : (address name : List ℕ) (looks : List Look) → lookup_at looks address name ≡ None
     → All (Far address name) looks
 far-from address name looks none =
-    All-weaker (λ x. is_look_at address name x ≡ false) (Far address name)
+    All-weaker (λ x. is_lookup_at address name x ≡ false) (Far address name)
     (λ x p. ap (λ (b : Bool). b && bytes_eq name (name_in x)) (same-swap address (registry_of x))
     ∙ ap (λ (b : Bool). bytes_eq (registry_of x) address && b) (same-swap name (name_in x)) ∙ p) looks
     (none-at address name looks none)
@@ -149,24 +149,24 @@ apart-more address name look p q (x ∷ xs) far h = (
 )
 
 -- one look more, at a pair that is needed
-pub looks-more : (P Q : List ℕ → List ℕ → Type 0) (gives : Outcomes) (old now next : Kept)
+pub looks-more : (P Q : List ℕ → List ℕ → Type 0) (gives : Outcomes) (old now next : CachedAnswers)
     (looks : List Look) (look : Look) (address name : List ℕ)
     → ((a n : List ℕ) → P a n → Q a n) → ((a n : List ℕ) → Q a n → P a n ⊎ ((a ≡ address) × (n ≡ name)))
     → Q address name
-    → look_at looks address name ≡ None → IsLook address name gives now next look
-    → AreLooks P gives old now looks
-    → AreLooks Q gives old next (looks ++ look ∷ [])
+    → lookup_at looks address name ≡ None → IsLookupMade address name gives now next look
+    → AreLookups P gives old now looks
+    → AreLookups Q gives old next (looks ++ look ∷ [])
 looks-more P Q gives old now next looks look address name wider cases pair none l m =
     let far = far-from address name looks none in
-    let here : is_look_at address name look ≡ true =
+    let here : is_lookup_at address name look ≡ true =
     at-pair address name look l.at l.of_name address name ∙ rw (same-refl address, same-refl name) refl in
-    let found : IsSome (look_at (looks ++ look ∷ []) address name) =
+    let found : IsSome (lookup_at (looks ++ look ∷ []) address name) =
     subst (λ (o : Option Look). IsSome o) (sym (found-new looks look address name none here)) refl in
     record {
       complete = λ a n h. elim (cases a n h) [
         | inl before ↦ found-stays looks look a n (m.complete a n before)
-        | inr same ↦ subst (λ (x : List ℕ). IsSome (look_at (looks ++ look ∷ []) x n)) (sym same.0)
-            (subst (λ (x : List ℕ). IsSome (look_at (looks ++ look ∷ []) address x)) (sym same.1) found)
+        | inr same ↦ subst (λ (x : List ℕ). IsSome (lookup_at (looks ++ look ∷ []) x n)) (sym same.0)
+            (subst (λ (x : List ℕ). IsSome (lookup_at (looks ++ look ∷ []) address x)) (sym same.1) found)
       ];
       needed = All-push (λ x. Q (registry_of x) (name_in x)) looks look
           (All-weaker (λ x. P (registry_of x) (name_in x)) (λ x. Q (registry_of x) (name_in x))

@@ -8,7 +8,7 @@ use Rattle.std.proofs.lemmas.List.Folds.{list_any-append}
 use Rattle.edit_manifest.specs.Entries.{Entry}
 use Rattle.edit_metadata.specs.declared.input.Input.{Input}
 use Rattle.edit_record.specs.EachOnce.{each_once}
-use Rattle.edit_version.specs.CrateWords.{word_name}
+use Rattle.edit_version.specs.CrateSpecs.{spec_name}
 use Rattle.edit_upgrade.specs.Missing.{AddsNames, AreKnown, AreMissing, HasNames, is_among, name_of, names_in}
 use Rattle.edit_upgrade.specs.Words.{is_named, words_of}
 use Rattle.edit_upgrade.specs.declared.decision.options.Options.{Options}
@@ -68,7 +68,7 @@ known-next o inputs k x old new low is h a =
 
 -- what is not known of the words' names is missing
 pub missing-are : (o : Options) (inputs : List Input) (known : List ℕ → Bool) (names missing : List (List ℕ))
-    → AreKnown o inputs known → names ≡ each_once (map word_name (words_of o))
+    → AreKnown o inputs known → names ≡ each_once (map spec_name (words_of o))
     → missing ≡ filter (λ name. not (known name)) names → AreMissing o inputs missing
 missing-are o inputs known names missing h n m = record {
   names = h.names;
@@ -76,11 +76,11 @@ missing-are o inputs known names missing h n m = record {
   are = m
       ∙ ap (λ (ns : List (List ℕ)). filter (λ name. not (known name)) ns) n
       ∙ filter-same (λ name. not (known name)) (λ name. not (is_among h.names name))
-      (each_once (map word_name (words_of o)))
+      (each_once (map spec_name (words_of o)))
       (All-weaker (λ name. is_named (words_of o) name ≡ true)
       (λ name. not (known name) ≡ not (is_among h.names name))
       (λ name e. ap not (h.are name ∙ ap (λ b. b && is_among h.names name) e))
-      (each_once (map word_name (words_of o))) (once_named (words_of o)));
+      (each_once (map spec_name (words_of o))) (once_named (words_of o)));
 }
 
 -- ---- names of entries, one by one

@@ -6,7 +6,7 @@ use Rattle.std.specs.Ordering.{is_le}
 use Rattle.semver.specs.Grammar.{IsValid}
 use Rattle.semver.specs.Parse.{Parts, req_of}
 use Rattle.edit_version.specs.Laws.{Admits, IsNarrower}
-use Rattle.edit_version.specs.Requirement.{Nothing, Raised, Text, Unread, Unsupported, plain_text, raise}
+use Rattle.edit_version.specs.Requirement.{Nothing, UpgradeResult, Text, Unread, Unsupported, plain_text, raise}
 use Rattle.edit_version.specs.Selection.{IsCompatible, IsLatest, is_admitted, is_offered}
 use Rattle.edit_version.specs.VersionOrder.{full_order}
 use Rattle.edit_version.proofs.Greatests.{wider, wider-found}
@@ -14,13 +14,13 @@ use Rattle.edit_version.proofs.Lands.{Lands, outcome-lands, plain-lands}
 use Rattle.edit_version.proofs.Offers.{admitted-offered}
 use Rattle.edit_version.proofs.Orders.{full_total, greatest-has}
 use Rattle.edit_version.proofs.Outcomes.{admitted, narrower-of, text-outcome, valid-version}
-use Rattle.edit_upgrade.specs.Decision.{Case, compatible_text, decision, is_set_aside, is_too_low, latest_text, may_jump, newer, text_or, unless, when}
+use Rattle.edit_upgrade.specs.Decision.{Case, compatible_text, decision, is_set_aside, is_too_low, latest_text, may_jump, newer, text_or, unless, some_if}
 use Rattle.edit_report.specs.declared.row.Change.TheVariants as change
 use Rattle.edit_upgrade.specs.declared.decision.options.Options.{Options}
-use Rattle.edit_upgrade.proofs.TakenVersions.{compatible-taken, far-some, far_text, latest-taken, near-some, newer-latest, unless-some, when-some}
+use Rattle.edit_upgrade.proofs.TakenVersions.{compatible-taken, far-some, far_text, latest-taken, near-some, newer-latest, unless-some, some_if-some}
 
 -- the requirement that the compatible version was written into narrows the old one
-narrow-of : (xs : List Parts) (old t : List ℕ) (u : Parts) (r : Raised) → All IsValid xs
+narrow-of : (xs : List Parts) (old t : List ℕ) (u : Parts) (r : UpgradeResult) → All IsValid xs
     → IsCompatible old xs (Some u)
     → raise old u ≡ r → text_or old r ≡ Some t → pointwise nat_eq t old ≡ false → IsNarrower old t u
 narrow-of xs old t u Unread all near e h other = cc h
@@ -42,8 +42,8 @@ pub narrowing : (o : Options) (xs : List Parts) (c : Case) → All IsValid xs
     → (u : Parts) × (c.compatible ≡ Some u) × IsNarrower c.old (decision o c).new u
 narrowing o xs c all iscomp h =
     let k = compatible-taken c.old c.excluded (unless (is_set_aside o c) c.selected) (is_ok (req_of c.old))
-    (when (may_jump o c) (latest_text c))
-    (when o.compatible (compatible_text c)) h in
+    (some_if (may_jump o c) (latest_text c))
+    (some_if o.compatible (compatible_text c)) h in
     let n = near-some o c.old k.0 c.compatible k.1 in
     let near = subst (λ (x : Option Parts). IsCompatible c.old xs x) n.1 iscomp in (
       n.0,
@@ -53,7 +53,8 @@ narrowing o xs c all iscomp h =
     )
 
 -- the text that a version of the offered ones is written into
-latest-read : (old : List ℕ) (v : Parts) (t : List ℕ) (r : Raised) → IsValid v → is_offered old v ≡ true
+latest-read : (old : List ℕ) (v : Parts) (t : List ℕ) (r : UpgradeResult) → IsValid v
+    → is_offered old v ≡ true
     → raise old v ≡ r
     → text_or (plain_text v) r ≡ Some t → Lands v t
 latest-read old v t Unread valid offered e h = cc h
@@ -77,11 +78,11 @@ pub reach : (o : Options) (xs : List Parts) (c : Case) → All IsValid xs → Is
     × (length v.3 ≡ 0 → Admits (decision o c).new v)
 reach o xs c all islatest h =
     let k = latest-taken c.old c.excluded (unless (is_set_aside o c) c.selected) (is_ok (req_of c.old))
-    (when (may_jump o c) (latest_text c))
-    (when o.compatible (compatible_text c)) h in
+    (some_if (may_jump o c) (latest_text c))
+    (some_if o.compatible (compatible_text c)) h in
     let u = unless-some (is_too_low c.never_lower c.old (newer c.latest c.compatible))
     (far_text c.old c.latest c.compatible) k.0
-    (when-some (may_jump o c) (latest_text c) k.0 k.1) in
+    (some_if-some (may_jump o c) (latest_text c) k.0 k.1) in
     let f = far-some c.old k.0 c.latest c.compatible u.1 in
     let far = subst (λ (x : Option Parts). IsLatest c.old xs x)
     (newer-latest c.latest c.compatible f.0 f.1) islatest in

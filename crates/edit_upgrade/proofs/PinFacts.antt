@@ -16,10 +16,10 @@ use Rattle.semver.specs.Parse.{Parts}
 use Rattle.edit_upgrade.proofs.Bytes.{same-eq, same-refl}
 use Rattle.edit_version.proofs.Greatests.{advanced}
 use Rattle.edit_version.proofs.Orders.{full_total}
-use Rattle.edit_version.specs.CrateWords.{word_name}
+use Rattle.edit_version.specs.CrateSpecs.{spec_name}
 use Rattle.edit_version.specs.Greatest.{IsGreatest, advance}
 use Rattle.edit_version.specs.VersionOrder.{full_order}
-use Rattle.edit_upgrade.specs.Pins.{Pin, greatest, pin_at, pins_of, word_pin}
+use Rattle.edit_upgrade.specs.Pins.{Pin, greatest, pin_at, pins_of, arg_pin}
 use Rattle.edit_upgrade.proofs.Entries.{word-more}
 
 -- every version counts
@@ -84,9 +84,9 @@ joined-cond false pin o = refl
 -- the last word of a name stands
 last-stands : (words : List (List ℕ)) (word name : List ℕ)
     → pin_at (pins_of (words ++ word ∷ [])) name
-    ≡ cond (bytes_eq name (word_name word)) (word_pin word) (pin_at (pins_of words) name)
+    ≡ cond (bytes_eq name (spec_name word)) (arg_pin word) (pin_at (pins_of words) name)
 last-stands words word name =
     ap (λ es. pin_at es name) (word-more words word)
     ∙ ap (option_and_then (λ (p : Option Pin). p))
-    (lookup-inserted name (word_name word) (word_pin word) (pins_of words))
-    ∙ joined-cond (bytes_eq name (word_name word)) (word_pin word) (lookup (bytes_eq name) (pins_of words))
+    (lookup-inserted name (spec_name word) (arg_pin word) (pins_of words))
+    ∙ joined-cond (bytes_eq name (spec_name word)) (arg_pin word) (lookup (bytes_eq name) (pins_of words))

@@ -2,12 +2,12 @@
 use Rattle.std.proofs.Common.{◌≡◌, ◌∷◌, ◌++◌, [], List, ℕ, Option, Some, None, map, ap, ◌∙◌, sym, subst}
 use Rattle.std.specs.Prelude.{MatchOption, String, string_bytes}
 use Rattle.edit_tree.specs.Replaces.{Edits, Replaces}
-use Rattle.edit_tree.specs.Shown.{Shown}
+use Rattle.edit_tree.specs.DocumentViews.{DocumentViews}
 use Rattle.edit_upgrade.specs.Found.{seen_of}
 use Rattle.edit_upgrade.specs.Lines.{line_of}
 use Rattle.edit_upgrade.specs.Outputs.{AreOutputs, HasOutputs, IsOnlyOutput, IsRewritten, changed, unchanged}
-use Rattle.edit_upgrade.specs.PlannedView.{IsShown}
-use Rattle.edit_upgrade.specs.Records.{Seen}
+use Rattle.edit_upgrade.specs.PlannedView.{IsPlannedView}
+use Rattle.edit_upgrade.specs.Records.{RowEntry}
 use Rattle.edit_upgrade.specs.Rows.{writes}
 use Rattle.edit_upgrade.specs.declared.planned.Planned.{Planned}
 use Rattle.edit_upgrade.specs.declared.seen.Entry.{Entry}
@@ -25,7 +25,7 @@ only-output {Y} path text s old outputs o e none one at bytes =
     (λ x. IsOnlyOutput path (string_bytes x) outputs)) (sym e) (o, is, at, bytes)
 
 -- the one output of a text that differs, or none
-outputs-are : {Y : Type 0} (path bytes : List ℕ) (d : Shown) (edits : Edits) (text : Option (String Y))
+outputs-are : {Y : Type 0} (path bytes : List ℕ) (d : DocumentViews) (edits : Edits) (text : Option (String Y))
     (outputs : List Output) → d.bytes ≡ bytes
     → MatchOption text (edits ≡ []) (λ s. IsRewritten d edits (string_bytes s))
     → MatchOption text (outputs ≡ []) (λ s. IsOnlyOutput path (string_bytes s) outputs)
@@ -38,9 +38,9 @@ outputs-are path bytes d edits (Some s) outputs b w o =
     subst (λ (os : List Output). AreOutputs path bytes edits os) (sym o.1) (changed o.0 w.some o.2 written)
 
 -- what is written of a plan
-pub outputs-of : {Y : Type 0} (path here bytes : List ℕ) (d : Shown) (p : Planned) (entries : List Entry)
+pub outputs-of : {Y : Type 0} (path here bytes : List ℕ) (d : DocumentViews) (p : Planned) (entries : List Entry)
     (rows : List Row) (text : Option (String Y)) (outputs : List Output)
-    → here ≡ path → IsShown bytes d p → entries ≡ p.entries.items → rows ≡ p.rows.items
+    → here ≡ path → IsPlannedView bytes d p → entries ≡ p.entries.items → rows ≡ p.rows.items
     → MatchOption text (writes (map seen_of entries) (map line_of rows) ≡ [])
     (λ s. IsRewritten d (writes (map seen_of entries) (map line_of rows)) (string_bytes s))
     → MatchOption text (outputs ≡ []) (λ s. IsOnlyOutput here (string_bytes s) outputs)
@@ -53,7 +53,7 @@ outputs-of path here bytes d p entries rows text outputs a h e r w o =
     record {
       form = h.form;
       manifest = h.manifest;
-      are = subst (λ (es : List Seen). AreOutputs path bytes (writes es (map line_of p.rows.items)) outputs)
+      are = subst (λ (es : List RowEntry). AreOutputs path bytes (writes es (map line_of p.rows.items)) outputs)
           (ap (map seen_of) e ∙ h.entries)
           (subst (λ (rs : List Row). AreOutputs path bytes
           (writes (map seen_of entries) (map line_of rs)) outputs) r are);

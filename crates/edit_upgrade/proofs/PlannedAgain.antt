@@ -15,10 +15,10 @@ use Rattle.edit_manifest.specs.Tables.{Tree}
 use Rattle.edit_upgrade.specs.Headline.{HasNoChange, IsFixedPoint, NeedSame, bytes_after}
 use Rattle.edit_upgrade.specs.Inputs.{Setting}
 use Rattle.edit_upgrade.specs.Outputs.{AreOutputs, HasOutputs, changed, unchanged}
-use Rattle.edit_upgrade.specs.Records.{Seen, seen}
+use Rattle.edit_upgrade.specs.Records.{RowEntry, seen}
 use Rattle.edit_upgrade.specs.Rows.{Line, with_write, writes}
 use Rattle.edit_upgrade.specs.Upgraded.{HasRows, IsNeededFor, IsNeededIn, IsRow}
-use Rattle.edit_upgrade.specs.Words.{WordsSelect}
+use Rattle.edit_upgrade.specs.Words.{HasOnlyNames}
 use Rattle.edit_report.specs.declared.output.Output.{Output}
 use Rattle.edit_upgrade.proofs.FixedPoint.{all-again, cut-whole, none-written}
 use Rattle.edit_upgrade.proofs.SomeRows.{some-again}
@@ -33,7 +33,7 @@ seen-whole t =
     (λ e k old q. let c = k.there old q in ap cut c.2 ∙ cut-whole c.0 ∙ sym c.2) (seen-stands t)
 
 -- rows without a change write nothing
-quiet-writes : (es : List Seen) (ls : List Line) → All HasNoChange ls → writes es ls ≡ []
+quiet-writes : (es : List RowEntry) (ls : List Line) → All HasNoChange ls → writes es ls ≡ []
 quiet-writes [] ls h = refl
 quiet-writes (e ∷ es) [] h = refl
 quiet-writes (e ∷ es) (l ∷ ls) h =
@@ -91,7 +91,7 @@ seen-back s new form lines d b =
     written-seen (IsRow s) (view_at form) (view_at b.after) lines (seen-apart form) d b.tree
 
 -- whatever form the bytes are read to, these entries are seen
-seen-always : (new : List ℕ) (form : Text) (lines : List Line) (es : List Seen)
+seen-always : (new : List ℕ) (form : Text) (lines : List Line) (es : List RowEntry)
     → (b : IsReadBack new form lines) → seen (view_at b.after) ≡ es
     → (f : Text) → IsDocument new f → seen (view_at f) ≡ es
 seen-always new form lines es b same f m =
@@ -100,23 +100,23 @@ seen-always new form lines es b same f m =
 -- ---- planned again
 
 -- what was read back stays
-settled-on : (s : Setting) (new : List ℕ) (form : Text) (lines : List Line)
+pending_defined-on : (s : Setting) (new : List ℕ) (form : Text) (lines : List Line)
     → AllZip (IsRow s) (seen (view_at form)) lines
-    → IsReadBack new form lines → WordsSelect s.options → IsFixedPoint s new
-settled-on s new form lines d b select =
+    → IsReadBack new form lines → HasOnlyNames s.options → IsFixedPoint s new
+pending_defined-on s new form lines d b select =
     let es = seen (view_at form) in
     let back = seen-back s new form lines d b in
     let same = seen-always new form lines (renewed es lines) b back in
     let rows = some-again s es lines d in
     let quiet : (again : List Line) → HasRows s new again → All HasNoChange again = λ again h.
     all-again s es lines again (none_given s.options select) (seen-whole (view_at form)) d
-    (subst (λ (xs : List Seen). AllZip (IsRow s) xs again) (same h.form h.manifest) h.decided) in
+    (subst (λ (xs : List RowEntry). AllZip (IsRow s) xs again) (same h.form h.manifest) h.decided) in
     record {
       lines = rows.0;
       rows = record {
         form = b.after;
         manifest = b.manifest;
-        decided = subst (λ (xs : List Seen). AllZip (IsRow s) xs rows.0) (sym back) rows.1;
+        decided = subst (λ (xs : List RowEntry). AllZip (IsRow s) xs rows.0) (sym back) rows.1;
       };
       unchanged = quiet;
       unwritten = λ path again outputs h g.
@@ -125,17 +125,17 @@ settled-on s new form lines d b select =
     }
 
 -- the bytes that stand after a plan
-pub settled : (s : Setting) (path bytes : List ℕ) (lines : List Line) (outputs : List Output)
+pub pending_defined : (s : Setting) (path bytes : List ℕ) (lines : List Line) (outputs : List Output)
     → HasRows s bytes lines → HasOutputs path bytes lines outputs
-    → WordsSelect s.options → IsFixedPoint s (bytes_after bytes outputs)
-settled s path bytes lines outputs h g select =
-    settled-on s (bytes_after bytes outputs) h.form lines h.decided
+    → HasOnlyNames s.options → IsFixedPoint s (bytes_after bytes outputs)
+pending_defined s path bytes lines outputs h g select =
+    pending_defined-on s (bytes_after bytes outputs) h.form lines h.decided
     (read-back path bytes h.form lines outputs h.manifest g) select
 
 -- ---- the looks that are needed
 
 -- an entry after its row was written needs the same look
-renewed-needs : (configs : List Config) (e : Seen) (l : Line) (address name : List ℕ)
+renewed-needs : (configs : List Config) (e : RowEntry) (l : Line) (address name : List ℕ)
     → IsNeededFor configs e address name → IsNeededFor configs (renew e l) address name
 renewed-needs configs e l address name h = record {
   registry = h.registry;
@@ -148,7 +148,7 @@ renewed-needs configs e l address name h = record {
   at = h.at;
 }
 
-needs-renewed : (configs : List Config) (e : Seen) (l : Line) (address name : List ℕ)
+needs-renewed : (configs : List Config) (e : RowEntry) (l : Line) (address name : List ℕ)
     → IsNeededFor configs (renew e l) address name → IsNeededFor configs e address name
 needs-renewed configs e l address name h = record {
   registry = h.registry;
@@ -162,31 +162,31 @@ needs-renewed configs e l address name h = record {
 }
 
 -- what one of the entries needs, as recursion tells it
-pub among-first : (configs : List Config) (e : Seen) (es : List Seen) (address name : List ℕ)
+pub among-first : (configs : List Config) (e : RowEntry) (es : List RowEntry) (address name : List ℕ)
     → IsNeededFor configs e address name
     → IsNeededIn configs (e ∷ es) address name
 among-first configs e es address name h =
     record { entry = e; among = All-head (Contains (e ∷ es)) e es (All-contains_itself (e ∷ es)); needs = h }
 
-pub among-rest : (configs : List Config) (e : Seen) (es : List Seen) (address name : List ℕ)
+pub among-rest : (configs : List Config) (e : RowEntry) (es : List RowEntry) (address name : List ℕ)
     → IsNeededIn configs es address name
     → IsNeededIn configs (e ∷ es) address name
 among-rest configs e es address name h =
     record { entry = h.entry; among = Contains-append_right (e ∷ []) es h.entry h.among; needs = h.needs }
 
-pub among-cases : (configs : List Config) (e : Seen) (es : List Seen) (address name : List ℕ)
+pub among-cases : (configs : List Config) (e : RowEntry) (es : List RowEntry) (address name : List ℕ)
     → IsNeededIn configs (e ∷ es) address name
     → IsNeededFor configs e address name ⊎ IsNeededIn configs es address name
 among-cases configs e es address name h =
-    All-contains (λ (x : Seen). IsNeededFor configs x address name
+    All-contains (λ (x : RowEntry). IsNeededFor configs x address name
     → IsNeededFor configs e address name ⊎ IsNeededIn configs es address name) (e ∷ es) h.entry
-    (All-cons (λ (x : Seen). IsNeededFor configs x address name
+    (All-cons (λ (x : RowEntry). IsNeededFor configs x address name
     → IsNeededFor configs e address name ⊎ IsNeededIn configs es address name) e es (λ n. inl n)
-    (All-weaker (Contains es) (λ (x : Seen). IsNeededFor configs x address name
+    (All-weaker (Contains es) (λ (x : RowEntry). IsNeededFor configs x address name
     → IsNeededFor configs e address name ⊎ IsNeededIn configs es address name)
     (λ x c n. inr (record { entry = x; among = c; needs = n })) es (All-contains_itself es))) h.among h.needs
 
-needed-renewed : (configs : List Config) (es : List Seen) (ls : List Line) (address name : List ℕ)
+needed-renewed : (configs : List Config) (es : List RowEntry) (ls : List Line) (address name : List ℕ)
     → IsNeededIn configs es address name
     → IsNeededIn configs (renewed es ls) address name
 needed-renewed configs [] ls address name h = h
@@ -198,7 +198,7 @@ needed-renewed configs (e ∷ es) (l ∷ ls) address name h = elim (among-cases 
       (needed-renewed configs es ls address name more)
 ]
 
-renewed-needed : (configs : List Config) (es : List Seen) (ls : List Line) (address name : List ℕ)
+renewed-needed : (configs : List Config) (es : List RowEntry) (ls : List Line) (address name : List ℕ)
     → IsNeededIn configs (renewed es ls) address name
     → IsNeededIn configs es address name
 renewed-needed configs [] ls address name h = h
@@ -226,15 +226,15 @@ need-same s path bytes lines outputs h g =
         form = h.form;
         manifest = h.manifest;
         needed = renewed-needed s.configs es lines address name
-            (subst (λ (xs : List Seen). IsNeededIn s.configs xs address name)
+            (subst (λ (xs : List RowEntry). IsNeededIn s.configs xs address name)
             (same need.form need.manifest) need.needed);
       },
       λ need. record {
         form = b.after;
         manifest = b.manifest;
-        needed = subst (λ (xs : List Seen). IsNeededIn s.configs xs address name) (sym back)
+        needed = subst (λ (xs : List RowEntry). IsNeededIn s.configs xs address name) (sym back)
             (needed-renewed s.configs es lines address name
-            (subst (λ (xs : List Seen). IsNeededIn s.configs xs address name)
+            (subst (λ (xs : List RowEntry). IsNeededIn s.configs xs address name)
             (first need.form need.manifest) need.needed));
       },
     )

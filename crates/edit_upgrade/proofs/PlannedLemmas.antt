@@ -8,7 +8,7 @@ use Rattle.std.proofs.lemmas.Slice.Zip.{AllZip-long}
 use Rattle.edit_base.specs.Errors.{IsMemory}
 use Rattle.edit_syntax.specs.Grammar.{Text}
 use Rattle.edit_tree.specs.Assertions.{IsDocument}
-use Rattle.edit_tree.specs.Shown.{Shown, ShowsTree, tree_of}
+use Rattle.edit_tree.specs.DocumentViews.{DocumentViews, ShowsTree, tree_of}
 use Rattle.edit_tree.specs.Tree.{view_at}
 use Rattle.edit_base.specs.declared.errors.Error.{Error}
 use Rattle.edit_tree.proofs.Shallow.{one_form}
@@ -22,25 +22,25 @@ use Rattle.edit_upgrade.specs.Found.{seen_of}
 use Rattle.edit_upgrade.specs.Lines.{line_of}
 use Rattle.edit_upgrade.specs.Lists.{AreWarnings, Told}
 use Rattle.edit_upgrade.specs.Looked.{AreSteps, Leaves}
-use Rattle.edit_upgrade.specs.Looks.{Kept, kept_basis}
+use Rattle.edit_upgrade.specs.Looks.{CachedAnswers, cached_basis}
 use Rattle.edit_upgrade.specs.Missing.{AddsNames, names_in}
 use Rattle.edit_upgrade.specs.PairSets.{holds_pair}
-use Rattle.edit_upgrade.specs.PlannedView.{AreSeen, IsShown, IsWalked}
-use Rattle.edit_upgrade.specs.Records.{Seen, seen}
+use Rattle.edit_upgrade.specs.PlannedView.{AreRowEntries, IsPlannedView, IsWalked}
+use Rattle.edit_upgrade.specs.Records.{RowEntry, seen}
 use Rattle.edit_upgrade.specs.Rows.{AreDecided, Basis, IsRowBy, Line}
 use Rattle.edit_upgrade.specs.Upgraded.{HasWarnings, IsNeededBy, IsNeededIn}
 use Rattle.edit_upgrade.specs.Words.{is_named, words_of}
 use Rattle.edit_upgrade.specs.declared.planned.Planned.{Planned}
 use Rattle.edit_upgrade.specs.declared.seen.Entry.{Entry}
 use Rattle.edit_upgrade.specs.declared.decision.options.Options.{Options}
-use Rattle.edit_upgrade.specs.declared.walk.Books.{Books}
+use Rattle.edit_upgrade.specs.declared.walk.LookupLog.{LookupLog}
 use Rattle.edit_metadata.specs.declared.input.Input.{Input}
 use Rattle.edit_version.specs.RustVersions.{numbers_of}
 use Rattle.edit_report.specs.declared.row.Row.{Row}
 use Rattle.edit_upgrade.proofs.LookUpLemmas.{leaves-wider}
 
 -- the tree of a document is that of its form
-pub same-seen : (d : Shown) (form : Text) → ShowsTree d form → seen (tree_of d) ≡ seen (view_at form)
+pub same-seen : (d : DocumentViews) (form : Text) → ShowsTree d form → seen (tree_of d) ≡ seen (view_at form)
 same-seen d form h =
     let same : tree_of d ≡ view_at form = λ i p. h p i in
     ap seen same
@@ -52,15 +52,17 @@ refusal-has (Ok x) e P same h = tt
 refusal-has (Err other) e P same h = subst P (sym same) h
 
 -- they are seen in whatever form
-seen-in : (bytes : List ℕ) (es : List Seen) → (a : AreSeen bytes es) → (f : Text) → IsDocument bytes f
+seen-in : (bytes : List ℕ) (es : List RowEntry) → (a : AreRowEntries bytes es) → (f : Text) → IsDocument bytes f
     → seen (view_at f) ≡ es
 seen-in bytes es a f m = ap (λ (x : Text). seen (view_at x)) (one_form bytes f a.form m a.manifest)
     ∙ sym a.are
 
 -- the entries of a document that shows its forms
-pub document-seen : (bytes : List ℕ) (d : Shown) (es : List Seen) → d.bytes ≡ bytes → (form : Text)
+pub document-seen : (bytes : List ℕ) (d : DocumentViews) (es : List RowEntry) → d.bytes ≡ bytes
+    → (form : Text)
     × IsDocument d.bytes form
-    → ((form : Text) → IsDocument d.bytes form → ShowsTree d form) → es ≡ seen (tree_of d) → AreSeen bytes es
+    → ((form : Text) → IsDocument d.bytes form → ShowsTree d form) → es ≡ seen (tree_of d)
+    → AreRowEntries bytes es
 document-seen bytes d es same f shows whole = record {
   form = f.0;
   manifest = subst (λ (x : List ℕ). IsDocument x f.0) same f.1;
@@ -68,11 +70,11 @@ document-seen bytes d es same f shows whole = record {
 }
 
 -- a document whose entries each have a row
-pub planned-shown : (bytes : List ℕ) (d : Shown) (p : Planned) → d.bytes ≡ bytes → (form : Text)
+pub planned-shown : (bytes : List ℕ) (d : DocumentViews) (p : Planned) → d.bytes ≡ bytes → (form : Text)
     × IsDocument d.bytes form
     → ((form : Text) → IsDocument d.bytes form → ShowsTree d form) → map seen_of p.entries.items
     ≡ seen (tree_of d)
-    → length p.rows.items ≡ length p.entries.items → IsShown bytes d p
+    → length p.rows.items ≡ length p.entries.items → IsPlannedView bytes d p
 planned-shown bytes d p same f shows whole long = record {
   form = f.0;
   manifest = subst (λ (x : List ℕ). IsDocument x f.0) same f.1;
@@ -86,20 +88,20 @@ planned-shown bytes d p same f shows whole long = record {
 
 -- the walk over its entries is one of the manifest
 pub planned-walked : (i : ℕ) (o : Options) (input : Input) (configs : List Config) (gives : Outcomes)
-    (old new : Kept) (before after : Books) (es : List Seen)
-    (ls : List Line) → AreSeen input.bytes.items es
+    (old new : CachedAnswers) (before after : LookupLog) (es : List RowEntry)
+    (ls : List Line) → AreRowEntries input.bytes.items es
     → AreSteps configs gives es old new before.looks.items after.looks.items (holds_pair before.pairs)
     (holds_pair after.pairs)
-    → All (IsPassed configs new) es → AreDecided (kept_basis i o (option_map numbers_of input.rust_version)
+    → All (IsPassed configs new) es → AreDecided (cached_basis i o (option_map numbers_of input.rust_version)
     configs new) es ls
     → IsWalked i o input configs gives old new before after ls
 planned-walked i o input configs gives old new before after es ls a steps passed d = record {
   form = a.form;
   manifest = a.manifest;
-  steps = subst (λ (xs : List Seen). AreSteps configs gives xs old new before.looks.items after.looks.items
+  steps = subst (λ (xs : List RowEntry). AreSteps configs gives xs old new before.looks.items after.looks.items
       (holds_pair before.pairs) (holds_pair after.pairs)) a.are steps;
-  passed = subst (λ (xs : List Seen). All (IsPassed configs new) xs) a.are passed;
-  decided = subst (λ (xs : List Seen). AreDecided (kept_basis i o (option_map numbers_of
+  passed = subst (λ (xs : List RowEntry). All (IsPassed configs new) xs) a.are passed;
+  decided = subst (λ (xs : List RowEntry). AreDecided (cached_basis i o (option_map numbers_of
       input.rust_version) configs new) xs ls) a.are d;
 }
 
@@ -111,25 +113,25 @@ rows-long b entries rows d =
     ∙ length-map entries seen_of
 
 -- what the manifest needs, and what its entries need
-pub of-manifest : (configs : List Config) (bytes : List ℕ) (es : List Seen) → AreSeen bytes es
+pub of-manifest : (configs : List Config) (bytes : List ℕ) (es : List RowEntry) → AreRowEntries bytes es
     → (address name : List ℕ) → IsNeededBy configs bytes address name
     → IsNeededIn configs es address name
 of-manifest configs bytes es a address name h =
-    subst (λ (xs : List Seen). IsNeededIn configs xs address name) (seen-in bytes es a h.form h.manifest)
+    subst (λ (xs : List RowEntry). IsNeededIn configs xs address name) (seen-in bytes es a h.form h.manifest)
     h.needed
 
-pub to-manifest : (configs : List Config) (bytes : List ℕ) (es : List Seen) → AreSeen bytes es
+pub to-manifest : (configs : List Config) (bytes : List ℕ) (es : List RowEntry) → AreRowEntries bytes es
     → (address name : List ℕ) → IsNeededIn configs es address name
     → IsNeededBy configs bytes address name
 to-manifest configs bytes es a address name h = record {
   form = a.form;
   manifest = a.manifest;
-  needed = subst (λ (xs : List Seen). IsNeededIn configs xs address name) a.are h;
+  needed = subst (λ (xs : List RowEntry). IsNeededIn configs xs address name) a.are h;
 }
 
 -- what is left of them
 pub planned-left : (configs : List Config) (bytes : List ℕ) (first last : Outcomes) (b c : ℕ)
-    (old now : Kept) (es : List Seen) → AreSeen bytes es
+    (old now : CachedAnswers) (es : List RowEntry) → AreRowEntries bytes es
     → Leaves (IsNeededIn configs es) first last b c old now → Leaves (IsNeededBy configs bytes) first last
     b c old now
 planned-left configs bytes first last b c old now es a left =
@@ -137,19 +139,19 @@ planned-left configs bytes first last b c old now es a left =
     (to-manifest configs bytes es a) left
 
 -- why they stop
-pub planned-refused : (configs : List Config) (bytes : List ℕ) (first : Outcomes) (old now : Kept)
-    (b c : ℕ) (es : List Seen) (e : Error) → AreSeen bytes es
+pub planned-refused : (configs : List Config) (bytes : List ℕ) (first : Outcomes) (old now : CachedAnswers)
+    (b c : ℕ) (es : List RowEntry) (e : Error) → AreRowEntries bytes es
     → IsMemory e ⊎ StopsFirst configs first old now b c es e → IsMemory e
     ⊎ HasBadEntry configs first old now b c bytes e
 planned-refused configs bytes first old now b c es e a (inl memory) = inl memory
 planned-refused configs bytes first old now b c es e a (inr stops) = inr (record {
   form = a.form;
   manifest = a.manifest;
-  stops = subst (λ (xs : List Seen). StopsFirst configs first old now b c xs e) a.are stops;
+  stops = subst (λ (xs : List RowEntry). StopsFirst configs first old now b c xs e) a.are stops;
 })
 
 -- the warnings on the entries of a document are those of the manifest
-pub planned-warnings : (o : Options) (number : ℕ) (bytes : List ℕ) (d : Shown) (es : List found.Entry)
+pub planned-warnings : (o : Options) (number : ℕ) (bytes : List ℕ) (d : DocumentViews) (es : List found.Entry)
     (ts : List Told)
     → d.bytes ≡ bytes → (form : Text) × IsDocument d.bytes form
     → ((form : Text) → IsDocument d.bytes form → ShowsTree d form) → es ≡ entries (tree_of d) []
@@ -164,7 +166,7 @@ planned-warnings o number bytes d es ts same f shows whole w =
     }
 
 -- the names of the entries of a document, added to those that are known, are those of the manifest
-pub planned-names : (o : Options) (bytes : List ℕ) (d : Shown) (es : List found.Entry)
+pub planned-names : (o : Options) (bytes : List ℕ) (d : DocumentViews) (es : List found.Entry)
     (old new : List ℕ → Bool) → d.bytes ≡ bytes → (form : Text) × IsDocument d.bytes form
     → ((form : Text) → IsDocument d.bytes form → ShowsTree d form) → es ≡ entries (tree_of d) []
     → ((name : List ℕ) → new name

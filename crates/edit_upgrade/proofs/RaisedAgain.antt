@@ -8,7 +8,7 @@ use Rattle.semver.specs.OrderLaws.{same_text}
 use Rattle.semver.specs.Parse.{Held, Parts, req_of}
 use Rattle.semver.specs.declared.error.Error as semver_error
 use Rattle.edit_version.specs.Greatest.{IsGreatestKept}
-use Rattle.edit_version.specs.Requirement.{Nothing, Raised, Text, Unread, Unsupported, plain_text, raise, raise_all, raise_read, unless_same}
+use Rattle.edit_version.specs.Requirement.{Nothing, UpgradeResult, Text, Unread, Unsupported, plain_text, raise, upgrade_all, upgrade_parsed, unless_same}
 use Rattle.edit_version.specs.Selection.{IsCompatible, IsLatest, is_admitted, is_offered}
 use Rattle.edit_version.specs.VersionOrder.{full_order}
 use Rattle.edit_version.proofs.Builds.{plain-same, raise-same}
@@ -90,7 +90,7 @@ newer-other : (u v : Parts) → pointwise nat_eq (plain_text v) (plain_text u) �
 newer-other u v h = rw h refl
 
 -- what gives no text, though it was read, gives nothing
-text-none : (other : List ℕ) (r : Raised) → text_or other r ≡ None → (r ≡ Unread → ⊥) → r ≡ Nothing
+text-none : (other : List ℕ) (r : UpgradeResult) → text_or other r ≡ None → (r ≡ Unread → ⊥) → r ≡ Nothing
 text-none other Unread h n = absurd (n refl)
 text-none other Nothing h n = refl
 text-none other (Unsupported d) h n = cc h
@@ -120,7 +120,7 @@ compatible-far xs old t u (Some v) far all r near islatest none isfar =
     ]
   where
     unread-of : (old : List ℕ) (u v : Parts) (t : List ℕ) (p : Result (List Held) semver_error.Error)
-        → raise_read old u p ≡ Text t → raise_read old v p ≡ Unread → ⊥
+        → upgrade_parsed old u p ≡ Text t → upgrade_parsed old v p ≡ Unread → ⊥
     unread-of old u v t (Err e) h q = cc h
     unread-of old u v t (Ok []) h q = cc h
     unread-of old u v t (Ok (c ∷ cs)) h q = all-of old v (c ∷ cs) _ q
@@ -132,7 +132,7 @@ compatible-far xs old t u (Some v) far all r near islatest none isfar =
         ]
 
         all-of : (old : List ℕ) (v : Parts) (cs : List Held) (o : Option Held)
-            → raise_all old v cs o ≡ Unread → ⊥
+            → upgrade_all old v cs o ≡ Unread → ⊥
         all-of old v cs (Some d) q = cc q
         all-of old v cs None q = unless-of old _ q
 

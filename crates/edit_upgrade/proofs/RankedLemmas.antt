@@ -9,13 +9,13 @@ use Rattle.edit_version.specs.IndexEntry.{IndexEntry}
 use Rattle.edit_version.specs.RustVersions.{Numbers}
 use Rattle.edit_version.specs.VersionOrder.{full_order}
 use Rattle.edit_sources.specs.Index.{answer_of}
-use Rattle.edit_cache.specs.IndexCache.{SameKept}
+use Rattle.edit_cache.specs.IndexCache.{HasSameCache}
 use Rattle.edit_cache.specs.declared.cache.IndexCache.{IndexCache}
-use Rattle.edit_cache.specs.Kept.{IsRankedAt}
+use Rattle.edit_cache.specs.CachedAnswer.{IsRankedAt}
 use Rattle.edit_cache.specs.Ranking.{IsRanking, ranks_of}
 use Rattle.edit_sources.specs.declared.index.IndexKrate.{IndexKrate}
 use Rattle.edit_cache.specs.declared.ranking.Ranked.{Ranked}
-use Rattle.edit_upgrade.specs.Looks.{Answer, kept_by, versions_in}
+use Rattle.edit_upgrade.specs.Looks.{Answer, cached_by, versions_in}
 use Rattle.edit_upgrade.specs.Rankings.{IsRankingOf}
 
 -- the ranking that is kept beside an answer is that of its entries
@@ -47,5 +47,5 @@ greatest-ranked keep rust ranked best g (Some None) h = absurd h
 greatest-ranked keep rust ranked best g (Some (Some entries)) h = g entries h
 
 -- the answers that a cache keeps, where each is the one that was
-pub kept-same : {I : Type 0} (old new : IndexCache I) → SameKept old new → kept_by new ≡ kept_by old
+pub kept-same : {I : Type 0} (old new : IndexCache I) → HasSameCache old new → cached_by new ≡ cached_by old
 kept-same old new h = λ i address name. option_map answer_of (h address name i)

@@ -5,7 +5,7 @@ use Rattle.std.specs.List.{AllByRecursion, cons_option, filter_map}
 use Rattle.edit_syntax.specs.Grammar.{Text}
 use Rattle.edit_tree.specs.Assertions.{Place, same_place}
 use Rattle.edit_tree.specs.Replaces.{AreDistinct, AreStrings, is_string}
-use Rattle.edit_tree.specs.Shown.{Shown, ShowsTree, tree_of}
+use Rattle.edit_tree.specs.DocumentViews.{DocumentViews, ShowsTree, tree_of}
 use Rattle.edit_tree.specs.Tree.{string, view_at}
 use Rattle.edit_version.specs.Requirement.{cut}
 use Rattle.edit_record.specs.EntryRecords.{EntryRecord}
@@ -14,38 +14,38 @@ use Rattle.edit_manifest.specs.Entries.{Entry, entries, entry_at}
 use Rattle.edit_manifest.proofs.EntriesApart.{Differ, IsEntryOf, entries-apart, entries-of, entry-literal, same_literal}
 use Rattle.edit_manifest.proofs.EntryPlaces.{IsLiteral}
 use Rattle.edit_manifest.proofs.RecordVersions.{version-stands}
-use Rattle.edit_upgrade.specs.Records.{Seen, Source, seen, seen_at, seen_by, source_of, with_row}
+use Rattle.edit_upgrade.specs.Records.{RowEntry, Source, seen, row_entry_at, row_entry_of, source_of, with_row}
 use Rattle.edit_upgrade.specs.Rows.{Line, with_write, write_at, write_on, writes}
 use Rattle.edit_report.specs.declared.row.Change.{Change}
 
 -- ---- an entry that gets a row
 
 -- what it is made of
-pub record IsRowOf (e : Entry) (s : Seen) : Type 0 where
+pub record IsRowOf (e : Entry) (s : RowEntry) : Type 0 where
   pub r : EntryRecord
   pub source : Source
   pub said : e.said ≡ Some r
-  pub is : s ≡ seen_at e r source
+  pub is : s ≡ row_entry_at e r source
 
-some-inj : (a b : Seen) → Some a ≡ Some b → a ≡ b
+some-inj : (a b : RowEntry) → Some a ≡ Some b → a ≡ b
 some-inj a b h = cc h
 
-of-source : (e : Entry) (r : EntryRecord) (s : Seen) (o : Option Source) → e.said ≡ Some r
-    → option_map (seen_at e r) o ≡ Some s → IsRowOf e s
+of-source : (e : Entry) (r : EntryRecord) (s : RowEntry) (o : Option Source) → e.said ≡ Some r
+    → option_map (row_entry_at e r) o ≡ Some s → IsRowOf e s
 of-source e r s None q h = cc h
 of-source e r s (Some source) q h =
-    record { r = r; source = source; said = q; is = sym (some-inj (seen_at e r source) s h) }
+    record { r = r; source = source; said = q; is = sym (some-inj (row_entry_at e r source) s h) }
 
-of-said : (e : Entry) (s : Seen) (o : Option EntryRecord) → e.said ≡ o
-    → option_and_then (seen_by e) o ≡ Some s → IsRowOf e s
+of-said : (e : Entry) (s : RowEntry) (o : Option EntryRecord) → e.said ≡ o
+    → option_and_then (row_entry_of e) o ≡ Some s → IsRowOf e s
 of-said e s None q h = cc h
 of-said e s (Some r) q h = of-source e r s (source_of r) q h
 
-pub row-of : (e : Entry) (s : Seen) → with_row e ≡ Some s → IsRowOf e s
+pub row-of : (e : Entry) (s : RowEntry) → with_row e ≡ Some s → IsRowOf e s
 row-of e s h = of-said e s e.said refl h
 
 -- where the literal of an entry stands, and what its requirement is
-pub record Stands (t : Tree) (s : Seen) : Type 0 where
+pub record Stands (t : Tree) (s : RowEntry) : Type 0 where
   pub literal : IsLiteral s.literal
   pub there : (old : List ℕ) → s.old ≡ Some old
       → (text : List ℕ) × (t s.literal ≡ Some (string text)) × (old ≡ cut text)
@@ -54,16 +54,16 @@ entry-said : (t : Tree) (e : Entry) (k : IsEntryOf t [] e) (r : EntryRecord) →
     → (entry_at t [] k.table k.name).said ≡ Some r
 entry-said t e k r h = sym (ap (λ (x : Entry). x.said) k.is) ∙ h
 
-stands : (t : Tree) (e : Entry) (s : Seen) → IsEntryOf t [] e → with_row e ≡ Some s → Stands t s
+stands : (t : Tree) (e : Entry) (s : RowEntry) → IsEntryOf t [] e → with_row e ≡ Some s → Stands t s
 stands t e s k h =
     let w = row-of e s h in
-    let literal : s.literal ≡ e.literal = ap (λ (x : Seen). x.literal) w.is in
+    let literal : s.literal ≡ e.literal = ap (λ (x : RowEntry). x.literal) w.is in
     record {
       literal = subst (λ (p : Place). IsLiteral p) (sym literal) (entry-literal t [] e k);
       there = λ old q.
           let v = version-stands t (entry_at t [] k.table k.name).place [] k.name old w.r
           (entry-said t e k w.r w.said)
-          (sym (ap (λ (x : Seen). x.old) w.is) ∙ q) in
+          (sym (ap (λ (x : RowEntry). x.old) w.is) ∙ q) in
           (v.text, ap t (literal ∙ ap (λ (x : Entry). x.literal) k.is) ∙ v.there, v.is);
     }
 
@@ -93,14 +93,14 @@ seen-stands t = kept-all (IsEntryOf t []) (Stands t) with_row (entries t []) (en
 
 -- ---- literals that differ
 
-abbrev pub AreApart : List Seen → Type 0
+abbrev pub AreApart : List RowEntry → Type 0
 AreApart [] = Unit {0}
 AreApart (e ∷ es) = AllByRecursion (λ f. same_place e.literal f.literal ≡ false) es × AreApart es
 
-row-literal : (e : Entry) (s : Seen) → with_row e ≡ Some s → s.literal ≡ e.literal
-row-literal e s h = ap (λ (x : Seen). x.literal) (row-of e s h).is
+row-literal : (e : Entry) (s : RowEntry) → with_row e ≡ Some s → s.literal ≡ e.literal
+row-literal e s h = ap (λ (x : RowEntry). x.literal) (row-of e s h).is
 
-cons-apart : (e : Entry) (es : List Entry) (o : Option Seen) → with_row e ≡ o
+cons-apart : (e : Entry) (es : List Entry) (o : Option RowEntry) → with_row e ≡ o
     → AllByRecursion (λ f. same_literal e f ≡ false) es
     → AreApart (filter_map with_row es) → AreApart (cons_option o (filter_map with_row es))
 cons-apart e es None q h g = g
@@ -131,13 +131,13 @@ write-cases l line = of-cases line.change line.new refl refl
     of-cases None n p q = inl (rw p refl)
 
 -- an entry with a requirement, and what its row writes
-pub record IsWrite (e : Seen) (line : Line) : Type 0 where
+pub record IsWrite (e : RowEntry) (line : Line) : Type 0 where
   pub old : List ℕ
   pub has : e.old ≡ Some old
   pub text : List ℕ
   pub is : write_on e line ≡ Some (e.literal, text)
 
-pub on-cases : (e : Seen) (line : Line) → (write_on e line ≡ None) ⊎ IsWrite e line
+pub on-cases : (e : RowEntry) (line : Line) → (write_on e line ≡ None) ⊎ IsWrite e line
 on-cases e line = of-old e.old refl
   where
     of-old : (o : Option (List ℕ)) → e.old ≡ o → (write_on e line ≡ None) ⊎ IsWrite e line
@@ -147,7 +147,7 @@ on-cases e line = of-old e.old refl
       | inr some ↦ inr (record { old = old; has = q; text = some.0; is = rw (q, some.1) refl })
     ]
 
-write-all : (P : Place → Type 0) (e : Seen) (line : Line) (ws : List (Place × List ℕ))
+write-all : (P : Place → Type 0) (e : RowEntry) (line : Line) (ws : List (Place × List ℕ))
     → ((old : List ℕ) → e.old ≡ Some old → P e.literal)
     → AllByRecursion (λ w. P w.0) ws → AllByRecursion (λ w. P w.0) (with_write (write_on e line) ws)
 write-all P e line ws p h = elim (on-cases e line) [
@@ -157,7 +157,7 @@ write-all P e line ws p h = elim (on-cases e line) [
       (sym some.is) (p some.old some.has, h)
 ]
 
-pub writes-all : (P : Place → Type 0) (es : List Seen) (ls : List Line)
+pub writes-all : (P : Place → Type 0) (es : List RowEntry) (ls : List Line)
     → AllByRecursion (λ e. (old : List ℕ) → e.old ≡ Some old → P e.literal) es
     → AllByRecursion (λ w. P w.0) (writes es ls)
 writes-all P [] ls h = tt
@@ -178,7 +178,7 @@ writes-literals t ls =
     (mapped-all (Stands t) (λ e. (old : List ℕ) → e.old ≡ Some old → IsLiteral e.literal) (seen t)
     (λ e k old q. k.literal) (seen-stands t))
 
-write-distinct : (e : Seen) (line : Line) (ws : List (Place × List ℕ))
+write-distinct : (e : RowEntry) (line : Line) (ws : List (Place × List ℕ))
     → AllByRecursion (λ w. same_place e.literal w.0 ≡ false) ws → AreDistinct ws
     → AreDistinct (with_write (write_on e line) ws)
 write-distinct e line ws h g = elim (on-cases e line) [
@@ -187,7 +187,7 @@ write-distinct e line ws h g = elim (on-cases e line) [
 ]
 
 -- the places that are written to differ
-pub writes-distinct : (es : List Seen) (ls : List Line) → AreApart es → AreDistinct (writes es ls)
+pub writes-distinct : (es : List RowEntry) (ls : List Line) → AreApart es → AreDistinct (writes es ls)
 writes-distinct [] ls h = tt
 writes-distinct (e ∷ es) [] h = tt
 writes-distinct (e ∷ es) (l ∷ ls) h =
@@ -200,18 +200,18 @@ writes-distinct (e ∷ es) (l ∷ ls) h =
 -- ---- as the program has them
 
 -- what rows write, over the entries that a document shows
-pub shown-strings : (d : Shown) (form : Text) (es : List Seen) (ls : List Line) (ws : List (Place × List ℕ))
+pub shown-strings : (d : DocumentViews) (form : Text) (es : List RowEntry) (ls : List Line) (ws : List (Place × List ℕ))
     → ShowsTree d form → es ≡ seen (view_at form)
     → ws ≡ writes es ls → AreStrings ws (tree_of d)
 shown-strings d form es ls ws h e w =
     let same : tree_of d ≡ view_at form = λ i p. h p i in
     subst (λ (t : Tree). AreStrings ws t) (sym same)
     (subst (λ (xs : List (Place × List ℕ)). AreStrings xs (view_at form))
-    (sym (w ∙ ap (λ (x : List Seen). writes x ls) e)) (writes-strings (view_at form) ls))
+    (sym (w ∙ ap (λ (x : List RowEntry). writes x ls) e)) (writes-strings (view_at form) ls))
 
-pub shown-distinct : (form : Text) (es : List Seen) (ls : List Line) (ws : List (Place × List ℕ))
+pub shown-distinct : (form : Text) (es : List RowEntry) (ls : List Line) (ws : List (Place × List ℕ))
     → es ≡ seen (view_at form)
     → ws ≡ writes es ls → AreDistinct ws
 shown-distinct form es ls ws e w =
     subst (λ (xs : List (Place × List ℕ)). AreDistinct xs) (sym w)
-    (writes-distinct es ls (subst (λ (x : List Seen). AreApart x) (sym e) (seen-apart form)))
+    (writes-distinct es ls (subst (λ (x : List RowEntry). AreApart x) (sym e) (seen-apart form)))

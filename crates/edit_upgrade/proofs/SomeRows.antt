@@ -11,7 +11,7 @@ use Rattle.edit_version.proofs.Orders.{full_total}
 use Rattle.url.specs.Parts.{serialize}
 use Rattle.edit_upgrade.specs.Decision.{decision}
 use Rattle.edit_upgrade.specs.Inputs.{Setting}
-use Rattle.edit_upgrade.specs.Records.{Seen}
+use Rattle.edit_upgrade.specs.Records.{RowEntry}
 use Rattle.edit_upgrade.specs.Rows.{AreVersionsFor, Basis, IsDecided, IsRowOver, Line, case_for, dashes, elsewhere, is_elsewhere, line_for, told_there}
 use Rattle.edit_upgrade.specs.Upgraded.{IsRow, basis_of}
 use Rattle.edit_upgrade.specs.declared.decision.options.Options.{Options}
@@ -37,7 +37,7 @@ some-greatest : (keep : Parts → Bool) (xs : List Parts)
 some-greatest keep xs = some-after keep xs [] None (All-nil (λ x. keep x ≡ false))
 
 -- each entry with a requirement has a row
-some-line : (i : ℕ) (o : Options) (xs : List Parts) (e : Seen) (old : List ℕ)
+some-line : (i : ℕ) (o : Options) (xs : List Parts) (e : RowEntry) (old : List ℕ)
     → (line : Line) × IsDecided i o xs e old line
 some-line i o xs e old =
     let near = some-greatest (is_admitted old) xs in
@@ -47,13 +47,13 @@ some-line i o xs e old =
     )
 
 -- so has each
-some-row : (i : ℕ) (o : Options) (xs : List Parts) (e : Seen) (old : Option (List ℕ))
+some-row : (i : ℕ) (o : Options) (xs : List Parts) (e : RowEntry) (old : Option (List ℕ))
     → (line : Line) × IsRowOver i o xs e old line
 some-row i o xs e None = (dashes i o e, refl)
 some-row i o xs e (Some old) = some-line i o xs e old
 
 -- an entry with another requirement takes the same versions
-pub other-versions : (b : Basis) (e f : Seen) (xs : List Parts) → f.name ≡ e.name → f.source ≡ e.source
+pub other-versions : (b : Basis) (e f : RowEntry) (xs : List Parts) → f.name ≡ e.name → f.source ≡ e.source
     → AreVersionsFor b e xs → AreVersionsFor b f xs
 other-versions b e f xs name source (told_there address needs are) =
     told_there address
@@ -62,7 +62,7 @@ other-versions b e f xs name source (told_there address needs are) =
 other-versions b e f xs name source (elsewhere other none) = elsewhere (ap is_elsewhere source ∙ other) none
 
 -- the entries that rows leave have rows
-pub some-again : (s : Setting) (es : List Seen) (ls : List Line) → AllZip (IsRow s) es ls
+pub some-again : (s : Setting) (es : List RowEntry) (ls : List Line) → AllZip (IsRow s) es ls
     → (ms : List Line) × AllZip (IsRow s) (renewed es ls) ms
 some-again s [] [] h = ([], tt)
 some-again s [] (l ∷ ls) h = absurd h

@@ -10,9 +10,9 @@ use Rattle.edit_sources.specs.declared.config.Config.{Config}
 use Rattle.url.specs.Parts as url
 use Rattle.url.specs.Parts.{serialize}
 use Rattle.edit_upgrade.specs.Causes.{IsPassed}
-use Rattle.edit_upgrade.specs.Looked.{AreKept, AreSteps, IsEntryStep, IsSoFar, IsStep, Pairs, Stays, further, start}
-use Rattle.edit_upgrade.specs.Looks.{Answer, Kept}
-use Rattle.edit_upgrade.specs.Records.{Seen, Source, at_folder, at_registry, at_repository}
+use Rattle.edit_upgrade.specs.Looked.{AreAllCached, AreSteps, IsEntryStep, IsWalkState, IsStep, PairSet, Stays, further, start}
+use Rattle.edit_upgrade.specs.Looks.{Answer, CachedAnswers}
+use Rattle.edit_upgrade.specs.Records.{RowEntry, Source, at_folder, at_registry, at_repository}
 use Rattle.edit_upgrade.specs.Rows.{Needs, is_elsewhere}
 use Rattle.edit_upgrade.specs.Upgraded.{IsNeededFor, IsNeededIn}
 use Rattle.edit_upgrade.specs.declared.upgrade.Look.{Look}
@@ -22,7 +22,7 @@ use Rattle.edit_upgrade.proofs.LookUpLemmas.{look-with, so-far-idle, so-far-step
 
 -- ---- what entries need
 
-pub in-front : (configs : List Config) (front : List Seen) (e : Seen) (a n : List ℕ)
+pub in-front : (configs : List Config) (front : List RowEntry) (e : RowEntry) (a n : List ℕ)
     → IsNeededIn configs front a n → IsNeededIn configs (front ++ e ∷ []) a n
 in-front configs front e a n h = record {
   entry = h.entry;
@@ -31,16 +31,16 @@ in-front configs front e a n h = record {
   needs = h.needs;
 }
 
-pub in-last : (configs : List Config) (front : List Seen) (e : Seen) (a n : List ℕ)
+pub in-last : (configs : List Config) (front : List RowEntry) (e : RowEntry) (a n : List ℕ)
     → IsNeededFor configs e a n → IsNeededIn configs (front ++ e ∷ []) a n
 in-last configs front e a n h = record { entry = e; among = Contains-push front e; needs = h }
 
-push-cases : (configs : List Config) (front : List Seen) (e : Seen) (a n : List ℕ)
+push-cases : (configs : List Config) (front : List RowEntry) (e : RowEntry) (a n : List ℕ)
     → IsNeededIn configs (front ++ e ∷ []) a n
     → IsNeededIn configs front a n ⊎ IsNeededFor configs e a n
 push-cases configs front e a n h = elim (Contains-push_cases front e h.entry h.among) [
   | inl before ↦ inl (record { entry = h.entry; among = before; needs = h.needs })
-  | inr last ↦ inr (subst (λ (x : Seen). IsNeededFor configs x a n) (sym last) h.needs)
+  | inr last ↦ inr (subst (λ (x : RowEntry). IsNeededFor configs x a n) (sym last) h.needs)
 ]
 
 -- no entry needs nothing
@@ -60,7 +60,7 @@ source-cases at_repository = inr refl
 source-cases at_folder = inr refl
 
 -- the one look that an entry of a registry needs
-for-pair : (configs : List Config) (e : Seen) (named : Option (List ℕ)) (address : url.Parts)
+for-pair : (configs : List Config) (e : RowEntry) (named : Option (List ℕ)) (address : url.Parts)
     (a n : List ℕ) → e.source ≡ at_registry named
     → HasAddress configs named address → IsNeededFor configs e a n → (a ≡ serialize address) × (n ≡ e.name)
 for-pair configs e named address a n q has h =
@@ -79,18 +79,18 @@ for-pair configs e named address a n q has h =
 -- ---- the looks that were made
 
 -- an entry further
-entry-so-far : (P Q : List ℕ → List ℕ → Type 0) (configs : List Config) (e : Seen) (first last : Outcomes)
-    (old now next : Kept) (looks more : List Look)
-    (pairs then_pairs : Pairs) → ((a n : List ℕ) → P a n → Q a n)
+entry-so-far : (P Q : List ℕ → List ℕ → Type 0) (configs : List Config) (e : RowEntry) (first last : Outcomes)
+    (old now next : CachedAnswers) (looks more : List Look)
+    (pairs then_pairs : PairSet) → ((a n : List ℕ) → P a n → Q a n)
     → ((a n : List ℕ) → Q a n → P a n ⊎ IsNeededFor configs e a n)
     → ((a n : List ℕ) → IsNeededFor configs e a n → Q a n) → SameOutcomes first last
-    → IsSoFar P first old now looks pairs
+    → IsWalkState P first old now looks pairs
     → IsEntryStep configs e last now next looks more pairs then_pairs
-    → IsSoFar Q first old next more then_pairs
+    → IsWalkState Q first old next more then_pairs
 entry-so-far P Q configs e first last old now next looks more pairs then_pairs wider cases mine same s step
     = by (source-cases e.source)
   where
-    by : IsFrom e.source → IsSoFar Q first old next more then_pairs
+    by : IsFrom e.source → IsWalkState Q first old next more then_pairs
     by (inl registry) =
         let l = step.looked registry.0 registry.1 in
         so-far-step P Q first last old now next looks more pairs then_pairs (serialize l.0) e.name wider
@@ -118,15 +118,15 @@ entry-so-far P Q configs e first last old now next looks more pairs then_pairs w
         ]) i.0 i.1 i.2 s
 
 -- what was needed, or is by one of the entries
-abbrev pub Also : (List ℕ → List ℕ → Type 0) → List Config → List Seen → List ℕ → List ℕ → Type 0
+abbrev pub Also : (List ℕ → List ℕ → Type 0) → List Config → List RowEntry → List ℕ → List ℕ → Type 0
 Also P configs es a n = P a n ⊎ IsNeededIn configs es a n
 
 -- a walk over entries further
 pub steps-so-far : (P : List ℕ → List ℕ → Type 0) (configs : List Config) (first last : Outcomes)
-    (old : Kept) → SameOutcomes first last
-    → (es : List Seen) (now next : Kept) (looks more : List Look) (pairs then_pairs : Pairs)
-    → AreSteps configs last es now next looks more pairs then_pairs → IsSoFar P first old now looks pairs
-    → IsSoFar (Also P configs es) first old next more then_pairs
+    (old : CachedAnswers) → SameOutcomes first last
+    → (es : List RowEntry) (now next : CachedAnswers) (looks more : List Look) (pairs then_pairs : PairSet)
+    → AreSteps configs last es now next looks more pairs then_pairs → IsWalkState P first old now looks pairs
+    → IsWalkState (Also P configs es) first old next more then_pairs
 steps-so-far P configs first last old same _ _ _ _ _ _ _ (start kept looks pairs) s =
     so-far-idle P (Also P configs []) first old kept kept looks looks pairs pairs (λ a n h. inl h)
     (λ a n h. elim h [ inl before ↦ before | inr none ↦ absurd (nothing-in configs a n none) ]) refl refl
@@ -149,26 +149,26 @@ steps-so-far P configs first last old same _ _ _ _ _ _ _
 some-kept : (o : Option Answer) (a : Answer) → o ≡ Some a → IsSome o
 some-kept o a h = subst (λ (x : Option Answer). IsSome x) (sym h) refl
 
-step-stays : (address name : List ℕ) (gives : Outcomes) (now next : Kept) (looks more : List Look)
-    (pairs then_pairs : Pairs)
+step-stays : (address name : List ℕ) (gives : Outcomes) (now next : CachedAnswers) (looks more : List Look)
+    (pairs then_pairs : PairSet)
     → IsStep address name gives now next looks more pairs then_pairs → Stays now next
 step-stays address name gives now next looks more pairs then_pairs step = elim step.done [
-  | inl done ↦ λ a n some. ap (λ (k : Kept). k a n) done.2
+  | inl done ↦ λ a n some. ap (λ (k : CachedAnswers). k a n) done.2
   | inr one ↦ one.3.stays
 ]
 
 -- the answer of a step is kept
-step-here : (address name : List ℕ) (gives : Outcomes) (now next : Kept) (looks more : List Look)
-    (pairs then_pairs : Pairs) → AreKept pairs now
+step-here : (address name : List ℕ) (gives : Outcomes) (now next : CachedAnswers) (looks more : List Look)
+    (pairs then_pairs : PairSet) → AreAllCached pairs now
     → IsStep address name gives now next looks more pairs then_pairs → IsSome (next address name)
 step-here address name gives now next looks more pairs then_pairs kept step = elim step.done [
-  | inl done ↦ subst (λ (k : Kept). IsSome (k address name)) (sym done.2) (kept address name done.0)
+  | inl done ↦ subst (λ (k : CachedAnswers). IsSome (k address name)) (sym done.2) (kept address name done.0)
   | inr one ↦ some-kept (next address name) (answer_of one.0.answer) one.3.kept
 ]
 
-step-kept : (address name : List ℕ) (gives : Outcomes) (now next : Kept) (looks more : List Look)
-    (pairs then_pairs : Pairs) → AreKept pairs now
-    → IsStep address name gives now next looks more pairs then_pairs → AreKept then_pairs next
+step-kept : (address name : List ℕ) (gives : Outcomes) (now next : CachedAnswers) (looks more : List Look)
+    (pairs then_pairs : PairSet) → AreAllCached pairs now
+    → IsStep address name gives now next looks more pairs then_pairs → AreAllCached then_pairs next
 step-kept address name gives now next looks more pairs then_pairs kept step a n h = by
     (cases_Bool (bytes_eq address a && bytes_eq name n))
   where
@@ -187,13 +187,13 @@ step-kept address name gives now next looks more pairs then_pairs kept step a n 
         pairs then_pairs step a n some)) some
 
 -- after the step of an entry the answer that it needs is kept, and so are those of the set
-pub entry-kept : (configs : List Config) (e : Seen) (gives : Outcomes) (now next : Kept)
-    (looks more : List Look) (pairs then_pairs : Pairs) → AreKept pairs now
-    → IsEntryStep configs e gives now next looks more pairs then_pairs → AreKept then_pairs next
+pub entry-kept : (configs : List Config) (e : RowEntry) (gives : Outcomes) (now next : CachedAnswers)
+    (looks more : List Look) (pairs then_pairs : PairSet) → AreAllCached pairs now
+    → IsEntryStep configs e gives now next looks more pairs then_pairs → AreAllCached then_pairs next
     × IsPassed configs next e
 entry-kept configs e gives now next looks more pairs then_pairs kept step = by (source-cases e.source)
   where
-    by : IsFrom e.source → AreKept then_pairs next × IsPassed configs next e
+    by : IsFrom e.source → AreAllCached then_pairs next × IsPassed configs next e
     by (inl registry) =
         let l = step.looked registry.0 registry.1 in
         let here = step-here (serialize l.0) e.name gives now next looks more pairs then_pairs kept l.2 in (
@@ -209,8 +209,8 @@ entry-kept configs e gives now next looks more pairs then_pairs kept step = by (
         )
     by (inr other) =
         let i = step.idle other in (
-          subst (λ (k : Kept). AreKept then_pairs k) (sym i.2)
-              (subst (λ (q : Pairs). AreKept q now) (sym i.1) kept),
+          subst (λ (k : CachedAnswers). AreAllCached then_pairs k) (sym i.2)
+              (subst (λ (q : PairSet). AreAllCached q now) (sym i.1) kept),
           record {
             answered = λ address name needs. absurd (not-both e needs.named needs.source other);
             has = λ named q. absurd (not-both e named q other);
@@ -218,8 +218,8 @@ entry-kept configs e gives now next looks more pairs then_pairs kept step = by (
         )
 
 -- the same step, told with the outcomes that the index had
-pub entry-step-with : (configs : List Config) (e : Seen) (first last : Outcomes) (now next : Kept)
-    (looks more : List Look) (pairs then_pairs : Pairs)
+pub entry-step-with : (configs : List Config) (e : RowEntry) (first last : Outcomes) (now next : CachedAnswers)
+    (looks more : List Look) (pairs then_pairs : PairSet)
     → SameOutcomes first last → IsEntryStep configs e last now next looks more pairs then_pairs
     → IsEntryStep configs e first now next looks more pairs then_pairs
 entry-step-with configs e first last now next looks more pairs then_pairs same step = record {

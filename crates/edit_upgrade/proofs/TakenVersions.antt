@@ -5,7 +5,7 @@ use Rattle.std.specs.Cmp.Lexicographic.{pointwise}
 use Rattle.std.proofs.lemmas.Bool.{cases_Bool}
 use Rattle.semver.specs.Parse.{Parts}
 use Rattle.edit_version.specs.Requirement.{plain_text, raise}
-use Rattle.edit_upgrade.specs.Decision.{first_row, newer, row_change, row_text, text_or, unless, unless_old, when}
+use Rattle.edit_upgrade.specs.Decision.{first_row, newer, row_change, row_text, text_or, unless, unless_old, some_if}
 use Rattle.edit_report.specs.declared.row.Change.{Change}
 use Rattle.edit_report.specs.declared.row.Change.TheVariants as change
 use Rattle.edit_upgrade.specs.declared.decision.options.Options.{Options}
@@ -19,9 +19,9 @@ abbrev pub near_text : List ℕ → Option Parts → Option (List ℕ)
 near_text t near = option_and_then (λ v. text_or t (raise t v)) near
 
 -- a text that may be written is there
-pub when-some : (b : Bool) (a : Option (List ℕ)) (t : List ℕ) → when b a ≡ Some t → a ≡ Some t
-when-some true a t h = h
-when-some false a t h = cc h
+pub some_if-some : (b : Bool) (a : Option (List ℕ)) (t : List ℕ) → some_if b a ≡ Some t → a ≡ Some t
+some_if-some true a t h = h
+some_if-some false a t h = cc h
 
 -- a text that is not left out is there
 pub unless-some : (b : Bool) (a : Option (List ℕ)) (t : List ℕ) → unless b a ≡ Some t
@@ -52,10 +52,10 @@ far-some old t far near h = newer-some old t (newer far near) h
 
 -- the version that a text for the compatible one is for
 pub near-some : (o : Options) (old t : List ℕ) (near : Option Parts)
-    → when o.compatible (near_text old near) ≡ Some t
+    → some_if o.compatible (near_text old near) ≡ Some t
     → (u : Parts) × (near ≡ Some u) × (text_or old (raise old u) ≡ Some t)
-near-some o old t None h = cc (when-some o.compatible None t h)
-near-some o old t (Some u) h = (u, refl, when-some o.compatible (near_text old (Some u)) t h)
+near-some o old t None h = cc (some_if-some o.compatible None t h)
+near-some o old t (Some u) h = (u, refl, some_if-some o.compatible (near_text old (Some u)) t h)
 
 -- a change tells another text
 other-text : (old text : List ℕ) (kind got : Change) → unless_old old text kind ≡ Some got

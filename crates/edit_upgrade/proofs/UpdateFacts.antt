@@ -4,13 +4,13 @@ use Rattle.std.specs.Prelude.{codes}
 use Rattle.std.specs.Fmt.{digits}
 use Rattle.semver.specs.Parse.{Parts}
 use Rattle.semver.proofs.OnLiterals.{semver_on_literals}
-use Rattle.edit_metadata.specs.Metadata.{PackageSaid, WorkspaceSaid}
-use Rattle.edit_upgrade.specs.Asked.{Asked}
+use Rattle.edit_metadata.specs.Metadata.{PackageModel, WorkspaceModel}
+use Rattle.edit_upgrade.specs.ParsedOptions.{ParsedOptions}
 use Rattle.edit_upgrade.specs.Pins.{pin_of, pins_of}
 use Rattle.edit_upgrade.specs.UpdateCalls.{Call, update_calls}
 
 -- what is said of a package
-abbrev package_of : List ℕ → Parts → Option (List ℕ) → PackageSaid
+abbrev package_of : List ℕ → Parts → Option (List ℕ) → PackageModel
 package_of name version source = record {
   name = name;
   id = name;
@@ -22,11 +22,11 @@ package_of name version source = record {
 }
 
 -- a workspace of these packages
-abbrev workspace_of : List PackageSaid → WorkspaceSaid
+abbrev workspace_of : List PackageModel → WorkspaceModel
 workspace_of packages = record { root = codes "/w"; packages = packages }
 
 -- a plan that modified this name, by the options that are usual
-abbrev usual : List ℕ → Asked
+abbrev usual : List ℕ → ParsedOptions
 usual name = record {
   modified = name ∷ [];
   git_crates = [];
@@ -41,7 +41,7 @@ usual name = record {
 abbrev call_of : List (List ℕ) → Call
 call_of words = codes "cargo" ∷ codes "update" ∷ codes "--manifest-path" ∷ codes "/w/Cargo.toml" ∷ words
 
-abbrev serde : PackageSaid
+abbrev serde : PackageModel
 serde = package_of (codes "serde") (1, 2, 3, [], []) None
 
 -- a name that was modified
@@ -62,10 +62,10 @@ locked : update_calls (record (usual (codes "serde")) { locked = true }) (worksp
 locked = refl
 
 -- a word with a version, and versions that are not raised to compatible ones
-abbrev exact : Asked
+abbrev exact : ParsedOptions
 exact = record (usual (codes "docopt")) { words = codes "docopt@99999.0.0" ∷ []; compatible = false }
 
-abbrev docopt : PackageSaid
+abbrev docopt : PackageModel
 docopt = package_of (codes "docopt") (99999, 0, 0, [], []) None
 
 exact_word : update_calls exact (workspace_of (docopt ∷ [])) ≡
@@ -81,7 +81,7 @@ unfolding semver_on_literals digits
 recursive_word = refl
 
 -- packages of repositories, in their order; one of that name from elsewhere is not among them
-abbrev from_repository : List ℕ → Parts → PackageSaid
+abbrev from_repository : List ℕ → Parts → PackageModel
 from_repository name version = package_of name version (Some (codes "git+https://e/x#1"))
 
 repositories : update_calls

@@ -15,9 +15,9 @@ use Rattle.url.specs.Parts as url
 use Rattle.url.specs.Parts.{serialize}
 use Rattle.edit_upgrade.specs.Causes.{IsPassed, StopsAt, StopsFirst}
 use Rattle.edit_upgrade.specs.Causes.StopsAt.{no_address, no_answer}
-use Rattle.edit_upgrade.specs.Looked.{IsAt, IsEntryStep, IsRefusedAt, IsStep, Leaves, Pairs, Stays}
-use Rattle.edit_upgrade.specs.Looks.{Answer, AreLooks, Kept, kept_basis, told, versions_in}
-use Rattle.edit_upgrade.specs.Records.{Seen, at_registry}
+use Rattle.edit_upgrade.specs.Looked.{IsAt, IsEntryStep, IsLookupError, IsStep, Leaves, PairSet, Stays}
+use Rattle.edit_upgrade.specs.Looks.{Answer, AreLookups, CachedAnswers, cached_basis, told, versions_in}
+use Rattle.edit_upgrade.specs.Records.{RowEntry, at_registry}
 use Rattle.edit_upgrade.specs.Rows.{AreDecided, AreVersionsFor, Basis, IsRowBy, IsRowOver, Line, Needs, elsewhere, is_elsewhere, told_there}
 use Rattle.edit_upgrade.specs.Upgraded.{IsNeededFor, IsNeededIn}
 use Rattle.edit_upgrade.specs.declared.upgrade.Look.{Look}
@@ -31,19 +31,19 @@ abbrev basis_over : ℕ → Options → List Config → (List ℕ → List ℕ �
 basis_over i o configs versions = record { input = i; options = o; configs = configs; versions = versions }
 
 -- the versions told for what an entry needs are the same
-abbrev Agree : List Config → (List ℕ → List ℕ → List Parts) → (List ℕ → List ℕ → List Parts) → Seen → Type 0
+abbrev Agree : List Config → (List ℕ → List ℕ → List Parts) → (List ℕ → List ℕ → List Parts) → RowEntry → Type 0
 Agree configs v w e = (address : url.Parts) → Needs configs e address e.name → v (serialize address) e.name
     ≡ w (serialize address) e.name
 
 versions-over : (i : ℕ) (o : Options) (configs : List Config) (v w : List ℕ → List ℕ → List Parts)
-    (e : Seen) (xs : List Parts) → Agree configs v w e
+    (e : RowEntry) (xs : List Parts) → Agree configs v w e
     → AreVersionsFor (basis_over i o configs v) e xs → AreVersionsFor (basis_over i o configs w) e xs
 versions-over i o configs v w e xs h (told_there address needs are) = told_there address needs
     (are ∙ h address needs)
 versions-over i o configs v w e xs h (elsewhere other none) = elsewhere other none
 
 rows-over : (i : ℕ) (o : Options) (configs : List Config) (v w : List ℕ → List ℕ → List Parts)
-    (es : List Seen) (ls : List Line) → All (Agree configs v w) es
+    (es : List RowEntry) (ls : List Line) → All (Agree configs v w) es
     → AreDecided (basis_over i o configs v) es ls → AreDecided (basis_over i o configs w) es ls
 rows-over i o configs v w [] [] h d = tt
 rows-over i o configs v w [] (l ∷ ls) h d = absurd d
@@ -58,7 +58,7 @@ rows-over i o configs v w (e ∷ es) (l ∷ ls) h d = (
 )
 
 -- what an entry of some needs, as what they need
-of-entry : (configs : List Config) (es : List Seen) (e : Seen) (address : url.Parts) (name : List ℕ)
+of-entry : (configs : List Config) (es : List RowEntry) (e : RowEntry) (address : url.Parts) (name : List ℕ)
     → Contains es e → Needs configs e address name
     → IsNeededIn configs es (serialize address) name
 of-entry configs es e address name among needs =
@@ -68,13 +68,14 @@ some-answer : (o : Option Answer) (a : Answer) → o ≡ Some a → IsSome o
 some-answer o a h = subst (λ (x : Option Answer). IsSome x) (sym h) refl
 
 -- the answers that a passed entry needs stay
-stays-at : (configs : List Config) (now next : Kept) → Stays now next → (e : Seen) → IsPassed configs now e
+stays-at : (configs : List Config) (now next : CachedAnswers) → Stays now next → (e : RowEntry)
+    → IsPassed configs now e
     → (address : url.Parts) (name : List ℕ) → Needs configs e address name
     → next (serialize address) name ≡ now (serialize address) name
 stays-at configs now next stays e p address name needs = stays (serialize address) name
     (p.answered address name needs)
 
-pub passed-stays : (configs : List Config) (now next : Kept) (es : List Seen) → Stays now next
+pub passed-stays : (configs : List Config) (now next : CachedAnswers) (es : List RowEntry) → Stays now next
     → All (IsPassed configs now) es
     → All (IsPassed configs next) es
 passed-stays configs now next es stays h =
@@ -86,10 +87,10 @@ passed-stays configs now next es stays h =
     }) es h
 
 -- rows over the answers that are kept stay, where more are kept
-pub rows-stay : (i : ℕ) (o : Options) (rust : Option Numbers) (configs : List Config) (now next : Kept)
-    (es : List Seen) (ls : List Line)
-    → Stays now next → All (IsPassed configs now) es → AreDecided (kept_basis i o rust configs now) es ls
-    → AreDecided (kept_basis i o rust configs next) es ls
+pub rows-stay : (i : ℕ) (o : Options) (rust : Option Numbers) (configs : List Config) (now next : CachedAnswers)
+    (es : List RowEntry) (ls : List Line)
+    → Stays now next → All (IsPassed configs now) es → AreDecided (cached_basis i o rust configs now) es ls
+    → AreDecided (cached_basis i o rust configs next) es ls
 rows-stay i o rust configs now next es ls stays passed d =
     let v : List ℕ → List ℕ → List Parts = λ a n. versions_in rust (now a n) in
     let w : List ℕ → List ℕ → List Parts = λ a n. versions_in rust (next a n) in
@@ -99,20 +100,20 @@ rows-stay i o rust configs now next es ls stays passed d =
     needs))) es passed) d
 
 -- a row further
-pub rows-further : (i : ℕ) (o : Options) (rust : Option Numbers) (configs : List Config) (now next : Kept)
-    (es : List Seen) (ls : List Line) (e : Seen) (l : Line) → All (IsPassed configs now) es → Stays now next
-    → AreDecided (kept_basis i o rust configs now) es ls → IsRowBy (kept_basis i o rust configs next) e l
-    → AreDecided (kept_basis i o rust configs next) (es ++ e ∷ []) (ls ++ l ∷ [])
+pub rows-further : (i : ℕ) (o : Options) (rust : Option Numbers) (configs : List Config) (now next : CachedAnswers)
+    (es : List RowEntry) (ls : List Line) (e : RowEntry) (l : Line) → All (IsPassed configs now) es → Stays now next
+    → AreDecided (cached_basis i o rust configs now) es ls → IsRowBy (cached_basis i o rust configs next) e l
+    → AreDecided (cached_basis i o rust configs next) (es ++ e ∷ []) (ls ++ l ∷ [])
 rows-further i o rust configs now next es ls e l passed stays d row =
-    all_zipped_more (IsRowBy (kept_basis i o rust configs next)) es ls e l
+    all_zipped_more (IsRowBy (cached_basis i o rust configs next)) es ls e l
     (rows-stay i o rust configs now next es ls stays passed d) row
 
 -- rows over the answers that are kept are rows over the looks
 pub rows-told : (Needed : List ℕ → List ℕ → Type 0) (i : ℕ) (o : Options) (rust : Option Numbers)
     (configs : List Config) (first : Outcomes)
-    (old now : Kept) (looks : List Look) (es : List Seen) (ls : List Line)
-    → ((a n : List ℕ) → IsNeededIn configs es a n → Needed a n) → AreLooks Needed first old now looks
-    → AreDecided (kept_basis i o rust configs now) es ls → AreDecided
+    (old now : CachedAnswers) (looks : List Look) (es : List RowEntry) (ls : List Line)
+    → ((a n : List ℕ) → IsNeededIn configs es a n → Needed a n) → AreLookups Needed first old now looks
+    → AreDecided (cached_basis i o rust configs now) es ls → AreDecided
     (basis_over i o configs (told rust looks)) es ls
 rows-told Needed i o rust configs first old now looks es ls wider m d =
     let v : List ℕ → List ℕ → List Parts = λ a n. versions_in rust (now a n) in
@@ -131,7 +132,7 @@ none-before None p stays none = refl
 none-before (Some x) p stays none = cc (sym none ∙ stays refl)
 
 -- why an entry stops a walk, told from where the walk began
-pub stops-from : (configs : List Config) (first last : Outcomes) (old now : Kept) (a b c : ℕ) (e : Seen)
+pub stops-from : (configs : List Config) (first last : Outcomes) (old now : CachedAnswers) (a b c : ℕ) (e : RowEntry)
     (error : Error) → SameOutcomes first last → Stays old now → a ≤ b
     → StopsAt configs last now b c e error → StopsAt configs first old a c e error
 stops-from configs first last old now a b c e error same stays le (no_address named q h) = no_address named
@@ -142,8 +143,8 @@ stops-from configs first last old now a b c e error same stays le
     (stays (serialize address) name) none)
     (refused-with first last address name a b c error same le refused)
 
-pub stopped : (configs : List Config) (first last : Outcomes) (old now next : Kept) (a b c : ℕ)
-    (es front : List Seen) (e : Seen) (rest : List Seen)
+pub stopped : (configs : List Config) (first last : Outcomes) (old now next : CachedAnswers) (a b c : ℕ)
+    (es front : List RowEntry) (e : RowEntry) (rest : List RowEntry)
     (error : Error) → es ≡ front ++ e ∷ rest → All (IsPassed configs now) front → SameOutcomes first last
     → Stays old now → Stays now next → a ≤ b
     → StopsAt configs last now b c e error → StopsFirst configs first old next a c es error
@@ -157,8 +158,8 @@ stopped configs first last old now next a b c es front e rest error split m same
 }
 
 -- why a walk is refused at an entry
-pub walk-refused : (configs : List Config) (first last : Outcomes) (old now next : Kept) (a b c : ℕ)
-    (es front : List Seen) (e : Seen) (rest : List Seen)
+pub walk-refused : (configs : List Config) (first last : Outcomes) (old now next : CachedAnswers) (a b c : ℕ)
+    (es front : List RowEntry) (e : RowEntry) (rest : List RowEntry)
     (error : Error) → es ≡ front ++ e ∷ rest → All (IsPassed configs now) front → SameOutcomes first last
     → Stays old now → Stays now next → a ≤ b
     → IsMemory error ⊎ StopsAt configs last now b c e error → IsMemory error
@@ -178,20 +179,20 @@ contains-item {A} {B} f xs i x h e =
     subst (λ (y : B). Contains (map f xs) y) (get_or-map f xs i x (f x) h ∙ ap f (sym e)) there
 
 -- what an entry of a list needs, its list needs
-pub for-among : (configs : List Config) (es : List Seen) (e : Seen) → Contains es e → (a n : List ℕ)
+pub for-among : (configs : List Config) (es : List RowEntry) (e : RowEntry) → Contains es e → (a n : List ℕ)
     → IsNeededFor configs e a n → IsNeededIn configs es a n
 for-among configs es e among a n h = record { entry = e; among = among; needs = h }
 
 -- ---- an entry of a registry
 
-own-needs : (configs : List Config) (e : Seen) (named : Option (List ℕ)) (address : url.Parts)
+own-needs : (configs : List Config) (e : RowEntry) (named : Option (List ℕ)) (address : url.Parts)
     (name : List ℕ) → e.source ≡ at_registry named
     → HasAddress configs named address → name ≡ e.name → Needs configs e address name
 own-needs configs e named address name q has same = record
     { named = named; source = q; has = has; crate_name = sym same }
 
-pub registry-left : (configs : List Config) (e : Seen) (named : Option (List ℕ)) (address : url.Parts)
-    (name : List ℕ) (first last : Outcomes) (b c : ℕ) (old new : Kept)
+pub registry-left : (configs : List Config) (e : RowEntry) (named : Option (List ℕ)) (address : url.Parts)
+    (name : List ℕ) (first last : Outcomes) (b c : ℕ) (old new : CachedAnswers)
     → e.source ≡ at_registry named → HasAddress configs named address → name ≡ e.name
     → Leaves (IsAt (serialize address) name) first last b c old new
     → Leaves (IsNeededFor configs e) first last b c old new
@@ -203,9 +204,9 @@ registry-left configs e named address name first last b c old new q has same lef
       at = p.0;
     }) left
 
-pub registry-step : (configs : List Config) (e : Seen) (named : Option (List ℕ)) (address : url.Parts)
-    (name : List ℕ) (gives : Outcomes) (old new : Kept)
-    (looks more : List Look) (pairs then_pairs : Pairs) → e.source ≡ at_registry named
+pub registry-step : (configs : List Config) (e : RowEntry) (named : Option (List ℕ)) (address : url.Parts)
+    (name : List ℕ) (gives : Outcomes) (old new : CachedAnswers)
+    (looks more : List Look) (pairs then_pairs : PairSet) → e.source ≡ at_registry named
     → HasAddress configs named address → name ≡ e.name
     → IsStep (serialize address) name gives old new looks more pairs then_pairs
     → IsEntryStep configs e gives old new looks more pairs then_pairs
@@ -220,27 +221,27 @@ registry-step configs e named address name gives old new looks more pairs then_p
       idle = λ other. absurd (not-both e named q other);
     }
 
-pub registry-decided : (i : ℕ) (o : Options) (rust : Option Numbers) (configs : List Config) (kept : Kept)
-    (e : Seen) (named : Option (List ℕ)) (address : url.Parts) (line : Line)
+pub registry-decided : (i : ℕ) (o : Options) (rust : Option Numbers) (configs : List Config) (kept : CachedAnswers)
+    (e : RowEntry) (named : Option (List ℕ)) (address : url.Parts) (line : Line)
     → e.source ≡ at_registry named → HasAddress configs named address
     → IsRowOver i o (versions_in rust (kept (serialize address) e.name)) e e.old line
-    → IsRowBy (kept_basis i o rust configs kept) e line
+    → IsRowBy (cached_basis i o rust configs kept) e line
 registry-decided i o rust configs kept e named address line q has d = record {
   versions = versions_in rust (kept (serialize address) e.name);
   offered = told_there address (own-needs configs e named address e.name q has refl) refl;
   decided = d;
 }
 
-pub no-registry : (configs : List Config) (e : Seen) (named : Option (List ℕ)) (gives : Outcomes)
-    (old : Kept) (b c : ℕ) (error : Error) → e.source ≡ at_registry named
+pub no-registry : (configs : List Config) (e : RowEntry) (named : Option (List ℕ)) (gives : Outcomes)
+    (old : CachedAnswers) (b c : ℕ) (error : Error) → e.source ≡ at_registry named
     → IsMemory error ⊎ HasNoUrl configs named error → IsMemory error ⊎ StopsAt configs gives old b c e error
 no-registry configs e named gives old b c error q (inl memory) = inl memory
 no-registry configs e named gives old b c error q (inr h) = inr (no_address named q h)
 
-pub no-look : (configs : List Config) (e : Seen) (named : Option (List ℕ)) (address : url.Parts)
-    (name : List ℕ) (gives : Outcomes) (old : Kept) (b c : ℕ) (error : Error)
+pub no-look : (configs : List Config) (e : RowEntry) (named : Option (List ℕ)) (address : url.Parts)
+    (name : List ℕ) (gives : Outcomes) (old : CachedAnswers) (b c : ℕ) (error : Error)
     → e.source ≡ at_registry named → HasAddress configs named address → name ≡ e.name
-    → IsMemory error ⊎ ((old (serialize address) name ≡ None) × IsRefusedAt gives address name b c error)
+    → IsMemory error ⊎ ((old (serialize address) name ≡ None) × IsLookupError gives address name b c error)
     → IsMemory error ⊎ StopsAt configs gives old b c e error
 no-look configs e named address name gives old b c error q has same (inl memory) = inl memory
 no-look configs e named address name gives old b c error q has same (inr h) =
@@ -248,8 +249,8 @@ no-look configs e named address name gives old b c error q has same (inr h) =
 
 -- ---- an entry from elsewhere
 
-pub elsewhere-decided : (i : ℕ) (o : Options) (rust : Option Numbers) (configs : List Config) (kept : Kept)
-    (e : Seen) (line : Line) → is_elsewhere e.source ≡ true
-    → IsRowOver i o [] e e.old line → IsRowBy (kept_basis i o rust configs kept) e line
+pub elsewhere-decided : (i : ℕ) (o : Options) (rust : Option Numbers) (configs : List Config) (kept : CachedAnswers)
+    (e : RowEntry) (line : Line) → is_elsewhere e.source ≡ true
+    → IsRowOver i o [] e e.old line → IsRowBy (cached_basis i o rust configs kept) e line
 elsewhere-decided i o rust configs kept e line other d = record
     { versions = []; offered = elsewhere other refl; decided = d }

@@ -6,17 +6,17 @@ use Rattle.std.proofs.lemmas.List.Elements.{All-nil}
 use Rattle.edit_base.specs.declared.errors.Error.{Error}
 use Rattle.edit_base.specs.declared.errors.Error.TheVariants as error
 use Rattle.edit_record.specs.EachOnce.{each_once}
-use Rattle.edit_version.specs.CrateWords.{IsRefusedWord, word_name}
-use Rattle.edit_upgrade.specs.WordCauses.{IsRefusedFor, StopsAtWord}
-use Rattle.edit_upgrade.specs.Words.{IsWord}
+use Rattle.edit_version.specs.CrateSpecs.{IsInvalidSpec, spec_name}
+use Rattle.edit_upgrade.specs.WordCauses.{IsPlanError, FailsAtPackageArg}
+use Rattle.edit_upgrade.specs.Words.{IsPackageArg}
 use Rattle.edit_upgrade.specs.declared.decision.options.Options.{Options}
 use Rattle.edit_upgrade.proofs.Steps.{names-split}
 
 -- reading stopped at one of these words
 pub stops-at : (words : List (String Global)) (i : ℕ) (word : String Global) (text : List ℕ) (e : Error)
     → i < length words → word ≡ get_or words i word → text ≡ string_bytes word
-    → All IsWord (map string_bytes (take i words)) → IsRefusedWord text e
-    → StopsAtWord (map string_bytes words) e
+    → All IsPackageArg (map string_bytes (take i words)) → IsInvalidSpec text e
+    → FailsAtPackageArg (map string_bytes words) e
 stops-at words i word text e low is same read refused = record {
   front = map string_bytes (take i words);
   word = text;
@@ -29,13 +29,13 @@ stops-at words i word text e low is same read refused = record {
 }
 
 -- want of memory refuses each word
-pub memory-refuses : (word : List ℕ) (e : Error) → e ≡ error.Memory → IsRefusedWord word e
-memory-refuses word e h = subst (λ (x : Error). IsRefusedWord word x) (sym h) tt
+pub memory-refuses : (word : List ℕ) (e : Error) → e ≡ error.Memory → IsInvalidSpec word e
+memory-refuses word e h = subst (λ (x : Error). IsInvalidSpec word x) (sym h) tt
 
 -- want of memory, where there is a word
 pub memory-at : (words : List (List ℕ)) (names : List (String Global)) (e : Error)
-    → map string_bytes names ≡ each_once (map word_name words) → names ≢ [] → e ≡ error.Memory
-    → StopsAtWord words e
+    → map string_bytes names ≡ each_once (map spec_name words) → names ≢ [] → e ≡ error.Memory
+    → FailsAtPackageArg words e
 memory-at [] [] e h some memory = absurd (some refl)
 memory-at [] (n ∷ ns) e h some memory = cc h
 memory-at (w ∷ ws) names e h some memory = record {
@@ -43,13 +43,13 @@ memory-at (w ∷ ws) names e h some memory = record {
   word = w;
   rest = ws;
   split = refl;
-  read = All-nil IsWord;
+  read = All-nil IsPackageArg;
   refused = memory-refuses w e memory;
 }
 
 -- options without words and excluded names are not refused
 pub never-refused : (o : Options) (Cause : Error → Type 0) (e : Error) → o.package.items ≡ []
-    → o.exclude.items ≡ [] → IsRefusedFor o Cause e → Cause e
+    → o.exclude.items ≡ [] → IsPlanError o Cause e → Cause e
 never-refused o Cause e words names (inl (inl h)) =
     absurd (none h.front (sym h.split ∙ ap (map string_bytes) words))
   where

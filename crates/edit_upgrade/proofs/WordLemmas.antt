@@ -17,9 +17,9 @@ use Rattle.edit_tree.specs.Assertions.{same_bytes}
 use Rattle.edit_tree.proofs.SamePlace.{same_bytes_is, same_bytes_self}
 use Rattle.edit_document.proofs.EntryPartViews.{same_texts}
 use Rattle.edit_record.specs.EachOnce.{each_once}
-use Rattle.edit_version.specs.CrateWords.{IsReadOrAbsent, unfit, word_name, word_requirement}
-use Rattle.edit_upgrade.specs.Picks.{AddsWord, AreWordsRead, has_name, kept_requirement}
-use Rattle.edit_upgrade.specs.Words.{IsWord, WordsSelect, is_named, is_word_of, requirement_for, requirement_in, words_of}
+use Rattle.edit_version.specs.CrateSpecs.{IsReadOrAbsent, invalid_chars, spec_name, spec_requirement}
+use Rattle.edit_upgrade.specs.PackageSelection.{AddsPackageArg, ArePackageArgs, has_name, last_requirement}
+use Rattle.edit_upgrade.specs.Words.{IsPackageArg, HasOnlyNames, is_named, is_arg_named, requirement_for, requirement_in, words_of}
 use Rattle.edit_upgrade.specs.declared.picks.Words.{Words}
 use Rattle.edit_upgrade.specs.declared.decision.options.Options.{Options}
 
@@ -46,12 +46,12 @@ swapped a b = both_ways (same_bytes a b) (bytes_eq b a)
 -- ---- names, each once
 
 -- a name that is kept where a test passes it
-kept_by : (p : List ℕ → Bool) (x : List ℕ) (b s : Bool) → p x ≡ not s
+cached_by : (p : List ℕ → Bool) (x : List ℕ) (b s : Bool) → p x ≡ not s
     → filter p (if b then [] else x ∷ []) ≡ (if s || b then [] else x ∷ [])
-kept_by p x true true h = refl
-kept_by p x true false h = refl
-kept_by p x false true h = ap (λ c. cond c (x ∷ []) []) h
-kept_by p x false false h = ap (λ c. cond c (x ∷ []) []) h
+cached_by p x true true h = refl
+cached_by p x true false h = refl
+cached_by p x false true h = ap (λ c. cond c (x ∷ []) []) h
+cached_by p x false false h = ap (λ c. cond c (x ∷ []) []) h
 
 -- each once, with one name more
 once_more : (names : List (List ℕ)) (x : List ℕ)
@@ -63,55 +63,55 @@ once_more (y ∷ ys) x =
     ap (λ (zs : List (List ℕ)). y ∷ filter test zs) (once_more ys x)
     ∙ ap (λ (zs : List (List ℕ)). y ∷ zs) (filter-append test (each_once ys) (if old then [] else x ∷ []))
     ∙ ap (λ (zs : List (List ℕ)). y ∷ (filter test (each_once ys) ++ zs))
-    (kept_by test x old (same_bytes x y) (ap not (swapped y x ∙ same_texts x y)))
+    (cached_by test x old (same_bytes x y) (ap not (swapped y x ∙ same_texts x y)))
 
 -- a name is among those of words where one of them has it
 named_among : (words : List (List ℕ)) (name : List ℕ)
-    → list_any (same_bytes name) (map word_name words) ≡ is_named words name
+    → list_any (same_bytes name) (map spec_name words) ≡ is_named words name
 named_among [] name = refl
 named_among (w ∷ ws) name =
-    ap (λ b. b || list_any (same_bytes name) (map word_name ws)) (swapped name (word_name w))
-    ∙ ap (λ b. bytes_eq (word_name w) name || b) (named_among ws name)
+    ap (λ b. b || list_any (same_bytes name) (map spec_name ws)) (swapped name (spec_name w))
+    ∙ ap (λ b. bytes_eq (spec_name w) name || b) (named_among ws name)
 
 -- ---- one word more
 
 pub named_more : (words : List (List ℕ)) (w name : List ℕ)
-    → is_named (words ++ w ∷ []) name ≡ cond (bytes_eq (word_name w) name) true (is_named words name)
+    → is_named (words ++ w ∷ []) name ≡ cond (bytes_eq (spec_name w) name) true (is_named words name)
 named_more words w name =
-    list_any-append (is_word_of name) words (w ∷ [])
-    ∙ either (is_named words name) (bytes_eq (word_name w) name)
+    list_any-append (is_arg_named name) words (w ∷ [])
+    ∙ either (is_named words name) (bytes_eq (spec_name w) name)
 
 -- the first of a list that passes a test, by whether its head does
-requirement_first : (w name : List ℕ) (rest : List (List ℕ)) (b : Bool) → is_word_of name w ≡ b
-    → option_and_then word_requirement (find (is_word_of name) (w ∷ rest))
-    ≡ cond b (word_requirement w) (option_and_then word_requirement (find (is_word_of name) rest))
+requirement_first : (w name : List ℕ) (rest : List (List ℕ)) (b : Bool) → is_arg_named name w ≡ b
+    → option_and_then spec_requirement (find (is_arg_named name) (w ∷ rest))
+    ≡ cond b (spec_requirement w) (option_and_then spec_requirement (find (is_arg_named name) rest))
 requirement_first w name rest true e = rw e refl
 requirement_first w name rest false e = rw e refl
 
 pub requirement_more : (words : List (List ℕ)) (w name : List ℕ)
     → requirement_in (words ++ w ∷ []) name
-    ≡ cond (bytes_eq (word_name w) name) (word_requirement w) (requirement_in words name)
+    ≡ cond (bytes_eq (spec_name w) name) (spec_requirement w) (requirement_in words name)
 requirement_more words w name =
-    ap (λ (ws : List (List ℕ)). option_and_then word_requirement (find (is_word_of name) ws))
+    ap (λ (ws : List (List ℕ)). option_and_then spec_requirement (find (is_arg_named name) ws))
     (reverse-append words (w ∷ []))
-    ∙ requirement_first w name (reverse words) (is_word_of name w) refl
+    ∙ requirement_first w name (reverse words) (is_arg_named name w) refl
 
 -- what was read of words, with one more
-pub words_more : (words : List (List ℕ)) (w : List ℕ) (old new : Words) → AreWordsRead words old
-    → AddsWord w old new → AreWordsRead (words ++ w ∷ []) new
+pub words_more : (words : List (List ℕ)) (w : List ℕ) (old new : Words) → ArePackageArgs words old
+    → AddsPackageArg w old new → ArePackageArgs (words ++ w ∷ []) new
 words_more words w old new h a = record {
-  each = All-push IsWord words w h.each a.is_word;
+  each = All-push IsPackageArg words w h.each a.is_word;
   names = a.names
-      ∙ ap (λ (ns : List (List ℕ)). ns ++ cond (has_name old (word_name w)) [] (word_name w ∷ [])) h.names
-      ∙ ap (λ b. each_once (map word_name words) ++ cond b [] (word_name w ∷ []))
-      (h.named (word_name w) ∙ sym (named_among words (word_name w)))
-      ∙ sym (once_more (map word_name words) (word_name w))
-      ∙ ap each_once (sym (map-append word_name words (w ∷ [])));
+      ∙ ap (λ (ns : List (List ℕ)). ns ++ cond (has_name old (spec_name w)) [] (spec_name w ∷ [])) h.names
+      ∙ ap (λ b. each_once (map spec_name words) ++ cond b [] (spec_name w ∷ []))
+      (h.named (spec_name w) ∙ sym (named_among words (spec_name w)))
+      ∙ sym (once_more (map spec_name words) (spec_name w))
+      ∙ ap each_once (sym (map-append spec_name words (w ∷ [])));
   named = λ name. a.named name
-      ∙ ap (λ b. cond (bytes_eq (word_name w) name) true b) (h.named name)
+      ∙ ap (λ b. cond (bytes_eq (spec_name w) name) true b) (h.named name)
       ∙ sym (named_more words w name);
   requirements = λ name. a.requirements name
-      ∙ ap (λ (o : Option (List ℕ)). cond (bytes_eq (word_name w) name) (word_requirement w) o)
+      ∙ ap (λ (o : Option (List ℕ)). cond (bytes_eq (spec_name w) name) (spec_requirement w) o)
       (h.requirements name)
       ∙ sym (requirement_more words w name);
 }
@@ -119,16 +119,16 @@ words_more words w old new h a = record {
 -- ---- words that only select
 
 -- where no word of a list gives a requirement, the first that has a name does not
-find_plain : (words : List (List ℕ)) (name : List ℕ) → All (λ word. word_requirement word ≡ None) words
-    → option_and_then word_requirement (find (is_word_of name) words) ≡ None
+find_plain : (words : List (List ℕ)) (name : List ℕ) → All (λ word. spec_requirement word ≡ None) words
+    → option_and_then spec_requirement (find (is_arg_named name) words) ≡ None
 find_plain [] name h = refl
 find_plain (w ∷ ws) name h =
-    by (is_word_of name w) refl (All-head (λ word. word_requirement word ≡ None) w ws h)
-    (find_plain ws name (All-tail (λ word. word_requirement word ≡ None) w ws h))
+    by (is_arg_named name w) refl (All-head (λ word. spec_requirement word ≡ None) w ws h)
+    (find_plain ws name (All-tail (λ word. spec_requirement word ≡ None) w ws h))
   where
-    by : (b : Bool) → is_word_of name w ≡ b → word_requirement w ≡ None
-        → option_and_then word_requirement (find (is_word_of name) ws) ≡ None
-        → option_and_then word_requirement (find (is_word_of name) (w ∷ ws)) ≡ None
+    by : (b : Bool) → is_arg_named name w ≡ b → spec_requirement w ≡ None
+        → option_and_then spec_requirement (find (is_arg_named name) ws) ≡ None
+        → option_and_then spec_requirement (find (is_arg_named name) (w ∷ ws)) ≡ None
     by true e here rest = requirement_first w name ws true e ∙ here
     by false e here rest = requirement_first w name ws false e ∙ rest
 
@@ -140,10 +140,10 @@ reversed P (w ∷ ws) h =
     (All-push P (reverse ws) w (reversed P ws (All-tail P w ws h)) (All-head P w ws h))
 
 -- then no name gets one
-pub none_given : (o : Options) → WordsSelect o → (name : List ℕ) → requirement_for o name ≡ None
+pub none_given : (o : Options) → HasOnlyNames o → (name : List ℕ) → requirement_for o name ≡ None
 none_given o h name =
     find_plain (reverse (words_of o)) name
-    (reversed (λ word. word_requirement word ≡ None) (words_of o) h)
+    (reversed (λ word. spec_requirement word ≡ None) (words_of o) h)
 
 -- ---- the names of words
 
@@ -156,16 +156,16 @@ once_all P (n ∷ ns) h =
 
 -- each name of words is one that they have
 names_named : (done words : List (List ℕ))
-    → All (λ name. is_named (done ++ words) name ≡ true) (map word_name words)
+    → All (λ name. is_named (done ++ words) name ≡ true) (map spec_name words)
 names_named done [] = All-nil (λ name. is_named (done ++ []) name ≡ true)
 names_named done (w ∷ ws) =
-    let here : is_named (done ++ w ∷ ws) (word_name w) ≡ true
-    = list_any-append (is_word_of (word_name w)) done (w ∷ ws)
-    ∙ ap (λ b. is_named done (word_name w) || (b || is_named ws (word_name w)))
-    (same_texts (word_name w) (word_name w) ∙ same_bytes_self (word_name w))
-    ∙ or-true (is_named done (word_name w)) in
-    All-cons (λ name. is_named (done ++ w ∷ ws) name ≡ true) (word_name w) (map word_name ws) here
-    (subst (λ (l : List (List ℕ)). All (λ name. is_named l name ≡ true) (map word_name ws))
+    let here : is_named (done ++ w ∷ ws) (spec_name w) ≡ true
+    = list_any-append (is_arg_named (spec_name w)) done (w ∷ ws)
+    ∙ ap (λ b. is_named done (spec_name w) || (b || is_named ws (spec_name w)))
+    (same_texts (spec_name w) (spec_name w) ∙ same_bytes_self (spec_name w))
+    ∙ or-true (is_named done (spec_name w)) in
+    All-cons (λ name. is_named (done ++ w ∷ ws) name ≡ true) (spec_name w) (map spec_name ws) here
+    (subst (λ (l : List (List ℕ)). All (λ name. is_named l name ≡ true) (map spec_name ws))
     (append_assoc done (w ∷ []) ws) (names_named (done ++ w ∷ []) ws))
   where
     or-true : (a : Bool) → (a || true) ≡ true
@@ -173,15 +173,15 @@ names_named done (w ∷ ws) =
     or-true false = refl
 
 pub once_named : (words : List (List ℕ))
-    → All (λ name. is_named words name ≡ true) (each_once (map word_name words))
-once_named words = once_all (λ name. is_named words name ≡ true) (map word_name words) (names_named [] words)
+    → All (λ name. is_named words name ≡ true) (each_once (map spec_name words))
+once_named words = once_all (λ name. is_named words name ≡ true) (map spec_name words) (names_named [] words)
 
 -- ---- as the program keeps them
 
 -- nothing was read of no words
-pub no_words : (w : Words) → w.names.items ≡ [] → IsEmpty w.requirements → AreWordsRead [] w
+pub no_words : (w : Words) → w.names.items ≡ [] → IsEmpty w.requirements → ArePackageArgs [] w
 no_words w names empty = record {
-  each = All-nil IsWord;
+  each = All-nil IsPackageArg;
   names = ap (map string_bytes) names;
   named = λ name. ap is_some (none name);
   requirements = λ name. ap (λ (o : Option (Option (String Global))).
@@ -220,30 +220,30 @@ kept_text false req o = refl
 pub word_added : (word : List ℕ) (old mid : Words)
     (kept : BTreeMap (String Global) (Option (String Global)) Global) (name : String Global)
     (req : Option (String Global)) (text : List ℕ)
-    → string_bytes name ≡ word_name word → unfit (word_name word) ≡ []
-    → option_map string_bytes req ≡ word_requirement word → IsReadOrAbsent (word_requirement word)
+    → string_bytes name ≡ spec_name word → invalid_chars (spec_name word) ≡ []
+    → option_map string_bytes req ≡ spec_requirement word → IsReadOrAbsent (spec_requirement word)
     → text ≡ string_bytes name
     → map string_bytes mid.names.items
     ≡ map string_bytes old.names.items ++ cond (has_name old text) [] (text ∷ [])
     → mid.requirements ≡ old.requirements
     → Updates string_cmp mid.requirements kept name (Some req)
-    → AddsWord word old (record { names = mid.names; requirements = kept })
+    → AddsPackageArg word old (record { names = mid.names; requirements = kept })
 word_added word old mid kept name req text is fit req_is readable text_is names same updates = record {
   is_word = (fit, readable);
   names = names ∙ ap (λ (t : List ℕ). map string_bytes old.names.items ++ cond (has_name old t) [] (t ∷ []))
       (text_is ∙ is);
   named = λ q. ap is_some (after q)
-      ∙ kept_some (bytes_eq (word_name word) q) req (get_by_text old.requirements q);
+      ∙ kept_some (bytes_eq (spec_name word) q) req (get_by_text old.requirements q);
   requirements = λ q.
       ap (λ (o : Option (Option (String Global))). option_and_then (λ r. option_map string_bytes r) o)
       (after q)
-      ∙ kept_text (bytes_eq (word_name word) q) req (get_by_text old.requirements q)
-      ∙ ap (λ (o : Option (List ℕ)). cond (bytes_eq (word_name word) q) o (kept_requirement old q)) req_is;
+      ∙ kept_text (bytes_eq (spec_name word) q) req (get_by_text old.requirements q)
+      ∙ ap (λ (o : Option (List ℕ)). cond (bytes_eq (spec_name word) q) o (last_requirement old q)) req_is;
 }
   where
     after : (q : List ℕ) → get_by_text kept q
-        ≡ cond (bytes_eq (word_name word) q) (Some req) (get_by_text old.requirements q)
+        ≡ cond (bytes_eq (spec_name word) q) (Some req) (get_by_text old.requirements q)
     after q = btree_map_updates_text (string_bytes name) mid.requirements kept (Some req) updates q
         ∙ ap (λ (t : List ℕ). cond (bytes_eq t q) (Some req) (get_by_text mid.requirements q)) is
         ∙ ap (λ (m : BTreeMap (String Global) (Option (String Global)) Global).
-        cond (bytes_eq (word_name word) q) (Some req) (get_by_text m q)) same
+        cond (bytes_eq (spec_name word) q) (Some req) (get_by_text m q)) same

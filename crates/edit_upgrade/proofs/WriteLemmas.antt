@@ -2,7 +2,7 @@
 use Rattle.std.proofs.Common.{◌≡◌, ◌∷◌, ◌++◌, [], List, ℕ, Option, Some, None, length, map, take, get_or, min, refl, ap, ◌∙◌, sym, ◌<◌, ◌+◌}
 use Rattle.std.proofs.lemmas.List.{length-map, length-take}
 use Rattle.edit_tree.specs.Assertions.{Place}
-use Rattle.edit_upgrade.specs.Records.{Seen}
+use Rattle.edit_upgrade.specs.Records.{RowEntry}
 use Rattle.edit_upgrade.specs.Rows.{Line, with_write, write_on, writes}
 use Rattle.edit_upgrade.proofs.Steps.{names-more}
 
@@ -11,7 +11,7 @@ with-append : (w : Option (Place × List ℕ)) (xs ys : List (Place × List ℕ)
 with-append None xs ys = refl
 with-append (Some w) xs ys = refl
 
-pub writes-more : (es : List Seen) (ls : List Line) (e : Seen) (l : Line) → length es ≡ length ls
+pub writes-more : (es : List RowEntry) (ls : List Line) (e : RowEntry) (l : Line) → length es ≡ length ls
     → writes (es ++ e ∷ []) (ls ++ l ∷ []) ≡ writes es ls ++ with_write (write_on e l) []
 writes-more [] [] e l h = refl
 writes-more [] (m ∷ ms) e l h = cc h
@@ -32,7 +32,7 @@ fronts-same f g xs ys i h =
     a ∙ c ∙ ap (λ (n : ℕ). min i n) (sym h) ∙ sym d ∙ sym b
 
 -- what rows write with the next row
-pub written-more : {A B : Type 0} (f : A → Seen) (g : B → Line) (xs : List A) (ys : List B) (i : ℕ) (x : A)
+pub written-more : {A B : Type 0} (f : A → RowEntry) (g : B → Line) (xs : List A) (ys : List B) (i : ℕ) (x : A)
     (y : B) (old new : List (Place × List ℕ))
     → length ys ≡ length xs → i < length ys → i < length xs → x ≡ get_or xs i x → y ≡ get_or ys i y
     → old ≡ writes (map f (take i xs)) (map g (take i ys))
@@ -41,5 +41,5 @@ pub written-more : {A B : Type 0} (f : A → Seen) (g : B → Line) (xs : List A
 written-more f g xs ys i x y old new h l m p q e n =
     n ∙ ap (λ (ws : List (Place × List ℕ)). ws ++ with_write (write_on (f x) (g y)) []) e
     ∙ sym (writes-more (map f (take i xs)) (map g (take i ys)) (f x) (g y) (fronts-same f g xs ys i h))
-    ∙ ap (λ (es : List Seen). writes es (map g (take i ys) ++ g y ∷ [])) (sym (names-more f xs i x m p))
+    ∙ ap (λ (es : List RowEntry). writes es (map g (take i ys) ++ g y ∷ [])) (sym (names-more f xs i x m p))
     ∙ ap (λ (ls : List Line). writes (map f (take (i + 1) xs)) ls) (sym (names-more g ys i y l q))

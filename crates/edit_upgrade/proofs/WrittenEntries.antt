@@ -12,7 +12,7 @@ use Rattle.edit_manifest.specs.Tables.{Tree}
 use Rattle.edit_manifest.specs.Entries.{Entry, entries}
 use Rattle.edit_manifest.proofs.EntriesAfter.{entries-after, entry_after, said_after}
 use Rattle.edit_manifest.proofs.RecordVersions.{versioned}
-use Rattle.edit_upgrade.specs.Records.{Seen, Source, seen, seen_at, seen_by, source_of, with_row}
+use Rattle.edit_upgrade.specs.Records.{RowEntry, Source, seen, row_entry_at, row_entry_of, source_of, with_row}
 use Rattle.edit_upgrade.specs.Rows.{Line, with_write, write_on, writes}
 use Rattle.edit_upgrade.proofs.SeenFacts.{AreApart, IsWrite, on-cases, writes-literals, writes-strings}
 
@@ -24,11 +24,11 @@ old_after None old = old
 old_after (Some w) old = Some (cut w.1)
 
 -- an entry, once its row was written
-abbrev pub renew : Seen → Line → Seen
+abbrev pub renew : RowEntry → Line → RowEntry
 renew e line = record e { old = old_after (write_on e line) e.old }
 
 -- entries, once their rows were written
-abbrev pub renewed : List Seen → List Line → List Seen
+abbrev pub renewed : List RowEntry → List Line → List RowEntry
 renewed [] ls = []
 renewed (e ∷ es) [] = e ∷ es
 renewed (e ∷ es) (l ∷ ls) = renew e l ∷ renewed es ls
@@ -36,17 +36,17 @@ renewed (e ∷ es) (l ∷ ls) = renew e l ∷ renewed es ls
 -- ---- one entry
 
 -- an entry, once a text was written at its literal
-abbrev seen_after : Option (List ℕ) → Seen → Seen
+abbrev seen_after : Option (List ℕ) → RowEntry → RowEntry
 seen_after None s = s
 seen_after (Some text) s = record s { old = Some (cut text) }
 
 same-source : (e : Entry) (r : EntryRecord) (o : Option Source)
-    → option_map (seen_at e r) o ≡ option_map (seen_after None) (option_map (seen_at e r) o)
+    → option_map (row_entry_at e r) o ≡ option_map (seen_after None) (option_map (row_entry_at e r) o)
 same-source e r None = refl
 same-source e r (Some source) = refl
 
 other-version : (e : Entry) (r : EntryRecord) (text : List ℕ) (o : Option Origin) → r.origin ≡ o
-    → seen_by e (versioned (cut text) r) ≡ option_map (seen_after (Some text)) (seen_by e r)
+    → row_entry_of e (versioned (cut text) r) ≡ option_map (seen_after (Some text)) (row_entry_of e r)
 other-version e r text None q = rw q refl
 other-version e r text (Some (from_registry v)) q = rw q refl
 other-version e r text (Some (from_path p v)) q = rw q refl
@@ -54,21 +54,21 @@ other-version e r text (Some (from_git g)) q = rw q refl
 other-version e r text (Some from_workspace) q = rw q refl
 
 said-again : (e : Entry) (n : Option (List ℕ)) (o : Option EntryRecord)
-    → option_and_then (seen_by e) (said_after n o) ≡ option_map (seen_after n) (option_and_then (seen_by e) o)
+    → option_and_then (row_entry_of e) (said_after n o) ≡ option_map (seen_after n) (option_and_then (row_entry_of e) o)
 said-again e None None = refl
 said-again e (Some text) None = refl
 said-again e None (Some r) = same-source e r (source_of r)
 said-again e (Some text) (Some r) = other-version e r text r.origin refl
 
 own-literal : (ws : Edits) (e : Entry) (r : EntryRecord) (o : Option Source)
-    → option_map (seen_after (new_text ws e.literal)) (option_map (seen_at e r) o)
-    ≡ option_map (λ s. seen_after (new_text ws s.literal) s) (option_map (seen_at e r) o)
+    → option_map (seen_after (new_text ws e.literal)) (option_map (row_entry_at e r) o)
+    ≡ option_map (λ s. seen_after (new_text ws s.literal) s) (option_map (row_entry_at e r) o)
 own-literal ws e r None = refl
 own-literal ws e r (Some source) = refl
 
 own-literals : (ws : Edits) (e : Entry) (o : Option EntryRecord)
-    → option_map (seen_after (new_text ws e.literal)) (option_and_then (seen_by e) o)
-    ≡ option_map (λ s. seen_after (new_text ws s.literal) s) (option_and_then (seen_by e) o)
+    → option_map (seen_after (new_text ws e.literal)) (option_and_then (row_entry_of e) o)
+    ≡ option_map (λ s. seen_after (new_text ws s.literal) s) (option_and_then (row_entry_of e) o)
 own-literals ws e None = refl
 own-literals ws e (Some r) = own-literal ws e r (source_of r)
 
@@ -85,16 +85,16 @@ cons-mapped f (Some x) xs = refl
 
 kept-after : (ws : Edits) (es : List Entry)
     → filter_map with_row (map (entry_after ws) es)
-    ≡ map (λ (s : Seen). seen_after (new_text ws s.literal) s) (filter_map with_row es)
+    ≡ map (λ (s : RowEntry). seen_after (new_text ws s.literal) s) (filter_map with_row es)
 kept-after ws [] = refl
 kept-after ws (e ∷ es) =
-    ap (λ (o : Option Seen). cons_option o (filter_map with_row (map (entry_after ws) es))) (row-after ws e)
-    ∙ ap (λ (xs : List Seen). cons_option
+    ap (λ (o : Option RowEntry). cons_option o (filter_map with_row (map (entry_after ws) es))) (row-after ws e)
+    ∙ ap (λ (xs : List RowEntry). cons_option
     (option_map (λ s. seen_after (new_text ws s.literal) s) (with_row e)) xs) (kept-after ws es)
-    ∙ cons-mapped (λ (s : Seen). seen_after (new_text ws s.literal) s) (with_row e) (filter_map with_row es)
+    ∙ cons-mapped (λ (s : RowEntry). seen_after (new_text ws s.literal) s) (with_row e) (filter_map with_row es)
 
 -- where no entry has its literal, nothing is written
-untouched : (es : List Seen) (ls : List Line) (q : Place)
+untouched : (es : List RowEntry) (ls : List Line) (q : Place)
     → AllByRecursion (λ e. same_place e.literal q ≡ false) es → new_text (writes es ls) q ≡ None
 untouched [] ls q h = refl
 untouched (e ∷ es) [] q h = refl
@@ -112,13 +112,13 @@ other-way p q h = elim (cases_Bool (same_place q p)) [
   | inr other ↦ other
 ]
 
-apart-back : (e : Seen) (es : List Seen) → AllByRecursion (λ f. same_place e.literal f.literal ≡ false) es
+apart-back : (e : RowEntry) (es : List RowEntry) → AllByRecursion (λ f. same_place e.literal f.literal ≡ false) es
     → AllByRecursion (λ f. same_place f.literal e.literal ≡ false) es
 apart-back e [] h = tt
 apart-back e (f ∷ es) h = (other-way e.literal f.literal h.0, apart-back e es h.1)
 
 -- what is written at the literal of the first entry
-first-after : (e : Seen) (l : Line) (ws : Edits) → new_text ws e.literal ≡ None
+first-after : (e : RowEntry) (l : Line) (ws : Edits) → new_text ws e.literal ≡ None
     → seen_after (new_text (with_write (write_on e l) ws) e.literal) e ≡ renew e l
 first-after e l ws none = elim (on-cases e l) [
   | inl nothing ↦
@@ -132,15 +132,15 @@ first-after e l ws none = elim (on-cases e l) [
 ]
 
 -- a write elsewhere leaves what is written at literals
-rest-after : (e : Seen) (l : Line) (ws : Edits) (es : List Seen)
+rest-after : (e : RowEntry) (l : Line) (ws : Edits) (es : List RowEntry)
     → AllByRecursion (λ f. same_place e.literal f.literal ≡ false) es
-    → map (λ (s : Seen). seen_after (new_text (with_write (write_on e l) ws) s.literal) s) es
-    ≡ map (λ (s : Seen). seen_after (new_text ws s.literal) s) es
+    → map (λ (s : RowEntry). seen_after (new_text (with_write (write_on e l) ws) s.literal) s) es
+    ≡ map (λ (s : RowEntry). seen_after (new_text ws s.literal) s) es
 rest-after e l ws [] h = refl
 rest-after e l ws (f ∷ es) h =
-    ap (λ (x : Seen). x ∷ map
-    (λ (s : Seen). seen_after (new_text (with_write (write_on e l) ws) s.literal) s) es) (one (on-cases e l))
-    ∙ ap (λ (xs : List Seen). seen_after (new_text ws f.literal) f ∷ xs) (rest-after e l ws es h.1)
+    ap (λ (x : RowEntry). x ∷ map
+    (λ (s : RowEntry). seen_after (new_text (with_write (write_on e l) ws) s.literal) s) es) (one (on-cases e l))
+    ∙ ap (λ (xs : List RowEntry). seen_after (new_text ws f.literal) f ∷ xs) (rest-after e l ws es h.1)
   where
     one : (write_on e l ≡ None) ⊎ IsWrite e l
         → seen_after (new_text (with_write (write_on e l) ws) f.literal) f
@@ -151,20 +151,21 @@ rest-after e l ws (f ∷ es) h =
         ap (λ (o : Option (Place × List ℕ)). seen_after (new_text (with_write o ws) f.literal) f) some.is
         ∙ rw h.0 refl
 
-all-after : (R : Seen → Line → Type 0) (es : List Seen) (ls : List Line) → AreApart es → AllZip R es ls
-    → map (λ (s : Seen). seen_after (new_text (writes es ls) s.literal) s) es ≡ renewed es ls
+all-after : (R : RowEntry → Line → Type 0) (es : List RowEntry) (ls : List Line) → AreApart es
+    → AllZip R es ls
+    → map (λ (s : RowEntry). seen_after (new_text (writes es ls) s.literal) s) es ≡ renewed es ls
 all-after R [] [] a h = refl
 all-after R [] (l ∷ ls) a h = absurd h
 all-after R (e ∷ es) [] a h = absurd h
 all-after R (e ∷ es) (l ∷ ls) a h =
-    ap (λ (x : Seen). x ∷ map
-    (λ (s : Seen). seen_after (new_text (with_write (write_on e l) (writes es ls)) s.literal) s) es)
+    ap (λ (x : RowEntry). x ∷ map
+    (λ (s : RowEntry). seen_after (new_text (with_write (write_on e l) (writes es ls)) s.literal) s) es)
     (first-after e l (writes es ls) (untouched es ls e.literal (apart-back e es a.0)))
-    ∙ ap (λ (xs : List Seen). renew e l ∷ xs)
+    ∙ ap (λ (xs : List RowEntry). renew e l ∷ xs)
     (rest-after e l (writes es ls) es a.0 ∙ all-after R es ls a.1 h.1)
 
 -- the seen entries of the tree in which the rows were written
-pub written-seen : (R : Seen → Line → Type 0) (t u : Tree) (ls : List Line) → AreApart (seen t)
+pub written-seen : (R : RowEntry → Line → Type 0) (t u : Tree) (ls : List Line) → AreApart (seen t)
     → AllZip R (seen t) ls
     → ((q : Place) → u q ≡ written (writes (seen t) ls) t q) → seen u ≡ renewed (seen t) ls
 written-seen R t u ls apart zip h =

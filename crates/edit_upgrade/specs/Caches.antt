@@ -9,21 +9,21 @@ use Rattle.edit_cache.specs.declared.cache.IndexCache.{IndexCache}
 use Rattle.edit_sources.specs.declared.config.Config.{Config}
 use Rattle.edit_upgrade.specs.Causes.{HasBadEntry, IsCause, IsEntryCause}
 use Rattle.edit_upgrade.specs.Looked.{Leaves}
-use Rattle.edit_upgrade.specs.Looks.{Kept, kept_by}
+use Rattle.edit_upgrade.specs.Looks.{CachedAnswers, cached_by}
 
 -- the view of a cache: the possible outcomes of a query to its index, the number of faults so far, and the
 -- cached answers (own)
 pub record CacheView : Type 1 where
   pub gives : Outcomes
   pub faults : ℕ
-  pub kept : Kept
+  pub kept : CachedAnswers
 
 -- the view of a cache, given the view of its index (own)
 abbrev pub cache_view : {I : Type 0} → (I → IndexView) → IndexCache I → CacheView
 cache_view view cache = record {
   gives = (view (index_of cache)).gives;
   faults = (view (index_of cache)).faults;
-  kept = kept_by cache;
+  kept = cached_by cache;
 }
 
 -- `Leaves`, over views of the cache before and after (own)

@@ -12,14 +12,14 @@ use Rattle.edit_sources.specs.Index.{Outcomes}
 use Rattle.edit_sources.specs.declared.config.Config.{Config}
 use Rattle.url.specs.Parts as url
 use Rattle.url.specs.Parts.{serialize}
-use Rattle.edit_upgrade.specs.Looked.{IsRefusedAt}
-use Rattle.edit_upgrade.specs.Looks.{Kept}
-use Rattle.edit_upgrade.specs.Records.{Seen, at_registry, seen}
+use Rattle.edit_upgrade.specs.Looked.{IsLookupError}
+use Rattle.edit_upgrade.specs.Looks.{CachedAnswers}
+use Rattle.edit_upgrade.specs.Records.{RowEntry, at_registry, seen}
 use Rattle.edit_upgrade.specs.Rows.{Needs}
 use Rattle.edit_metadata.specs.declared.input.Input.{Input}
 
 -- an entry that causes no error: the answer to each lookup that it needs is cached
-pub record IsPassed (configs : List Config) (new : Kept) (e : Seen) : Type 0 where
+pub record IsPassed (configs : List Config) (new : CachedAnswers) (e : RowEntry) : Type 0 where
   pub answered : (address : url.Parts) (name : List ℕ) → Needs configs e address name
       → IsSome (new (serialize address) name)
   pub has : (named : Option (List ℕ)) → e.source ≡ at_registry named
@@ -27,39 +27,39 @@ pub record IsPassed (configs : List Config) (new : Kept) (e : Seen) : Type 0 whe
 
 -- the error of an entry: its registry has no address, or the lookup that it needs fails and no answer was
 -- cached
-pub data StopsAt (configs : List Config) (gives : Outcomes) (old : Kept) (before now : ℕ) (e : Seen)
+pub data StopsAt (configs : List Config) (gives : Outcomes) (old : CachedAnswers) (before now : ℕ) (e : RowEntry)
     (error : Error) : Type 0 where
   no_address : (named : Option (List ℕ)) → e.source ≡ at_registry named → HasNoUrl configs named error
       → StopsAt configs gives old before now e error
   no_answer : (address : url.Parts) (name : List ℕ) → Needs configs e address name
       → old (serialize address) name ≡ None
-      → IsRefusedAt gives address name before now error → StopsAt configs gives old before now e error
+      → IsLookupError gives address name before now error → StopsAt configs gives old before now e error
 
 -- the first entry with an error
-pub record StopsFirst (configs : List Config) (gives : Outcomes) (old new : Kept) (before now : ℕ)
-    (es : List Seen) (error : Error) : Type 0 where
-  pub front : List Seen
-  pub entry : Seen
-  pub rest : List Seen
+pub record StopsFirst (configs : List Config) (gives : Outcomes) (old new : CachedAnswers) (before now : ℕ)
+    (es : List RowEntry) (error : Error) : Type 0 where
+  pub front : List RowEntry
+  pub entry : RowEntry
+  pub rest : List RowEntry
   pub split : es ≡ front ++ entry ∷ rest
   pub passed : All (IsPassed configs new) front
   pub stops : StopsAt configs gives old before now entry error
 
 -- the first entry with an error, among those of a manifest that get a row
-pub record HasBadEntry (configs : List Config) (gives : Outcomes) (old new : Kept) (before now : ℕ)
+pub record HasBadEntry (configs : List Config) (gives : Outcomes) (old new : CachedAnswers) (before now : ℕ)
     (bytes : List ℕ) (error : Error) : Type 0 where
   pub form : Text
   pub manifest : IsDocument bytes form
   pub stops : StopsFirst configs gives old new before now (seen (view_at form)) error
 
 -- an input that causes no error: it is a manifest, and the lookups of all its entries are cached
-pub record InputPasses (configs : List Config) (new : Kept) (input : Input) : Type 0 where
+pub record InputPasses (configs : List Config) (new : CachedAnswers) (input : Input) : Type 0 where
   pub form : Text
   pub manifest : IsDocument input.bytes.items form
   pub passed : All (IsPassed configs new) (seen (view_at form))
 
 -- the first of the inputs that causes an error, for this reason
-pub record FirstInput (inputs : List Input) (configs : List (Vec Config)) (new : Kept)
+pub record FirstInput (inputs : List Input) (configs : List (Vec Config)) (new : CachedAnswers)
     (Stops : List Config → List ℕ → Type 0) : Type 0 where
   pub i : ℕ
   pub input : Input
@@ -73,14 +73,14 @@ pub record FirstInput (inputs : List Input) (configs : List (Vec Config)) (new :
 
 -- the error of a plan over parsed manifests: out of memory, or the first input with an entry that causes
 -- one
-abbrev pub IsEntryCause : List Input → List (Vec Config) → Outcomes → Kept → Kept → ℕ → ℕ → Error → Type 0
+abbrev pub IsEntryCause : List Input → List (Vec Config) → Outcomes → CachedAnswers → CachedAnswers → ℕ → ℕ → Error → Type 0
 IsEntryCause inputs configs gives old new before now e =
     IsMemory e
     ⊎ FirstInput inputs configs new (λ own bytes. HasBadEntry own gives old new before now bytes e)
 
 -- the error of a plan: out of memory, or the first input whose bytes are no manifest or that has an entry
 -- with an error
-abbrev pub IsCause : List Input → List (Vec Config) → Outcomes → Kept → Kept → ℕ → ℕ → Error → Type 0
+abbrev pub IsCause : List Input → List (Vec Config) → Outcomes → CachedAnswers → CachedAnswers → ℕ → ℕ → Error → Type 0
 IsCause inputs configs gives old new before now e =
     FirstInput inputs configs new
     (λ own bytes. IsBadManifest bytes e ⊎ HasBadEntry own gives old new before now bytes e)

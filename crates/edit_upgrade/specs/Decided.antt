@@ -1,6 +1,6 @@
 -- The values that a decision is made of, over the program's types.
 use Rattle.std.specs.Prelude.{List, ℕ, Bool, true, false, not, ◌&&◌, if◌then◌else◌, is_some, Option, string_bytes, Some, None}
-use Rattle.edit_upgrade.specs.Decision.{Case, Choice, Outcome, first_reason, first_row, kept, given, left_out, or_else, row_change, row_text, same_text, to_compatible, to_latest, unless, unread, when}
+use Rattle.edit_upgrade.specs.Decision.{Case, Choice, Outcome, first_reason, first_row, kept, given, left_out, or_else, row_change, row_text, same_text, to_compatible, to_latest, unless, unread, some_if}
 use Rattle.edit_upgrade.specs.declared.decision.options.Options.{Options}
 use Rattle.edit_report.specs.declared.row.Reason.{Reason}
 use Rattle.edit_report.specs.declared.row.Reason.TheVariants as reason
@@ -25,9 +25,9 @@ abbrev pub choice_view : Decided → Choice
 choice_view d = record { new = string_bytes d.new; change = d.change; reason = d.reason }
 
 -- `held_back`, from the candidate text for the latest version (own)
-abbrev pub held_by : Bool → Bool → Option (List ℕ) → Option Reason
-held_by jumps pinned far =
-    when (is_some far && not jumps) (Some (if pinned then reason.Pinned else reason.Incompatible))
+abbrev pub withheld_reason_by : Bool → Bool → Option (List ℕ) → Option Reason
+withheld_reason_by jumps pinned far =
+    some_if (is_some far && not jumps) (Some (if pinned then reason.Pinned else reason.Incompatible))
 
 -- `row_reason`, from the candidate texts for the latest and the compatible version (own)
 abbrev pub reason_by : Bool → Bool → Option (List ℕ) → Option (List ℕ) → Outcome → Option Reason
@@ -35,9 +35,9 @@ reason_by jumps pinned far near left_out = Some reason.Excluded
 reason_by jumps pinned far near (given text) = None
 reason_by jumps pinned far near unread = None
 reason_by jumps pinned far near (to_latest text) = None
-reason_by jumps pinned far near (to_compatible text) = held_by jumps pinned far
+reason_by jumps pinned far near (to_compatible text) = withheld_reason_by jumps pinned far
 reason_by jumps pinned far near kept =
-    or_else (held_by jumps pinned far) (when (is_some near) (Some reason.Compatible))
+    or_else (withheld_reason_by jumps pinned far) (some_if (is_some near) (Some reason.Compatible))
 
 -- whether an entry may be raised to the latest version: the option `pinned` decides for pinned entries, the
 -- option `incompatible` for others
@@ -57,7 +57,7 @@ choice_by o pinned aside old far near row = record {
 abbrev pub raised_choice : Options → Bool → Bool → List ℕ → Option (List ℕ) → Option (List ℕ) → Choice
 raised_choice o pinned aside old far near =
     choice_by o pinned aside old far near
-    (first_row false None true (when (jumps_by o pinned) far) (when o.compatible near))
+    (first_row false None true (some_if (jumps_by o pinned) far) (some_if o.compatible near))
 
 -- the choice, from the candidate texts for the latest and the compatible version
 abbrev pub decision_by : Options → Bool → Bool → Bool → Option (List ℕ) → List ℕ → Option (List ℕ)
@@ -65,5 +65,5 @@ abbrev pub decision_by : Options → Bool → Bool → Bool → Option (List ℕ
 decision_by o excluded pinned readable selected old far near =
     let aside = is_some selected && pinned && not o.pinned in
     choice_by o pinned aside old far near
-    (first_row excluded (unless aside selected) readable (when (jumps_by o pinned) far)
-    (when o.compatible near))
+    (first_row excluded (unless aside selected) readable (some_if (jumps_by o pinned) far)
+    (some_if o.compatible near))

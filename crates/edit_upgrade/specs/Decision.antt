@@ -7,7 +7,7 @@ use Rattle.semver.specs.Parse.{Held, Parts, req_of}
 use Rattle.semver.specs.declared.error.Error.{Error}
 use Rattle.semver.specs.declared.Op.{Op}
 use Rattle.semver.specs.declared.Op.TheVariants as op
-use Rattle.edit_version.specs.Requirement.{Raised, Unread, Nothing, Unsupported, Text, raise}
+use Rattle.edit_version.specs.Requirement.{UpgradeResult, Unread, Nothing, Unsupported, Text, raise}
 use Rattle.edit_version.specs.Requirement.{plain_text}
 use Rattle.edit_report.specs.declared.row.Change.{Change}
 use Rattle.edit_report.specs.declared.row.Change.TheVariants as change
@@ -63,7 +63,7 @@ newer (Some far) (Some near) = if same_text (plain_text far) (plain_text near) t
 
 -- the raised text, or `other` where a comparator cannot be raised; none where the requirement cannot be
 -- parsed
-abbrev pub text_or : List ℕ → Raised → Option (List ℕ)
+abbrev pub text_or : List ℕ → UpgradeResult → Option (List ℕ)
 text_or other Unread = None
 text_or other Nothing = None
 text_or other (Unsupported c) = Some other
@@ -96,9 +96,9 @@ abbrev pub is_set_aside : Options → Case → Bool
 is_set_aside o c = is_some c.selected && is_pinned c && not o.pinned
 
 -- none where the test does not hold, else the value
-abbrev pub when : {A : Type 0} → Bool → Option A → Option A
-when true a = a
-when false a = None
+abbrev pub some_if : {A : Type 0} → Bool → Option A → Option A
+some_if true a = a
+some_if false a = None
 
 -- the option `pinned` decides for pinned entries, the option `incompatible` for others
 abbrev pub may_jump : Options → Case → Bool
@@ -126,7 +126,7 @@ first_row false None true None None = kept
 -- the outcome for an entry under these options (own)
 abbrev pub row_of : Options → Case → Outcome
 row_of o c = first_row c.excluded (unless (is_set_aside o c) c.selected) (is_ok (req_of c.old))
-    (when (may_jump o c) (latest_text c)) (when o.compatible (compatible_text c))
+    (some_if (may_jump o c) (latest_text c)) (some_if o.compatible (compatible_text c))
 
 -- the new requirement of an outcome
 abbrev pub row_text : List ℕ → Outcome → List ℕ
@@ -147,12 +147,12 @@ row_change old (to_compatible text) = unless_old old text change.Compatible
 row_change old row = None
 
 -- there is a candidate for a later version, and the options forbid to take it
-abbrev pub is_held_back : Options → Case → Bool
-is_held_back o c = is_some (latest_text c) && not (may_jump o c)
+abbrev pub is_latest_withheld : Options → Case → Bool
+is_latest_withheld o c = is_some (latest_text c) && not (may_jump o c)
 
 -- why the latest version is not taken: the entry is pinned, or its requirement does not admit it (own)
 abbrev pub held_back : Options → Case → Option Reason
-held_back o c = when (is_held_back o c) (Some (if is_pinned c then reason.Pinned else reason.Incompatible))
+held_back o c = some_if (is_latest_withheld o c) (Some (if is_pinned c then reason.Pinned else reason.Incompatible))
 
 -- the first value, or the second where there is no first
 abbrev pub or_else : {A : Type 0} → Option A → Option A → Option A
@@ -166,7 +166,7 @@ row_reason o c (given text) = None
 row_reason o c unread = None
 row_reason o c (to_latest text) = None
 row_reason o c (to_compatible text) = held_back o c
-row_reason o c kept = or_else (held_back o c) (when (is_some (compatible_text c)) (Some reason.Compatible))
+row_reason o c kept = or_else (held_back o c) (some_if (is_some (compatible_text c)) (Some reason.Compatible))
 
 -- the decision: the new requirement, the kind of change, and why the requirement was not raised further
 -- (own)

@@ -5,7 +5,7 @@ use Rattle.std.specs.List.{flat_map}
 use Rattle.std.specs.Str.{bytes_eq}
 use Rattle.edit_syntax.specs.Grammar.{Text}
 use Rattle.edit_tree.specs.Assertions.{IsDocument}
-use Rattle.edit_tree.specs.Shown.{Shown}
+use Rattle.edit_tree.specs.DocumentViews.{DocumentViews}
 use Rattle.edit_tree.specs.Tree.{view_at}
 use Rattle.edit_metadata.specs.declared.input.Input.{Input}
 use Rattle.edit_report.specs.declared.output.Output.{Output}
@@ -18,8 +18,8 @@ use Rattle.edit_upgrade.specs.Inputs.{below, output_path}
 use Rattle.edit_upgrade.specs.Lines.{line_of}
 use Rattle.edit_upgrade.specs.Lists.{Told, warning_view}
 use Rattle.edit_upgrade.specs.LookOrder.{AreInOrderSoFar}
-use Rattle.edit_upgrade.specs.Looked.{AreKept, IsSoFar}
-use Rattle.edit_upgrade.specs.Looks.{Kept, kept_basis}
+use Rattle.edit_upgrade.specs.Looked.{AreAllCached, IsWalkState}
+use Rattle.edit_upgrade.specs.Looks.{CachedAnswers, cached_basis}
 use Rattle.edit_upgrade.specs.Outputs.{HasOutputs}
 use Rattle.edit_upgrade.specs.PairSets.{holds_pair}
 use Rattle.edit_upgrade.specs.PlannedView.{IsWalked}
@@ -34,8 +34,8 @@ abbrev pub lines_on : ℕ → List Line → List Line
 lines_on i lines = filter (λ line. line.input == i) lines
 
 -- those of these warnings that belong to an input
-abbrev pub told_on : ℕ → List Told → List Told
-told_on i told = filter (λ t. t.input == i) told
+abbrev pub warnings_among : ℕ → List Told → List Told
+warnings_among i told = filter (λ t. t.input == i) told
 
 -- those of these outputs that are at a path
 abbrev pub outputs_on : List ℕ → List Output → List Output
@@ -43,12 +43,12 @@ outputs_on path outputs = filter (λ output. bytes_eq (output_path output) path)
 
 -- the plan of one input over the cached answers: the answer that each of its entries needs is cached, and
 -- these are its rows, outputs and warnings (own)
-pub record IsPlanned (i : ℕ) (o : Options) (input : Input) (configs : List Config) (kept : Kept)
+pub record IsPlanned (i : ℕ) (o : Options) (input : Input) (configs : List Config) (kept : CachedAnswers)
     (lines : List Line) (outputs : List Output) (told : List Told) : Type 0 where
   pub form : Text
   pub manifest : IsDocument input.bytes.items form
   pub passed : All (IsPassed configs kept) (seen (view_at form))
-  pub decided : AreDecided (kept_basis i o (option_map numbers_of input.rust_version) configs kept)
+  pub decided : AreDecided (cached_basis i o (option_map numbers_of input.rust_version) configs kept)
       (seen (view_at form)) lines
   pub writes : HasOutputs (path_of input) input.bytes.items lines outputs
   pub warned : HasWarnings o i input.bytes.items told
@@ -62,25 +62,25 @@ pub record IsPathAmong (inputs : List Input) (path : List ℕ) : Type 0 where
 
 -- the plan of these inputs over the cached answers: the rows, outputs and warnings of each input, in the
 -- order of the inputs, and no others (own)
-pub record ArePlanned (o : Options) (kept : Kept) (inputs : List Input) (configs : List (Vec Config))
+pub record ArePlanned (o : Options) (kept : CachedAnswers) (inputs : List Input) (configs : List (Vec Config))
     (lines : List Line) (outputs : List Output) (told : List Told) : Type 0 where
   pub each : (i : ℕ) (input : Input) (own : Vec Config) → slice_get inputs i ≡ Some input
       → slice_get configs i ≡ Some own
       → IsPlanned i o input own.items kept (lines_on i lines) (outputs_on (path_of input) outputs)
-      (told_on i told)
+      (warnings_among i told)
   pub rows_in_order : lines ≡ flat_map (λ i. lines_on i lines) (below (length inputs))
   pub outputs_in_order : map output_path outputs
       ≡ filter (λ path. not (length (outputs_on path outputs) == 0)) (map path_of inputs)
-  pub told_in_order : told ≡ flat_map (λ i. told_on i told) (below (length inputs))
+  pub told_in_order : told ≡ flat_map (λ i. warnings_among i told) (below (length inputs))
   pub rows_below : All (λ line. line.input < length inputs) lines
   pub told_below : All (λ t. t.input < length inputs) told
   pub paths_among : All (λ output. IsPathAmong inputs (output_path output)) outputs
 
 -- the draft has the lookups that these inputs need, in order, and their plan (own)
 pub record IsDraft (o : Options) (inputs : List Input) (configs : List (Vec Config)) (gives : Outcomes)
-    (old now : Kept) (draft : Draft) : Type 0 where
-  pub kept : AreKept (holds_pair draft.books.pairs) now
-  pub so_far : IsSoFar (IsNeeded inputs configs) gives old now draft.books.looks.items
+    (old now : CachedAnswers) (draft : Draft) : Type 0 where
+  pub kept : AreAllCached (holds_pair draft.books.pairs) now
+  pub so_far : IsWalkState (IsNeeded inputs configs) gives old now draft.books.looks.items
       (holds_pair draft.books.pairs)
   pub ordered : AreInOrderSoFar inputs configs draft.books.looks.items (holds_pair draft.books.pairs)
   pub planned : ArePlanned o now inputs configs (map line_of draft.rows.items) draft.outputs.items
@@ -89,7 +89,7 @@ pub record IsDraft (o : Options) (inputs : List Input) (configs : List (Vec Conf
 -- how the next input extends a draft: by a walk over its entries, and by its rows, outputs and warnings at
 -- the end (own)
 pub record AddsInput (i : ℕ) (o : Options) (input : Input) (configs : List Config) (gives : Outcomes)
-    (old new : Kept) (before after : Draft) : Type 0 where
+    (old new : CachedAnswers) (before after : Draft) : Type 0 where
   pub lines : List Line
   pub outputs : List Output
   pub told : List Told
@@ -101,6 +101,6 @@ pub record AddsInput (i : ℕ) (o : Options) (input : Input) (configs : List Con
   pub told_are : map warning_view after.warnings.items ≡ map warning_view before.warnings.items ++ told
 
 -- a document is given for each input, with its bytes, or none is given (own)
-abbrev pub AreGiven : List Input → List Shown → Type 0
+abbrev pub AreGiven : List Input → List DocumentViews → Type 0
 AreGiven inputs documents =
     (documents ≡ []) ⊎ (map (λ d. d.bytes) documents ≡ map (λ input. input.bytes.items) inputs)

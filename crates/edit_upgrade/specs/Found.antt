@@ -1,9 +1,9 @@
 -- The entries that get a row, over the program's types.
 use Rattle.std.specs.Prelude.{option_map, string_bytes}
-use Rattle.edit_document.specs.Items.{place_seen}
+use Rattle.edit_document.specs.Items.{place_view}
 use Rattle.edit_manifest.specs.EntryViews.{literal_by}
 use Rattle.edit_upgrade.specs.Records as entry
-use Rattle.edit_upgrade.specs.Records.{Seen, at_folder, at_registry, at_repository}
+use Rattle.edit_upgrade.specs.Records.{RowEntry, at_folder, at_registry, at_repository}
 use Rattle.edit_upgrade.specs.declared.seen.Entry.{Entry}
 use Rattle.edit_upgrade.specs.declared.seen.Source.{Source}
 use Rattle.edit_upgrade.specs.declared.seen.Source.TheVariants.{Git, Path, Registry}
@@ -15,12 +15,12 @@ source_view Git = at_repository
 source_view Path = at_folder
 
 -- an entry, by its texts (own)
-abbrev pub seen_of : Entry → Seen
+abbrev pub seen_of : Entry → RowEntry
 seen_of e = record {
   name = string_bytes e.name;
   rename = option_map string_bytes e.rename;
-  place = place_seen e.place.items;
-  literal = literal_by e.bare (place_seen e.place.items);
+  place = place_view e.place.items;
+  literal = literal_by e.bare (place_view e.place.items);
   source = source_view e.source;
   old = option_map string_bytes e.old;
 }

@@ -12,7 +12,7 @@ use Rattle.edit_upgrade.specs.Lines.{line_of}
 use Rattle.edit_upgrade.specs.Outputs.{HasOutputs}
 use Rattle.edit_upgrade.specs.Rows.{Line}
 use Rattle.edit_upgrade.specs.Upgraded.{HasRows, IsNeededBy}
-use Rattle.edit_upgrade.specs.Words.{WordsSelect}
+use Rattle.edit_upgrade.specs.Words.{HasOnlyNames}
 use Rattle.edit_report.specs.declared.row.Change.TheVariants as change
 use Rattle.edit_metadata.specs.declared.input.Input.{Input}
 use Rattle.edit_report.specs.declared.output.Output.{Output}
@@ -30,9 +30,9 @@ IsAdmittedBy None v = ⊥
 IsAdmittedBy (Some text) v = Admits text v
 
 -- there is a text, and it is that of this version
-abbrev pub IsVersionTold : Option (List ℕ) → Parts → Type 0
-IsVersionTold None v = ⊥
-IsVersionTold (Some text) v = version_parts text ≡ Ok v
+abbrev pub IsTextOfVersion : Option (List ℕ) → Parts → Type 0
+IsTextOfVersion None v = ⊥
+IsTextOfVersion (Some text) v = version_parts text ≡ Ok v
 
 -- where the change is Compatible, the new requirement parses, and the old one admits every version that it
 -- admits (own)
@@ -43,28 +43,28 @@ Narrows line = line.change ≡ Some change.Compatible → IsRead line.new
 -- where the change is Compatible, the new requirement admits the compatible version; where it is Latest, it
 -- admits the latest one, if that has no pre-release (own)
 pub record Reaches (line : Line) : Type 0 where
-  pub compatible : line.change ≡ Some change.Compatible → (v : Parts) × IsVersionTold line.compatible v
+  pub compatible : line.change ≡ Some change.Compatible → (v : Parts) × IsTextOfVersion line.compatible v
       × IsAdmittedBy line.new v
-  pub latest : line.change ≡ Some change.Latest → (v : Parts) × IsVersionTold line.latest v
+  pub latest : line.change ≡ Some change.Latest → (v : Parts) × IsTextOfVersion line.latest v
       × (length v.3 ≡ 0 → IsAdmittedBy line.new v)
 
 -- where there is a compatible version, there is a latest one, and it is not less (SemVer 2.0.0, item 11)
 abbrev pub LatestIsNotLess : Line → Type 0
 LatestIsNotLess line = IsSome line.compatible
-    → (u : Parts) × (v : Parts) × IsVersionTold line.compatible u × IsVersionTold line.latest v
+    → (u : Parts) × (v : Parts) × IsTextOfVersion line.compatible u × IsTextOfVersion line.latest v
     × IsTrue (is_ge (precedence v u))
 
 -- there is a requirement, and this is its floor
-abbrev pub IsFloorTold : Option (List ℕ) → Parts → Type 0
-IsFloorTold None f = ⊥
-IsFloorTold (Some text) f = HasFloor text f
+abbrev pub IsFloorOfText : Option (List ℕ) → Parts → Type 0
+IsFloorOfText None f = ⊥
+IsFloorOfText (Some text) f = HasFloor text f
 
 -- where the change is Latest or Compatible and the old requirement has a floor, the new one has a floor
 -- that is not lower
 abbrev pub KeepsFloor : Line → Type 0
 KeepsFloor line = (line.change ≡ Some change.Latest) ⊎ (line.change ≡ Some change.Compatible)
-    → (f : Parts) → IsFloorTold line.old f
-    → (g : Parts) × IsFloorTold line.new g × IsTrue (is_ge (precedence g f))
+    → (f : Parts) → IsFloorOfText line.old f
+    → (g : Parts) × IsFloorOfText line.new g × IsTrue (is_ge (precedence g f))
 
 -- with `never_lower`, no row has a lower floor after its change
 abbrev pub NeverLowers : Options → UpgradePlan → Type 0
@@ -100,7 +100,7 @@ left_of input p = bytes_after input.bytes.items (outputs_at (path_of input) p)
 -- unless `--package` gives a requirement, planning the bytes of an input after the plan again over the same
 -- lookups changes nothing
 abbrev pub IsSettled : Setting → Input → UpgradePlan → Type 0
-IsSettled s input p = WordsSelect s.options → IsFixedPoint s (left_of input p)
+IsSettled s input p = HasOnlyNames s.options → IsFixedPoint s (left_of input p)
 
 -- the bytes of an input after the plan need the same lookups
 abbrev pub NeedsAsBefore : Setting → Input → UpgradePlan → Type 0

@@ -18,7 +18,7 @@ pub mod Addresses
 pub mod PairSets
 pub mod Drafts
 pub mod Words
-pub mod Picks
+pub mod PackageSelection
 pub mod WordCauses
 pub mod Caches
 pub mod Plans
@@ -27,7 +27,7 @@ pub mod Floors
 pub mod Decision
 pub mod Offers
 pub mod Decided
-pub mod Asked
+pub mod ParsedOptions
 pub mod Groups
 pub mod Names
 pub mod PinViews

@@ -6,7 +6,7 @@ use Rattle.std.specs.Str.{bytes_eq}
 use Rattle.std.specs.declared.alloc.Global.{Global}
 use Rattle.edit_record.specs.EntryRecords.{EntryRecord}
 use Rattle.edit_manifest.specs.Entries.{Entry}
-use Rattle.edit_upgrade.specs.Decision.{Case, Outcome, row_of, unread, when}
+use Rattle.edit_upgrade.specs.Decision.{Case, Outcome, row_of, unread, some_if}
 use Rattle.edit_upgrade.specs.Lines.{line_of}
 use Rattle.edit_upgrade.specs.Records.{Source, source_of, version_of}
 use Rattle.edit_upgrade.specs.Rows.{Line}
@@ -63,9 +63,9 @@ unreadable_text name old =
     codes "keeping " ++ (name ++ (codes ", unreadable requirement `" ++ (old ++ codes "`")))
 
 -- the entry is left unchanged because its requirement cannot be parsed
-abbrev pub is_unread : Outcome → Bool
-is_unread unread = true
-is_unread row = false
+abbrev pub is_unparsed : Outcome → Bool
+is_unparsed unread = true
+is_unparsed row = false
 
 -- the case of an entry with this requirement where the index gives no version
 abbrev pub case_without_versions : Options → EntryRecord → List ℕ → Case
@@ -81,8 +81,8 @@ case_without_versions o r old = record {
 
 -- the requirement of an entry, where it cannot be parsed and is left unchanged: the entry is not excluded,
 -- and no `--package` argument replaces the requirement
-abbrev pub kept_unread : Options → EntryRecord → List ℕ → Option (List ℕ)
-kept_unread o r old = when (is_unread (row_of o (case_without_versions o r old))) (Some old)
+abbrev pub unparsed_requirement : Options → EntryRecord → List ℕ → Option (List ℕ)
+unparsed_requirement o r old = some_if (is_unparsed (row_of o (case_without_versions o r old))) (Some old)
 
 -- the warning about an entry: that it inherits its source from its workspace, shown with `--verbose` only,
 -- or that its requirement cannot be parsed and is left unchanged
@@ -90,7 +90,7 @@ abbrev pub warning_by : Options → ℕ → List ℕ → EntryRecord → Option 
 warning_by o i key r None = Some (warned i true (workspace_text key))
 warning_by o i key r (Some source) =
     option_map (λ old. warned i false (unreadable_text key old))
-    (option_and_then (kept_unread o r) (version_of r))
+    (option_and_then (unparsed_requirement o r) (version_of r))
 
 -- the warning about an entry: where it could not be read, one with the reason
 abbrev pub IsWarningBy : Options → ℕ → List ℕ → Option EntryRecord → Option Told → Type 0
@@ -114,7 +114,7 @@ is_git other = false
 
 -- the name of a row, where it is that of a git dependency without a requirement
 abbrev pub git_name : Line → Option (List ℕ)
-git_name line = when (is_git line.reason) (Some line.name)
+git_name line = some_if (is_git line.reason) (Some line.name)
 
 -- the names of the rows of git dependencies without a requirement, in order
 abbrev pub git_names : List Line → List (List ℕ)
@@ -129,7 +129,7 @@ pub record AreNames (names : List (List ℕ)) (told : List (String Global)) : Ty
 -- the lists of a plan agree with its rows: the names of the rows that change, and of git dependencies
 -- without a requirement; whether an entry was left unchanged for being pinned, or for not admitting the
 -- latest version (own)
-pub record Tells (p : UpgradePlan) : Type 0 where
+pub record HasRowLists (p : UpgradePlan) : Type 0 where
   pub modified : AreNames (changed_names (map line_of p.rows.items)) p.modified.items
   pub git_crates : AreNames (git_names (map line_of p.rows.items)) p.git_crates.items
   pub pinned : p.pinned_present ≡ list_any (λ r. is_held_pinned r.reason) p.rows.items

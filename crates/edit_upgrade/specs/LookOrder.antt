@@ -10,8 +10,8 @@ use Rattle.edit_metadata.specs.declared.input.Input.{Input}
 use Rattle.edit_sources.specs.declared.config.Config.{Config}
 use Rattle.url.specs.Parts.{serialize}
 use Rattle.edit_upgrade.specs.Inputs.{below}
-use Rattle.edit_upgrade.specs.Looked.{Pairs}
-use Rattle.edit_upgrade.specs.Records.{Seen, seen}
+use Rattle.edit_upgrade.specs.Looked.{PairSet}
+use Rattle.edit_upgrade.specs.Records.{RowEntry, seen}
 use Rattle.edit_upgrade.specs.Rows.{is_elsewhere}
 use Rattle.edit_upgrade.specs.Upgraded.{IsNeededFor}
 use Rattle.edit_upgrade.specs.declared.upgrade.Look.{Look}
@@ -34,11 +34,11 @@ abbrev pub pair_of : Look → Pair
 pair_of look = (serialize look.registry, string_bytes look.name)
 
 -- the entries whose crates come from a registry
-abbrev pub from_registries : List Seen → List Seen
+abbrev pub from_registries : List RowEntry → List RowEntry
 from_registries es = filter (λ e. not (is_elsewhere e.source)) es
 
 -- the entry needs the lookup of this pair
-abbrev pub NeedsPair : List Config → Seen → Pair → Type 0
+abbrev pub NeedsPair : List Config → RowEntry → Pair → Type 0
 NeedsPair configs e pair = IsNeededFor configs e pair.0 pair.1
 
 -- the bytes are a manifest, and these are the pairs that its registry entries need, in order
@@ -56,11 +56,11 @@ pub record AreInOrder (inputs : List Input) (configs : List (Vec Config)) (looks
   pub are : map pair_of looks ≡ pairs_once (flat_map needs (below (length inputs)))
 
 -- the set contains exactly these pairs (own)
-abbrev pub HoldsPairs : Pairs → List Pair → Type 0
+abbrev pub HoldsPairs : PairSet → List Pair → Type 0
 HoldsPairs set pairs = (address name : List ℕ) → set address name ≡ list_any (is_pair (address, name)) pairs
 
 -- the lookups made for these inputs are in order, and the set contains the pairs that they need (own)
 pub record AreInOrderSoFar (inputs : List Input) (configs : List (Vec Config)) (looks : List Look)
-    (set : Pairs) : Type 0 where
+    (set : PairSet) : Type 0 where
   pub looked : AreInOrder inputs configs looks
   pub held : HoldsPairs set (flat_map looked.needs (below (length inputs)))

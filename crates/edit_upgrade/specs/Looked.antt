@@ -9,18 +9,18 @@ use Rattle.edit_store.specs.Store.{raised}
 use Rattle.edit_sources.specs.declared.config.Config.{Config}
 use Rattle.url.specs.Parts as url
 use Rattle.url.specs.Parts.{serialize}
-use Rattle.edit_upgrade.specs.Looks.{AddsNeeded, AreLooks, Kept, look_at}
-use Rattle.edit_upgrade.specs.Records.{Seen, at_registry}
+use Rattle.edit_upgrade.specs.Looks.{AddsNeeded, AreLookups, CachedAnswers, lookup_at}
+use Rattle.edit_upgrade.specs.Records.{RowEntry, at_registry}
 use Rattle.edit_upgrade.specs.Rows.{is_elsewhere}
 use Rattle.edit_upgrade.specs.declared.upgrade.Look.{Look}
 
 -- cached answers are unchanged
-abbrev pub Stays : Kept → Kept → Type 0
+abbrev pub Stays : CachedAnswers → CachedAnswers → Type 0
 Stays old new = (address name : List ℕ) → IsSome (old address name) → new address name ≡ old address name
 
 -- one lookup: its answer is in the cache, and was there before or is one that the index gives; other cached
 -- answers are unchanged
-pub record IsLook (address name : List ℕ) (gives : Outcomes) (old new : Kept) (look : Look) : Type 0 where
+pub record IsLookupMade (address name : List ℕ) (gives : Outcomes) (old new : CachedAnswers) (look : Look) : Type 0 where
   pub at : serialize look.registry ≡ address
   pub of_name : string_bytes look.name ≡ name
   pub kept : new address name ≡ Some (answer_of look.answer)
@@ -30,8 +30,8 @@ pub record IsLook (address name : List ℕ) (gives : Outcomes) (old new : Kept) 
   pub stays : Stays old new
 
 -- the error of a lookup: one that the index gives, or a device fault, which raises the count of faults
-abbrev pub IsRefusedAt : Outcomes → url.Parts → List ℕ → ℕ → ℕ → Error → Type 0
-IsRefusedAt gives address name before now e =
+abbrev pub IsLookupError : Outcomes → url.Parts → List ℕ → ℕ → ℕ → Error → Type 0
+IsLookupError gives address name before now e =
     IsGivenRefusal gives address name e
     ⊎ ((number_of e ≡ 3) × raised before now)
 
@@ -42,49 +42,50 @@ IsAt address of at name = (at ≡ address) × (name ≡ of)
 -- the effect of a call, even where it fails: needed answers may be added to the cache, the index keeps its
 -- outcomes, and the count of faults does not fall (own)
 pub record Leaves (Needed : List ℕ → List ℕ → Type 0) (gives after : Outcomes) (before now : ℕ)
-    (old new : Kept) : Type 0 where
+    (old new : CachedAnswers) : Type 0 where
   pub adds : AddsNeeded Needed gives old new
   pub same : SameOutcomes gives after
   pub later : before ≤ now
 
 -- a set of pairs of address and name
-abbrev pub Pairs : Type 0
-Pairs = List ℕ → List ℕ → Bool
+abbrev pub PairSet : Type 0
+PairSet = List ℕ → List ℕ → Bool
 
 -- the state of a walk over entries: the lookups made so far, and the set of their addresses and names
-pub record IsSoFar (Needed : List ℕ → List ℕ → Type 0) (gives : Outcomes) (old now : Kept)
+pub record IsWalkState (Needed : List ℕ → List ℕ → Type 0) (gives : Outcomes) (old now : CachedAnswers)
     (looks : List Look)
-    (pairs : Pairs) : Type 0 where
-  pub looked : AreLooks Needed gives old now looks
-  pub set : (a n : List ℕ) → pairs a n ≡ is_some (look_at looks a n)
+    (pairs : PairSet) : Type 0 where
+  pub looked : AreLookups Needed gives old now looks
+  pub set : (a n : List ℕ) → pairs a n ≡ is_some (lookup_at looks a n)
 
 -- a step for an address and a name: nothing where the set contains the pair, else one more lookup; the set
 -- contains the pair afterwards
-pub record IsStep (address name : List ℕ) (gives : Outcomes) (old new : Kept) (looks more : List Look)
-    (pairs now : Pairs) : Type 0 where
+pub record IsStep (address name : List ℕ) (gives : Outcomes) (old new : CachedAnswers) (looks more : List Look)
+    (pairs now : PairSet) : Type 0 where
   pub set : (a n : List ℕ) → now a n ≡ (if bytes_eq address a && bytes_eq name n then true else pairs a n)
   pub done : ((pairs address name ≡ true) × (more ≡ looks) × (new ≡ old))
       ⊎ ((look : Look) × (pairs address name ≡ false) × (more ≡ looks ++ look ∷ [])
-      × IsLook address name gives old new look)
+      × IsLookupMade address name gives old new look)
 
 -- a step for an entry: that for its registry's address and its name, or nothing for an entry of no registry
-pub record IsEntryStep (configs : List Config) (e : Seen) (gives : Outcomes) (old new : Kept)
-    (looks more : List Look) (pairs now : Pairs) : Type 0 where
+pub record IsEntryStep (configs : List Config) (e : RowEntry) (gives : Outcomes) (old new : CachedAnswers)
+    (looks more : List Look) (pairs now : PairSet) : Type 0 where
   pub looked : (named : Option (List ℕ)) → e.source ≡ at_registry named
       → (address : url.Parts) × HasAddress configs named address
       × IsStep (serialize address) e.name gives old new looks more pairs now
   pub idle : is_elsewhere e.source ≡ true → (more ≡ looks) × (now ≡ pairs) × (new ≡ old)
 
 -- each pair of the set has a cached answer (own)
-abbrev pub AreKept : Pairs → Kept → Type 0
-AreKept pairs kept = (address name : List ℕ) → pairs address name ≡ true → IsSome (kept address name)
+abbrev pub AreAllCached : PairSet → CachedAnswers → Type 0
+AreAllCached pairs kept = (address name : List ℕ) → pairs address name ≡ true → IsSome (kept address name)
 
 -- a walk over entries: a step for each, in order (own)
 pub data AreSteps (configs : List Config) (gives : Outcomes)
-    : List Seen → Kept → Kept → List Look → List Look → Pairs → Pairs → Type 0 where
-  start : (kept : Kept) (looks : List Look) (pairs : Pairs) → AreSteps configs gives [] kept kept looks
+    : List RowEntry → CachedAnswers → CachedAnswers → List Look → List Look → PairSet → PairSet → Type 0 where
+  start : (kept : CachedAnswers) (looks : List Look) (pairs : PairSet)
+      → AreSteps configs gives [] kept kept looks
       looks pairs pairs
-  further : (front : List Seen) (e : Seen) (old mid new : Kept) (looks between more : List Look)
-      (pairs then_pairs now : Pairs) → AreSteps configs gives front old mid looks between pairs then_pairs
+  further : (front : List RowEntry) (e : RowEntry) (old mid new : CachedAnswers) (looks between more : List Look)
+      (pairs then_pairs now : PairSet) → AreSteps configs gives front old mid looks between pairs then_pairs
       → IsEntryStep configs e gives mid new between more then_pairs now
       → AreSteps configs gives (front ++ e ∷ []) old new looks more pairs now

@@ -4,7 +4,7 @@ use Rattle.std.specs.Str.{bytes_eq}
 use Rattle.edit_version.specs.IndexEntry.{IndexEntry}
 use Rattle.edit_version.specs.Admissible.{admissible_in}
 use Rattle.edit_version.specs.RustVersions.{Numbers}
-use Rattle.edit_cache.specs.IndexCache.{kept_at}
+use Rattle.edit_cache.specs.IndexCache.{cached_answer_at}
 use Rattle.edit_sources.specs.Index.{Outcomes, answer_of}
 use Rattle.edit_cache.specs.declared.cache.IndexCache.{IndexCache}
 use Rattle.edit_sources.specs.declared.config.Config.{Config}
@@ -20,21 +20,21 @@ abbrev pub Answer : Type 0
 Answer = Option (List IndexEntry)
 
 -- the cached answers, by address and name
-abbrev pub Kept : Type 0
-Kept = List ℕ → List ℕ → Option Answer
+abbrev pub CachedAnswers : Type 0
+CachedAnswers = List ℕ → List ℕ → Option Answer
 
 -- the cached answers of a cache
-abbrev pub kept_by : {I : Type 0} → IndexCache I → Kept
-kept_by c address name = option_map answer_of (kept_at c address name)
+abbrev pub cached_by : {I : Type 0} → IndexCache I → CachedAnswers
+cached_by c address name = option_map answer_of (cached_answer_at c address name)
 
 -- the lookup was made at this address for this name
-abbrev pub is_look_at : List ℕ → List ℕ → Look → Bool
-is_look_at address name look =
+abbrev pub is_lookup_at : List ℕ → List ℕ → Look → Bool
+is_lookup_at address name look =
     bytes_eq (serialize look.registry) address && bytes_eq (string_bytes look.name) name
 
 -- the first lookup at an address for a name
-abbrev pub look_at : List Look → List ℕ → List ℕ → Option Look
-look_at looks address name = find (is_look_at address name) looks
+abbrev pub lookup_at : List Look → List ℕ → List ℕ → Option Look
+lookup_at looks address name = find (is_lookup_at address name) looks
 
 -- the versions of an answer that this Rust version admits
 abbrev pub versions_in : Option Numbers → Option Answer → List Parts
@@ -44,20 +44,20 @@ versions_in rust other = []
 -- the admitted versions in the lookups of a name at an address
 abbrev pub told : Option Numbers → List Look → List ℕ → List ℕ → List Parts
 told rust looks address name =
-    versions_in rust (option_map (λ look. answer_of look.answer) (look_at looks address name))
+    versions_in rust (option_map (λ look. answer_of look.answer) (lookup_at looks address name))
 
 -- no two lookups have the same address and name
 abbrev pub AreApart : List Look → Type 0
 AreApart [] = ⊤
 AreApart (look ∷ looks) =
-    (look_at looks (serialize look.registry) (string_bytes look.name) ≡ None) × AreApart looks
+    (lookup_at looks (serialize look.registry) (string_bytes look.name) ≡ None) × AreApart looks
 
 -- the lookups of a plan, given the cached answers before and after: each needed pair of address and name
 -- exactly once and no other, with the answer cached now, which was cached before or is one that the index
 -- gives; no other answer was added
-pub record AreLooks (Needed : List ℕ → List ℕ → Type 0) (gives : Outcomes) (old new : Kept)
+pub record AreLookups (Needed : List ℕ → List ℕ → Type 0) (gives : Outcomes) (old new : CachedAnswers)
     (looks : List Look) : Type 0 where
-  pub complete : (address name : List ℕ) → Needed address name → IsSome (look_at looks address name)
+  pub complete : (address name : List ℕ) → Needed address name → IsSome (lookup_at looks address name)
   pub needed : All (λ look. Needed (serialize look.registry) (string_bytes look.name)) looks
   pub once : AreApart looks
   pub as_kept : All
@@ -65,25 +65,25 @@ pub record AreLooks (Needed : List ℕ → List ℕ → Type 0) (gives : Outcome
   pub given : All
       (λ look. (old (serialize look.registry) (string_bytes look.name) ≡ Some (answer_of look.answer))
       ⊎ gives look.registry (string_bytes look.name) (Ok (answer_of look.answer))) looks
-  pub others : (address name : List ℕ) → look_at looks address name ≡ None → new address name
+  pub others : (address name : List ℕ) → lookup_at looks address name ≡ None → new address name
       ≡ old address name
 
 -- a lookup that the index answers so: at a registry with this address
-pub record IsGiven (gives : Outcomes) (address name : List ℕ) (answer : Answer) : Type 0 where
+pub record IsIndexAnswer (gives : Outcomes) (address name : List ℕ) (answer : Answer) : Type 0 where
   pub registry : url.Parts
   pub at : serialize registry ≡ address
   pub given : gives registry name (Ok answer)
 
 -- the effect of a call on the cached answers, even where it fails: those cached before are unchanged, and
 -- each new one is needed and is one that the index gives (own)
-pub record AddsNeeded (Needed : List ℕ → List ℕ → Type 0) (gives : Outcomes) (old new : Kept) : Type 0 where
+pub record AddsNeeded (Needed : List ℕ → List ℕ → Type 0) (gives : Outcomes) (old new : CachedAnswers) : Type 0 where
   pub stays : (address name : List ℕ) → IsSome (old address name) → new address name ≡ old address name
   pub added : (address name : List ℕ) → old address name ≡ None
-      → IfSome (new address name) (λ answer. Needed address name × IsGiven gives address name answer)
+      → IfSome (new address name) (λ answer. Needed address name × IsIndexAnswer gives address name answer)
 
 -- what rows depend on, with versions from the cached answers (own)
-abbrev pub kept_basis : ℕ → Options → Option Numbers → List Config → Kept → Basis
-kept_basis input o rust configs kept = record {
+abbrev pub cached_basis : ℕ → Options → Option Numbers → List Config → CachedAnswers → Basis
+cached_basis input o rust configs kept = record {
   input = input;
   options = o;
   configs = configs;

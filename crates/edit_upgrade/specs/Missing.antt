@@ -8,7 +8,7 @@ use Rattle.edit_tree.specs.Tree.{view_at}
 use Rattle.edit_manifest.specs.Entries.{Entry, entries}
 use Rattle.edit_metadata.specs.declared.input.Input.{Input}
 use Rattle.edit_record.specs.EachOnce.{each_once}
-use Rattle.edit_version.specs.CrateWords.{word_name}
+use Rattle.edit_version.specs.CrateSpecs.{spec_name}
 use Rattle.edit_upgrade.specs.Words.{is_named, words_of}
 use Rattle.edit_upgrade.specs.declared.decision.options.Options.{Options}
 use Rattle.edit_upgrade.specs.declared.upgrade.UpgradePlan.{UpgradePlan}
@@ -35,11 +35,11 @@ is_among names name = list_any (list_any (bytes_eq name)) names
 pub record AreMissing (o : Options) (inputs : List Input) (missing : List (List ℕ)) : Type 0 where
   pub names : List (List (List ℕ))
   pub have : AllZip (λ input own. HasNames input.bytes.items own) inputs names
-  pub are : missing ≡ filter (λ name. not (is_among names name)) (each_once (map word_name (words_of o)))
+  pub are : missing ≡ filter (λ name. not (is_among names name)) (each_once (map spec_name (words_of o)))
 
 -- the plan tells the missing names
-abbrev pub TellsMissing : Options → List Input → UpgradePlan → Type 0
-TellsMissing o inputs p = AreMissing o inputs (map string_bytes p.missing.items)
+abbrev pub ListsMissing : Options → List Input → UpgradePlan → Type 0
+ListsMissing o inputs p = AreMissing o inputs (map string_bytes p.missing.items)
 
 -- the names that are known of these inputs: those that words select, of their entries (own)
 pub record AreKnown (o : Options) (inputs : List Input) (known : List ℕ → Bool) : Type 0 where

@@ -3,7 +3,7 @@ use Rattle.std.specs.Prelude.{◌≡◌, ◌≢◌, ℕ, List, [], ◌∷◌, st
 use Rattle.edit_tree.specs.Assertions.{IsDocument, Place}
 use Rattle.edit_syntax.specs.Grammar.{Text}
 use Rattle.edit_tree.specs.Replaces.{Edits, Replaces, written}
-use Rattle.edit_tree.specs.Shown.{Shown, tree_of}
+use Rattle.edit_tree.specs.DocumentViews.{DocumentViews, tree_of}
 use Rattle.edit_tree.specs.Tree.{view_at}
 use Rattle.edit_upgrade.specs.Records.{seen}
 use Rattle.edit_upgrade.specs.Rows.{Line, writes}
@@ -11,7 +11,7 @@ use Rattle.edit_report.specs.declared.output.Output.{Output}
 
 -- something is written, and the new bytes are those of the document with these literals, and read back as
 -- its tree with these strings (own)
-pub record IsRewritten (d : Shown) (edits : Edits) (new : List ℕ) : Type 0 where
+pub record IsRewritten (d : DocumentViews) (edits : Edits) (new : List ℕ) : Type 0 where
   pub some : edits ≢ []
   pub replaced : Replaces edits d.bytes new
   pub read_back : (form : Text) → IsDocument new form → (place : Place) → view_at form place

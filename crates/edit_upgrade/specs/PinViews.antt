@@ -8,13 +8,13 @@ use Rattle.edit_upgrade.specs.Pins as spec
 use Rattle.edit_upgrade.specs.declared.update.pins.Pin.{Pin}
 
 -- a requirement with its precise version
-abbrev pub pin_seen : Pin → spec.Pin
-pin_seen pin = record { comparators = comparators_of pin.req; version = parts_of pin.version }
+abbrev pub pin_view : Pin → spec.Pin
+pin_view pin = record { comparators = comparators_of pin.req; version = parts_of pin.version }
 
 -- a name, with its pin, where it has one
-abbrev pub entry_seen : String Global × Option Pin → List ℕ × Option spec.Pin
-entry_seen e = (string_bytes e.0, option_map pin_seen e.1)
+abbrev pub pin_entry_view : String Global × Option Pin → List ℕ × Option spec.Pin
+pin_entry_view e = (string_bytes e.0, option_map pin_view e.1)
 
 -- the names in their order, each with its pin
-abbrev pub pins_seen : BTreeMap (String Global) (Option Pin) → List (List ℕ × Option spec.Pin)
-pins_seen pins = map entry_seen pins.entries
+abbrev pub pins_view : BTreeMap (String Global) (Option Pin) → List (List ℕ × Option spec.Pin)
+pins_view pins = map pin_entry_view pins.entries

@@ -10,7 +10,7 @@ use Rattle.std.specs.Str.{bytes_eq}
 use Rattle.semver.specs.Parse.{Held, Parts}
 use Rattle.semver.specs.declared.Op.{Op}
 use Rattle.semver.specs.declared.Op.TheVariants as op
-use Rattle.edit_version.specs.CrateWords.{word_name, word_requirement}
+use Rattle.edit_version.specs.CrateSpecs.{spec_name, spec_requirement}
 use Rattle.edit_version.specs.Greatest.{advance}
 use Rattle.edit_version.specs.Requirement.{requirement_read}
 use Rattle.edit_version.specs.VersionOrder.{full_order}
@@ -54,17 +54,17 @@ abbrev pub pin_of : List ℕ → Option Pin
 pin_of text = option_and_then pin_by (requirement_read text)
 
 -- the requirement of a word, where it has a precise version
-abbrev pub word_pin : List ℕ → Option Pin
-word_pin word = option_and_then pin_of (word_requirement word)
+abbrev pub arg_pin : List ℕ → Option Pin
+arg_pin word = option_and_then pin_of (spec_requirement word)
 
 -- names in byte order, each with its pin, after one word more: it takes the place of an earlier word of its
 -- name
-abbrev pub with_word : List (List ℕ × Option Pin) → List ℕ → List (List ℕ × Option Pin)
-with_word pins word = insert_entry (slice_cmp nat_cmp) pins (word_name word) (word_pin word)
+abbrev pub with_package_arg : List (List ℕ × Option Pin) → List ℕ → List (List ℕ × Option Pin)
+with_package_arg pins word = insert_entry (slice_cmp nat_cmp) pins (spec_name word) (arg_pin word)
 
 -- the names that words select, in byte order, each with the pin of its last word, where that has one
 abbrev pub pins_of : List (List ℕ) → List (List ℕ × Option Pin)
-pins_of words = fold with_word [] words
+pins_of words = fold with_package_arg [] words
 
 -- the pin of a name, where it has one
 abbrev pub pin_at : List (List ℕ × Option Pin) → List ℕ → Option Pin

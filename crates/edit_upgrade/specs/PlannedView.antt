@@ -2,7 +2,7 @@
 use Rattle.std.specs.Prelude.{◌≡◌, ℕ, List, All, length, map, option_map}
 use Rattle.edit_syntax.specs.Grammar.{Text}
 use Rattle.edit_tree.specs.Assertions.{IsDocument}
-use Rattle.edit_tree.specs.Shown.{Shown, ShowsTree}
+use Rattle.edit_tree.specs.DocumentViews.{DocumentViews, ShowsTree}
 use Rattle.edit_tree.specs.Tree.{view_at}
 use Rattle.edit_metadata.specs.declared.input.Input.{Input}
 use Rattle.edit_sources.specs.Index.{Outcomes}
@@ -11,17 +11,17 @@ use Rattle.edit_version.specs.RustVersions.{numbers_of}
 use Rattle.edit_upgrade.specs.Causes.{IsPassed}
 use Rattle.edit_upgrade.specs.Found.{seen_of}
 use Rattle.edit_upgrade.specs.Looked.{AreSteps}
-use Rattle.edit_upgrade.specs.Looks.{Kept, kept_basis}
+use Rattle.edit_upgrade.specs.Looks.{CachedAnswers, cached_basis}
 use Rattle.edit_upgrade.specs.PairSets.{holds_pair}
-use Rattle.edit_upgrade.specs.Records.{Seen, seen}
+use Rattle.edit_upgrade.specs.Records.{RowEntry, seen}
 use Rattle.edit_upgrade.specs.Rows.{AreDecided, Line}
 use Rattle.edit_upgrade.specs.declared.decision.options.Options.{Options}
-use Rattle.edit_upgrade.specs.declared.walk.Books.{Books}
+use Rattle.edit_upgrade.specs.declared.walk.LookupLog.{LookupLog}
 use Rattle.edit_upgrade.specs.declared.planned.Planned.{Planned}
 
 -- the document has these bytes, and shows the tree of their form; the entries are those that are seen in it,
 -- and each has a row (own)
-pub record IsShown (bytes : List ℕ) (d : Shown) (p : Planned) : Type 0 where
+pub record IsPlannedView (bytes : List ℕ) (d : DocumentViews) (p : Planned) : Type 0 where
   pub form : Text
   pub manifest : IsDocument bytes form
   pub tree : ShowsTree d form
@@ -30,7 +30,7 @@ pub record IsShown (bytes : List ℕ) (d : Shown) (p : Planned) : Type 0 where
   pub long : length p.rows.items ≡ length p.entries.items
 
 -- the bytes are a manifest, and these are its seen entries (own)
-pub record AreSeen (bytes : List ℕ) (es : List Seen) : Type 0 where
+pub record AreRowEntries (bytes : List ℕ) (es : List RowEntry) : Type 0 where
   pub form : Text
   pub manifest : IsDocument bytes form
   pub are : es ≡ seen (view_at form)
@@ -38,11 +38,11 @@ pub record AreSeen (bytes : List ℕ) (es : List Seen) : Type 0 where
 -- the bytes are a manifest; a step was made for each of its seen entries, which leaves it an answer that is
 -- kept; these are their rows over the answers that are kept (own)
 pub record IsWalked (i : ℕ) (o : Options) (input : Input) (configs : List Config) (gives : Outcomes)
-    (old new : Kept) (before after : Books) (lines : List Line) : Type 0 where
+    (old new : CachedAnswers) (before after : LookupLog) (lines : List Line) : Type 0 where
   pub form : Text
   pub manifest : IsDocument input.bytes.items form
   pub steps : AreSteps configs gives (seen (view_at form)) old new before.looks.items after.looks.items
       (holds_pair before.pairs) (holds_pair after.pairs)
   pub passed : All (IsPassed configs new) (seen (view_at form))
-  pub decided : AreDecided (kept_basis i o (option_map numbers_of input.rust_version) configs new)
+  pub decided : AreDecided (cached_basis i o (option_map numbers_of input.rust_version) configs new)
       (seen (view_at form)) lines

@@ -7,22 +7,22 @@ use Rattle.edit_upgrade.specs.Caches.{CacheView}
 use Rattle.edit_upgrade.specs.Headline.{IsSettled, LatestIsNotLess, Narrows, NeedsAsBefore, NeverLowers, Reaches}
 use Rattle.edit_upgrade.specs.Inputs.{EachInput, OutputsInOrder, RowsInOrder, WarningsInOrder}
 use Rattle.edit_upgrade.specs.Lines.{line_of}
-use Rattle.edit_upgrade.specs.Lists.{Tells}
+use Rattle.edit_upgrade.specs.Lists.{HasRowLists}
 use Rattle.edit_upgrade.specs.LookOrder.{AreInOrder}
-use Rattle.edit_upgrade.specs.Looks.{AreLooks}
-use Rattle.edit_upgrade.specs.Missing.{TellsMissing}
+use Rattle.edit_upgrade.specs.Looks.{AreLookups}
+use Rattle.edit_upgrade.specs.Missing.{ListsMissing}
 use Rattle.edit_upgrade.specs.Upgraded.{HasItsOutputs, HasItsRows, HasItsWarnings, IsNeeded}
 use Rattle.edit_upgrade.specs.declared.decision.options.Options.{Options}
 use Rattle.edit_upgrade.specs.declared.upgrade.UpgradePlan.{UpgradePlan}
 
 -- the looks of a plan: each one that the inputs need and no other, from this cache to that (own)
-abbrev pub HasLooks : List Input → List (Vec Config) → CacheView → CacheView → UpgradePlan → Type 0
-HasLooks inputs configs old new p =
-    AreLooks (IsNeeded inputs configs) old.gives old.kept new.kept p.looks.items
+abbrev pub HasLookups : List Input → List (Vec Config) → CacheView → CacheView → UpgradePlan → Type 0
+HasLookups inputs configs old new p =
+    AreLookups (IsNeeded inputs configs) old.gives old.kept new.kept p.looks.items
 
 -- the looks of a plan stand in the order in which the inputs need them (own)
-abbrev pub LooksInOrder : List Input → List (Vec Config) → UpgradePlan → Type 0
-LooksInOrder inputs configs p = AreInOrder inputs configs p.looks.items
+abbrev pub AreLookupsInOrder : List Input → List (Vec Config) → UpgradePlan → Type 0
+AreLookupsInOrder inputs configs p = AreInOrder inputs configs p.looks.items
 
 -- what a plan of inputs is, from this cache to that: each promise on it by its name, as the clauses of
 -- `plan_upgrade` have them (own)
@@ -40,7 +40,7 @@ pub record IsPlan (o : Options) (inputs : List Input) (configs : List (Vec Confi
   pub never_lower : NeverLowers o p
   pub fixed_point : EachInput o inputs configs IsSettled p
   pub needs : EachInput o inputs configs NeedsAsBefore p
-  pub missing : TellsMissing o inputs p
-  pub looks : HasLooks inputs configs old new p
-  pub looks_in_order : LooksInOrder inputs configs p
-  pub lists : Tells p
+  pub missing : ListsMissing o inputs p
+  pub looks : HasLookups inputs configs old new p
+  pub looks_in_order : AreLookupsInOrder inputs configs p
+  pub lists : HasRowLists p

@@ -15,7 +15,7 @@ pub data Source : Type 0 where
   at_folder : Source
 
 -- an entry that gets a row
-pub record Seen : Type 0 where
+pub record RowEntry : Type 0 where
   -- the crate's name, and the other name that the manifest gives it
   pub name : List ℕ
   pub rename : Option (List ℕ)
@@ -42,8 +42,8 @@ abbrev pub version_of : EntryRecord → Option (List ℕ)
 version_of r = option_and_then origin_version r.origin
 
 -- the entry that has this source
-abbrev pub seen_at : Entry → EntryRecord → Source → Seen
-seen_at e r source = record {
+abbrev pub row_entry_at : Entry → EntryRecord → Source → RowEntry
+row_entry_at e r source = record {
   name = r.name;
   rename = r.rename;
   place = e.place;
@@ -53,13 +53,13 @@ seen_at e r source = record {
 }
 
 -- the entry of this record, where it gets a row
-abbrev pub seen_by : Entry → EntryRecord → Option Seen
-seen_by e r = option_map (seen_at e r) (source_of r)
+abbrev pub row_entry_of : Entry → EntryRecord → Option RowEntry
+row_entry_of e r = option_map (row_entry_at e r) (source_of r)
 
 -- the entry, where it gets a row
-abbrev pub with_row : Entry → Option Seen
-with_row e = option_and_then (seen_by e) e.said
+abbrev pub with_row : Entry → Option RowEntry
+with_row e = option_and_then (row_entry_of e) e.said
 
 -- the entries that get a row, in order; from which folder their paths are meant plays no part in it
-abbrev pub seen : Tree → List Seen
+abbrev pub seen : Tree → List RowEntry
 seen t = filter_map with_row (entries t [])

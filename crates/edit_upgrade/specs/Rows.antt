@@ -9,8 +9,8 @@ use Rattle.edit_version.specs.Requirement.{plain_text}
 use Rattle.edit_version.specs.Selection.{IsCompatible, IsLatest}
 use Rattle.edit_sources.specs.Configured.{HasAddress}
 use Rattle.edit_sources.specs.declared.config.Config.{Config}
-use Rattle.edit_upgrade.specs.Decision.{Case, Choice, decision, newer, or_else, when}
-use Rattle.edit_upgrade.specs.Records.{Seen, Source, at_folder, at_registry, at_repository}
+use Rattle.edit_upgrade.specs.Decision.{Case, Choice, decision, newer, or_else, some_if}
+use Rattle.edit_upgrade.specs.Records.{RowEntry, Source, at_folder, at_registry, at_repository}
 use Rattle.edit_upgrade.specs.Words.{is_excluded, requirement_for}
 use Rattle.edit_report.specs.declared.row.Change.{Change}
 use Rattle.edit_upgrade.specs.declared.decision.options.Options.{Options}
@@ -40,7 +40,7 @@ pub record Line : Type 0 where
 
 -- the case of an entry with this requirement: whether it is excluded, and which requirement `--package`
 -- gives, depend on its name
-abbrev pub case_for : Options → Seen → List ℕ → Option Parts → Option Parts → Case
+abbrev pub case_for : Options → RowEntry → List ℕ → Option Parts → Option Parts → Case
 case_for o e old near far = record {
   excluded = is_excluded o e.name;
   renamed = is_some e.rename;
@@ -52,7 +52,7 @@ case_for o e old near far = record {
 }
 
 -- the row of an entry: its latest version is the newer one where there is one, else the compatible one
-abbrev pub line_for : ℕ → Seen → List ℕ → Option Parts → Option Parts → Choice → Line
+abbrev pub line_for : ℕ → RowEntry → List ℕ → Option Parts → Option Parts → Choice → Line
 line_for i e old near far choice = record {
   input = i;
   name = e.name;
@@ -67,7 +67,7 @@ line_for i e old near far choice = record {
 }
 
 -- the row is the decision over the greatest of the versions
-pub record IsDecided (input : ℕ) (options : Options) (versions : List Parts) (e : Seen) (old : List ℕ)
+pub record IsDecided (input : ℕ) (options : Options) (versions : List Parts) (e : RowEntry) (old : List ℕ)
     (line : Line) : Type 0 where
   pub near : Option Parts
   pub far : Option Parts
@@ -83,7 +83,7 @@ dash_reason false at_repository = reason.GitSource
 dash_reason false (at_registry named) = reason.GitSource
 
 -- the row of an entry without a requirement: no versions, only a reason
-abbrev pub dashes : ℕ → Options → Seen → Line
+abbrev pub dashes : ℕ → Options → RowEntry → Line
 dashes i o e = record {
   input = i;
   name = e.name;
@@ -98,12 +98,12 @@ dashes i o e = record {
 }
 
 -- the row of an entry with this requirement or none, over these versions
-abbrev pub IsRowOver : ℕ → Options → List Parts → Seen → Option (List ℕ) → Line → Type 0
+abbrev pub IsRowOver : ℕ → Options → List Parts → RowEntry → Option (List ℕ) → Line → Type 0
 IsRowOver i o versions e None line = line ≡ dashes i o e
 IsRowOver i o versions e (Some old) line = IsDecided i o versions e old line
 
 -- the lookup that an entry needs: at its registry's address, for its name
-pub record Needs (configs : List Config) (e : Seen) (address : url.Parts) (name : List ℕ) : Type 0 where
+pub record Needs (configs : List Config) (e : RowEntry) (address : url.Parts) (name : List ℕ) : Type 0 where
   pub named : Option (List ℕ)
   pub source : e.source ≡ at_registry named
   pub has : HasAddress configs named address
@@ -117,19 +117,19 @@ is_elsewhere at_folder = true
 
 -- the versions admitted for an entry: those of its name at its registry's address; none for a git or path
 -- dependency
-pub data AreVersionsFor (s : Basis) (e : Seen) (versions : List Parts) : Type 0 where
+pub data AreVersionsFor (s : Basis) (e : RowEntry) (versions : List Parts) : Type 0 where
   told_there : (address : url.Parts) → Needs s.configs e address e.name
       → versions ≡ s.versions (serialize address) e.name → AreVersionsFor s e versions
   elsewhere : is_elsewhere e.source ≡ true → versions ≡ [] → AreVersionsFor s e versions
 
 -- the row of an entry, over the versions admitted for it
-pub record IsRowBy (s : Basis) (e : Seen) (line : Line) : Type 0 where
+pub record IsRowBy (s : Basis) (e : RowEntry) (line : Line) : Type 0 where
   pub versions : List Parts
   pub offered : AreVersionsFor s e versions
   pub decided : IsRowOver s.input s.options versions e e.old line
 
 -- one row for each entry, in order
-abbrev pub AreDecided : Basis → List Seen → List Line → Type 0
+abbrev pub AreDecided : Basis → List RowEntry → List Line → Type 0
 AreDecided s es lines = AllZip (IsRowBy s) es lines
 
 -- the edit of a row at a place: its new text, where it has a change
@@ -141,8 +141,8 @@ write_at literal line = write_of line.change line.new
     write_of kind text = None
 
 -- the edit of a row at the version literal of its entry; none for an entry without a requirement
-abbrev pub write_on : Seen → Line → Option (Place × List ℕ)
-write_on e line = when (is_some e.old) (write_at e.literal line)
+abbrev pub write_on : RowEntry → Line → Option (Place × List ℕ)
+write_on e line = some_if (is_some e.old) (write_at e.literal line)
 
 -- the edits, with one more in front where there is one
 abbrev pub with_write : Option (Place × List ℕ) → List (Place × List ℕ) → List (Place × List ℕ)
@@ -150,7 +150,7 @@ with_write None ws = ws
 with_write (Some w) ws = w ∷ ws
 
 -- the new texts of the rows with a change, each at the version literal of its entry
-abbrev pub writes : List Seen → List Line → List (Place × List ℕ)
+abbrev pub writes : List RowEntry → List Line → List (Place × List ℕ)
 writes [] lines = []
 writes (e ∷ es) [] = []
 writes (e ∷ es) (line ∷ lines) = with_write (write_on e line) (writes es lines)

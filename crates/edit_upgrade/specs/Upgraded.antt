@@ -14,7 +14,7 @@ use Rattle.edit_upgrade.specs.Inputs.{Setting, outputs_at, rows_of, warnings_of}
 use Rattle.edit_upgrade.specs.Lists.{AreWarnings, Told}
 use Rattle.edit_upgrade.specs.Looks.{told}
 use Rattle.edit_upgrade.specs.Outputs.{HasOutputs}
-use Rattle.edit_upgrade.specs.Records.{Seen, seen}
+use Rattle.edit_upgrade.specs.Records.{RowEntry, seen}
 use Rattle.edit_upgrade.specs.Rows.{Basis, IsRowBy, Line, Needs}
 use Rattle.edit_metadata.specs.declared.input.Input.{Input}
 use Rattle.edit_upgrade.specs.declared.decision.options.Options.{Options}
@@ -30,7 +30,7 @@ basis_of s = record {
 }
 
 -- the row of an entry, over the versions in the lookups made
-abbrev pub IsRow : Setting → Seen → Line → Type 0
+abbrev pub IsRow : Setting → RowEntry → Line → Type 0
 IsRow s e line = IsRowBy (basis_of s) e line
 
 -- the bytes are a manifest, and these are its rows
@@ -40,14 +40,14 @@ pub record HasRows (s : Setting) (bytes : List ℕ) (lines : List Line) : Type 0
   pub decided : AllZip (IsRow s) (seen (view_at form)) lines
 
 -- the entry needs this lookup
-pub record IsNeededFor (configs : List Config) (e : Seen) (address name : List ℕ) : Type 0 where
+pub record IsNeededFor (configs : List Config) (e : RowEntry) (address name : List ℕ) : Type 0 where
   pub registry : url.Parts
   pub needs : Needs configs e registry name
   pub at : address ≡ serialize registry
 
 -- one of the entries needs this lookup
-pub record IsNeededIn (configs : List Config) (es : List Seen) (address name : List ℕ) : Type 0 where
-  pub entry : Seen
+pub record IsNeededIn (configs : List Config) (es : List RowEntry) (address name : List ℕ) : Type 0 where
+  pub entry : RowEntry
   pub among : Contains es entry
   pub needs : IsNeededFor configs entry address name
 

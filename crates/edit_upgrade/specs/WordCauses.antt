@@ -2,26 +2,26 @@
 use Rattle.std.specs.Prelude.{◌≡◌, ◌≢◌, ◌⊎◌, ◌++◌, [], ◌∷◌, ℕ, List, All}
 use Rattle.edit_base.specs.Errors.{IsMemory}
 use Rattle.edit_base.specs.declared.errors.Error.{Error}
-use Rattle.edit_version.specs.CrateWords.{IsRefusedWord}
-use Rattle.edit_upgrade.specs.Words.{IsWord, words_of}
+use Rattle.edit_version.specs.CrateSpecs.{IsInvalidSpec}
+use Rattle.edit_upgrade.specs.Words.{IsPackageArg, words_of}
 use Rattle.edit_upgrade.specs.declared.decision.options.Options.{Options}
 
 -- the first `--package` argument with an error: it has no valid name, its requirement cannot be parsed, or
 -- memory ran out
-pub record StopsAtWord (words : List (List ℕ)) (e : Error) : Type 0 where
+pub record FailsAtPackageArg (words : List (List ℕ)) (e : Error) : Type 0 where
   pub front : List (List ℕ)
   pub word : List ℕ
   pub rest : List (List ℕ)
   pub split : words ≡ front ++ word ∷ rest
-  pub read : All IsWord front
-  pub refused : IsRefusedWord word e
+  pub read : All IsPackageArg front
+  pub refused : IsInvalidSpec word e
 
 -- the error of options: that of a `--package` argument, or out of memory while the excluded names are
 -- collected
 abbrev pub IsOptionCause : Options → Error → Type 0
-IsOptionCause o e = StopsAtWord (words_of o) e ⊎ (IsMemory e × (o.exclude.items ≢ []))
+IsOptionCause o e = FailsAtPackageArg (words_of o) e ⊎ (IsMemory e × (o.exclude.items ≢ []))
 
 -- the error of a plan: that of its options, or, where all `--package` arguments are valid, one with this
 -- cause
-abbrev pub IsRefusedFor : Options → (Error → Type 0) → Error → Type 0
-IsRefusedFor o Cause e = IsOptionCause o e ⊎ (All IsWord (words_of o) × Cause e)
+abbrev pub IsPlanError : Options → (Error → Type 0) → Error → Type 0
+IsPlanError o Cause e = IsOptionCause o e ⊎ (All IsPackageArg (words_of o) × Cause e)

@@ -3,7 +3,7 @@
 use Rattle.std.specs.Prelude.{◌≡◌, ◌==◌, ◌&&◌, ◌||◌, ℕ, List, [], All, Bool, not, Option, None, find, length, map, option_and_then, reverse, string_bytes}
 use Rattle.std.specs.List.{list_any}
 use Rattle.std.specs.Str.{bytes_eq}
-use Rattle.edit_version.specs.CrateWords.{IsReadOrAbsent, unfit, word_name, word_requirement}
+use Rattle.edit_version.specs.CrateSpecs.{IsReadOrAbsent, invalid_chars, spec_name, spec_requirement}
 use Rattle.edit_upgrade.specs.declared.decision.options.Options.{Options}
 
 -- the `--package` arguments, as `serde` and `serde@1.0`
@@ -15,12 +15,12 @@ abbrev pub excluded_of : Options → List (List ℕ)
 excluded_of o = map string_bytes o.exclude.items
 
 -- the argument has this name
-abbrev pub is_word_of : List ℕ → List ℕ → Bool
-is_word_of name word = bytes_eq (word_name word) name
+abbrev pub is_arg_named : List ℕ → List ℕ → Bool
+is_arg_named name word = bytes_eq (spec_name word) name
 
 -- one of these arguments has this name
 abbrev pub is_named : List (List ℕ) → List ℕ → Bool
-is_named words name = list_any (is_word_of name) words
+is_named words name = list_any (is_arg_named name) words
 
 -- an entry of this name is left out: there are `--package` arguments and none has its name, or its name is
 -- excluded
@@ -31,16 +31,16 @@ is_excluded o name =
 
 -- the requirement of the last of these arguments that has this name
 abbrev pub requirement_in : List (List ℕ) → List ℕ → Option (List ℕ)
-requirement_in words name = option_and_then word_requirement (find (is_word_of name) (reverse words))
+requirement_in words name = option_and_then spec_requirement (find (is_arg_named name) (reverse words))
 
 -- the requirement that `--package` gives for this name
 abbrev pub requirement_for : Options → List ℕ → Option (List ℕ)
 requirement_for o name = requirement_in (words_of o) name
 
 -- no argument contains an `@`: the arguments select entries and give no requirement
-abbrev pub WordsSelect : Options → Type 0
-WordsSelect o = All (λ word. word_requirement word ≡ None) (words_of o)
+abbrev pub HasOnlyNames : Options → Type 0
+HasOnlyNames o = All (λ word. spec_requirement word ≡ None) (words_of o)
 
 -- a valid argument: a crate name, with no requirement or one that can be parsed
-abbrev pub IsWord : List ℕ → Type 0
-IsWord word = (unfit (word_name word) ≡ []) × IsReadOrAbsent (word_requirement word)
+abbrev pub IsPackageArg : List ℕ → Type 0
+IsPackageArg word = (invalid_chars (spec_name word) ≡ []) × IsReadOrAbsent (spec_requirement word)

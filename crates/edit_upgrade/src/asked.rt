@@ -3,25 +3,25 @@ ghost use Rattle.std.specs.Prelude.{◌≡◌, ℕ, List, option_copied};
 ghost use Rattle.std.specs.BTreeSet.{contains_text};
 ghost use Rattle.std.specs.List.{list_any};
 ghost use Rattle.std.specs.Str.{bytes_eq};
-ghost use Rattle.edit_upgrade.specs.Picks.{has_name, kept_requirement};
+ghost use Rattle.edit_upgrade.specs.PackageSelection.{has_name, last_requirement};
 ghost use Rattle.edit_upgrade.specs.Words.{excluded_of, is_excluded, is_named, requirement_for, words_of};
 
 use crate::decision::options::Options;
-use crate::picks::{Picks, has_name, kept_requirement};
+use crate::picks::{PackageSelection, has_name, last_requirement};
 
 /// The options with their parsed `--package` arguments and the set of excluded names.
 #[derive(Clone, Copy)]
-pub(crate) struct Asked<'a> {
+pub(crate) struct ParsedOptions<'a> {
     pub(crate) options: &'a Options,
-    pub(crate) picks: &'a Picks,
+    pub(crate) picks: &'a PackageSelection,
     ghost named: { (n : List ℕ) → has_name picks.now.words n ≡ is_named (words_of options.now) n },
-    ghost given: { (n : List ℕ) → kept_requirement picks.now.words n ≡ requirement_for options.now n },
+    ghost given: { (n : List ℕ) → last_requirement picks.now.words n ≡ requirement_for options.now n },
     ghost excluded: { (n : List ℕ)
         → contains_text picks.now.excluded n ≡ list_any (bytes_eq n) (excluded_of options.now) },
 }
 
 /// Whether a `--package` argument selects entries of this name.
-pub(crate) fn is_named(asked: Asked<'_>, name: &str) -> bool
+pub(crate) fn is_named(asked: ParsedOptions<'_>, name: &str) -> bool
     ensures { result ≡ is_named (words_of asked.entry.options.now) name.now }
 {
     has_name(&asked.picks.words, name)
@@ -29,7 +29,7 @@ pub(crate) fn is_named(asked: Asked<'_>, name: &str) -> bool
 
 /// Whether entries of this name are excluded, by `--exclude` or because no `--package` argument selects
 /// them.
-pub(crate) fn is_excluded(asked: Asked<'_>, name: &str) -> bool
+pub(crate) fn is_excluded(asked: ParsedOptions<'_>, name: &str) -> bool
     ensures { result ≡ is_excluded asked.entry.options.now name.now }
 {
     if !asked.options.package.is_empty() && !is_named(asked, name) {
@@ -39,8 +39,8 @@ pub(crate) fn is_excluded(asked: Asked<'_>, name: &str) -> bool
 }
 
 /// The requirement that the `--package` arguments give for this name.
-pub(crate) fn requirement_for<'a>(asked: Asked<'a>, name: &str) -> Option<&'a str>
+pub(crate) fn requirement_for<'a>(asked: ParsedOptions<'a>, name: &str) -> Option<&'a str>
     ensures { option_copied result ≡ requirement_for asked.entry.options.now name.now }
 {
-    kept_requirement(&asked.picks.words, name)
+    last_requirement(&asked.picks.words, name)
 }

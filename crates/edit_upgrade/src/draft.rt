@@ -7,22 +7,22 @@ ghost use Rattle.edit_cache.specs.IndexCache.{index_of};
 ghost use Rattle.edit_upgrade.specs.Caches.{LeavesCache, StopsManifest, cache_view};
 ghost use Rattle.edit_upgrade.specs.Drafts.{AddsInput};
 ghost use Rattle.edit_upgrade.specs.Lines.{line_of};
-ghost use Rattle.edit_upgrade.specs.Lists.{Tells, warning_view};
-ghost use Rattle.edit_upgrade.specs.Looked.{AreKept};
-ghost use Rattle.edit_upgrade.specs.Looks.{kept_by};
+ghost use Rattle.edit_upgrade.specs.Lists.{HasRowLists, warning_view};
+ghost use Rattle.edit_upgrade.specs.Looked.{AreAllCached};
+ghost use Rattle.edit_upgrade.specs.Looks.{cached_by};
 ghost use Rattle.edit_upgrade.specs.Missing.{AddsNames};
 ghost use Rattle.edit_upgrade.specs.Outputs.{HasOutputs, IsOnlyOutput};
 ghost use Rattle.edit_upgrade.specs.PairSets.{holds_pair};
-ghost use Rattle.edit_upgrade.specs.PlannedView.{IsShown};
+ghost use Rattle.edit_upgrade.specs.PlannedView.{IsPlannedView};
 ghost use Rattle.edit_upgrade.specs.Upgraded.{IsNeededBy};
 
-use crate::asked::Asked;
+use crate::asked::ParsedOptions;
 use crate::lists::{git_crates, has_incompatible, has_pinned, modified_names};
-use crate::looks::Pairs;
+use crate::looks::PairSet;
 use crate::names::Names;
 use crate::planned::{Planned, plan_input};
 use crate::upgrade::{UpgradePlan, Warning};
-use crate::walk::Books;
+use crate::walk::LookupLog;
 use crate::writes::written;
 use edit_base::CargoResult;
 use edit_cache::IndexCache;
@@ -35,7 +35,7 @@ use std::alloc::{AllocError, Global};
 /// The plan so far: what was computed for the inputs up to now.
 #[derive(Drop)]
 pub(crate) struct Draft {
-    pub(crate) books: Books,
+    pub(crate) books: LookupLog,
     /// The names of entries seen so far that `--package` arguments select.
     pub(crate) known: Names,
     pub(crate) outputs: Vec<Output>,
@@ -53,8 +53,8 @@ impl Draft {
         ensures rows { result.rows.items ≡ [] }
         ensures warnings { result.warnings.items ≡ [] }
     {
-        let books = Books {
-            pairs: Pairs::new(alloc),
+        let books = LookupLog {
+            pairs: PairSet::new(alloc),
             looks: Vec::new(alloc),
         };
         Draft {
@@ -104,7 +104,7 @@ fn add_planned(
     planned: Planned,
     draft: &mut Draft,
 ) -> CargoResult<()>
-    requires { IsShown input.now.bytes.items document.now planned }
+    requires { IsPlannedView input.now.bytes.items document.now planned }
     ensures books { draft.new.books ≡ draft.old.books }
     ensures known { draft.new.known ≡ draft.old.known }
     ensures rows { OnOk result (draft.new.rows.items ≡ draft.old.rows.items ++ planned.rows.items) }
@@ -128,7 +128,7 @@ fn add_planned(
 pub(crate) fn add_input<I: Index>(
     alloc: Global,
     number: usize,
-    asked: Asked<'_>,
+    asked: ParsedOptions<'_>,
     input: &Input,
     document: &Document,
     configs: &[Config],
@@ -136,10 +136,10 @@ pub(crate) fn add_input<I: Index>(
     index: &mut IndexCache<I>,
 ) -> CargoResult<()>
     requires document { document.now.bytes ≡ input.now.bytes.items }
-    requires kept { AreKept (holds_pair draft.old.books.pairs) (kept_by index.old) }
-    ensures kept { OnOk result (AreKept (holds_pair draft.new.books.pairs) (kept_by index.new)) }
+    requires kept { AreAllCached (holds_pair draft.old.books.pairs) (cached_by index.old) }
+    ensures kept { OnOk result (AreAllCached (holds_pair draft.new.books.pairs) (cached_by index.new)) }
     ensures adds { OnOk result (AddsInput number asked.entry.options.now input.now configs.now
-        (I.view (index_of index.old)).gives (kept_by index.old) (kept_by index.new) draft.old draft.new) }
+        (I.view (index_of index.old)).gives (cached_by index.old) (cached_by index.new) draft.old draft.new) }
     ensures known { OnOk result (AddsNames asked.entry.options.now input.now.bytes.items
         (contains_text draft.old.known) (contains_text draft.new.known)) }
     ensures left { LeavesCache (IsNeededBy configs.now input.now.bytes.items)
@@ -158,11 +158,11 @@ pub(crate) fn add_input<I: Index>(
 }
 
 /// The finished plan of a draft that has no rows.
-fn rowless(alloc: Global, draft: Draft, missing: Vec<String>) -> UpgradePlan
+fn finish_without_rows(alloc: Global, draft: Draft, missing: Vec<String>) -> UpgradePlan
     requires { draft.rows.items ≡ [] }
     ensures rows { (result.rows ≡ draft.rows) × (result.looks ≡ draft.books.looks) }
     ensures outputs { (result.outputs ≡ draft.outputs) × (result.warnings ≡ draft.warnings) }
-    ensures lists { Tells result }
+    ensures lists { HasRowLists result }
     ensures missing { result.missing ≡ missing }
 {
     let books = draft.books;
@@ -180,19 +180,19 @@ fn rowless(alloc: Global, draft: Draft, missing: Vec<String>) -> UpgradePlan
 }
 
 /// The finished plan of a draft, with the lists of names derived from its rows.
-pub(crate) fn finished(
+pub(crate) fn finish_plan(
     alloc: Global,
     draft: Draft,
     missing: Vec<String>,
 ) -> CargoResult<UpgradePlan>
     ensures rows { IfOk result (λ p. (p.rows ≡ draft.rows) × (p.looks ≡ draft.books.looks)) }
     ensures outputs { IfOk result (λ p. (p.outputs ≡ draft.outputs) × (p.warnings ≡ draft.warnings)) }
-    ensures lists { IfOk result Tells }
+    ensures lists { IfOk result HasRowLists }
     ensures missing { IfOk result (λ p. p.missing ≡ missing) }
     ensures refused { IfErr result (λ e. IsMemory e × (draft.rows.items ≢ [])) }
 {
     if draft.rows.is_empty() {
-        return Ok(rowless(alloc, draft, missing));
+        return Ok(finish_without_rows(alloc, draft, missing));
     }
     let modified = modified_names(alloc, &draft.rows)?;
     let git_crates = git_crates(alloc, &draft.rows)?;

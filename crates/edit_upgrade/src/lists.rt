@@ -6,12 +6,12 @@ ghost use Rattle.std.specs.Str.{bytes_eq};
 ghost use Rattle.edit_base.specs.Errors.{IsMemory};
 ghost use Rattle.edit_record.specs.RecordViews.{record_view};
 ghost use Rattle.edit_manifest.specs.EntryViews.{entry_view};
-ghost use Rattle.edit_upgrade.specs.Decision.{first_row, unless, when};
+ghost use Rattle.edit_upgrade.specs.Decision.{first_row, unless, some_if};
 ghost use Rattle.edit_upgrade.specs.Lines.{line_of};
-ghost use Rattle.edit_upgrade.specs.Lists.{AreNames, AreWarnings, IsWarningOn, changed_names, git_names, ignored_text, is_git, is_held_incompatible, is_held_pinned, is_unread, kept_unread, unreadable_text, warned, warning_by, warning_view, workspace_text};
+ghost use Rattle.edit_upgrade.specs.Lists.{AreNames, AreWarnings, IsWarningOn, changed_names, git_names, ignored_text, is_git, is_held_incompatible, is_held_pinned, is_unparsed, unparsed_requirement, unreadable_text, warned, warning_by, warning_view, workspace_text};
 ghost use Rattle.edit_upgrade.specs.Records.{source_of};
 
-use crate::asked::{Asked, is_excluded, requirement_for};
+use crate::asked::{ParsedOptions, is_excluded, requirement_for};
 use crate::decision::options::Options;
 use crate::decision::requirement::{Pin, read_pin};
 use crate::names::{Names, add_name};
@@ -102,7 +102,7 @@ pub(crate) fn git_crates(alloc: Global, rows: &[Row]) -> Result<Vec<String>, All
 }
 
 /// The warning about an entry that is ignored for this reason.
-fn ignored_with(alloc: Global, key: &str, why: &str) -> Result<String, AllocError>
+fn format_ignored(alloc: Global, key: &str, why: &str) -> Result<String, AllocError>
     ensures { IfOk result (λ s. string_bytes s ≡ ignored_text key.now why.now) }
 {
     format!(in alloc; "ignoring {key}, unsupported entry: {why}")
@@ -113,7 +113,7 @@ fn ignored_text(alloc: Global, key: &str, error: &Error) -> Result<String, Alloc
     ensures { IfOk result (λ s. (text : List ℕ) × (string_bytes s ≡ ignored_text key.now text)) }
 {
     let why = format!(in alloc; "{error}")?;
-    let text = ignored_with(alloc, key, why.as_str())?;
+    let text = format_ignored(alloc, key, why.as_str())?;
     Ok(text)
 }
 
@@ -133,8 +133,8 @@ fn unreadable_text(alloc: Global, key: &str, old: &str) -> Result<String, AllocE
 
 /// Whether an entry is left unchanged because its requirement cannot be parsed: it is not excluded, and no
 /// `--package` argument replaces the requirement.
-fn stays_unread(options: &Options, excluded: bool, selected: Option<&str>, pin: Pin) -> bool
-    ensures { (far near : Option (List ℕ)) → result ≡ is_unread (first_row excluded
+fn is_left_unparsed(options: &Options, excluded: bool, selected: Option<&str>, pin: Pin) -> bool
+    ensures { (far near : Option (List ℕ)) → result ≡ is_unparsed (first_row excluded
         (unless (is_some (option_copied selected.entry) && pin.pinned && not options.now.pinned)
         (option_copied selected.entry)) pin.readable far near) }
 {
@@ -148,27 +148,27 @@ fn stays_unread(options: &Options, excluded: bool, selected: Option<&str>, pin: 
 }
 
 /// Whether an entry is left unchanged because its requirement `old` cannot be parsed.
-fn keeps_unread(
+fn has_unparsed_requirement(
     alloc: Global,
-    asked: Asked<'_>,
+    asked: ParsedOptions<'_>,
     dependency: &Dependency,
     old: &str,
 ) -> CargoResult<bool>
-    ensures ok { IfOk result (λ b. when b (Some old.now)
-        ≡ kept_unread asked.entry.options.now (record_view dependency.now) old.now) }
+    ensures ok { IfOk result (λ b. some_if b (Some old.now)
+        ≡ unparsed_requirement asked.entry.options.now (record_view dependency.now) old.now) }
     ensures refused { IfErr result IsMemory }
 {
     let name = dependency.name.as_str();
     let pin = read_pin(alloc, dependency.rename.is_some(), old)?;
     let excluded = is_excluded(asked, name);
     let selected = requirement_for(asked, name);
-    Ok(stays_unread(asked.options, excluded, selected, pin))
+    Ok(is_left_unparsed(asked.options, excluded, selected, pin))
 }
 
 /// The warning about an entry whose requirement cannot be parsed and is left unchanged.
 fn requirement_warning(
     alloc: Global,
-    asked: Asked<'_>,
+    asked: ParsedOptions<'_>,
     input: usize,
     key: &str,
     dependency: &Dependency,
@@ -176,14 +176,14 @@ fn requirement_warning(
 ) -> CargoResult<Option<Warning>>
     ensures ok { IfOk result (λ o. option_map warning_view o
         ≡ option_map (λ old. warned input false (unreadable_text key.now old))
-        (option_and_then (kept_unread asked.entry.options.now (record_view dependency.now))
+        (option_and_then (unparsed_requirement asked.entry.options.now (record_view dependency.now))
         (option_map (λ s. s.now) version.entry))) }
     ensures refused { IfErr result IsMemory }
 {
     let Some(old) = version else {
         return Ok(None);
     };
-    if !keeps_unread(alloc, asked, dependency, old)? {
+    if !has_unparsed_requirement(alloc, asked, dependency, old)? {
         return Ok(None);
     }
     Ok(Some(Warning {
@@ -196,7 +196,7 @@ fn requirement_warning(
 /// The warning about an entry that was read as a `Dependency`, where there is one.
 fn record_warning(
     alloc: Global,
-    asked: Asked<'_>,
+    asked: ParsedOptions<'_>,
     input: usize,
     key: &str,
     dependency: &Dependency,
@@ -234,7 +234,7 @@ fn text_of(text: Option<&String>) -> Option<&str>
 /// The warning about an entry of a dependency table, where there is one.
 fn entry_warning(
     alloc: Global,
-    asked: Asked<'_>,
+    asked: ParsedOptions<'_>,
     input: usize,
     entry: &Entry,
 ) -> CargoResult<Option<Warning>>
@@ -256,7 +256,7 @@ fn entry_warning(
 /// The warnings about the entries of a manifest, in the order of the entries.
 pub(crate) fn warnings_on(
     alloc: Global,
-    asked: Asked<'_>,
+    asked: ParsedOptions<'_>,
     input: usize,
     entries: &[Entry],
 ) -> CargoResult<Vec<Warning>>

@@ -5,8 +5,8 @@ ghost use Rattle.edit_base.specs.Errors.{IsMemory};
 ghost use Rattle.edit_sources.specs.Index.{answer_of};
 ghost use Rattle.edit_cache.specs.IndexCache.{index_of};
 ghost use Rattle.url.specs.Parts.{serialize};
-ghost use Rattle.edit_upgrade.specs.Looked.{IsAt, IsLook, IsRefusedAt, IsStep, Leaves};
-ghost use Rattle.edit_upgrade.specs.Looks.{kept_by};
+ghost use Rattle.edit_upgrade.specs.Looked.{IsAt, IsLookupMade, IsLookupError, IsStep, Leaves};
+ghost use Rattle.edit_upgrade.specs.Looks.{cached_by};
 ghost use Rattle.edit_upgrade.specs.PairSets.{holds_pair};
 
 use crate::names::{Names, add_name};
@@ -19,7 +19,7 @@ use std::collections::BTreeMap;
 use url::Url;
 
 /// Pairs of a registry's address and a crate's name, without duplicates.
-pub(crate) type Pairs = BTreeMap<String, Names>;
+pub(crate) type PairSet = BTreeMap<String, Names>;
 
 /// Copies an answer of the index into newly allocated memory.
 fn copied_answer(alloc: Global, answer: Option<&IndexKrate>) -> CargoResult<Option<IndexKrate>>
@@ -42,37 +42,37 @@ fn fetch_one<I: Index>(
     name: &str,
     index: &mut IndexCache<I>,
 ) -> CargoResult<()>
-    ensures kept { OnOk result (IsSome (kept_by index.new (serialize registry.now) name.now)) }
-    ensures given { OnOk result (IfSome (kept_by index.new (serialize registry.now) name.now)
-        (λ a. (kept_by index.old (serialize registry.now) name.now ≡ Some a)
+    ensures kept { OnOk result (IsSome (cached_by index.new (serialize registry.now) name.now)) }
+    ensures given { OnOk result (IfSome (cached_by index.new (serialize registry.now) name.now)
+        (λ a. (cached_by index.old (serialize registry.now) name.now ≡ Some a)
         ⊎ (I.view (index_of index.old)).gives registry.now name.now (Ok a))) }
     ensures others { (a n : List ℕ) → (bytes_eq (serialize registry.now) a && bytes_eq name.now n) ≡ false
-        → kept_by index.new a n ≡ kept_by index.old a n }
+        → cached_by index.new a n ≡ cached_by index.old a n }
     ensures left { Leaves (IsAt (serialize registry.now) name.now)
         (I.view (index_of index.old)).gives (I.view (index_of index.new)).gives
         (I.view (index_of index.old)).faults (I.view (index_of index.new)).faults
-        (kept_by index.old) (kept_by index.new) }
+        (cached_by index.old) (cached_by index.new) }
     ensures refused { IfErr result
-        (λ e. IsMemory e ⊎ ((kept_by index.old (serialize registry.now) name.now ≡ None)
-        × IsRefusedAt (I.view (index_of index.old)).gives registry.now name.now
+        (λ e. IsMemory e ⊎ ((cached_by index.old (serialize registry.now) name.now ≡ None)
+        × IsLookupError (I.view (index_of index.old)).gives registry.now name.now
         (I.view (index_of index.old)).faults (I.view (index_of index.new)).faults e)) }
 {
     index.fetch(alloc, registry, name)
 }
 
 /// The record of a lookup, with the cached answer.
-fn look_of<I: Index>(
+fn record_lookup<I: Index>(
     alloc: Global,
     registry: &Url,
     name: &str,
     index: &IndexCache<I>,
 ) -> CargoResult<Look>
-    requires { IsSome (kept_by index.now (serialize registry.now) name.now) }
+    requires { IsSome (cached_by index.now (serialize registry.now) name.now) }
     ensures at { IfOk result (λ l. serialize l.registry ≡ serialize registry.now) }
     ensures same { IfOk result (λ l. l.registry ≡ registry.now) }
     ensures name { IfOk result (λ l. string_bytes l.name ≡ name.now) }
     ensures kept { IfOk result
-        (λ l. kept_by index.now (serialize registry.now) name.now ≡ Some (answer_of l.answer)) }
+        (λ l. cached_by index.now (serialize registry.now) name.now ≡ Some (answer_of l.answer)) }
     ensures refused { IfErr result IsMemory }
 {
     let answer = copied_answer(alloc, index.shown(registry, name))?;
@@ -84,29 +84,34 @@ fn look_of<I: Index>(
 }
 
 /// Looks up a crate at a registry, and returns the record of the lookup.
-fn one_look<I: Index>(
+fn perform_lookup<I: Index>(
     alloc: Global,
     registry: &Url,
     name: &str,
     index: &mut IndexCache<I>,
 ) -> CargoResult<Look>
-    ensures look { IfOk result (IsLook (serialize registry.now) name.now (I.view (index_of index.old)).gives
-        (kept_by index.old) (kept_by index.new)) }
+    ensures look { IfOk result (IsLookupMade (serialize registry.now) name.now (I.view (index_of index.old)).gives
+        (cached_by index.old) (cached_by index.new)) }
     ensures left { Leaves (IsAt (serialize registry.now) name.now)
         (I.view (index_of index.old)).gives (I.view (index_of index.new)).gives
         (I.view (index_of index.old)).faults (I.view (index_of index.new)).faults
-        (kept_by index.old) (kept_by index.new) }
+        (cached_by index.old) (cached_by index.new) }
     ensures refused { IfErr result
-        (λ e. IsMemory e ⊎ ((kept_by index.old (serialize registry.now) name.now ≡ None)
-        × IsRefusedAt (I.view (index_of index.old)).gives registry.now name.now
+        (λ e. IsMemory e ⊎ ((cached_by index.old (serialize registry.now) name.now ≡ None)
+        × IsLookupError (I.view (index_of index.old)).gives registry.now name.now
         (I.view (index_of index.old)).faults (I.view (index_of index.new)).faults e)) }
 {
     fetch_one(alloc, registry, name, index)?;
-    look_of(alloc, registry, name, index)
+    record_lookup(alloc, registry, name, index)
 }
 
 /// Inserts a pair of address and name, and returns whether the pair was present before.
-fn add_pair(alloc: Global, pairs: &mut Pairs, address: &str, name: &str) -> Result<bool, AllocError>
+fn add_pair(
+    alloc: Global,
+    pairs: &mut PairSet,
+    address: &str,
+    name: &str,
+) -> Result<bool, AllocError>
     ensures had { IfOk result (λ b. b ≡ holds_pair pairs.old address.now name.now) }
     ensures ok { OnOk result ((a n : List ℕ) → holds_pair pairs.new a n
         ≡ (if bytes_eq address.now a && bytes_eq name.now n then true else holds_pair pairs.old a n)) }
@@ -123,31 +128,31 @@ fn add_pair(alloc: Global, pairs: &mut Pairs, address: &str, name: &str) -> Resu
 }
 
 /// Looks up a crate at a registry and records the lookup, unless this plan has done so before.
-pub(crate) fn look_once<I: Index>(
+pub(crate) fn lookup_once<I: Index>(
     alloc: Global,
     registry: &Url,
     name: &str,
-    pairs: &mut Pairs,
+    pairs: &mut PairSet,
     looks: &mut Vec<Look>,
     index: &mut IndexCache<I>,
 ) -> CargoResult<()>
     ensures step { OnOk result (IsStep (serialize registry.now) name.now (I.view (index_of index.old)).gives
-        (kept_by index.old) (kept_by index.new) looks.old.items looks.new.items
+        (cached_by index.old) (cached_by index.new) looks.old.items looks.new.items
         (holds_pair pairs.old) (holds_pair pairs.new)) }
     ensures left { Leaves (IsAt (serialize registry.now) name.now)
         (I.view (index_of index.old)).gives (I.view (index_of index.new)).gives
         (I.view (index_of index.old)).faults (I.view (index_of index.new)).faults
-        (kept_by index.old) (kept_by index.new) }
+        (cached_by index.old) (cached_by index.new) }
     ensures refused { IfErr result
-        (λ e. IsMemory e ⊎ ((kept_by index.old (serialize registry.now) name.now ≡ None)
-        × IsRefusedAt (I.view (index_of index.old)).gives registry.now name.now
+        (λ e. IsMemory e ⊎ ((cached_by index.old (serialize registry.now) name.now ≡ None)
+        × IsLookupError (I.view (index_of index.old)).gives registry.now name.now
         (I.view (index_of index.old)).faults (I.view (index_of index.new)).faults e)) }
 {
     let had = add_pair(alloc, pairs, registry.as_str(), name)?;
     if had {
         return Ok(());
     }
-    let look = one_look(alloc, registry, name, index)?;
+    let look = perform_lookup(alloc, registry, name, index)?;
     looks.push(look)?;
     Ok(())
 }

@@ -8,7 +8,7 @@ ghost use Rattle.edit_manifest.specs.EntryViews.{entry_view};
 ghost use Rattle.edit_upgrade.specs.Missing.{names_in};
 ghost use Rattle.edit_upgrade.specs.Words.{is_named, words_of};
 
-use crate::asked::{Asked, is_named};
+use crate::asked::{ParsedOptions, is_named};
 use crate::names::{Names, add_name};
 use edit_base::CargoResult;
 use edit_manifest::entries::{Entry, Said};
@@ -17,7 +17,7 @@ use std::alloc::{AllocError, Global};
 /// Adds the name of an entry to the set of known names, where a `--package` argument selects it.
 fn add_entry(
     alloc: Global,
-    asked: Asked<'_>,
+    asked: ParsedOptions<'_>,
     entry: &Entry,
     known: &mut Names,
 ) -> Result<(), AllocError>
@@ -38,7 +38,7 @@ fn add_entry(
 /// Adds the names of the entries that `--package` arguments select to the set of known names.
 pub(crate) fn add_names(
     alloc: Global,
-    asked: Asked<'_>,
+    asked: ParsedOptions<'_>,
     found: &[Entry],
     known: &mut Names,
 ) -> Result<(), AllocError>

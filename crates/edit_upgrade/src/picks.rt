@@ -4,9 +4,9 @@ ghost use Rattle.std.specs.BTreeSet.{contains_text};
 ghost use Rattle.std.specs.List.{list_any};
 ghost use Rattle.std.specs.Str.{bytes_eq};
 ghost use Rattle.edit_base.specs.Errors.{IsMemory};
-ghost use Rattle.edit_version.specs.CrateWords.{IsRefusedWord};
-ghost use Rattle.edit_upgrade.specs.Picks.{AddsWord, ArePicks, AreWordsRead, has_name, kept_requirement};
-ghost use Rattle.edit_upgrade.specs.WordCauses.{IsOptionCause, StopsAtWord};
+ghost use Rattle.edit_version.specs.CrateSpecs.{IsInvalidSpec};
+ghost use Rattle.edit_upgrade.specs.PackageSelection.{AddsPackageArg, IsPackageSelection, ArePackageArgs, has_name, last_requirement};
+ghost use Rattle.edit_upgrade.specs.WordCauses.{IsOptionCause, FailsAtPackageArg};
 
 use crate::decision::options::Options;
 use crate::names::{Names, add_name};
@@ -26,7 +26,7 @@ pub(crate) struct Words {
 
 /// The selection by name: the parsed `--package` arguments and the excluded names.
 #[derive(Drop)]
-pub(crate) struct Picks {
+pub(crate) struct PackageSelection {
     pub(crate) words: Words,
     pub(crate) excluded: Names,
 }
@@ -39,8 +39,8 @@ pub(crate) fn has_name(words: &Words, name: &str) -> bool
 }
 
 /// The requirement that the last `--package` argument of this name gives.
-pub(crate) fn kept_requirement<'a>(words: &'a Words, name: &str) -> Option<&'a str>
-    ensures { option_copied result ≡ kept_requirement words.now name.now }
+pub(crate) fn last_requirement<'a>(words: &'a Words, name: &str) -> Option<&'a str>
+    ensures { option_copied result ≡ last_requirement words.now name.now }
 {
     match words.requirements.get(name) {
         Some(Some(req)) => Some(req.as_str()),
@@ -64,9 +64,9 @@ fn add_first(alloc: Global, words: &mut Words, name: &str) -> Result<(), AllocEr
 }
 
 /// Parses one more `--package` argument.
-fn add_word(alloc: Global, words: &mut Words, word: &str) -> CargoResult<()>
-    ensures ok { OnOk result (AddsWord word.now words.old words.new) }
-    ensures refused { IfErr result (IsRefusedWord word.now) }
+fn add_package_arg(alloc: Global, words: &mut Words, word: &str) -> CargoResult<()>
+    ensures ok { OnOk result (AddsPackageArg word.now words.old words.new) }
+    ensures refused { IfErr result (IsInvalidSpec word.now) }
 {
     let CrateSpec { name, version_req } = CrateSpec::resolve(alloc, word)?;
     add_first(alloc, words, name.as_str())?;
@@ -75,16 +75,16 @@ fn add_word(alloc: Global, words: &mut Words, word: &str) -> CargoResult<()>
 }
 
 /// Parses `--package` arguments, in their order.
-fn read_words(alloc: Global, words: &[String]) -> CargoResult<Words>
-    ensures ok { IfOk result (AreWordsRead (map string_bytes words.now)) }
-    ensures refused { IfErr result (StopsAtWord (map string_bytes words.now)) }
+fn parse_package_args(alloc: Global, words: &[String]) -> CargoResult<Words>
+    ensures ok { IfOk result (ArePackageArgs (map string_bytes words.now)) }
+    ensures refused { IfErr result (FailsAtPackageArg (map string_bytes words.now)) }
 {
     let mut read = Words {
         names: Vec::new(alloc),
         requirements: BTreeMap::new(alloc),
     };
     'words: for word in words {
-        add_word(alloc, &mut read, word.as_str())?;
+        add_package_arg(alloc, &mut read, word.as_str())?;
     }
     Ok(read)
 }
@@ -103,11 +103,11 @@ fn name_set(alloc: Global, names: &[String]) -> CargoResult<Names>
 }
 
 /// Parses the `--package` arguments of the options, then collects the excluded names.
-pub(crate) fn picks_of(alloc: Global, options: &Options) -> CargoResult<Picks>
-    ensures ok { IfOk result (ArePicks options.now) }
+pub(crate) fn parse_selection(alloc: Global, options: &Options) -> CargoResult<PackageSelection>
+    ensures ok { IfOk result (IsPackageSelection options.now) }
     ensures refused { IfErr result (IsOptionCause options.now) }
 {
-    let words = read_words(alloc, &options.package)?;
+    let words = parse_package_args(alloc, &options.package)?;
     let excluded = name_set(alloc, &options.exclude)?;
-    Ok(Picks { words, excluded })
+    Ok(PackageSelection { words, excluded })
 }

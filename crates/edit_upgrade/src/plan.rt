@@ -12,21 +12,21 @@ ghost use Rattle.edit_upgrade.specs.Headline.{IsSettled, LatestIsNotLess, Narrow
 ghost use Rattle.edit_metadata.specs.Inputs.{HaveOwnPaths};
 ghost use Rattle.edit_upgrade.specs.Inputs.{EachInput, OutputsInOrder, RowsInOrder, WarningsInOrder};
 ghost use Rattle.edit_upgrade.specs.Lines.{line_of};
-ghost use Rattle.edit_upgrade.specs.Lists.{Tells};
-ghost use Rattle.edit_upgrade.specs.Looked.{AreKept};
-ghost use Rattle.edit_upgrade.specs.Looks.{AddsNeeded, kept_by};
-ghost use Rattle.edit_upgrade.specs.Missing.{AddsNames, AreKnown, TellsMissing};
+ghost use Rattle.edit_upgrade.specs.Lists.{HasRowLists};
+ghost use Rattle.edit_upgrade.specs.Looked.{AreAllCached};
+ghost use Rattle.edit_upgrade.specs.Looks.{AddsNeeded, cached_by};
+ghost use Rattle.edit_upgrade.specs.Missing.{AddsNames, AreKnown, ListsMissing};
 ghost use Rattle.edit_upgrade.specs.PairSets.{holds_pair};
-ghost use Rattle.edit_upgrade.specs.Plans.{HasLooks, IsPlan, LooksInOrder};
-ghost use Rattle.edit_upgrade.specs.WordCauses.{IsRefusedFor};
+ghost use Rattle.edit_upgrade.specs.Plans.{HasLookups, IsPlan, AreLookupsInOrder};
+ghost use Rattle.edit_upgrade.specs.WordCauses.{IsPlanError};
 ghost use Rattle.edit_upgrade.specs.Upgraded.{HasItsOutputs, HasItsRows, HasItsWarnings, IsNeeded, IsNeededBy};
 
-use crate::asked::Asked;
+use crate::asked::ParsedOptions;
 use crate::config_lists::{ConfigLists, list_of};
 use crate::decision::options::Options;
-use crate::draft::{Draft, add_input, finished};
+use crate::draft::{Draft, add_input, finish_plan};
 use crate::missing::unknown;
-use crate::picks::picks_of;
+use crate::picks::parse_selection;
 use crate::upgrade::UpgradePlan;
 use edit_base::CargoResult;
 use edit_cache::IndexCache;
@@ -40,7 +40,7 @@ use std::alloc::Global;
 fn add_read<I: Index>(
     alloc: Global,
     number: usize,
-    asked: Asked<'_>,
+    asked: ParsedOptions<'_>,
     input: &Input,
     document: Option<&Document>,
     configs: &[Config],
@@ -48,10 +48,10 @@ fn add_read<I: Index>(
     index: &mut IndexCache<I>,
 ) -> CargoResult<()>
     requires document { IfSome (option_copied document) (λ d. d.bytes ≡ input.now.bytes.items) }
-    requires kept { AreKept (holds_pair draft.old.books.pairs) (kept_by index.old) }
-    ensures kept { OnOk result (AreKept (holds_pair draft.new.books.pairs) (kept_by index.new)) }
+    requires kept { AreAllCached (holds_pair draft.old.books.pairs) (cached_by index.old) }
+    ensures kept { OnOk result (AreAllCached (holds_pair draft.new.books.pairs) (cached_by index.new)) }
     ensures adds { OnOk result (AddsInput number asked.entry.options.now input.now configs.now
-        (I.view (index_of index.old)).gives (kept_by index.old) (kept_by index.new) draft.old draft.new) }
+        (I.view (index_of index.old)).gives (cached_by index.old) (cached_by index.new) draft.old draft.new) }
     ensures known { OnOk result (AddsNames asked.entry.options.now input.now.bytes.items
         (contains_text draft.old.known) (contains_text draft.new.known)) }
     ensures utf8 { OnOk result (option_copied document.entry ≡ None → IsUtf8 input.now.bytes.items) }
@@ -88,9 +88,9 @@ fn document_at(documents: &[Document], i: usize) -> Option<&Document>
 
 /// Builds the draft of all inputs: over their documents, or, where that list is empty, over documents
 /// parsed from their bytes.
-fn drafted<I: Index>(
+fn plan_each_input<I: Index>(
     alloc: Global,
-    asked: Asked<'_>,
+    asked: ParsedOptions<'_>,
     inputs: &[Input],
     documents: &[Document],
     configs: ConfigLists<'_>,
@@ -100,9 +100,9 @@ fn drafted<I: Index>(
     requires configurations { length (lists_in configs) ≡ length inputs.now }
     requires lists { HasLists configs }
     requires paths { HaveOwnPaths inputs.now }
-    ensures drafted { IfOk result (IsDraft asked.entry.options.now inputs.now (lists_in configs.entry)
+    ensures inputs { IfOk result (IsDraft asked.entry.options.now inputs.now (lists_in configs.entry)
         (I.view (index_of index.old)).gives
-        (kept_by index.old) (kept_by index.new)) }
+        (cached_by index.old) (cached_by index.new)) }
     ensures known { IfOk result (λ d. AreKnown asked.entry.options.now inputs.now (contains_text d.known)) }
     ensures utf8 { OnOk result (documents.now ≡ [] → All (λ x. IsUtf8 x.bytes.items) inputs.now) }
     ensures left { LeavesCache (IsNeeded inputs.now (lists_in configs.entry))
@@ -142,20 +142,20 @@ fn plan_all<I: Index>(
     ensures left { LeavesCache (IsNeeded inputs.now (lists_in configs.entry))
         (cache_view I.view index.old) (cache_view I.view index.new) }
     ensures given { IfErr result (λ e. length documents.now ≡ length inputs.now
-        → IsRefusedFor options.now (StopsDocuments inputs.now (lists_in configs.entry)
+        → IsPlanError options.now (StopsDocuments inputs.now (lists_in configs.entry)
         (cache_view I.view index.old) (cache_view I.view index.new)) e) }
     ensures read { IfErr result (λ e. documents.now ≡ []
-        → IsRefusedFor options.now (StopsInputs inputs.now (lists_in configs.entry)
+        → IsPlanError options.now (StopsInputs inputs.now (lists_in configs.entry)
         (cache_view I.view index.old) (cache_view I.view index.new)) e) }
 {
-    let picks = picks_of(alloc, options)?;
-    let asked = Asked {
+    let picks = parse_selection(alloc, options)?;
+    let asked = ParsedOptions {
         options,
         picks: &picks,
     };
-    let draft = drafted(alloc, asked, inputs, documents, configs, index)?;
+    let draft = plan_each_input(alloc, asked, inputs, documents, configs, index)?;
     let missing = unknown(alloc, &picks.words.names, &draft.known)?;
-    let plan = finished(alloc, draft, missing)?;
+    let plan = finish_plan(alloc, draft, missing)?;
     Ok(plan)
 }
 
@@ -179,7 +179,7 @@ pub fn plan_documents<I: Index>(
     ensures left { LeavesCache (IsNeeded inputs.now configs.now)
         (cache_view I.view index.old) (cache_view I.view index.new) }
     // the first error: that of the options, else that of the first entry of the first input that has one
-    ensures refused { IfErr result (IsRefusedFor options.now (StopsDocuments inputs.now configs.now
+    ensures refused { IfErr result (IsPlanError options.now (StopsDocuments inputs.now configs.now
         (cache_view I.view index.old) (cache_view I.view index.new))) }
 {
     let configs = ConfigLists {
@@ -212,10 +212,10 @@ pub fn plan_shared<I: Index>(
         (cache_view I.view index.old) (cache_view I.view index.new) }
     // the first error: that of the options, else that of the first entry of the first input that has one
     ensures given { IfErr result (λ e. length documents.now ≡ length inputs.now
-        → IsRefusedFor options.now (StopsDocuments inputs.now (chosen_lists lists.now which.now)
+        → IsPlanError options.now (StopsDocuments inputs.now (chosen_lists lists.now which.now)
         (cache_view I.view index.old) (cache_view I.view index.new)) e) }
     ensures read { IfErr result (λ e. documents.now ≡ []
-        → IsRefusedFor options.now (StopsInputs inputs.now (chosen_lists lists.now which.now)
+        → IsPlanError options.now (StopsInputs inputs.now (chosen_lists lists.now which.now)
         (cache_view I.view index.old) (cache_view I.view index.new)) e) }
 {
     let shared = ConfigLists {
@@ -267,20 +267,20 @@ pub fn plan_upgrade<I: Index>(
     // and it needs the same lookups
     ensures needs { IfOk result (EachInput options.now inputs.now configs.now NeedsAsBefore) }
     // the names that `--package` arguments select and that no entry of an input has
-    ensures missing { IfOk result (TellsMissing options.now inputs.now) }
+    ensures missing { IfOk result (ListsMissing options.now inputs.now) }
     // each lookup that is needed, and no other
-    ensures looks { IfOk result (HasLooks inputs.now configs.now
+    ensures looks { IfOk result (HasLookups inputs.now configs.now
         (cache_view I.view index.old) (cache_view I.view index.new)) }
     // in the order of the inputs and of their entries, each at the first entry that needs it
-    ensures looks_in_order { IfOk result (LooksInOrder inputs.now configs.now) }
-    ensures lists { IfOk result Tells }
+    ensures looks_in_order { IfOk result (AreLookupsInOrder inputs.now configs.now) }
+    ensures lists { IfOk result HasRowLists }
     // also on an error the cache gains only answers that the plan needs, as the index gives them
     ensures kept { AddsNeeded (IsNeeded inputs.now configs.now) (I.view (index_of index.old)).gives
-        (kept_by index.old) (kept_by index.new) }
+        (cached_by index.old) (cached_by index.new) }
     ensures index { SameOutcomes (I.view (index_of index.old)).gives (I.view (index_of index.new)).gives }
     ensures faults { (I.view (index_of index.old)).faults ≤ (I.view (index_of index.new)).faults }
     // the first error: that of the options, else that of the first entry of the first input that has one
-    ensures refused { IfErr result (IsRefusedFor options.now (StopsInputs inputs.now configs.now
+    ensures refused { IfErr result (IsPlanError options.now (StopsInputs inputs.now configs.now
         (cache_view I.view index.old) (cache_view I.view index.new))) }
 {
     let documents = Vec::new(alloc);

@@ -7,21 +7,21 @@ ghost use Rattle.edit_upgrade.specs.Caches.{LeavesCache, StopsManifest, cache_vi
 ghost use Rattle.edit_upgrade.specs.Found.{seen_of};
 ghost use Rattle.edit_upgrade.specs.Lines.{line_of};
 ghost use Rattle.edit_upgrade.specs.Lists.{warning_view};
-ghost use Rattle.edit_upgrade.specs.Looked.{AreKept};
-ghost use Rattle.edit_upgrade.specs.Looks.{kept_by};
+ghost use Rattle.edit_upgrade.specs.Looked.{AreAllCached};
+ghost use Rattle.edit_upgrade.specs.Looks.{cached_by};
 ghost use Rattle.edit_upgrade.specs.Missing.{AddsNames};
 ghost use Rattle.edit_upgrade.specs.PairSets.{holds_pair};
-ghost use Rattle.edit_upgrade.specs.PlannedView.{AreSeen, IsShown, IsWalked};
+ghost use Rattle.edit_upgrade.specs.PlannedView.{AreRowEntries, IsPlannedView, IsWalked};
 ghost use Rattle.edit_upgrade.specs.Upgraded.{HasWarnings, IsNeededBy};
 
-use crate::asked::Asked;
+use crate::asked::ParsedOptions;
 use crate::lists::warnings_on;
 use crate::missing::add_names;
 use crate::names::Names;
 use crate::rows::Job;
 use crate::seen::{Entry, with_rows};
 use crate::upgrade::Warning;
-use crate::walk::{Books, walk};
+use crate::walk::{LookupLog, walk};
 use edit_base::CargoResult;
 use edit_cache::cache::IndexCache;
 use edit_document::Document;
@@ -44,19 +44,19 @@ pub(crate) struct Planned {
 fn plan_entries<I: Index>(
     alloc: Global,
     number: usize,
-    asked: Asked<'_>,
+    asked: ParsedOptions<'_>,
     input: &Input,
     entries: &[Entry],
     configs: &[Config],
-    books: &mut Books,
+    books: &mut LookupLog,
     index: &mut IndexCache<I>,
 ) -> CargoResult<Vec<Row>>
-    requires seen { AreSeen input.now.bytes.items (map seen_of entries.now) }
-    requires kept { AreKept (holds_pair books.old.pairs) (kept_by index.old) }
-    ensures kept { OnOk result (AreKept (holds_pair books.new.pairs) (kept_by index.new)) }
+    requires seen { AreRowEntries input.now.bytes.items (map seen_of entries.now) }
+    requires kept { AreAllCached (holds_pair books.old.pairs) (cached_by index.old) }
+    ensures kept { OnOk result (AreAllCached (holds_pair books.new.pairs) (cached_by index.new)) }
     ensures long { IfOk result (λ v. length v.items ≡ length entries.now) }
     ensures walked { IfOk result (λ v. IsWalked number asked.entry.options.now input.now configs.now
-        (I.view (index_of index.old)).gives (kept_by index.old) (kept_by index.new)
+        (I.view (index_of index.old)).gives (cached_by index.old) (cached_by index.new)
         books.old books.new (map line_of v.items)) }
     ensures left { LeavesCache (IsNeededBy configs.now input.now.bytes.items)
         (cache_view I.view index.old) (cache_view I.view index.new) }
@@ -79,20 +79,20 @@ fn plan_entries<I: Index>(
 pub(crate) fn plan_input<I: Index>(
     alloc: Global,
     number: usize,
-    asked: Asked<'_>,
+    asked: ParsedOptions<'_>,
     input: &Input,
     document: &Document,
     configs: &[Config],
     known: &mut Names,
-    books: &mut Books,
+    books: &mut LookupLog,
     index: &mut IndexCache<I>,
 ) -> CargoResult<Planned>
     requires document { document.now.bytes ≡ input.now.bytes.items }
-    requires kept { AreKept (holds_pair books.old.pairs) (kept_by index.old) }
-    ensures kept { OnOk result (AreKept (holds_pair books.new.pairs) (kept_by index.new)) }
-    ensures shown { IfOk result (IsShown input.now.bytes.items document.now) }
+    requires kept { AreAllCached (holds_pair books.old.pairs) (cached_by index.old) }
+    ensures kept { OnOk result (AreAllCached (holds_pair books.new.pairs) (cached_by index.new)) }
+    ensures shown { IfOk result (IsPlannedView input.now.bytes.items document.now) }
     ensures walked { IfOk result (λ p. IsWalked number asked.entry.options.now input.now configs.now
-        (I.view (index_of index.old)).gives (kept_by index.old) (kept_by index.new)
+        (I.view (index_of index.old)).gives (cached_by index.old) (cached_by index.new)
         books.old books.new (map line_of p.rows.items)) }
     ensures warnings { IfOk result (λ p. HasWarnings asked.entry.options.now number
         input.now.bytes.items (map warning_view p.warnings.items)) }
@@ -104,7 +104,7 @@ pub(crate) fn plan_input<I: Index>(
         ⊎ StopsManifest configs.now input.now.bytes.items
         (cache_view I.view index.old) (cache_view I.view index.new) e) }
 {
-    document.has_form();
+    document.lemma_form();
     // the base folder is empty since no row shows the folder of a path dependency
     let found = entries(alloc, "", document)?;
     let warnings = warnings_on(alloc, asked, number, &found)?;

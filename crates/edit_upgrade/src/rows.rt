@@ -10,12 +10,12 @@ ghost use Rattle.url.specs.Parts.{serialize};
 ghost use Rattle.edit_upgrade.specs.Decision.{decision, newer, or_else};
 ghost use Rattle.edit_upgrade.specs.Found.{seen_of, source_view};
 ghost use Rattle.edit_upgrade.specs.Lines.{line_of};
-ghost use Rattle.edit_upgrade.specs.Looks.{Answer, kept_by, versions_in};
+ghost use Rattle.edit_upgrade.specs.Looks.{Answer, cached_by, versions_in};
 ghost use Rattle.edit_upgrade.specs.Offers.{offered};
 ghost use Rattle.edit_upgrade.specs.Rankings.{IsRankingOf};
 ghost use Rattle.edit_upgrade.specs.Rows.{IsDecided, IsRowOver, case_for, dash_reason, dashes, line_for};
 
-use crate::asked::{Asked, is_excluded, requirement_for};
+use crate::asked::{ParsedOptions, is_excluded, requirement_for};
 use crate::decision::decide::decide;
 use crate::decision::offers::{Offer, offer_of};
 use crate::seen::{Entry, Source};
@@ -37,7 +37,7 @@ use url::Url;
 pub(crate) struct Job<'a> {
     /// The index of the manifest among the inputs, from 0.
     pub(crate) number: usize,
-    pub(crate) asked: Asked<'a>,
+    pub(crate) asked: ParsedOptions<'a>,
     pub(crate) rust_version: Option<RustVersion>,
     pub(crate) configs: &'a [Config],
 }
@@ -225,7 +225,7 @@ pub(crate) fn row_for(
 
 /// The row of an entry with a requirement, from the cached answer for its crate, whose versions are ranked
 /// at first use. The versions found for a requirement are cached for further entries that have it.
-fn kept_row_with<I: Index>(
+fn cached_requirement_row<I: Index>(
     alloc: Global,
     job: Job<'_>,
     registry: &Url,
@@ -235,21 +235,21 @@ fn kept_row_with<I: Index>(
 ) -> CargoResult<Row>
     ensures ok { IfOk result (λ r. IsDecided job.entry.number job.entry.asked.options.now
         (versions_in (numbers_in job.entry.rust_version)
-        (kept_by index.new (serialize registry.now) (seen_of entry.now).name))
+        (cached_by index.new (serialize registry.now) (seen_of entry.now).name))
         (seen_of entry.now) old.now (line_of r)) }
     ensures index { index_of index.new ≡ index_of index.old }
-    ensures kept { kept_by index.new ≡ kept_by index.old }
+    ensures kept { cached_by index.new ≡ cached_by index.old }
     ensures refused { IfErr result IsMemory }
 {
     let name = entry.name.as_str();
     let old = Requirement::read(alloc, old)?;
     index.rank_for(alloc, registry, name, &old, job.rust_version)?;
-    let ranked = index.shown_ranking(registry, name);
+    let ranked = index.cached_ranking(registry, name);
     row_with(alloc, job, entry, &old, ranked)
 }
 
 /// The row of an entry, from the cached answer for its crate.
-pub(crate) fn kept_row<I: Index>(
+pub(crate) fn cached_row<I: Index>(
     alloc: Global,
     job: Job<'_>,
     registry: &Url,
@@ -258,14 +258,14 @@ pub(crate) fn kept_row<I: Index>(
 ) -> CargoResult<Row>
     ensures ok { IfOk result (λ r. IsRowOver job.entry.number job.entry.asked.options.now
         (versions_in (numbers_in job.entry.rust_version)
-        (kept_by index.new (serialize registry.now) (seen_of entry.now).name))
+        (cached_by index.new (serialize registry.now) (seen_of entry.now).name))
         (seen_of entry.now) (seen_of entry.now).old (line_of r)) }
     ensures index { index_of index.new ≡ index_of index.old }
-    ensures kept { kept_by index.new ≡ kept_by index.old }
+    ensures kept { cached_by index.new ≡ cached_by index.old }
     ensures refused { IfErr result IsMemory }
 {
     match &entry.old {
-        Some(old) => kept_row_with(alloc, job, registry, entry, old.as_str(), index),
+        Some(old) => cached_requirement_row(alloc, job, registry, entry, old.as_str(), index),
         None => dash_row(alloc, job, entry),
     }
 }

@@ -2,12 +2,12 @@
 ghost use Rattle.std.specs.Prelude.{◌≡◌, IfErr, IfOk, Ok, map, option_and_then, option_map};
 ghost use Rattle.std.specs.List.{filter_map};
 ghost use Rattle.edit_base.specs.Errors.{IsMemory};
-ghost use Rattle.edit_document.specs.Items.{place_seen};
+ghost use Rattle.edit_document.specs.Items.{place_view};
 ghost use Rattle.edit_record.specs.RecordViews.{record_view};
 ghost use Rattle.edit_manifest.specs.EntryViews.{entry_view, literal_by};
 ghost use Rattle.edit_manifest.specs.Entries.{Entry as Found};
 ghost use Rattle.edit_upgrade.specs.Found.{seen_of};
-ghost use Rattle.edit_upgrade.specs.Records.{seen_at, seen_by, with_row};
+ghost use Rattle.edit_upgrade.specs.Records.{row_entry_at, row_entry_of, with_row};
 
 use edit_base::CargoResult;
 use edit_document::Place;
@@ -39,9 +39,9 @@ pub(crate) struct Entry {
 
 /// The entry from its `Dependency` and its place, where it gets a row.
 fn with_record(place: Place, bare: bool, dependency: Dependency) -> Option<Entry>
-    ensures { (e : Found) → e.place ≡ place_seen place.items → e.literal
-        ≡ literal_by bare (place_seen place.items)
-        → option_map seen_of result ≡ seen_by e (record_view dependency) }
+    ensures { (e : Found) → e.place ≡ place_view place.items → e.literal
+        ≡ literal_by bare (place_view place.items)
+        → option_map seen_of result ≡ row_entry_of e (record_view dependency) }
 {
     let Dependency {
         name,
@@ -105,7 +105,7 @@ pub(crate) fn with_rows(
 
 /// The place of the version literal of an entry.
 pub(crate) fn literal_of(alloc: Global, entry: &Entry) -> CargoResult<Place>
-    ensures ok { IfOk result (λ p. place_seen p.items ≡ (seen_of entry.now).literal) }
+    ensures ok { IfOk result (λ p. place_view p.items ≡ (seen_of entry.now).literal) }
     ensures refused { IfErr result IsMemory }
 {
     literal_place(alloc, &entry.place, entry.bare)

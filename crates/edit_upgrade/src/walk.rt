@@ -10,16 +10,16 @@ ghost use Rattle.edit_upgrade.specs.Caches.{LeavesCache, cache_view};
 ghost use Rattle.edit_upgrade.specs.Causes.{IsPassed, StopsAt, StopsFirst};
 ghost use Rattle.edit_upgrade.specs.Found.{seen_of};
 ghost use Rattle.edit_upgrade.specs.Lines.{line_of};
-ghost use Rattle.edit_upgrade.specs.Looked.{AreKept, AreSteps, IsEntryStep};
-ghost use Rattle.edit_upgrade.specs.Looks.{kept_basis, kept_by};
+ghost use Rattle.edit_upgrade.specs.Looked.{AreAllCached, AreSteps, IsEntryStep};
+ghost use Rattle.edit_upgrade.specs.Looks.{cached_basis, cached_by};
 ghost use Rattle.edit_upgrade.specs.PairSets.{holds_pair};
 ghost use Rattle.edit_upgrade.specs.Records.{at_registry};
 ghost use Rattle.edit_upgrade.specs.Rows.{AreDecided, IsRowBy};
 ghost use Rattle.edit_upgrade.specs.Upgraded.{IsNeededFor, IsNeededIn};
 
 use crate::addresses::Addresses;
-use crate::looks::{Pairs, look_once};
-use crate::rows::{Job, kept_row, row_for};
+use crate::looks::{PairSet, lookup_once};
+use crate::rows::{Job, cached_row, row_for};
 use crate::seen::{Entry, Source};
 use crate::upgrade::Look;
 use edit_base::CargoResult;
@@ -30,8 +30,8 @@ use std::alloc::Global;
 
 /// The lookups made for a plan, with the set of their addresses and names.
 #[derive(Drop)]
-pub(crate) struct Books {
-    pub(crate) pairs: Pairs,
+pub(crate) struct LookupLog {
+    pub(crate) pairs: PairSet,
     pub(crate) looks: Vec<Look>,
 }
 
@@ -42,23 +42,23 @@ fn registry_row<I: Index>(
     entry: &Entry,
     registry: Option<&str>,
     addresses: &mut Addresses<'_>,
-    books: &mut Books,
+    books: &mut LookupLog,
     index: &mut IndexCache<I>,
 ) -> CargoResult<Row>
     requires source { (seen_of entry.now).source ≡ at_registry (given registry) }
     requires addresses { AreAddresses job.configs.now addresses.old }
     ensures addresses { OnOk result (AreAddresses job.entry.configs.now addresses.new) }
     ensures step { OnOk result (IsEntryStep job.entry.configs.now (seen_of entry.now)
-        (I.view (index_of index.old)).gives (kept_by index.old) (kept_by index.new)
+        (I.view (index_of index.old)).gives (cached_by index.old) (cached_by index.new)
         books.old.looks.items books.new.looks.items
         (holds_pair books.old.pairs) (holds_pair books.new.pairs)) }
-    ensures row { IfOk result (λ r. IsRowBy (kept_basis job.entry.number job.entry.asked.options.now
-        (numbers_in job.entry.rust_version) job.entry.configs.now (kept_by index.new))
+    ensures row { IfOk result (λ r. IsRowBy (cached_basis job.entry.number job.entry.asked.options.now
+        (numbers_in job.entry.rust_version) job.entry.configs.now (cached_by index.new))
         (seen_of entry.now) (line_of r)) }
     ensures left { LeavesCache (IsNeededFor job.entry.configs.now (seen_of entry.now))
         (cache_view I.view index.old) (cache_view I.view index.new) }
     ensures refused { IfErr result (λ e. IsMemory e
-        ⊎ StopsAt job.entry.configs.now (I.view (index_of index.old)).gives (kept_by index.old)
+        ⊎ StopsAt job.entry.configs.now (I.view (index_of index.old)).gives (cached_by index.old)
         (I.view (index_of index.old)).faults (I.view (index_of index.new)).faults (seen_of entry.now) e) }
 {
     addresses.see(alloc, registry)?;
@@ -66,8 +66,8 @@ fn registry_row<I: Index>(
         unreachable!()
     };
     let name = entry.name.as_str();
-    look_once(alloc, url, name, &mut books.pairs, &mut books.looks, index)?;
-    let row = kept_row(alloc, job, url, entry, index)?;
+    lookup_once(alloc, url, name, &mut books.pairs, &mut books.looks, index)?;
+    let row = cached_row(alloc, job, url, entry, index)?;
     Ok(row)
 }
 
@@ -77,22 +77,22 @@ fn entry_row<I: Index>(
     job: Job<'_>,
     entry: &Entry,
     addresses: &mut Addresses<'_>,
-    books: &mut Books,
+    books: &mut LookupLog,
     index: &mut IndexCache<I>,
 ) -> CargoResult<Row>
     requires addresses { AreAddresses job.configs.now addresses.old }
     ensures addresses { OnOk result (AreAddresses job.entry.configs.now addresses.new) }
     ensures step { OnOk result (IsEntryStep job.entry.configs.now (seen_of entry.now)
-        (I.view (index_of index.old)).gives (kept_by index.old) (kept_by index.new)
+        (I.view (index_of index.old)).gives (cached_by index.old) (cached_by index.new)
         books.old.looks.items books.new.looks.items
         (holds_pair books.old.pairs) (holds_pair books.new.pairs)) }
-    ensures row { IfOk result (λ r. IsRowBy (kept_basis job.entry.number job.entry.asked.options.now
-        (numbers_in job.entry.rust_version) job.entry.configs.now (kept_by index.new))
+    ensures row { IfOk result (λ r. IsRowBy (cached_basis job.entry.number job.entry.asked.options.now
+        (numbers_in job.entry.rust_version) job.entry.configs.now (cached_by index.new))
         (seen_of entry.now) (line_of r)) }
     ensures left { LeavesCache (IsNeededFor job.entry.configs.now (seen_of entry.now))
         (cache_view I.view index.old) (cache_view I.view index.new) }
     ensures refused { IfErr result (λ e. IsMemory e
-        ⊎ StopsAt job.entry.configs.now (I.view (index_of index.old)).gives (kept_by index.old)
+        ⊎ StopsAt job.entry.configs.now (I.view (index_of index.old)).gives (cached_by index.old)
         (I.view (index_of index.old)).faults (I.view (index_of index.new)).faults (seen_of entry.now) e) }
 {
     match &entry.source {
@@ -121,25 +121,25 @@ pub(crate) fn walk<I: Index>(
     alloc: Global,
     job: Job<'_>,
     entries: &[Entry],
-    books: &mut Books,
+    books: &mut LookupLog,
     index: &mut IndexCache<I>,
 ) -> CargoResult<Vec<Row>>
-    requires kept { AreKept (holds_pair books.old.pairs) (kept_by index.old) }
-    ensures kept { OnOk result (AreKept (holds_pair books.new.pairs) (kept_by index.new)) }
+    requires kept { AreAllCached (holds_pair books.old.pairs) (cached_by index.old) }
+    ensures kept { OnOk result (AreAllCached (holds_pair books.new.pairs) (cached_by index.new)) }
     ensures steps { OnOk result (AreSteps job.entry.configs.now (I.view (index_of index.old)).gives
-        (map seen_of entries.now) (kept_by index.old) (kept_by index.new)
+        (map seen_of entries.now) (cached_by index.old) (cached_by index.new)
         books.old.looks.items books.new.looks.items
         (holds_pair books.old.pairs) (holds_pair books.new.pairs)) }
     ensures passed { OnOk result
-        (All (IsPassed job.entry.configs.now (kept_by index.new)) (map seen_of entries.now)) }
-    ensures rows { IfOk result (λ v. AreDecided (kept_basis job.entry.number job.entry.asked.options.now
-        (numbers_in job.entry.rust_version) job.entry.configs.now (kept_by index.new))
+        (All (IsPassed job.entry.configs.now (cached_by index.new)) (map seen_of entries.now)) }
+    ensures rows { IfOk result (λ v. AreDecided (cached_basis job.entry.number job.entry.asked.options.now
+        (numbers_in job.entry.rust_version) job.entry.configs.now (cached_by index.new))
         (map seen_of entries.now) (map line_of v.items)) }
     ensures left { LeavesCache (IsNeededIn job.entry.configs.now (map seen_of entries.now))
         (cache_view I.view index.old) (cache_view I.view index.new) }
     ensures refused { IfErr result (λ e. IsMemory e
         ⊎ StopsFirst job.entry.configs.now (I.view (index_of index.old)).gives
-        (kept_by index.old) (kept_by index.new)
+        (cached_by index.old) (cached_by index.new)
         (I.view (index_of index.old)).faults (I.view (index_of index.new)).faults
         (map seen_of entries.now) e) }
 {

@@ -2,8 +2,8 @@
 ghost use Rattle.std.specs.Prelude.{◌≡◌, ◌++◌, [], IfErr, IfOk, MatchOption, OnOk, length, map, option_to_list, string_bytes};
 ghost use Rattle.edit_base.specs.Errors.{IsMemory};
 ghost use Rattle.edit_syntax.specs.Grammar.{Text};
-ghost use Rattle.edit_document.specs.Ranges.{edits_seen};
-ghost use Rattle.edit_tree.specs.Shown.{ShowsTree};
+ghost use Rattle.edit_document.specs.Ranges.{edit_views};
+ghost use Rattle.edit_tree.specs.DocumentViews.{ShowsTree};
 ghost use Rattle.edit_upgrade.specs.Outputs.{IsRewritten};
 ghost use Rattle.edit_tree.specs.Tree.{view_at};
 ghost use Rattle.edit_upgrade.specs.Found.{seen_of};
@@ -19,7 +19,7 @@ use std::alloc::Global;
 
 /// The edit of the version literal of an entry, where its row has a change.
 fn edit_for(alloc: Global, entry: &Entry, row: &Row) -> CargoResult<Option<(Place, String)>>
-    ensures ok { IfOk result (λ o. edits_seen (option_to_list o)
+    ensures ok { IfOk result (λ o. edit_views (option_to_list o)
         ≡ with_write (write_on (seen_of entry.now) (line_of row.now)) []) }
     ensures refused { IfErr result IsMemory }
 {
@@ -43,8 +43,8 @@ fn push_edit(
     entry: &Entry,
     row: &Row,
 ) -> CargoResult<()>
-    ensures ok { OnOk result (edits_seen edits.new.items
-        ≡ edits_seen edits.old.items
+    ensures ok { OnOk result (edit_views edits.new.items
+        ≡ edit_views edits.old.items
         ++ with_write (write_on (seen_of entry.now) (line_of row.now)) []) }
     ensures refused { IfErr result IsMemory }
 {
@@ -66,7 +66,7 @@ pub(crate) fn edits_of(
 ) -> CargoResult<Vec<(Place, String)>>
     requires { length rows.now ≡ length entries.now }
     ensures ok { IfOk result
-        (λ es. edits_seen es.items ≡ writes (map seen_of entries.now) (map line_of rows.now)) }
+        (λ es. edit_views es.items ≡ writes (map seen_of entries.now) (map line_of rows.now)) }
     ensures refused { IfErr result IsMemory }
 {
     let mut edits = Vec::new(alloc);
@@ -96,7 +96,7 @@ pub(crate) fn written(
     if edits.is_empty() {
         return Ok(None);
     }
-    document.has_form();
+    document.lemma_form();
     let text = document.with_literals(alloc, &edits)?;
     Ok(Some(text))
 }

@@ -1,4 +1,4 @@
--- Build metadata plays no part in what a requirement admits, nor in what raising it gives.
+-- Build metadata affects neither what a requirement matches nor how it is upgraded.
 use Rattle.std.proofs.Common.{◌≡◌, ◌++◌, ◌∷◌, [], List, ℕ, Ok, Err, Option, Some, None, length, map, refl, ap, ◌∙◌, sym, append-nil}
 use Rattle.std.specs.Prelude.{◌==◌, ◌&&◌, ◌||◌, Bool, not, Result, nat_lt}
 use Rattle.std.specs.List.{list_all, list_any}
@@ -13,7 +13,7 @@ use Rattle.semver.specs.Parse.{Held, Parts, req_of, version_parts}
 use Rattle.semver.specs.declared.error.Error as semver_error
 use Rattle.semver.proofs.Grammar.{version_parts-complete, version_parts-sound}
 use Rattle.edit_version.specs.Admits.{accepts, accepts_by, admits, agrees, caret_after, is_given, is_greater, is_less, is_same, minor_beyond, names_pre, tilde_patch}
-use Rattle.edit_version.specs.Requirement.{cut, led_as, plain_text, raise, raise_all, raise_read, raised, requirement_text, unless_same}
+use Rattle.edit_version.specs.Requirement.{cut, match_caret, plain_text, raise, upgrade_all, upgrade_parsed, raised, requirement_text, unless_same}
 use Rattle.edit_version.proofs.Cuts.{cut-before, plain_text-build, plain_text-no_plus}
 use Rattle.edit_version.proofs.Orders.{SameVersion}
 
@@ -25,14 +25,14 @@ raised-same : (u v : Parts) → SameVersion u v → (c : Held) → raised u c �
 raised-same u v s c = rw (s.0, s.1, s.2, s.3) refl
 
 all-same : (text : List ℕ) (u v : Parts) → SameVersion u v → (cs : List Held) (o : Option Held)
-    → raise_all text u cs o ≡ raise_all text v cs o
+    → upgrade_all text u cs o ≡ upgrade_all text v cs o
 all-same text u v s cs (Some d) = refl
 all-same text u v s cs None =
-    ap (λ (f : Held → Held). unless_same text (led_as text (requirement_text (map f cs))))
+    ap (λ (f : Held → Held). unless_same text (match_caret text (requirement_text (map f cs))))
     (λ i c. raised-same u v s c i)
 
 read-same : (text : List ℕ) (u v : Parts) → SameVersion u v → (r : Result (List Held) semver_error.Error)
-    → raise_read text u r ≡ raise_read text v r
+    → upgrade_parsed text u r ≡ upgrade_parsed text v r
 read-same text u v s (Err e) = refl
 read-same text u v s (Ok []) = refl
 read-same text u v s (Ok (c ∷ cs)) = all-same text u v s (c ∷ cs) _

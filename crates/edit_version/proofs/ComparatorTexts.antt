@@ -1,4 +1,4 @@
--- What is written is read: the text of a comparator, and of a list of them, reads back.
+-- Parsing the text of a comparator, or of a list of them, gives it back.
 use Rattle.std.proofs.Common.{◌≡◌, ◌<◌, ◌+◌, ◌%◌, ◌^◌, ◌++◌, ◌∷◌, [], List, ℕ, Ok, Option, Some, None, Bool, true, false, length, refl, ap, ◌∙◌, sym, subst, arith, inl, inr}
 use Rattle.std.specs.Prelude.{Result, if◌then◌else◌, ◌==◌, ◌&&◌}
 use Rattle.std.specs.Char.{is_ascii_digit}

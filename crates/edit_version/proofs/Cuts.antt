@@ -15,7 +15,7 @@ use Rattle.semver.specs.Parse.{Held, Parts, req_of, version_parts}
 use Rattle.semver.specs.declared.Op.TheVariants as op
 use Rattle.semver.proofs.Grammar.{version_parts-sound}
 use Rattle.edit_version.specs.Laws.{IsPlainRequirement, holds_plus}
-use Rattle.edit_version.specs.Requirement.{after_patch, cut, dotted, led_as, plain_text, requirement_text, starts_with_caret, star, unsigned_text}
+use Rattle.edit_version.specs.Requirement.{after_patch, cut, dotted, match_caret, plain_text, requirement_text, starts_with_caret, star, unsigned_text}
 use Rattle.edit_version.proofs.Narrows.{left_of, right_of}
 use Rattle.edit_version.proofs.ComparatorReadings.{IsWritable, caret-number, reads-unsigned-all}
 
@@ -141,7 +141,7 @@ plain_text-plain p v =
     (dotted (Some p.2) ++ (after_patch (Some p.2) p.3 ++ star op.Caret (Some p.2)))) [] v.0 in
     let bare : starts_with_caret (plain_text p) ≡ false =
     ap (λ (x : List ℕ). starts_with_caret x) (sym (plain_text-caret p)) ∙ digit in
-    let led : led_as (plain_text p) (requirement_text (as_caret p ∷ [])) ≡ plain_text p =
+    let led : match_caret (plain_text p) (requirement_text (as_caret p ∷ [])) ≡ plain_text p =
     rw bare (plain_text-caret p) in
     let self : pointwise nat_eq (plain_text p) (plain_text p) ≡ true =
     nat_list_eq_equiv.refl (plain_text p) in

@@ -1,4 +1,4 @@
--- Where a `-` stands in a requirement: it is read with a patch number.
+-- A `-` in a requirement is parsed as part of a comparator with a patch number.
 use Rattle.std.proofs.Common.{◌≡◌, ◌<◌, ◌+◌, ◌%◌, ◌^◌, ◌++◌, ◌∷◌, [], List, ℕ, zero, suc, Ok, Option, Some, None, Bool, true, false, length, refl, ap, ◌∙◌, sym, subst, arith, inl, inr}
 use Rattle.std.specs.Prelude.{◌==◌, ◌||◌, Result, is_some}
 use Rattle.std.specs.Fmt.{decimal}

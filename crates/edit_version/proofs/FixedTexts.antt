@@ -1,4 +1,4 @@
--- A raised requirement reads back as its comparators, and raising it again changes nothing.
+-- An upgraded requirement parses to its comparators, and upgrading it again changes nothing.
 use Rattle.std.proofs.Common.{◌≡◌, ◌<◌, ◌≤◌, ◌^◌, ◌++◌, ◌∷◌, [], List, ℕ, Ok, Err, Option, Some, None, true, false, length, map, refl, ap, ◌∙◌, sym, subst, arith, inl, inr}
 use Rattle.std.specs.Prelude.{Result, ◌⊎◌, find, nat_eq}
 use Rattle.std.specs.Cmp.Lexicographic.{nat_list_eq_equiv, pointwise}
@@ -12,7 +12,7 @@ use Rattle.semver.specs.declared.error.Error.{Error}
 use Rattle.semver.specs.declared.Op.{Op}
 use Rattle.semver.specs.declared.Op.TheVariants as op
 use Rattle.edit_version.specs.Laws.{IsVersion}
-use Rattle.edit_version.specs.Requirement.{Nothing, Text, after_patch, comparator_text, dotted, is_inequality, led_as, more_text, raise, raise_all, raise_read, raised, raised_pre, renumbered, requirement_text, sign, star, starts_with_caret, unless_same, without_caret}
+use Rattle.edit_version.specs.Requirement.{Nothing, Text, after_patch, comparator_text, dotted, is_inequality, match_caret, more_text, raise, upgrade_all, upgrade_parsed, raised, raised_pre, renumbered, requirement_text, sign, star, starts_with_caret, unless_same, without_caret}
 use Rattle.edit_version.proofs.ComparatorReadings.{IsSmall, IsWritable, caret-number, read_pre, reads-all, reads-unsigned-all, tidy}
 use Rattle.edit_version.proofs.Shapes.{IsShaped, req-shape}
 
@@ -137,7 +137,7 @@ once-of op.Caret n w rest fits = caret-number n w rest fits
 once-of op.Wildcard n w rest fits = rw (without-none _ (caret-number n w rest fits))
     (caret-number n w rest fits)
 
-led-self : (xs : List ℕ) → led_as xs xs ≡ xs
+led-self : (xs : List ℕ) → match_caret xs xs ≡ xs
 led-self xs = elim (cases_Bool (starts_with_caret xs)) [
   | inl same ↦ rw same refl
   | inr other ↦ rw other (without-none xs other)
@@ -145,8 +145,8 @@ led-self xs = elim (cases_Bool (starts_with_caret xs)) [
 
 -- a text that leads as an old one did leads as itself
 led-again : (old : List ℕ) (c : Held) (cs : List Held) → c.1 < 2 ^ 64
-    → led_as (led_as old (requirement_text (c ∷ cs))) (requirement_text (c ∷ cs))
-    ≡ led_as old (requirement_text (c ∷ cs))
+    → match_caret (match_caret old (requirement_text (c ∷ cs))) (requirement_text (c ∷ cs))
+    ≡ match_caret old (requirement_text (c ∷ cs))
 led-again old c cs fits =
     let rest = dotted c.2 ++ (dotted c.3 ++ (after_patch c.3 c.4 ++ star c.0 c.3)) in
     elim (cases_Bool (starts_with_caret old)) [
@@ -160,7 +160,7 @@ led-again old c cs fits =
 -- the raised text reads as its comparators
 led-reads : (old : List ℕ) (c : Held) (cs : List Held) → IsWritable c → AllByRecursion IsWritable cs
     → length cs ≤ 31
-    → req_of (led_as old (requirement_text (c ∷ cs))) ≡ Ok (map tidy (c ∷ cs))
+    → req_of (match_caret old (requirement_text (c ∷ cs))) ≡ Ok (map tidy (c ∷ cs))
 led-reads old c cs w all le =
     let rest = dotted c.2 ++ (dotted c.3 ++ (after_patch c.3 c.4 ++ star c.0 c.3)) in
     elim (cases_Bool (starts_with_caret old)) [
@@ -176,7 +176,7 @@ led-reads old c cs w all le =
 -- a text that was raised has comparators, none of which is an inequality
 abbrev pub IsRaised : List ℕ → Parts → List ℕ → Held → List Held → Type 0
 IsRaised text v t c cs = (req_of text ≡ Ok (c ∷ cs)) × (find (λ d. is_inequality d.0) (c ∷ cs) ≡ None)
-    × (t ≡ led_as text (requirement_text (map (raised v) (c ∷ cs))))
+    × (t ≡ match_caret text (requirement_text (map (raised v) (c ∷ cs))))
 
 unless-read : (text new t : List ℕ) → unless_same text new ≡ Text t → t ≡ new
 unless-read text new t h = elim (cases_Bool (pointwise nat_eq new text)) [
@@ -185,13 +185,13 @@ unless-read text new t h = elim (cases_Bool (pointwise nat_eq new text)) [
 ]
 
 all-read : (text : List ℕ) (v : Parts) (t : List ℕ) (cs : List Held) (o : Option Held)
-    → raise_all text v cs o ≡ Text t
-    → (o ≡ None) × (t ≡ led_as text (requirement_text (map (raised v) cs)))
+    → upgrade_all text v cs o ≡ Text t
+    → (o ≡ None) × (t ≡ match_caret text (requirement_text (map (raised v) cs)))
 all-read text v t cs None h = (refl, unless-read text _ t h)
 all-read text v t cs (Some d) h = cc h
 
 read-raised : (text : List ℕ) (v : Parts) (t : List ℕ) (r : Result (List Held) Error) → req_of text ≡ r
-    → raise_read text v r ≡ Text t
+    → upgrade_parsed text v r ≡ Text t
     → (c : Held) × (cs : List Held) × IsRaised text v t c cs
 read-raised text v t (Err e) same h = cc h
 read-raised text v t (Ok []) same h = cc h
@@ -221,8 +221,8 @@ pub raised-fixed : (text : List ℕ) (v : Parts) (t : List ℕ) (c : Held) (cs :
 raised-fixed text v t c cs w h =
     let r = raised-reads text v t c cs w h in
     let none = none-again (map (raised v) (c ∷ cs)) r.1 in
-    let same : led_as t (requirement_text (map (raised v) (c ∷ cs))) ≡ t =
-    subst (λ (x : List ℕ). led_as x (requirement_text (map (raised v) (c ∷ cs))) ≡ x) (sym h.2)
+    let same : match_caret t (requirement_text (map (raised v) (c ∷ cs))) ≡ t =
+    subst (λ (x : List ℕ). match_caret x (requirement_text (map (raised v) (c ∷ cs))) ≡ x) (sym h.2)
     (led-again text (raised v c) (map (raised v) cs) r.1.0.major) in
     let self : pointwise nat_eq t t ≡ true = nat_list_eq_equiv.refl t in
     rw (r.0, none, req-again v c cs, same, self) refl

@@ -1,4 +1,4 @@
--- The operators and the `-` of a raised requirement, and the least version that it admits.
+-- The operators and the `-` of an upgraded requirement, and the least version that it matches.
 use Rattle.std.proofs.Common.{◌≡◌, ◌<◌, ◌^◌, ◌++◌, ◌∷◌, [], List, ℕ, Option, Some, None, Bool, true, false, length, map, refl, ap, ◌∙◌, sym, subst, arith, inl, inr}
 use Rattle.std.specs.Prelude.{◌⊎◌, ◌==◌, ◌&&◌, ◌||◌, not, nat_lt, find, is_some}
 use Rattle.std.specs.Fmt.{decimal}
@@ -14,7 +14,7 @@ use Rattle.semver.specs.declared.Op.{Op}
 use Rattle.semver.specs.declared.Op.TheVariants as op
 use Rattle.edit_version.specs.Admits.{accepts, pre_reaches}
 use Rattle.edit_version.specs.Laws.{holds_dash, precedence}
-use Rattle.edit_version.specs.Requirement.{after_patch, comparator_text, dotted, is_inequality, led_as, more_text, raised, raised_pre, renumbered, requirement_text, sign, star, starts_with_caret, unsigned_text, without_caret}
+use Rattle.edit_version.specs.Requirement.{after_patch, comparator_text, dotted, is_inequality, match_caret, more_text, raised, raised_pre, renumbered, requirement_text, sign, star, starts_with_caret, unsigned_text, without_caret}
 use Rattle.edit_version.proofs.Dashes.{dash-append, decimal-no_dash}
 use Rattle.edit_version.proofs.FixedTexts.{none-first}
 use Rattle.edit_version.proofs.Narrows.{left_of, pre-self, right_of}
@@ -128,19 +128,19 @@ without-dash (b ∷ rest) = elim (cases_Bool (b == 94)) [
   | inr other ↦ rw other refl
 ]
 
-led-dash : (old new : List ℕ) → holds_dash (led_as old new) ≡ holds_dash new
+led-dash : (old new : List ℕ) → holds_dash (match_caret old new) ≡ holds_dash new
 led-dash old new = elim (cases_Bool (starts_with_caret old)) [
   | inl same ↦ rw same refl
   | inr other ↦ rw other (without-dash new)
 ]
 
 -- a raised text has a dash where a comparator has a patch number and the version a pre-release
-pub raised_text-dash : (old : List ℕ) (v : Parts) (c : Held) (cs : List Held)
+pub upgraded_text-dash : (old : List ℕ) (v : Parts) (c : Held) (cs : List Held)
     → AllByRecursion IsShaped (c ∷ cs)
     → AllByRecursion IsWritable (map (raised v) (c ∷ cs))
-    → holds_dash (led_as old (requirement_text (map (raised v) (c ∷ cs))))
+    → holds_dash (match_caret old (requirement_text (map (raised v) (c ∷ cs))))
     ≡ (list_any (λ d. is_some d.3) (c ∷ cs) && not (length v.3 == 0))
-raised_text-dash old v c cs s w =
+upgraded_text-dash old v c cs s w =
     led-dash old (requirement_text (map (raised v) (c ∷ cs)))
     ∙ dash-append (comparator_text (raised v c)) (more_text (map (raised v) cs))
     ∙ rw (one-dash v c s.0 w.0, more-dash v cs s.1 w.1) (spread (is_some c.3) _ _)

@@ -1,4 +1,4 @@
--- Entries that are kept, the greatest of them, and their versions.
+-- Entries that qualify, the greatest of them, and their versions.
 use Rattle.std.proofs.Common.{◌≡◌, ◌++◌, ◌∷◌, [], List, Option, Some, None, Bool, true, false, refl, ap, ◌∙◌, sym, inl, inr}
 use Rattle.std.specs.Prelude.{All, is_some, unwrap_or}
 use Rattle.std.specs.Cmp.{IsTotalOrder, on_total}

@@ -1,4 +1,4 @@
--- The greatest kept entry of a list with one entry more.
+-- The greatest entry that qualifies, after one more entry.
 use Rattle.std.proofs.Common.{◌≡◌, ◌++◌, ◌∷◌, [], ◌<◌, ◌≤◌, ◌+◌, ℕ, length, take, drop, get_or, List, Bool, Option, Some, None, true, false, refl, ap, subst, ◌∙◌, sym, append_assoc, inl, inr}
 use Rattle.std.specs.Prelude.{All, map}
 use Rattle.std.specs.Ordering.{is_le, is_lt, ordering_reverse}

@@ -1,8 +1,8 @@
--- How a text of characters joined by commas grows.
+-- The text of characters joined by commas, after one more.
 use Rattle.std.proofs.Common.{◌≡◌, ◌<◌, ◌+◌, ◌++◌, ◌∷◌, [], List, ℕ, length, take, get_or, ap, refl, ◌∙◌, sym, append_assoc, append-nil}
 use Rattle.std.specs.Prelude.{codes, encode_utf8}
 use Rattle.std.proofs.lemmas.List.{take_more}
-use Rattle.edit_version.specs.CrateWords.{after_comma}
+use Rattle.edit_version.specs.CrateSpecs.{after_comma}
 
 after_comma-append : (cs ds : List ℕ) → after_comma (cs ++ ds) ≡ after_comma cs ++ after_comma ds
 after_comma-append [] ds = refl

@@ -1,11 +1,11 @@
--- What it says of an entry that it is kept.
+-- What it means for an entry to qualify.
 use Rattle.std.proofs.Common.{◌≡◌, List, ℕ, Option, Some, None, Ok, Err, Bool, true, false, refl, ap, ◌∙◌, sym, inl, inr}
 use Rattle.std.specs.Prelude.{Result, if◌then◌else◌, option_map}
 use Rattle.std.specs.Result.{result_ok}
 use Rattle.std.proofs.lemmas.Bool.{cases_Bool}
 use Rattle.semver.specs.Parse.{Parts, version_parts}
 use Rattle.semver.specs.declared.error.Error.{Error}
-use Rattle.edit_version.specs.Admissible.{admissible, asked_rust, candidate_in, if_fits, if_passes, is_too_new, kept_in, version_in}
+use Rattle.edit_version.specs.Admissible.{admissible, minimum_rust, candidate_in, if_fits, if_passes, is_too_new, qualifying_in, version_in}
 use Rattle.edit_version.specs.IndexEntry.{IndexEntry}
 use Rattle.edit_version.specs.ReadVersion.{version_read}
 use Rattle.edit_version.specs.RustVersions.{Numbers}
@@ -50,15 +50,15 @@ pub admissible-version : (rust : Option Numbers) (e : IndexEntry) (v : Parts) �
     → version_in e ≡ Some v
 admissible-version rust e v h =
     let f = fits-some rust (candidate_in e) v h in
-    candidate-some e.yanked (asked_rust e) (version_in e) f.0 f.1 ∙ ap (λ (w : Parts). Some w) f.2
+    candidate-some e.yanked (minimum_rust e) (version_in e) f.0 f.1 ∙ ap (λ (w : Parts). Some w) f.2
 
 -- a kept entry is admissible, and its version passes the test
 pub kept-admissible : (rust : Option Numbers) (test : Parts → Bool) (e : IndexEntry) (v : Parts)
-    → kept_in rust test e ≡ Some v
+    → qualifying_in rust test e ≡ Some v
     → (admissible rust e ≡ Some v) × (test v ≡ true)
 kept-admissible rust test e v h = passes-some test (admissible rust e) v h
 
 -- and its version is that of its text
 pub kept-version : (rust : Option Numbers) (test : Parts → Bool) (e : IndexEntry) (v : Parts)
-    → kept_in rust test e ≡ Some v → version_in e ≡ Some v
+    → qualifying_in rust test e ≡ Some v → version_in e ≡ Some v
 kept-version rust test e v h = admissible-version rust e v (kept-admissible rust test e v h).0

@@ -1,4 +1,4 @@
--- A version that was written into a requirement is the greatest again, over the same versions.
+-- The version that a requirement was upgraded to is selected again among the same versions.
 use Rattle.std.proofs.Common.{◌≡◌, ◌<◌, ◌∷◌, [], List, ℕ, Ok, Some, true, false, length, refl, ap, ◌∙◌, sym, subst, arith, inl, inr}
 use Rattle.std.specs.Prelude.{All, Result}
 use Rattle.std.specs.Ordering.{is_ge}

@@ -4,7 +4,7 @@ pub mod ComparatorTexts
 pub mod ComparatorReadings
 pub mod Shapes
 pub mod RaiseLemmas
--- The laws of raising
+-- The laws of upgrading a requirement
 pub mod FixedTexts
 pub mod Narrows
 pub mod ReachLaws
@@ -15,7 +15,7 @@ pub mod Cuts
 pub mod NoPlus
 pub mod Outcomes
 pub mod UpgradeLaws
--- What versions are admitted, and the greatest of them
+-- The versions that a requirement matches, and the greatest of them
 pub mod MatchLemmas
 pub mod Greatests
 pub mod Orders
@@ -24,7 +24,7 @@ pub mod Builds
 pub mod Lands
 pub mod Kept
 pub mod GreatestEntries
--- Increments and words
+-- Increments and crate specifications
 pub mod Steps
 mod JoinedTexts
 -- Worked examples

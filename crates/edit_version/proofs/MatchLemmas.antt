@@ -1,4 +1,4 @@
--- What `semver` calls a match is what `admits` says.
+-- `matches` of `semver` agrees with `admits`.
 use Rattle.std.proofs.Common.{◌≡◌, ◌∷◌, [], List, ℕ, Option, Some, None, Bool, true, false, refl, ◌∙◌, arith, inl, inr}
 use Rattle.std.specs.Prelude.{◌==◌, ◌&&◌, ◌||◌, nat_lt, nat_le, not, if◌then◌else◌, map}
 use Rattle.std.specs.Ordering.{is_gt, is_lt}

@@ -1,4 +1,4 @@
--- A raised requirement admits no more than the old one, where that admits the version.
+-- An upgraded requirement matches no more than the old one, where that matches the version.
 use Rattle.std.proofs.Common.{◌≡◌, ◌∷◌, [], List, ℕ, Option, Some, None, Bool, true, false, refl, ap, ◌∙◌, sym, subst, arith, inl, inr}
 use Rattle.std.specs.Prelude.{◌⊎◌, ◌==◌, ◌&&◌, ◌||◌, nat_lt, nat_le, nat_eq, not, if◌then◌else◌}
 use Rattle.std.specs.Ordering.{is_ge, ordering_reverse}

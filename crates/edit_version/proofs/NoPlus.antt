@@ -1,4 +1,4 @@
--- A text that raising writes has no `+`, so cutting leaves it as it is.
+-- The text of an upgraded requirement has no `+`, so cutting at a `+` does not change it.
 use Rattle.std.proofs.Common.{◌≡◌, ◌++◌, ◌∷◌, [], List, ℕ, Option, Some, None, true, false, map, refl, ap, ◌∙◌, sym, inl, inr, append-nil}
 use Rattle.std.specs.Prelude.{◌==◌}
 use Rattle.std.specs.Fmt.{decimal}
@@ -8,7 +8,7 @@ use Rattle.semver.specs.Grammar.{IsValid, is_pre_release}
 use Rattle.semver.specs.Parse.{Held, Parts}
 use Rattle.semver.specs.declared.Op.{Op}
 use Rattle.semver.specs.declared.Op.TheVariants as op
-use Rattle.edit_version.specs.Requirement.{Text, after_patch, comparator_text, cut, dotted, led_as, more_text, raise, raised, requirement_text, sign, star, starts_with_caret, plain_text, unsigned_text, without_caret}
+use Rattle.edit_version.specs.Requirement.{Text, after_patch, comparator_text, cut, dotted, match_caret, more_text, raise, raised, requirement_text, sign, star, starts_with_caret, plain_text, unsigned_text, without_caret}
 use Rattle.edit_version.proofs.Cuts.{cut-before, decimal-no_plus, plain_text-no_plus, plus-append, pre-no_plus}
 use Rattle.edit_version.proofs.FixedTexts.{raised-read, raised-reads}
 use Rattle.edit_version.proofs.ComparatorReadings.{IsSmall, IsWritable}
@@ -74,7 +74,7 @@ without-none (b ∷ rest) h = elim (cases_Bool (b == 94)) [
   | inr other ↦ rw other h
 ]
 
-led-none : (old xs : List ℕ) → holds_plus xs ≡ false → holds_plus (led_as old xs) ≡ false
+led-none : (old xs : List ℕ) → holds_plus xs ≡ false → holds_plus (match_caret old xs) ≡ false
 led-none old xs h = elim (cases_Bool (starts_with_caret old)) [
   | inl same ↦ rw same h
   | inr other ↦ rw other (without-none xs h)

@@ -1,4 +1,4 @@
--- Which versions are offered beside those that a requirement admits.
+-- Which versions are allowed besides those that a requirement matches.
 use Rattle.std.proofs.Common.{◌≡◌, ◌<◌, List, ℕ, Bool, true, false, length, refl, ◌∙◌, sym, arith, inl, inr, eqb-true}
 use Rattle.std.specs.Prelude.{◌⊎◌, ◌==◌, ◌||◌, IsTrue}
 use Rattle.std.proofs.lemmas.Bool.{cases_Bool, or_right}

@@ -1,4 +1,5 @@
--- The full order of versions is total and tells them apart; what follows for the greatest of a list.
+-- The full order of versions is total, and equal versions are identical; consequences for the greatest of a
+-- list.
 use Rattle.std.proofs.Common.{◌≡◌, ◌++◌, ◌∷◌, List, Option, Some, None, Bool, true, length, drop, refl, ap, ◌∙◌, sym}
 use Rattle.std.specs.Prelude.{All}
 use Rattle.std.specs.Ordering.{is_ge, is_le, ordering_reverse, ordering_then}

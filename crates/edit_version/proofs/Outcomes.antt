@@ -1,4 +1,4 @@
--- The laws of `specs/Laws.antt`, for the text that stands after a requirement was raised.
+-- The laws of `specs/Laws.antt` for the text after a requirement is upgraded.
 use Rattle.std.proofs.Common.{◌≡◌, ◌<◌, ◌^◌, ◌∷◌, [], List, ℕ, Ok, Err, Option, Some, None, Bool, true, false, refl, ap, ◌∙◌, sym, subst, arith, inl, inr}
 use Rattle.std.specs.Prelude.{◌⊎◌, ◌==◌, ◌&&◌, ◌↔◌, not, IsTrue, All, IsOk, Result, find, is_some, length, map, nat_eq}
 use Rattle.std.specs.Cmp.Lexicographic.{pointwise}
@@ -13,10 +13,10 @@ use Rattle.semver.proofs.Grammar.{version_parts-sound}
 use Rattle.semver.proofs.Numerals.{ok-value}
 use Rattle.edit_version.specs.Admits.{admits}
 use Rattle.edit_version.specs.Laws.{Admits, AdmitsNoLower, CanReach, HasThreeNumbers, IsNarrower, IsReadable, IsRelease, IsSettled, IsVersion, KeepsForm, holds_dash}
-use Rattle.edit_version.specs.Requirement.{Nothing, Text, is_inequality, led_as, raise, raise_all, raise_read, raised, requirement_text, unless_same}
+use Rattle.edit_version.specs.Requirement.{Nothing, Text, is_inequality, match_caret, raise, upgrade_all, upgrade_parsed, raised, requirement_text, unless_same}
 use Rattle.edit_version.specs.Selection.{admits_read, is_admitted}
 use Rattle.edit_version.proofs.Dashes.{req-dash}
-use Rattle.edit_version.proofs.Forms.{least-all, operators-same, raised_text-dash}
+use Rattle.edit_version.proofs.Forms.{least-all, operators-same, upgraded_text-dash}
 use Rattle.edit_version.proofs.FixedTexts.{IsRaised, raised-fixed, raised-read, raised-reads}
 use Rattle.edit_version.proofs.Narrows.{left_of, narrows}
 use Rattle.edit_version.proofs.ReachLaws.{keeps, reaches-plain, reaches-three}
@@ -63,8 +63,9 @@ unless-same-read text new h = elim (cases_Bool (pointwise nat_eq new text)) [
   | inr other ↦ cc (rw other at h)
 ]
 
-all-nothing : (text : List ℕ) (v : Parts) (cs : List Held) (o : Option Held) → raise_all text v cs o ≡ Nothing
-    → (o ≡ None) × (text ≡ led_as text (requirement_text (map (raised v) cs)))
+all-nothing : (text : List ℕ) (v : Parts) (cs : List Held) (o : Option Held)
+    → upgrade_all text v cs o ≡ Nothing
+    → (o ≡ None) × (text ≡ match_caret text (requirement_text (map (raised v) cs)))
 all-nothing text v cs None h = (refl, unless-same-read text _ h)
 all-nothing text v cs (Some d) h = cc h
 
@@ -74,7 +75,7 @@ IsOutcome text v t = ((req_of text ≡ Ok []) × (t ≡ text))
     ⊎ ((c : Held) × (cs : List Held) × IsRaised text v t c cs)
 
 pub read-nothing : (text : List ℕ) (v : Parts) (r : Result (List Held) semver_error.Error) → req_of text ≡ r
-    → raise_read text v r ≡ Nothing
+    → upgrade_parsed text v r ≡ Nothing
     → IsOutcome text v text
 read-nothing text v (Err e) same h = cc h
 read-nothing text v (Ok []) same h = inl (same, refl)
@@ -166,7 +167,7 @@ form-of text v t w (inr r) =
       (r.0 ∷ r.1, _, r.2.0, read.0, operators-same v (r.0 ∷ r.1)),
       λ d.
           let three = req-dash text (r.0 ∷ r.1) r.2.0 d in
-          let whole = raised_text-dash text v r.0 r.1 shape.0 read.1 in
+          let whole = upgraded_text-dash text v r.0 r.1 shape.0 read.1 in
           let same : holds_dash t ≡ not (length v.3 == 0) = ap holds_dash r.2.2 ∙ whole ∙
           ap (λ b. b && not (length v.3 == 0)) three in
           dash-iff t v.3 same,
@@ -192,7 +193,7 @@ release-no_dash old v t w (inl none) plain = elim (cases_Bool (holds_dash t)) [
 release-no_dash old v t w (inr r) plain =
     let shape = req-shape old (r.0 ∷ r.1) r.2.0 in
     let read = raised-reads old v t r.0 r.1 w r.2 in
-    let whole = raised_text-dash old v r.0 r.1 shape.0 read.1 in
+    let whole = upgraded_text-dash old v r.0 r.1 shape.0 read.1 in
     let none : not (length v.3 == 0) ≡ false = rw plain refl in
     let last : (list_any (λ d. is_some d.3) (r.0 ∷ r.1) && false) ≡ false =
     and-false (list_any (λ d. is_some d.3) (r.0 ∷ r.1)) in

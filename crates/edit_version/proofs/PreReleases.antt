@@ -1,4 +1,4 @@
--- A comparator with a pre-release was read from a text with a `-`.
+-- A comparator with a pre-release comes from a text with a `-`.
 use Rattle.std.proofs.Common.{◌≡◌, ◌<◌, ◌++◌, ◌∷◌, [], List, ℕ, zero, suc, Ok, Option, Some, None, Bool, true, false, length, take, refl, ap, ◌∙◌, sym, subst, arith, append_assoc, inl, inr}
 use Rattle.std.specs.Prelude.{◌⊎◌, ◌==◌, ◌||◌, Result, not}
 use Rattle.std.specs.Fmt.{decimal}

@@ -1,4 +1,4 @@
--- What the reader's answer and the tests on it say of `raise`.
+-- What the results of the parser and the tests on them mean for `raise`.
 use Rattle.std.proofs.Common.{◌≡◌, ◌∷◌, [], List, ℕ, Ok, Option, Some, None, true, false, map, refl, ap, ◌∙◌, sym, inl, inr}
 use Rattle.std.specs.Prelude.{find, option_copied}
 use Rattle.std.specs.Borrow.{Bor}
@@ -8,7 +8,7 @@ use Rattle.std.specs.Prelude.{nat_eq, length, ◌==◌}
 use Rattle.semver.specs.Identifiers.{comparator_view}
 use Rattle.semver.specs.Parse.{Held, Parts, req_of}
 use Rattle.semver.specs.declared.Comparator.{Comparator}
-use Rattle.edit_version.specs.Requirement.{Nothing, Text, Unsupported, is_inequality, led_as, raise, raised, requirement_text, unless_same}
+use Rattle.edit_version.specs.Requirement.{Nothing, Text, Unsupported, is_inequality, match_caret, raise, raised, requirement_text, unless_same}
 
 -- what a comparator shows, where there is one
 abbrev pub view_of : Option Comparator → Option Held
@@ -39,7 +39,7 @@ raise_unsupported text v cs ds x h e f = raise_bad text v cs x h
 raise_fine : (text : List ℕ) (v : Parts) (cs : List Comparator) → req_of text ≡ Ok (map comparator_view cs)
     → (length cs == 0) ≡ false → find (λ c. is_inequality c.op) cs ≡ None
     → raise text v ≡ unless_same text
-    (led_as text (requirement_text (map (raised v) (map comparator_view cs))))
+    (match_caret text (requirement_text (map (raised v) (map comparator_view cs))))
 raise_fine text v [] h e f = cc e
 raise_fine text v (c ∷ cs) h e f = rw (h, find-view (c ∷ cs), f) refl
 
@@ -48,12 +48,12 @@ pub raise_text : (text : List ℕ) (v : Parts) (cs ds es : List Comparator) (out
     → req_of text ≡ Ok (map comparator_view cs)
     → (length cs == 0) ≡ false → ds ≡ cs → None ≡ find (λ c. is_inequality c.op) ds
     → es ≡ cs → out ≡ requirement_text (map (raised v) (map comparator_view es))
-    → raise text v ≡ unless_same text (led_as text out)
+    → raise text v ≡ unless_same text (match_caret text out)
 raise_text text v cs ds es out h e d f g o =
     raise_fine text v cs h e (sym (f ∙ ap (λ l. find (λ c. is_inequality c.op) l) d))
-    ∙ ap (λ l. unless_same text (led_as text (requirement_text (map (raised v) (map comparator_view l)))))
+    ∙ ap (λ l. unless_same text (match_caret text (requirement_text (map (raised v) (map comparator_view l)))))
     (sym g)
-    ∙ ap (λ t. unless_same text (led_as text t)) (sym o)
+    ∙ ap (λ t. unless_same text (match_caret text t)) (sym o)
 
 -- a reference that is not there
 pub copied_none : (r : Option (Bor Comparator)) → ((x : Bor Comparator) → r ≡ Some x → ⊥)

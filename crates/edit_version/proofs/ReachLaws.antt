@@ -1,4 +1,4 @@
--- A raised requirement admits the version it was raised to, and goes on admitting what it admitted.
+-- An upgraded requirement matches the version it was upgraded to, and still matches what it matched.
 use Rattle.std.proofs.Common.{◌≡◌, ◌∷◌, [], List, ℕ, Option, Some, None, Bool, true, false, refl, ap, ◌∙◌, sym, subst, arith, inl, inr}
 use Rattle.std.specs.Prelude.{◌⊎◌, ◌==◌, ◌&&◌, ◌||◌, nat_lt, nat_eq, not}
 use Rattle.std.specs.Ordering.{is_ge}

@@ -1,4 +1,4 @@
--- Lemmas on increments.
+-- Increments of versions.
 use Rattle.std.proofs.Common.{◌≡◌, ◌<◌, ◌+◌, ◌^◌, List, ℕ, Ok, Err, Option, Some, None, true, false, refl, subst, arith, rules, inl, inr, length, lt-ltb, ltb-true}
 use Rattle.std.specs.Prelude.{Result, nat_lt}
 use Rattle.std.specs.Str.Parse.{ParsesUnsigned, digits_value}

@@ -1,4 +1,4 @@
--- How the text of a list of comparators grows, and what a `^` that leads a text is.
+-- The text of a list of comparators after one more, and texts with a leading `^`.
 use Rattle.std.proofs.Common.{◌≡◌, ◌<◌, ◌+◌, ◌++◌, ◌∷◌, [], List, ℕ, length, take, get_or, map, refl, ap, ◌∙◌, sym, append_assoc, append-nil, inl, inr}
 use Rattle.std.specs.Prelude.{codes, ◌==◌}
 use Rattle.std.proofs.lemmas.Bool.{cases_Bool, eqb-true}

@@ -1,11 +1,11 @@
--- The laws of `specs/Laws.antt`, for what a call that raises a requirement answers.
+-- The laws of `specs/Laws.antt` for the results of a call that upgrades a requirement.
 use Rattle.std.proofs.Common.{◌≡◌, List, ℕ, Ok, Err, Option, Some, None, false, refl, inr}
 use Rattle.std.specs.Prelude.{IfOk, IfSome, Result, String, string_bytes}
 use Rattle.std.specs.declared.alloc.Global.{Global}
 use Rattle.semver.specs.Parse.{Parts, req_of}
 use Rattle.edit_base.specs.declared.errors.Error.{Error}
 use Rattle.edit_version.specs.Laws.{Admits, AdmitsNoLower, CanReach, KeepsForm, IsNarrower, IsRelease, IsSettled, IsVersion, holds_plus, text_after}
-use Rattle.edit_version.specs.Refusals.{IsAnswer}
+use Rattle.edit_version.specs.RequirementErrors.{IsAnswer}
 use Rattle.edit_version.specs.Requirement.{raise}
 use Rattle.edit_version.proofs.FixedTexts.{raised-read}
 use Rattle.edit_version.proofs.NoPlus.{raised-no_plus}

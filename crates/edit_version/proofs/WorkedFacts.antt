@@ -1,4 +1,4 @@
--- Worked rows of raising a requirement, as the definition computes them.
+-- Examples of upgraded requirements, computed by the definition.
 use Rattle.std.proofs.Common.{◌≡◌, [], refl}
 use Rattle.std.specs.Prelude.{codes}
 use Rattle.std.specs.Fmt.{digits}

@@ -1,5 +1,4 @@
--- Worked rows: requirements that cannot be raised, pre-releases and carets; what increments and build
--- metadata make of a version.
+-- Examples: requirements that cannot be upgraded, pre-releases and carets; increments and build metadata.
 use Rattle.std.proofs.Common.{◌≡◌, ◌-◌, ◌^◌, [], None, Some, refl}
 use Rattle.std.specs.Prelude.{codes}
 use Rattle.std.specs.Fmt.{digits}

@@ -16,8 +16,8 @@ abbrev pub version_in : IndexEntry → Option Parts
 version_in e = version_read e.version
 
 -- the Rust version that an entry asks for, none where it asks for none or for what is no Rust version
-abbrev pub asked_rust : IndexEntry → Option Numbers
-asked_rust e = option_and_then rust_of e.rust_version
+abbrev pub minimum_rust : IndexEntry → Option Numbers
+minimum_rust e = option_and_then rust_of e.rust_version
 
 -- whether the Rust version that is asked for is above the given one, where there are both
 abbrev pub is_too_new : Option Numbers → Option Numbers → Bool
@@ -27,7 +27,7 @@ is_too_new asked given = false
 -- what is read of an entry that is not yanked and whose version is readable: its version, and the Rust
 -- version that it asks for
 abbrev pub candidate_in : IndexEntry → Option (Parts × Option Numbers)
-candidate_in e = if e.yanked then None else option_map (λ v. (v, asked_rust e)) (version_in e)
+candidate_in e = if e.yanked then None else option_map (λ v. (v, minimum_rust e)) (version_in e)
 
 -- the version, where its Rust version is not too new
 abbrev pub if_fits : Option Numbers → Option (Parts × Option Numbers) → Option Parts
@@ -48,12 +48,12 @@ if_passes test None = None
 if_passes test (Some v) = if test v then Some v else None
 
 -- the version of an entry that is admissible and whose version passes a test
-abbrev pub kept_in : Option Numbers → (Parts → Bool) → IndexEntry → Option Parts
-kept_in rust test e = if_passes test (admissible rust e)
+abbrev pub qualifying_in : Option Numbers → (Parts → Bool) → IndexEntry → Option Parts
+qualifying_in rust test e = if_passes test (admissible rust e)
 
 -- whether an entry is so
 abbrev pub is_kept : Option Numbers → (Parts → Bool) → IndexEntry → Bool
-is_kept rust test e = is_some (kept_in rust test e)
+is_kept rust test e = is_some (qualifying_in rust test e)
 
 -- the order of entries by their versions, an unreadable one standing as 0.0.0 (own)
 abbrev pub entry_order : IndexEntry → IndexEntry → Ordering

@@ -34,7 +34,7 @@ IsRaisedOrAtEnd c old new (Err (error.NumberAtEnd major minor patch)) =
 IsRaisedOrAtEnd c old new (Err _) = ⊥
 
 -- build metadata outside its grammar is refused as such, where memory lasts (own)
-abbrev pub IsUnreadBuild : List ℕ → Error → Type 0
-IsUnreadBuild text (error.InvalidMetadata s) = (is_build text ≡ false) × (string_bytes s ≡ text)
-IsUnreadBuild text error.Memory = Unit {0}
-IsUnreadBuild text _ = ⊥
+abbrev pub IsInvalidBuild : List ℕ → Error → Type 0
+IsInvalidBuild text (error.InvalidMetadata s) = (is_build text ≡ false) × (string_bytes s ≡ text)
+IsInvalidBuild text error.Memory = Unit {0}
+IsInvalidBuild text _ = ⊥

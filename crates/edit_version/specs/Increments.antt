@@ -62,10 +62,10 @@ abbrev pub is_text : List ℕ → List ℕ → Bool
 is_text a b = pointwise nat_eq a b
 
 -- whether a word is that of a phase after this one (own)
-abbrev pub is_behind : Phase → List ℕ → Bool
-is_behind phase.Alpha w = is_text w (codes "beta") || is_text w (codes "rc")
-is_behind phase.Beta w = is_text w (codes "rc")
-is_behind phase.Rc w = false
+abbrev pub is_later_phase : Phase → List ℕ → Bool
+is_later_phase phase.Alpha w = is_text w (codes "beta") || is_text w (codes "rc")
+is_later_phase phase.Beta w = is_text w (codes "rc")
+is_later_phase phase.Rc w = false
 
 -- a pre-release of a phase, as `alpha.1` (SemVer 2.0.0, item 9)
 abbrev pub numbered : Phase → ℕ → List ℕ
@@ -91,7 +91,7 @@ number_after pre =
 abbrev pub next_of : Phase → Parts → List ℕ → Option ℕ → Change
 next_of p v w None = Refused Scheme
 next_of p v w (Some n) =
-    if is_behind p w then Refused (Behind p)
+    if is_later_phase p w then Refused (Behind p)
     else (if is_text w (word p) then if_fits (n + 1) (v.0, v.1, v.2, numbered p (n + 1), v.4)
     else To (v.0, v.1, v.2, numbered p 1, v.4))
 

@@ -5,11 +5,11 @@ pub mod VersionOrder
 pub mod Greatest
 pub mod Selection
 pub mod RustVersions
-pub mod Refusals
+pub mod RequirementErrors
 pub mod Increments
 pub mod Phases
 pub mod Changed
-pub mod CrateWords
+pub mod CrateSpecs
 pub mod IndexEntry
 pub mod Admissible
 pub mod Candidates

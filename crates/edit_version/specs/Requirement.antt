@@ -75,7 +75,8 @@ abbrev pub raised_pre : Op → List ℕ → List ℕ → List ℕ
 raised_pre op.Wildcard own pre = own
 raised_pre o own pre = pre
 
--- a comparator with the version's numbers where it has numbers, and the version's pre-release
+-- the comparator upgraded to a version: the version's numbers where it has numbers, and the version's
+-- pre-release unless it is a wildcard
 abbrev pub raised : Parts → Held → Held
 raised v c = (c.0, v.0, renumbered c.2 v.1, renumbered c.3 v.2, raised_pre c.0 c.4 v.3)
 
@@ -98,38 +99,38 @@ without_caret [] = []
 without_caret (b ∷ rest) = if b == 94 then rest else b ∷ rest
 
 -- a new text leads with `^` only where the old one does
-abbrev pub led_as : List ℕ → List ℕ → List ℕ
-led_as old new = if starts_with_caret old then new else without_caret new
+abbrev pub match_caret : List ℕ → List ℕ → List ℕ
+match_caret old new = if starts_with_caret old then new else without_caret new
 
 -- what raising a requirement to a version gives
-pub data Raised : Type 0 where
+pub data UpgradeResult : Type 0 where
   -- `semver` does not read the text
-  Unread : Raised
+  Unread : UpgradeResult
   -- there is no other text
-  Nothing : Raised
+  Nothing : UpgradeResult
   -- the first comparator that cannot be raised
-  Unsupported : Held → Raised
+  Unsupported : Held → UpgradeResult
   -- the new text
-  Text : List ℕ → Raised
+  Text : List ℕ → UpgradeResult
 
 -- the new text, where it is another
-abbrev pub unless_same : List ℕ → List ℕ → Raised
+abbrev pub unless_same : List ℕ → List ℕ → UpgradeResult
 unless_same old new = if pointwise nat_eq new old then Nothing else Text new
 
 -- the first comparator that cannot be raised, or the text of all raised
-abbrev pub raise_all : List ℕ → Parts → List Held → Option Held → Raised
-raise_all text v cs (Some c) = Unsupported c
-raise_all text v cs None = unless_same text (led_as text (requirement_text (map (raised v) cs)))
+abbrev pub upgrade_all : List ℕ → Parts → List Held → Option Held → UpgradeResult
+upgrade_all text v cs (Some c) = Unsupported c
+upgrade_all text v cs None = unless_same text (match_caret text (requirement_text (map (raised v) cs)))
 
 -- raising what was read of a text
-abbrev pub raise_read : List ℕ → Parts → Result (List Held) Error → Raised
-raise_read text v (Err e) = Unread
-raise_read text v (Ok []) = Nothing
-raise_read text v (Ok (c ∷ cs)) = raise_all text v (c ∷ cs) (find (λ d. is_inequality d.0) (c ∷ cs))
+abbrev pub upgrade_parsed : List ℕ → Parts → Result (List Held) Error → UpgradeResult
+upgrade_parsed text v (Err e) = Unread
+upgrade_parsed text v (Ok []) = Nothing
+upgrade_parsed text v (Ok (c ∷ cs)) = upgrade_all text v (c ∷ cs) (find (λ d. is_inequality d.0) (c ∷ cs))
 
 -- a requirement raised to a version
-abbrev pub raise : List ℕ → Parts → Raised
-raise text v = raise_read text v (req_of text)
+abbrev pub raise : List ℕ → Parts → UpgradeResult
+raise text v = upgrade_parsed text v (req_of text)
 
 -- the text of a version without its build metadata (SemVer 2.0.0, items 2 and 9)
 abbrev pub plain_text : Parts → List ℕ

@@ -1,7 +1,7 @@
 //! What is read of an index's entries, and the greatest of them.
 ghost use Rattle.std.specs.Prelude.{◌≡◌, None, Some, Ok, not, IfOk, IfErr, map, option_map};
 ghost use Rattle.edit_base.specs.Errors.{IsMemory};
-ghost use Rattle.edit_version.specs.Admissible.{asked_rust, candidate_in, entry_order, is_kept, is_too_new, kept_in, version_in};
+ghost use Rattle.edit_version.specs.Admissible.{minimum_rust, candidate_in, entry_order, is_kept, is_too_new, qualifying_in, version_in};
 ghost use Rattle.edit_version.specs.Candidates.{candidate_view, numbers_in, wants};
 ghost use Rattle.edit_version.specs.Greatest.{IsGreatest, advance, pick};
 ghost use Rattle.edit_version.specs.IndexEntry.{entry_of};
@@ -46,8 +46,8 @@ pub fn is_for(asked: Option<RustVersion>, given: Option<RustVersion>) -> bool
 }
 
 /// The Rust version that an entry asks for, none where it asks for none or for what is no Rust version.
-fn asked_rust_version(alloc: Global, told: &IndexVersion) -> CargoResult<Option<RustVersion>>
-    ensures ok { IfOk result (λ o. option_map numbers_of o ≡ asked_rust (entry_of told.now)) }
+fn minimum_rust_version(alloc: Global, told: &IndexVersion) -> CargoResult<Option<RustVersion>>
+    ensures ok { IfOk result (λ o. option_map numbers_of o ≡ minimum_rust (entry_of told.now)) }
     ensures refused { IfErr result IsMemory }
 {
     match &told.rust_version {
@@ -67,7 +67,7 @@ pub fn read_candidate(alloc: Global, told: &IndexVersion) -> CargoResult<Option<
     let Some(version) = read_version(alloc, told.version.as_str())? else {
         return Ok(None);
     };
-    let rust_version = asked_rust_version(alloc, told)?;
+    let rust_version = minimum_rust_version(alloc, told)?;
     Ok(Some(Candidate {
         version,
         rust_version,
@@ -85,14 +85,14 @@ pub fn is_wanted(version: &Version, allow_prerelease: bool, req: Option<&Version
 }
 
 /// The version of an entry that is admissible and wanted.
-fn kept_version(
+fn qualifying_version(
     alloc: Global,
     told: &IndexVersion,
     allow_prerelease: bool,
     req: Option<&VersionReq>,
     rust_version: Option<RustVersion>,
 ) -> CargoResult<Option<Version>>
-    ensures ok { IfOk result (λ o. option_map parts_of o ≡ kept_in (numbers_in rust_version)
+    ensures ok { IfOk result (λ o. option_map parts_of o ≡ qualifying_in (numbers_in rust_version)
         (wants allow_prerelease req.entry) (entry_of told.now)) }
     ensures refused { IfErr result IsMemory }
 {
@@ -177,7 +177,7 @@ fn advanced<'a>(
         entry_order (option_map (λ f. entry_of f.told.now) best.entry) (entry_of told.now)) }
     ensures refused { IfErr result IsMemory }
 {
-    let kept = kept_version(alloc, told, allow_prerelease, req, rust_version)?;
+    let kept = qualifying_version(alloc, told, allow_prerelease, req, rust_version)?;
     match kept {
         Some(version) => Ok(Some(later(best, Found { told, version }))),
         None => Ok(best),

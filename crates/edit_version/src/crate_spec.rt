@@ -3,8 +3,8 @@ ghost use Rattle.std.specs.Prelude.{◌≡◌, [], IfErr, IfOk, OnOk, None, Some
 ghost use Rattle.std.specs.List.{after_first, before_first, filter};
 ghost use Rattle.std.specs.Str.{chars};
 ghost use Rattle.edit_base.specs.Errors.{IsMemory};
-ghost use Rattle.edit_version.specs.CrateWords.{IsNamedBy, IsReadOrAbsent, IsRefusedName, IsRefusedRequirement, IsRefusedWord, is_name_char, listed, unfit, word_name, word_requirement};
-ghost use Rattle.edit_version.specs.Refusals.{IsUnread};
+ghost use Rattle.edit_version.specs.CrateSpecs.{IsNamedBy, IsReadOrAbsent, IsInvalidName, IsInvalidSpecRequirement, IsInvalidSpec, is_name_char, listed, invalid_chars, spec_name, spec_requirement};
+ghost use Rattle.edit_version.specs.RequirementErrors.{IsInvalidRequirement};
 
 use crate::requirement::required;
 use edit_base::errors::{CargoResult, Error};
@@ -28,8 +28,8 @@ fn is_name_char(c: char) -> bool
 }
 
 /// The characters of a name that no name may have.
-fn unfit(alloc: Global, name: &str) -> Result<Vec<char>, AllocError>
-    ensures { IfOk result (λ v. v.items ≡ unfit name.now) }
+fn invalid_chars(alloc: Global, name: &str) -> Result<Vec<char>, AllocError>
+    ensures { IfOk result (λ v. v.items ≡ invalid_chars name.now) }
 {
     name.chars().filter(|c| !is_name_char(*c)).collect(alloc)
 }
@@ -52,10 +52,10 @@ fn listed(alloc: Global, characters: &[char]) -> Result<String, AllocError>
 
 /// Refuses a name with a character that no name may have.
 fn check_name(alloc: Global, name: &str) -> CargoResult<()>
-    ensures ok { OnOk result (unfit name.now ≡ []) }
-    ensures refused { IfErr result (λ e. IsRefusedName name.now e) }
+    ensures ok { OnOk result (invalid_chars name.now ≡ []) }
+    ensures refused { IfErr result (λ e. IsInvalidName name.now e) }
 {
-    let characters = unfit(alloc, name)?;
+    let characters = invalid_chars(alloc, name)?;
     if characters.is_empty() {
         return Ok(());
     }
@@ -69,7 +69,7 @@ fn check_name(alloc: Global, name: &str) -> CargoResult<()>
 fn check_requirement(alloc: Global, req: Option<&str>) -> CargoResult<Option<String>>
     ensures ok { IfOk result (λ o. (option_map string_bytes o ≡ option_map (λ s. s.now) req.entry)
         × IsReadOrAbsent (option_map (λ s. s.now) req.entry)) }
-    ensures refused { IfErr result (λ e. IsRefusedRequirement (option_map (λ s. s.now) req.entry) e) }
+    ensures refused { IfErr result (λ e. IsInvalidSpecRequirement (option_map (λ s. s.now) req.entry) e) }
 {
     let Some(req) = req else {
         return Ok(None);
@@ -80,8 +80,8 @@ fn check_requirement(alloc: Global, req: Option<&str>) -> CargoResult<Option<Str
 
 /// A word before and after its first `@`.
 fn split_word(word: &str) -> (&str, Option<&str>)
-    ensures name { result.0.now ≡ word_name word.now }
-    ensures requirement { option_map (λ s. s.now) result.1 ≡ word_requirement word.now }
+    ensures name { result.0.now ≡ spec_name word.now }
+    ensures requirement { option_map (λ s. s.now) result.1 ≡ spec_requirement word.now }
 {
     match word.split_once('@') {
         Some((name, req)) => (name, Some(req)),
@@ -96,7 +96,7 @@ impl CrateSpec {
     /// no `_`, and with 14 where the text after the first `@` is no requirement.
     pub fn resolve(alloc: Global, word: &str) -> CargoResult<CrateSpec>
         ensures ok { IfOk result (λ s. IsNamedBy word.now s) }
-        ensures refused { IfErr result (λ e. IsRefusedWord word.now e) }
+        ensures refused { IfErr result (λ e. IsInvalidSpec word.now e) }
     {
         let (name, req) = split_word(word);
         check_name(alloc, name)?;
@@ -110,7 +110,7 @@ impl CrateSpec {
     /// The same as `resolve`.
     pub fn from_str(alloc: Global, word: &str) -> CargoResult<CrateSpec>
         ensures ok { IfOk result (λ s. IsNamedBy word.now s) }
-        ensures refused { IfErr result (λ e. IsRefusedWord word.now e) }
+        ensures refused { IfErr result (λ e. IsInvalidSpec word.now e) }
     {
         CrateSpec::resolve(alloc, word)
     }

@@ -3,12 +3,12 @@ ghost use Rattle.std.specs.Prelude.{◌≡◌, ◌<◌, ◌^◌, false, length, 
 ghost use Rattle.edit_version.specs.Admits.{admits};
 ghost use Rattle.edit_version.specs.Laws.{Admits, AdmitsNoLower, CanReach, IsNarrower, IsPlainRequirement, IsReadable, IsRelease, IsSettled, KeepsForm, holds_dash, holds_plus, text_after};
 ghost use Rattle.edit_base.specs.Errors.{IsMemory};
-ghost use Rattle.edit_version.specs.Refusals.{IsAnswer, IsUnread};
+ghost use Rattle.edit_version.specs.RequirementErrors.{IsAnswer, IsInvalidRequirement};
 ghost use Rattle.edit_version.specs.Requirement.{comparators_of, cut, raise, requirement_read};
 ghost use Rattle.semver.specs.Identifiers.{parts_of};
 ghost use Rattle.semver.specs.Parse.{Parts, req_of, version_parts};
 
-use crate::requirement_text::{comparator_string, first_inequality, led_as, raised_text};
+use crate::requirement_text::{comparator_string, first_inequality, match_caret, upgraded_text};
 use edit_base::errors::{CargoResult, Error};
 use semver::{Version, VersionReq};
 use std::alloc::{AllocError, Global};
@@ -32,7 +32,7 @@ pub fn read_requirement(alloc: Global, text: &str) -> CargoResult<Option<Version
 /// That a text is no requirement.
 fn unread(alloc: Global, text: &str) -> Error
     requires { requirement_read text.now ≡ None }
-    ensures { IsUnread text.now result }
+    ensures { IsInvalidRequirement text.now result }
 {
     match String::from_str(alloc, text) {
         Ok(text) => Error::InvalidRequirement { text },
@@ -43,7 +43,7 @@ fn unread(alloc: Global, text: &str) -> Error
 /// The requirement that a text is, refused with 14 where it is none.
 pub(crate) fn required(alloc: Global, text: &str) -> CargoResult<VersionReq>
     ensures ok { IfOk result (λ r. req_of text.now ≡ Ok (comparators_of r)) }
-    ensures refused { IfErr result (λ e. IsUnread text.now e) }
+    ensures refused { IfErr result (λ e. IsInvalidRequirement text.now e) }
 {
     match read_requirement(alloc, text)? {
         Some(req) => Ok(req),
@@ -90,14 +90,14 @@ impl<'a> Requirement<'a> {
         ensures { IsAnswer (raise (text_in self.now) (parts_of version.now)) (text_in self.now) result }
     {
         match &self.read {
-            Some(read) => raised_from(alloc, self.text, read, version),
+            Some(read) => upgraded_from(alloc, self.text, read, version),
             None => Err(unread(alloc, self.text)),
         }
     }
 }
 
 /// The requirement `req`, of which `parsed` was read, raised to `version`, where that is another text.
-fn raised_from(
+fn upgraded_from(
     alloc: Global,
     req: &str,
     parsed: &VersionReq,
@@ -114,8 +114,8 @@ fn raised_from(
             comparator: comparator_string(alloc, comparator)?,
         });
     }
-    let text = raised_text(alloc, &parsed.comparators, version)?;
-    let text = led_as(req, text.as_str());
+    let text = upgraded_text(alloc, &parsed.comparators, version)?;
+    let text = match_caret(req, text.as_str());
     if text == req {
         return Ok(None);
     }
@@ -123,7 +123,7 @@ fn raised_from(
 }
 
 /// The requirement `req` raised to `version`, where that is another text.
-fn raised_requirement(alloc: Global, req: &str, version: &Version) -> CargoResult<Option<String>>
+fn upgraded_requirement(alloc: Global, req: &str, version: &Version) -> CargoResult<Option<String>>
     ensures { IsAnswer (raise req.now (parts_of version.now)) req.now result }
 {
     let read = Requirement::read(alloc, req)?;
@@ -147,35 +147,35 @@ pub fn upgrade_requirement(
 ) -> CargoResult<Option<String>>
     ensures answer { IsAnswer (raise req.now (parts_of version.now)) req.now result }
 
-    // Below, for a version with a pre-release that can be read or none, of the text that stands
-    // afterwards: the new one, or `req` where there is none. Raising again changes nothing:
+    // The clauses below are about the requirement after the call (the new text, or `req` where the call
+    // returns `None`), for a version with no pre-release or a valid one. Upgrading again changes nothing.
     ensures settled { IsReadable (parts_of version.now)
         → IfOk result (λ o. IsSettled (text_after o req.now) (parts_of version.now)) }
-    // it admits the version, if that has no pre-release or `req` has comparators, all of three numbers;
+    // It matches the version, if that is no pre-release or `req` has comparators, all with three numbers.
     ensures reach { IsReadable (parts_of version.now)
         → IfOk result (λ o. CanReach req.now (parts_of version.now)
         → Admits (text_after o req.now) (parts_of version.now)) }
-    // it admits nothing that `req` does not, if `req` admits the version;
+    // It matches only what `req` matches, if `req` matches the version.
     ensures narrower { IsReadable (parts_of version.now)
         → IfOk result (λ o. Admits req.now (parts_of version.now)
         → IsNarrower req.now (text_after o req.now) (parts_of version.now)) }
-    // the operators stay, and a `-` stays where the version has a pre-release;
+    // The operators stay, and a `-` stays where the version is a pre-release.
     ensures form { IsReadable (parts_of version.now)
         → IfOk result (λ o. KeepsForm req.now (text_after o req.now) (parts_of version.now)) }
-    // it admits nothing lower than the version, if that has a pre-release and `req` a `-`;
+    // It matches nothing lower than the version, if that is a pre-release and `req` has a `-`.
     ensures no_lower { IsReadable (parts_of version.now)
         → IfOk result (λ o. AdmitsNoLower req.now (text_after o req.now) (parts_of version.now)) }
-    // it has no `-` where the version has no pre-release;
+    // It has no `-` where the version is no pre-release.
     ensures release { IsReadable (parts_of version.now)
         → IfOk result (λ o. IsRelease (text_after o req.now) (parts_of version.now)) }
-    // and a new text has no `+`.
+    // A new text has no `+`.
     ensures no_plus { IsReadable (parts_of version.now)
         → IfOk result (λ o. IfSome o (λ s. holds_plus (string_bytes s) ≡ false)) }
 {
     bounded(version.major);
     bounded(version.minor);
     bounded(version.patch);
-    raised_requirement(alloc, req, version)
+    upgraded_requirement(alloc, req, version)
 }
 
 /// The text before the first `+`, or all of it.
@@ -191,7 +191,7 @@ pub fn before_plus(text: &str) -> &str
 /// The text before the first `+`, or all of it: a version without its build metadata.
 pub fn cut(text: &str) -> &str
     ensures value { result.now ≡ cut text.now }
-    // of a version, a requirement of one caret, which raising to the version leaves as it is
+    // For the text of a version: a single caret requirement, which upgrading to the version does not change.
     ensures plain { (v : Parts) → version_parts text.now ≡ Ok v → IsPlainRequirement result.now v }
 {
     before_plus(text)

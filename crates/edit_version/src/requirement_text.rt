@@ -1,6 +1,6 @@
 //! The text of a requirement, raised to a version.
 ghost use Rattle.std.specs.Prelude.{◌≡◌, ◌++◌, IfOk, OnOk, find, map, option_copied, string_bytes};
-ghost use Rattle.edit_version.specs.Requirement.{comparator_text, dotted, is_inequality, led_as, raised, requirement_text, sign, starts_with_caret, without_caret};
+ghost use Rattle.edit_version.specs.Requirement.{comparator_text, dotted, is_inequality, match_caret, raised, requirement_text, sign, starts_with_caret, without_caret};
 ghost use Rattle.semver.specs.Identifiers.{comparator_view, parts_of};
 
 use semver::{Comparator, Op, Version};
@@ -58,7 +58,7 @@ fn push_comparator(
 }
 
 /// Writes a comparator raised to a version.
-fn push_raised(
+fn push_upgraded(
     out: &mut String,
     comparator: &Comparator,
     version: &Version,
@@ -76,7 +76,7 @@ fn push_raised(
 }
 
 /// The text of a requirement, raised to a version.
-pub(crate) fn raised_text(
+pub(crate) fn upgraded_text(
     alloc: Global,
     comparators: &[Comparator],
     version: &Version,
@@ -89,10 +89,10 @@ pub(crate) fn raised_text(
         out.push_str("*")?;
         return Ok(out);
     };
-    push_raised(&mut out, first, version)?;
+    push_upgraded(&mut out, first, version)?;
     'rest: for comparator in rest {
         out.push_str(", ")?;
-        push_raised(&mut out, comparator, version)?;
+        push_upgraded(&mut out, comparator, version)?;
     }
     Ok(out)
 }
@@ -126,8 +126,8 @@ fn without_caret(text: &str) -> &str
 }
 
 /// `new` without the `^` that leads it, unless one leads `old`.
-pub(crate) fn led_as<'a>(old: &str, new: &'a str) -> &'a str
-    ensures { result.now ≡ led_as old.now new.now }
+pub(crate) fn match_caret<'a>(old: &str, new: &'a str) -> &'a str
+    ensures { result.now ≡ match_caret old.now new.now }
 {
     if starts_with_caret(old) {
         new

@@ -1,7 +1,7 @@
 //! Versions of Rust, as manifests and indexes name them.
 ghost use Rattle.std.specs.Prelude.{◌≡◌, IfOk, IfErr, IsSome, Some, map, option_map};
 ghost use Rattle.edit_base.specs.Errors.{IsMemory};
-ghost use Rattle.edit_version.specs.Refusals.{IsNoRustVersion};
+ghost use Rattle.edit_version.specs.RequirementErrors.{IsNoRustVersion};
 ghost use Rattle.edit_version.specs.Requirement.{comparators_of};
 ghost use Rattle.edit_version.specs.RustVersions.{numbers_of, rust_numbers, rust_of};
 ghost use Rattle.semver.specs.Identifiers.{comparator_view};

@@ -1,8 +1,8 @@
 //! Versions incremented, as calls on `semver::Version`.
 
 ghost use Rattle.std.specs.Prelude.{◌≡◌, ◌<◌, ◌+◌, ◌↔◌, IfErr, IfOk, IsTrue, MatchOption, None, OnOk, Some, length, option_map};
-ghost use Rattle.edit_version.specs.Changed.{IsCause, IsChanged, IsRaisedOrAtEnd, IsUnreadBuild};
-ghost use Rattle.edit_version.specs.Increments.{Major, Minor, Patch, Pre, To, is_behind, next_phase, number_after, number_of, numbered, step, with_build, word, word_of};
+ghost use Rattle.edit_version.specs.Changed.{IsCause, IsChanged, IsRaisedOrAtEnd, IsInvalidBuild};
+ghost use Rattle.edit_version.specs.Increments.{Major, Minor, Patch, Pre, To, is_later_phase, next_phase, number_after, number_of, numbered, step, with_build, word, word_of};
 ghost use Rattle.edit_base.specs.declared.errors.Error.TheVariants as error;
 ghost use Rattle.edit_version.specs.declared.version.Phase.TheVariants as phase;
 ghost use Rattle.edit_base.specs.Errors.{IsMemory};
@@ -85,7 +85,7 @@ impl Phase {
 
     /// Whether a word is that of a phase behind this one.
     fn is_before(self, word: &str) -> bool
-        ensures { result ≡ is_behind self word.now }
+        ensures { result ≡ is_later_phase self word.now }
     {
         match self {
             Phase::Alpha => word == "beta" || word == "rc",
@@ -181,7 +181,7 @@ impl VersionExt for Version {
 /// Reads build metadata.
 fn read_build(alloc: Global, text: &str) -> CargoResult<BuildMetadata>
     ensures ok { IfOk result (λ b. (build_text b ≡ text.now) × IsTrue (is_build text.now)) }
-    ensures err { IfErr result (λ e. IsUnreadBuild text.now e) }
+    ensures err { IfErr result (λ e. IsInvalidBuild text.now e) }
 {
     match BuildMetadata::new(alloc, text) {
         Ok(build) => Ok(build),

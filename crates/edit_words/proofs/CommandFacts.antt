@@ -1,4 +1,4 @@
--- What the command line makes of words that are written out.
+-- Worked examples of parsed command lines.
 use Rattle.std.proofs.Common.{◌≡◌, refl, [], ◌∷◌, codes}
 use Rattle.clap.specs.Words.{fault_of}
 use Rattle.clap.specs.declared.error.kind.ErrorKind.TheVariants as kind

@@ -1,4 +1,4 @@
--- Of the command line `clap` says which matches and which faults words have.
+-- `clap` specifies the matches and the errors of the command line.
 use Rattle.std.proofs.Common.{◌≡◌, refl, true}
 use Rattle.clap.specs.Words.{is_simple, is_simple_and_free}
 use Rattle.edit_words.specs.CommandLine.{edit_app}

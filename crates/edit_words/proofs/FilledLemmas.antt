@@ -1,4 +1,4 @@
--- Words that were filled so far, and those that follow.
+-- Inserting defaults: the arguments processed so far, and the remaining ones.
 use Rattle.std.proofs.Math.Seq.{drop-cons}
 use Rattle.std.proofs.Common.{Bor, ◌≤◌, drop_of_length-le, add-one, suc, zero, ◌≡◌, ◌∙◌, ◌<◌, ◌+◌, ◌++◌, ◌||◌, ◌∷◌, ℕ, List, [], Bool, true, false, Option, Some, None, ap, sym, refl, map, drop, length, codes, append_assoc, append-nil}
 use Rattle.std.specs.Prelude.{MatchOption, if◌then◌else◌, option_map, slice_get}
@@ -7,7 +7,7 @@ use Rattle.std.specs.List.{HoldsAt, slice_index_or}
 use Rattle.std.specs.Option.{option_map_or}
 use Rattle.std.specs.Str.{bytes_eq}
 use Rattle.clap.specs.Words.{Text}
-use Rattle.edit_words.specs.Filled.{added, filled, is_one, missing_value}
+use Rattle.edit_words.specs.Filled.{inserted_values, filled, is_one, missing_value}
 
 -- what words become behind a word `--`, where there was one, or else
 abbrev pub rest_of : Bool → List Text → List Text
@@ -17,15 +17,15 @@ rest_of false words = filled words
 -- one more word
 pub turn : (ended : Bool) (word : Text) (rest : List Text)
     → rest_of ended (word ∷ rest)
-    ≡ (word ∷ added (ended || bytes_eq word (codes "--")) word (slice_get rest 0))
+    ≡ (word ∷ inserted_values (ended || bytes_eq word (codes "--")) word (slice_get rest 0))
     ++ rest_of (ended || bytes_eq word (codes "--")) rest
 unfolding filled
 turn true word rest = refl
 turn false word rest = go (bytes_eq word (codes "--"))
   where
     go : (b : Bool)
-        → word ∷ (added b word (slice_get rest 0) ++ (if b then rest else filled rest))
-        ≡ (word ∷ added b word (slice_get rest 0)) ++ rest_of b rest
+        → word ∷ (inserted_values b word (slice_get rest 0) ++ (if b then rest else filled rest))
+        ≡ (word ∷ inserted_values b word (slice_get rest 0)) ++ rest_of b rest
     go true = refl
     go false = refl
 
@@ -43,7 +43,7 @@ pub pushed : (ended now_ended : Bool) (words : List (Bor Text)) (n : ℕ) (word 
     → n < length words → word ≡ slice_index_or words n other
     → next ≡ option_map (λ (w : Bor Text). w.now) (slice_get words (n + 1))
     → now_ended ≡ (ended || bytes_eq word.now (codes "--"))
-    → new ≡ old ++ word.now ∷ added now_ended word.now next
+    → new ≡ old ++ word.now ∷ inserted_values now_ended word.now next
     → old ++ rest_of ended (map (λ (w : Bor Text). w.now) (drop n words)) ≡ all
     → new ++ rest_of now_ended (map (λ (w : Bor Text). w.now) (drop (n + 1) words)) ≡ all
 pushed ended now_ended words n word other old new all next lt at is_next is_ended is_new before =
@@ -53,10 +53,10 @@ pushed ended now_ended words n word other old new all next lt at is_next is_ende
     ∙ ap (λ k. word ∷ drop k words) (sym (add-one n)) in
     let first : next ≡ slice_get rest 0 = is_next ∙ next_of words (n + 1) in
     ap (λ xs. xs ++ rest_of now_ended rest) is_new
-    ∙ append_assoc old (word.now ∷ added now_ended word.now next) (rest_of now_ended rest)
-    ∙ ap (λ (o : Option Text). old ++ ((word.now ∷ added now_ended word.now o) ++ rest_of now_ended rest))
+    ∙ append_assoc old (word.now ∷ inserted_values now_ended word.now next) (rest_of now_ended rest)
+    ∙ ap (λ (o : Option Text). old ++ ((word.now ∷ inserted_values now_ended word.now o) ++ rest_of now_ended rest))
     first
-    ∙ ap (λ (b : Bool). old ++ ((word.now ∷ added b word.now (slice_get rest 0)) ++ rest_of b rest))
+    ∙ ap (λ (b : Bool). old ++ ((word.now ∷ inserted_values b word.now (slice_get rest 0)) ++ rest_of b rest))
     is_ended
     ∙ ap (λ xs. old ++ xs) (sym (turn ended word.now rest))
     ∙ ap (λ (ws : List (Bor Text)). old ++ rest_of ended (map (λ (w : Bor Text). w.now) ws)) (sym split)

@@ -34,8 +34,8 @@ option_list None = []
 option_list (Some value) = value ∷ []
 
 -- what is added behind a word before this next one: behind a word `--` nothing
-abbrev pub added : Bool → Text → Option Text → List Text
-added ended word next =
+abbrev pub inserted_values : Bool → Text → Option Text → List Text
+inserted_values ended word next =
     if ended then [] else option_list (missing_value (values_behind word) next)
 
 -- the words, with a value behind each option that stands without one, before a word `--`
@@ -43,4 +43,4 @@ unfoldable pub filled : List Text → List Text
 filled [] = []
 filled (word ∷ rest) =
     let ended = bytes_eq word (codes "--") in
-    word ∷ added ended word (slice_get rest 0) ++ (if ended then rest else filled rest)
+    word ∷ inserted_values ended word (slice_get rest 0) ++ (if ended then rest else filled rest)

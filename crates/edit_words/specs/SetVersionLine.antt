@@ -6,8 +6,8 @@ use Rattle.clap.specs.declared.builder.value_parser.ValueParser.TheVariants as v
 use Rattle.edit_words.specs.Rules.{choice_rule, count_rule, flag_rule, option_rule, reports, selections, with_rules}
 
 -- the version, as a word of its own
-abbrev pub version_word : Rule
-version_word =
+abbrev pub version_arg : Rule
+version_arg =
     record (new_rule (codes "target")) {
       action = Some Set;
       value_names = 1;
@@ -17,7 +17,7 @@ version_word =
 -- what the new versions are
 abbrev pub targets : List Rule
 targets =
-    version_word
+    version_arg
     ∷ choice_rule (codes "bump")
     ∷ record (choice_rule (codes "metadata")) { short = Some 109 }
     ∷ []

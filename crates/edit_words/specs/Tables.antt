@@ -9,16 +9,16 @@ use Rattle.clap.specs.declared.builder.value_parser.ValueParser.TheVariants as v
 use Rattle.edit_words.specs.Rules.{choice_rule, flag_rule, list_rule, option_rule, path_rule}
 use Rattle.edit_words.specs.declared.rules.Form.{Form}
 use Rattle.edit_words.specs.declared.rules.Form.TheVariants as form
-use Rattle.edit_words.specs.declared.rules.Word.{Word}
+use Rattle.edit_words.specs.declared.rules.ArgSpec.{ArgSpec}
 
 -- what stands alone, with one value
-abbrev pub alone_rule : Text → Rule
-alone_rule id =
+abbrev pub positional_rule : Text → Rule
+positional_rule id =
     record (new_rule id) { action = Some Set; value_names = 1; parser = Some value.String }
 
 -- the rule of a word with neither a letter nor a default
 abbrev pub form_rule : Form → Text → Rule
-form_rule (form.Alone _) id = alone_rule id
+form_rule (form.Alone _) id = positional_rule id
 form_rule (form.Path _) id = path_rule id
 form_rule (form.Needed _) id = option_rule id
 form_rule (form.Choice _) id = choice_rule id
@@ -33,8 +33,8 @@ default_list (Some value) = value.now ∷ []
 default_list None = []
 
 -- the rule of a word
-abbrev pub word_rule : Word → Rule
-word_rule word =
+abbrev pub arg_rule : ArgSpec → Rule
+arg_rule word =
     record (form_rule word.form word.id.now) { short = word.letter; defaults = default_list word.default }
 
 -- the command is this one, and none of its arguments is global

@@ -2,17 +2,17 @@
 ghost use Rattle.std.specs.Prelude.{◌≡◌, ◌++◌, IfOk, map, true};
 ghost use Rattle.clap.specs.Words.{app_of, is_simple, is_simple_and_free};
 ghost use Rattle.edit_words.specs.CommandLine.{choices, configurations, edit_app, outlets, places, rust_choices, selections, switches, upgrade_app};
-ghost use Rattle.edit_words.specs.Tables.{IsLocal, word_rule};
+ghost use Rattle.edit_words.specs.Tables.{IsLocal, arg_rule};
 
 use crate::reports::reports;
-use crate::rules::{Form, Word, plain, with_words};
+use crate::rules::{ArgSpec, Form, plain, with_args};
 use crate::set_version_line::set_version_command;
 use clap::Command;
 use std::alloc::{AllocError, Global};
 
 /// The options that name files and the folder of an index.
-fn files<'a>() -> [Word<'a>; 6]
-    ensures { map word_rule result ≡ places ++ outlets }
+fn files<'a>() -> [ArgSpec<'a>; 6]
+    ensures { map arg_rule result ≡ places ++ outlets }
 {
     [
         plain(
@@ -49,8 +49,8 @@ fn files<'a>() -> [Word<'a>; 6]
 }
 
 /// The options that name configuration files beside those that cargo finds.
-fn configurations<'a>() -> [Word<'a>; 2]
-    ensures { map word_rule result ≡ configurations }
+fn configurations<'a>() -> [ArgSpec<'a>; 2]
+    ensures { map arg_rule result ≡ configurations }
 {
     [
         plain(
@@ -67,8 +67,8 @@ fn configurations<'a>() -> [Word<'a>; 2]
 }
 
 /// What says which versions of Rust count, and the flags.
-fn switches<'a>() -> [Word<'a>; 8]
-    ensures { map word_rule result ≡ rust_choices ++ switches }
+fn switches<'a>() -> [ArgSpec<'a>; 8]
+    ensures { map arg_rule result ≡ rust_choices ++ switches }
 {
     [
         plain(
@@ -100,8 +100,8 @@ fn switches<'a>() -> [Word<'a>; 8]
 }
 
 /// The options that say what may be upgraded.
-fn choices<'a>() -> [Word<'a>; 4]
-    ensures { map word_rule result ≡ choices }
+fn choices<'a>() -> [ArgSpec<'a>; 4]
+    ensures { map arg_rule result ≡ choices }
 {
     [
         plain(
@@ -132,8 +132,8 @@ fn choices<'a>() -> [Word<'a>; 4]
 }
 
 /// The options that say which entries may be upgraded.
-fn selections<'a>() -> [Word<'a>; 2]
-    ensures { map word_rule result ≡ selections }
+fn selections<'a>() -> [ArgSpec<'a>; 2]
+    ensures { map arg_rule result ≡ selections }
 {
     [
         plain(
@@ -159,12 +159,12 @@ fn upgrade_command<'a>(
     ensures { IfOk result (IsLocal (upgrade_app name.entry.now)) }
 {
     let command = Ok(Command::new(alloc, name).about(about));
-    let command = with_words(alloc, command, &files());
-    let command = with_words(alloc, command, &configurations());
-    let command = with_words(alloc, command, &switches());
-    let command = with_words(alloc, command, &reports());
-    let command = with_words(alloc, command, &choices());
-    with_words(alloc, command, &selections())
+    let command = with_args(alloc, command, &files());
+    let command = with_args(alloc, command, &configurations());
+    let command = with_args(alloc, command, &switches());
+    let command = with_args(alloc, command, &reports());
+    let command = with_args(alloc, command, &choices());
+    with_args(alloc, command, &selections())
 }
 
 /// The program's command line, made anew for each parse, which takes it over. Its help and its version are

@@ -3,7 +3,7 @@ ghost use Rattle.std.specs.Prelude.{◌≡◌, ◌++◌, ◌∷◌, ◌||◌, If
 ghost use Rattle.std.specs.List.{list_any};
 ghost use Rattle.std.specs.Option.{option_map_or};
 ghost use Rattle.std.specs.Str.{bytes_eq};
-ghost use Rattle.edit_words.specs.Filled.{added, filled, is_one, missing_value, values_behind};
+ghost use Rattle.edit_words.specs.Filled.{inserted_values, filled, is_one, missing_value, values_behind};
 
 use std::alloc::{AllocError, Global};
 
@@ -66,7 +66,7 @@ fn push_word<'a>(
     ended: bool,
 ) -> Result<(), AllocError>
     ensures { OnOk result (map (λ w. w.now) words.new.items ≡ map (λ w. w.now) words.old.items
-        ++ word.entry.now ∷ added ended word.entry.now (option_map (λ w. w.now.now) next.entry)) }
+        ++ word.entry.now ∷ inserted_values ended word.entry.now (option_map (λ w. w.now.now) next.entry)) }
 {
     words.push(word)?;
     if ended {

@@ -1,13 +1,13 @@
 //! Words that say how a plan is printed, and whether it is only checked.
 ghost use Rattle.std.specs.Prelude.{◌≡◌, map};
 ghost use Rattle.edit_words.specs.Rules.{reports};
-ghost use Rattle.edit_words.specs.Tables.{word_rule};
+ghost use Rattle.edit_words.specs.Tables.{arg_rule};
 
-use crate::rules::{Form, Word, plain};
+use crate::rules::{ArgSpec, Form, plain};
 
 /// What says how a plan is printed, and whether it is only checked.
-pub(crate) fn reports<'a>() -> [Word<'a>; 3]
-    ensures { map word_rule result ≡ reports }
+pub(crate) fn reports<'a>() -> [ArgSpec<'a>; 3]
+    ensures { map arg_rule result ≡ reports }
 {
     [
         plain(

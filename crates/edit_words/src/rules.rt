@@ -4,7 +4,7 @@ ghost use Rattle.clap.specs.Words.{App, rule_of};
 ghost use Rattle.clap.specs.declared.builder.action.ArgAction.TheVariants.{Set};
 ghost use Rattle.clap.specs.declared.builder.value_parser.ValueParser.TheVariants.{NonEmptyString};
 ghost use Rattle.edit_words.specs.Rules.{with_rules};
-ghost use Rattle.edit_words.specs.Tables.{IsLocal, form_rule, word_rule};
+ghost use Rattle.edit_words.specs.Tables.{IsLocal, form_rule, arg_rule};
 
 use clap::builder::ValueParser;
 use clap::{Arg, ArgAction, Command};
@@ -33,7 +33,7 @@ pub(crate) enum Form<'a> {
 
 /// A word of a command line.
 #[derive(Clone, Copy)]
-pub(crate) struct Word<'a> {
+pub(crate) struct ArgSpec<'a> {
     pub(crate) id: &'a str,
     pub(crate) form: Form<'a>,
     pub(crate) about: &'a str,
@@ -43,10 +43,10 @@ pub(crate) struct Word<'a> {
 }
 
 /// A word with neither a letter nor a default.
-pub(crate) fn plain<'a>(id: &'a str, form: Form<'a>, about: &'a str) -> Word<'a>
-    ensures { word_rule result ≡ form_rule form.entry id.entry.now }
+pub(crate) fn plain<'a>(id: &'a str, form: Form<'a>, about: &'a str) -> ArgSpec<'a>
+    ensures { arg_rule result ≡ form_rule form.entry id.entry.now }
 {
-    Word {
+    ArgSpec {
         id,
         form,
         about,
@@ -55,18 +55,18 @@ pub(crate) fn plain<'a>(id: &'a str, form: Form<'a>, about: &'a str) -> Word<'a>
     }
 }
 
-impl<'a> Word<'a> {
+impl<'a> ArgSpec<'a> {
     /// With a letter.
-    pub(crate) fn short(mut self, letter: char) -> Word<'a>
-        ensures { word_rule result ≡ record (word_rule self.entry) { short = Some letter } }
+    pub(crate) fn short(mut self, letter: char) -> ArgSpec<'a>
+        ensures { arg_rule result ≡ record (arg_rule self.entry) { short = Some letter } }
     {
         self.letter = Some(letter);
         self
     }
 
     /// With a value where it is not given.
-    pub(crate) fn default_value(mut self, value: &'a str) -> Word<'a>
-        ensures { word_rule result ≡ record (word_rule self.entry) { defaults = value.entry.now ∷ [] } }
+    pub(crate) fn default_value(mut self, value: &'a str) -> ArgSpec<'a>
+        ensures { arg_rule result ≡ record (arg_rule self.entry) { defaults = value.entry.now ∷ [] } }
     {
         self.default = Some(value);
         self
@@ -74,7 +74,12 @@ impl<'a> Word<'a> {
 }
 
 /// An argument with a value.
-fn taking<'a>(arg: Arg<'a>, value: &'a str, action: ArgAction, parser: ValueParser<'a>) -> Arg<'a>
+fn valued_arg<'a>(
+    arg: Arg<'a>,
+    value: &'a str,
+    action: ArgAction,
+    parser: ValueParser<'a>,
+) -> Arg<'a>
     ensures rule { rule_of result ≡ record (rule_of arg.entry) {
       action = Some action;
       value_names = 1;
@@ -94,23 +99,23 @@ fn path<'a>(arg: Arg<'a>, value: &'a str) -> Arg<'a>
     } }
     ensures local { result.global ≡ arg.entry.global }
 {
-    taking(arg, value, ArgAction::Set, ValueParser::NonEmptyString)
+    valued_arg(arg, value, ArgAction::Set, ValueParser::NonEmptyString)
 }
 
 /// The argument that a word becomes, without its letter and its default.
-fn formed<'a>(alloc: Global, word: Word<'a>) -> Arg<'a>
+fn formed<'a>(alloc: Global, word: ArgSpec<'a>) -> Arg<'a>
     ensures rule { rule_of result ≡ form_rule word.entry.form word.entry.id.now }
     ensures local { result.global ≡ false }
 {
     let id = word.id;
     let arg = Arg::new(alloc, id).help(word.about);
     match word.form {
-        Form::Alone(value) => taking(arg, value, ArgAction::Set, ValueParser::String),
+        Form::Alone(value) => valued_arg(arg, value, ArgAction::Set, ValueParser::String),
         Form::Path(value) => path(arg.long(id), value),
         Form::Needed(value) => path(arg.long(id), value).required(true),
-        Form::Choice(value) => taking(arg.long(id), value, ArgAction::Set, ValueParser::String),
-        Form::Truth(value) => taking(arg.long(id), value, ArgAction::Set, ValueParser::Bool),
-        Form::List(value) => taking(
+        Form::Choice(value) => valued_arg(arg.long(id), value, ArgAction::Set, ValueParser::String),
+        Form::Truth(value) => valued_arg(arg.long(id), value, ArgAction::Set, ValueParser::Bool),
+        Form::List(value) => valued_arg(
             arg.long(id),
             value,
             ArgAction::Append,
@@ -122,8 +127,8 @@ fn formed<'a>(alloc: Global, word: Word<'a>) -> Arg<'a>
 }
 
 /// The argument that a word becomes.
-fn made<'a>(alloc: Global, word: Word<'a>) -> Arg<'a>
-    ensures rule { rule_of result ≡ word_rule word.entry }
+fn made<'a>(alloc: Global, word: ArgSpec<'a>) -> Arg<'a>
+    ensures rule { rule_of result ≡ arg_rule word.entry }
     ensures local { result.global ≡ false }
 {
     let arg = formed(alloc, word);
@@ -137,13 +142,13 @@ fn made<'a>(alloc: Global, word: Word<'a>) -> Arg<'a>
 
 /// Adds words, in their order. The command may have failed already: so a caller that adds more than once
 /// has no exit between, at which what it holds would be dropped.
-pub(crate) fn with_words<'a>(
+pub(crate) fn with_args<'a>(
     alloc: Global,
     command: Result<Command<'a>, AllocError>,
-    words: &[Word<'a>],
+    words: &[ArgSpec<'a>],
 ) -> Result<Command<'a>, AllocError>
     ensures { (app : App) → IfOk command.entry (IsLocal app)
-        → IfOk result (IsLocal (with_rules app (map word_rule words.now))) }
+        → IfOk result (IsLocal (with_rules app (map arg_rule words.now))) }
 {
     let mut command = command?;
     for word in words {

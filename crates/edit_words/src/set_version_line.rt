@@ -2,16 +2,16 @@
 ghost use Rattle.std.specs.Prelude.{◌≡◌, ◌++◌, IfOk, map};
 ghost use Rattle.edit_words.specs.Rules.{selections};
 ghost use Rattle.edit_words.specs.SetVersionLine.{ignored, members, set_version_app, sources, targets};
-ghost use Rattle.edit_words.specs.Tables.{IsLocal, word_rule};
+ghost use Rattle.edit_words.specs.Tables.{IsLocal, arg_rule};
 
 use crate::reports::reports;
-use crate::rules::{Form, Word, plain, with_words};
+use crate::rules::{ArgSpec, Form, plain, with_args};
 use clap::Command;
 use std::alloc::{AllocError, Global};
 
 /// What says which versions are set, and the options that name files.
-fn targets<'a>() -> [Word<'a>; 5]
-    ensures { map word_rule result ≡ targets ++ sources }
+fn targets<'a>() -> [ArgSpec<'a>; 5]
+    ensures { map arg_rule result ≡ targets ++ sources }
 {
     [
         plain(
@@ -40,8 +40,8 @@ fn targets<'a>() -> [Word<'a>; 5]
 }
 
 /// What says which members are meant, and the flag for a dry run.
-fn members<'a>() -> [Word<'a>; 5]
-    ensures { map word_rule result ≡ selections ++ members }
+fn members<'a>() -> [ArgSpec<'a>; 5]
+    ensures { map arg_rule result ≡ selections ++ members }
 {
     [
         plain(
@@ -71,8 +71,8 @@ fn members<'a>() -> [Word<'a>; 5]
 }
 
 /// The flags that change nothing.
-fn ignored<'a>() -> [Word<'a>; 4]
-    ensures { map word_rule result ≡ ignored }
+fn ignored<'a>() -> [ArgSpec<'a>; 4]
+    ensures { map arg_rule result ≡ ignored }
 {
     let about = "Accepted, and changes nothing";
     [
@@ -90,8 +90,8 @@ pub(crate) fn set_version_command<'a>(alloc: Global) -> Result<Command<'a>, Allo
     let command = Ok(Command::new(alloc, "set-version").about(
         "Change a package's version in the local manifest file (i.e. Cargo.toml)",
     ));
-    let command = with_words(alloc, command, &targets());
-    let command = with_words(alloc, command, &members());
-    let command = with_words(alloc, command, &reports());
-    with_words(alloc, command, &ignored())
+    let command = with_args(alloc, command, &targets());
+    let command = with_args(alloc, command, &members());
+    let command = with_args(alloc, command, &reports());
+    with_args(alloc, command, &ignored())
 }

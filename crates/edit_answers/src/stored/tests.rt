@@ -61,7 +61,7 @@ fn a_new_body(rt: HostRuntime) -> Result<(), Fail> {
 }
 
 /// Whether a run with this outcome and body uses the old entry unchanged, with a warning.
-fn is_left(alloc: Global, answer: &[u8], body: &[u8]) -> Result<bool, Fail> {
+fn is_old_entry_used(alloc: Global, answer: &[u8], body: &[u8]) -> Result<bool, Fail> {
     let (mut store, report) = run_with(alloc, answer, body)?;
     let kept = entry(alloc, &mut store)?.as_slice() == OLD;
     let serves = store.read(alloc, INDEXED)?.is_some();
@@ -71,22 +71,28 @@ fn is_left(alloc: Global, answer: &[u8], body: &[u8]) -> Result<bool, Fail> {
 #[test]
 fn answers_without_an_entry(rt: HostRuntime) -> Result<(), Fail> {
     let alloc = rt.alloc();
-    assert!(rt; is_left(alloc, b"1\t403\t0\t0\t\n", b"")?, "forbidden");
     assert!(rt;
-        is_left(alloc, b"1\t000\t6\t0\tCould not resolve host\n", b"")?,
+        is_old_entry_used(alloc, b"1\t403\t0\t0\t\n", b"")?,
+        "forbidden"
+    );
+    assert!(rt;
+        is_old_entry_used(alloc, b"1\t000\t6\t0\tCould not resolve host\n", b"")?,
         "no host"
     );
     assert!(rt;
-        is_left(alloc, b"1\t200\t18\t0\ttransfer closed\n", NEW)?,
+        is_old_entry_used(alloc, b"1\t200\t18\t0\ttransfer closed\n", NEW)?,
         "cut off"
     );
-    assert!(rt; is_left(alloc, b"1\t200\t0\t0\t", NEW)?, "a cut line");
     assert!(rt;
-        is_left(alloc, b"1\t200\t0\t0\t\n", b"<html>log in</html>\n")?,
+        is_old_entry_used(alloc, b"1\t200\t0\t0\t", NEW)?,
+        "a cut line"
+    );
+    assert!(rt;
+        is_old_entry_used(alloc, b"1\t200\t0\t0\t\n", b"<html>log in</html>\n")?,
         "a page"
     );
     assert!(rt;
-        is_left(
+        is_old_entry_used(
             alloc,
             b"1\t200\t0\t0\t\n",
             b"{\"name\":\"serde\",\"vers\":\"1.1.0\"}"
@@ -94,7 +100,7 @@ fn answers_without_an_entry(rt: HostRuntime) -> Result<(), Fail> {
         "a cut body"
     );
     assert!(rt;
-        is_left(
+        is_old_entry_used(
             alloc,
             b"1\t200\t0\t0\t\n",
             b"{\"name\":\"log\",\"vers\":\"1.1.0\"}\n"
@@ -105,7 +111,11 @@ fn answers_without_an_entry(rt: HostRuntime) -> Result<(), Fail> {
 }
 
 /// Runs one lookup without an outcome, over a cache with this entry.
-fn said_of(alloc: Global, cached: &[u8], options: &StoreOptions<'_>) -> Result<Report, Fail> {
+fn report_without_answer(
+    alloc: Global,
+    cached: &[u8],
+    options: &StoreOptions<'_>,
+) -> Result<Report, Fail> {
     let (mut store, _report) = run_with(alloc, b"1\t403\t0\t0\t\n", b"")?;
     put(alloc, &mut store, SERDE, cached)?;
     put(alloc, &mut store, INDEXED, b"")?;
@@ -124,7 +134,7 @@ fn a_damaged_entry(rt: HostRuntime) -> Result<(), Fail> {
         offline: true,
         excluded: &[],
     };
-    let report = said_of(rt.alloc(), b"\nnothing\n", &offline)?;
+    let report = report_without_answer(rt.alloc(), b"\nnothing\n", &offline)?;
     assert!(rt; report.error.is_none());
     assert_eq!(rt;
         report.warnings.as_str(),
@@ -132,7 +142,7 @@ fn a_damaged_entry(rt: HostRuntime) -> Result<(), Fail> {
 warning: no index entries of sparse+https://h.example/ are cached for serde (nothing is fetched offline): these crates stay as they are
 "
     );
-    let report = said_of(
+    let report = report_without_answer(
         rt.alloc(),
         b"{\"name\":\"serde\",\"vers\":\"1.0.0\"}",
         &OPTIONS,

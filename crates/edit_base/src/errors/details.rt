@@ -1,8 +1,8 @@
-//! What some refusals tell beside the kind of refusal.
+//! The details in some errors.
 
 use std::fmt;
 
-/// A command that cargo has by itself.
+/// A command of the original that cargo now provides itself: `add` or `rm`.
 #[derive(Clone, Copy, Debug, PartialEq, Eq)]
 pub enum MergedCommand {
     Add,
@@ -27,14 +27,14 @@ impl fmt::Display for MergedCommand {
     }
 }
 
-/// What no manifest has.
+/// The kind of what no manifest has: a package or a dependency.
 #[derive(Clone, Copy, Debug, PartialEq, Eq)]
 pub enum MissingKind {
     Package,
     Dependency,
 }
 
-/// Names that no manifest has, as `package a doesn't exist` or `packages a, b don't exist`.
+/// Missing names, which print as `package a doesn't exist` or `packages a, b don't exist`.
 #[derive(Debug, Drop)]
 pub struct MissingNames {
     pub kind: MissingKind,

@@ -12,22 +12,22 @@ const VENDORED: &str =
 
 /// A registry whose index entries cannot be fetched, and the crates looked up there.
 #[derive(Debug, Drop)]
-struct Unread<'a> {
+struct UnfetchableRegistry<'a> {
     address: &'a str,
     names: Vec<&'a str>,
 }
 
 /// Whether the entries of a registry can be read or fetched.
-fn is_read(address: &str) -> bool {
+fn is_fetchable(address: &str) -> bool {
     address.starts_with("sparse+http://")
         || address.starts_with("sparse+https://")
         || address.starts_with("file:")
 }
 
 /// Adds a name to the registry at an address.
-fn add_unread<'a>(
+fn add_unfetchable<'a>(
     rt: &HostRuntime,
-    registries: &mut Vec<Unread<'a>>,
+    registries: &mut Vec<UnfetchableRegistry<'a>>,
     address: &'a str,
     name: &'a str,
 ) -> CargoResult<()> {
@@ -39,22 +39,22 @@ fn add_unread<'a>(
     }
     let mut names = Vec::new(rt.alloc());
     names.push(name)?;
-    registries.push(Unread { address, names })?;
+    registries.push(UnfetchableRegistry { address, names })?;
     Ok(())
 }
 
 /// The registries among lookups whose entries cannot be fetched, in order, with the crates that are not
 /// excluded.
-fn unread_registries<'a>(
+fn unfetchable_registries<'a>(
     rt: &HostRuntime,
     lookups: &[Lookup<'a>],
     excluded: &[&str],
-) -> CargoResult<Vec<Unread<'a>>> {
+) -> CargoResult<Vec<UnfetchableRegistry<'a>>> {
     let mut registries = Vec::new(rt.alloc());
     for lookup in lookups {
         let Lookup { address, name, .. } = *lookup;
-        if !is_read(address) && !excluded.iter().any(|it| *it == name) {
-            add_unread(rt, &mut registries, address, name)?;
+        if !is_fetchable(address) && !excluded.iter().any(|it| *it == name) {
+            add_unfetchable(rt, &mut registries, address, name)?;
         }
     }
     Ok(registries)
@@ -128,13 +128,13 @@ fn push_defined(
 }
 
 /// Appends the line of a registry: its definition, its crates, and why their entries cannot be fetched.
-fn push_unread(
+fn push_unfetchable(
     rt: &HostRuntime,
     to: &mut String,
     environment: &Config,
     configs: &[Config],
     sources: &[AddresslessSource<'_>],
-    registry: &Unread<'_>,
+    registry: &UnfetchableRegistry<'_>,
 ) -> CargoResult<()> {
     to.push_str("\n  ")?;
     let addressless = push_addressless(rt, to, sources, registry.address)?;
@@ -172,7 +172,7 @@ pub(super) fn unread_error(
     let Some(lookups) = read_lookups(rt.alloc(), lookups)? else {
         return Ok(None);
     };
-    let registries = unread_registries(rt, &lookups, excluded)?;
+    let registries = unfetchable_registries(rt, &lookups, excluded)?;
     if registries.is_empty() {
         return Ok(None);
     }
@@ -182,7 +182,7 @@ pub(super) fn unread_error(
         "index entries cannot be had; leave the crates out by `--exclude`, or as they are by `--offline`:",
     )?;
     for registry in &registries {
-        push_unread(rt, &mut text, environment, configs, &sources, registry)?;
+        push_unfetchable(rt, &mut text, environment, configs, &sources, registry)?;
     }
     Ok(Some(text))
 }

@@ -2,7 +2,7 @@
 ghost use Rattle.std.specs.Prelude.{◌≡◌, ◌⊎◌, true, IfErr, IfOk, option_and_then, option_map, string_bytes};
 ghost use Rattle.edit_base.specs.Errors.{IsMemory};
 ghost use Rattle.edit_base.specs.Paths.{joined};
-ghost use Rattle.edit_fetch.specs.Settings.{IsReadAt, SaysValues, count_of, value_in, values_in, values_of};
+ghost use Rattle.edit_fetch.specs.Settings.{IsReadAt, HasValues, count_of, value_in, values_in, values_of};
 ghost use Rattle.edit_sources.specs.ConfigurationFiles.{HasFailed};
 ghost use Rattle.edit_store.specs.Store.{OnlyReads};
 ghost use Rattle.toml.specs.Data.{as_bool, as_integer, as_str, as_table, get_member};
@@ -98,7 +98,7 @@ fn values_in(alloc: Global, base: &str, document: &Table) -> CargoResult<NetValu
 
 /// The network settings of the bytes of a file; none where they are not TOML.
 fn values_of_bytes(alloc: Global, base: &str, bytes: &[u8]) -> CargoResult<NetValues>
-    ensures says { IfOk result (λ v. SaysValues base.now bytes.now (values_of v)) }
+    ensures says { IfOk result (λ v. HasValues base.now bytes.now (values_of v)) }
     ensures refused { IfErr result IsMemory }
 {
     let Ok(text) = std::str::from_utf8(bytes) else {

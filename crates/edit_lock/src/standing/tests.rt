@@ -67,7 +67,7 @@ cargo update --manifest-path /w/Cargo.toml --package gone@3.0.0 --offline
 cargo update --manifest-path /w/Cargo.toml --aggressive --package rand@0.8.5 --package rand@0.9.0 --package gone@3.0.0 --offline";
 
 #[test]
-fn names_what_is_locked(rt: HostRuntime) -> Result<(), Fail> {
+fn leaves_locked_packages(rt: HostRuntime) -> Result<(), Fail> {
     let alloc = rt.alloc();
     let calls = calls_in(alloc, CALLS)?;
     let before = Lock::read(alloc, BEFORE.as_bytes())?;
@@ -83,7 +83,7 @@ cargo update --manifest-path /w/Cargo.toml --aggressive --package rand@0.8.5 --p
 }
 
 #[test]
-fn follows_what_has_moved(rt: HostRuntime) -> Result<(), Fail> {
+fn replaces_updated_packages(rt: HostRuntime) -> Result<(), Fail> {
     let alloc = rt.alloc();
     let calls = calls_in(alloc, CALLS)?;
     let before = Lock::read(alloc, BEFORE.as_bytes())?;
@@ -114,7 +114,7 @@ fn reads_a_file_of_calls(rt: HostRuntime) -> Result<(), Fail> {
 }
 
 #[test]
-fn refuses_what_is_no_lock_file(rt: HostRuntime) -> Result<(), Fail> {
+fn rejects_other_files(rt: HostRuntime) -> Result<(), Fail> {
     let alloc = rt.alloc();
     assert_eq!(rt; Lock::empty(alloc).packages.len(), 0);
     assert_eq!(rt; Lock::read(alloc, b"version = 4")?.packages.len(), 0);

@@ -3,12 +3,12 @@ ghost use Rattle.std.specs.Prelude.{◌≡◌, ◌++◌, All, Err, IfErr, IfOk, 
 ghost use Rattle.std.specs.Result.{result_ok};
 ghost use Rattle.edit_base.specs.Errors.{IsMemory};
 ghost use Rattle.edit_document.specs.ItemViews.{document_of, place_of, view_of};
-ghost use Rattle.edit_document.specs.Items.{is_string, place_seen};
-ghost use Rattle.edit_tree.specs.Shown.{tree_of};
+ghost use Rattle.edit_document.specs.Items.{is_string, place_view};
+ghost use Rattle.edit_tree.specs.DocumentViews.{tree_of};
 ghost use Rattle.edit_record.specs.EntryRecords.{unknown_entry};
 ghost use Rattle.edit_record.specs.ReadEntries.{record_of};
 ghost use Rattle.edit_manifest.specs.Entries.{entries, entries_of, entry_at};
-ghost use Rattle.edit_manifest.specs.EntryViews.{HasReason, IsReason, entry_view, said_view};
+ghost use Rattle.edit_manifest.specs.EntryViews.{HasReason, IsReason, entry_view, read_entry_view};
 
 use crate::dependency_tables;
 use edit_base::{CargoResult, Error};
@@ -36,8 +36,8 @@ pub struct Entry {
 }
 
 /// Reads an item under its key. Lack of memory is an error; any other error makes the entry unsupported.
-fn said_of(alloc: Global, root: &str, key: &str, item: Item<'_>) -> CargoResult<Said>
-    ensures ok { IfOk result (λ s. said_view s ≡ result_ok (record_of (tree_of (document_of item.entry))
+fn read_item(alloc: Global, root: &str, key: &str, item: Item<'_>) -> CargoResult<Said>
+    ensures ok { IfOk result (λ s. read_entry_view s ≡ result_ok (record_of (tree_of (document_of item.entry))
         (place_of item.entry) root.now key.now)) }
     ensures reason { IfOk result (IsReason (record_of (tree_of (document_of item.entry))
         (place_of item.entry) root.now key.now)) }
@@ -55,8 +55,8 @@ fn said_of(alloc: Global, root: &str, key: &str, item: Item<'_>) -> CargoResult<
 }
 
 /// Returns the unsupported entry for a key without an item.
-fn nothing_said(alloc: Global, key: &str) -> Result<Said, AllocError>
-    ensures ok { IfOk result (λ s. said_view s ≡ None) }
+fn unsupported_entry(alloc: Global, key: &str) -> Result<Said, AllocError>
+    ensures ok { IfOk result (λ s. read_entry_view s ≡ None) }
     ensures reason { IfOk result (IsReason (Err (unknown_entry key.now))) }
 {
     Ok(Said::Unsupported(Error::UnknownEntry {
@@ -72,9 +72,9 @@ fn entry_of(
     table: Item<'_>,
     name: &str,
 ) -> CargoResult<Entry>
-    requires { place_of table ≡ place_seen place.now }
+    requires { place_of table ≡ place_view place.now }
     ensures ok { IfOk result (λ e. entry_view e
-        ≡ entry_at (tree_of (document_of table.entry)) root.now (place_seen place.now) name.now) }
+        ≡ entry_at (tree_of (document_of table.entry)) root.now (place_view place.now) name.now) }
     ensures reason { IfOk result (HasReason (tree_of (document_of table.entry)) root.now) }
     ensures refused { IfErr result IsMemory }
 {
@@ -85,13 +85,13 @@ fn entry_of(
             key,
             place,
             bare: item.is_str(),
-            said: said_of(alloc, root, name, item)?,
+            said: read_item(alloc, root, name, item)?,
         }),
         None => Ok(Entry {
             key,
             place,
             bare: false,
-            said: nothing_said(alloc, name)?,
+            said: unsupported_entry(alloc, name)?,
         }),
     }
 }
@@ -105,7 +105,7 @@ fn push_entries(
     entries: &mut Vec<Entry>,
 ) -> CargoResult<()>
     ensures ok { OnOk result (map entry_view entries.new.items ≡ map entry_view entries.old.items
-        ++ entries_of (tree_of document.now) root.now (place_seen place.now)) }
+        ++ entries_of (tree_of document.now) root.now (place_view place.now)) }
     ensures reasons { OnOk result (All (HasReason (tree_of document.now) root.now) entries.old.items
         → All (HasReason (tree_of document.now) root.now) entries.new.items) }
     ensures refused { IfErr result IsMemory }

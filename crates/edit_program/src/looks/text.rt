@@ -3,7 +3,7 @@ ghost use Rattle.std.specs.Prelude.{◌≡◌, ◌⊎◌, ◌++◌, IfErr, IfOk,
 ghost use Rattle.std.specs.List.{flat_map};
 ghost use Rattle.edit_base.specs.Errors.{IsMemory, number_of};
 ghost use Rattle.edit_sources.specs.Folders.{HasBadName};
-ghost use Rattle.edit_program.specs.LookLines.{HasBadLook, line_text, look_line};
+ghost use Rattle.edit_program.specs.LookLines.{HasBadLookup, line_text, look_as_line};
 
 use edit_base::CargoResult;
 use edit_sources::index_dir::layout_path;
@@ -24,8 +24,8 @@ fn push_line(text: &mut String, address: &str, name: &str, path: &str) -> Result
 }
 
 /// Appends the line of a lookup.
-fn push_look(alloc: Global, text: &mut String, look: &Look) -> CargoResult<()>
-    ensures ok { OnOk result (string_bytes text.new ≡ string_bytes text.old ++ look_line look.now) }
+fn push_lookup(alloc: Global, text: &mut String, look: &Look) -> CargoResult<()>
+    ensures ok { OnOk result (string_bytes text.new ≡ string_bytes text.old ++ look_as_line look.now) }
     ensures refused { IfErr result
         (λ e. IsMemory e ⊎ HasBadName (string_bytes look.now.name) (number_of e)) }
 {
@@ -42,12 +42,12 @@ fn push_look(alloc: Global, text: &mut String, look: &Look) -> CargoResult<()>
 /// A line for each lookup: the address, the name, and the path of the name's file in an index, separated by
 /// tabs. Fails with `Error::BadCrateName` for a name that is not valid in an index.
 pub fn looks_text(alloc: Global, looks: &[Look]) -> CargoResult<String>
-    ensures text { IfOk result (λ s. string_bytes s ≡ flat_map look_line looks.now) }
-    ensures refused { IfErr result (λ e. IsMemory e ⊎ HasBadLook looks.now (number_of e)) }
+    ensures text { IfOk result (λ s. string_bytes s ≡ flat_map look_as_line looks.now) }
+    ensures refused { IfErr result (λ e. IsMemory e ⊎ HasBadLookup looks.now (number_of e)) }
 {
     let mut text = String::new(alloc);
     for look in looks {
-        push_look(alloc, &mut text, look)?;
+        push_lookup(alloc, &mut text, look)?;
     }
     Ok(text)
 }

@@ -2,10 +2,10 @@
 ghost use Rattle.std.specs.Prelude.{◌≡◌, ◌≢◌, All, IfErr, IfOk};
 ghost use Rattle.edit_base.specs.Errors.{number_of};
 ghost use Rattle.edit_metadata.specs.Inputs.{AreInputs};
-ghost use Rattle.edit_metadata.specs.Workspaces.{HasOwnFolders, workspace_said};
+ghost use Rattle.edit_metadata.specs.Workspaces.{HasOwnFolders, workspace_view};
 ghost use Rattle.edit_set_version.specs.Bumps.{target_of};
 ghost use Rattle.edit_set_version.specs.PlanRefused.{IsCauseOf};
-ghost use Rattle.edit_set_version.specs.Selections.{asked_of};
+ghost use Rattle.edit_set_version.specs.Selections.{selection_view};
 ghost use Rattle.edit_version.specs.Laws.{IsReadable};
 ghost use Rattle.semver.specs.Identifiers.{parts_of};
 ghost use Rattle.edit_program.specs.Plans.{IsVersionPlan};
@@ -24,13 +24,13 @@ pub(crate) fn plan_for(
     words: &SetVersionWords<'_>,
     read: &ReadWorkspace,
 ) -> RunResult<SetVersionPlan>
-    requires inputs { AreInputs no_rust (workspace_said read.now.workspace) read.now.inputs.items }
-    requires folders { HasOwnFolders (workspace_said read.now.workspace) }
+    requires inputs { AreInputs no_rust (workspace_view read.now.workspace) read.now.inputs.items }
+    requires folders { HasOwnFolders (workspace_view read.now.workspace) }
     requires readable { All (λ p. IsReadable (parts_of p.version)) read.now.workspace.packages.items }
     ensures planned { IfOk result (IsVersionPlan (target_of words.now.target)
-        (asked_of words.now.selection) (workspace_said read.now.workspace) read.now.inputs.items) }
+        (selection_view words.now.selection) (workspace_view read.now.workspace) read.now.inputs.items) }
     ensures refused { IfErr result (λ r. IsCauseOf (target_of words.now.target)
-        (asked_of words.now.selection) (workspace_said read.now.workspace) read.now.inputs.items r.error) }
+        (selection_view words.now.selection) (workspace_view read.now.workspace) read.now.inputs.items r.error) }
     ensures counted { IfErr result (λ r. number_of r.error ≢ 3) }
 {
     let ReadWorkspace { workspace, inputs } = read;

@@ -3,8 +3,8 @@ ghost use Rattle.std.specs.Prelude.{◌≡◌, ◌⊎◌, IfErr, OnOk, map};
 ghost use Rattle.std.specs.Io.KnownBytes.{Appends};
 ghost use Rattle.edit_base.specs.Errors.{IsMemory};
 ghost use Rattle.edit_base.specs.declared.errors.Error.TheVariants.{Output};
-ghost use Rattle.edit_set_version.specs.Planned.{told_lines};
-ghost use Rattle.edit_set_version.specs.ToldLines.{line_told};
+ghost use Rattle.edit_set_version.specs.Planned.{plan_lines_view};
+ghost use Rattle.edit_set_version.specs.ToldLines.{report_line_view};
 ghost use Rattle.edit_program.specs.Printed.{diffs_if, messages_in, shown, statuses, statuses_in, warning_if};
 
 use crate::set_version_run::words::SetVersionWords;
@@ -32,7 +32,7 @@ pub(crate) fn warn_if<E: io::Write>(due: bool, message: &str, err: &mut E) -> Ca
 /// Prints the lines of a plan as status lines.
 fn print_lines<E: io::Write>(lines: &[(String, String)], err: &mut E) -> CargoResult<()>
     ensures text { OnOk result (Appends (E.contents err.old) (E.contents err.new)
-        (statuses (map line_told lines.now))) }
+        (statuses (map report_line_view lines.now))) }
     ensures refused { IfErr result (λ e. e ≡ Output) }
 {
     for line in lines {
@@ -50,9 +50,9 @@ fn print_lines_in<O: io::Write, E: io::Write>(
     err: &mut E,
 ) -> CargoResult<()>
     ensures shown { OnOk result (Appends (O.contents out.old) (O.contents out.new)
-        (messages_in format (map line_told lines.now))) }
+        (messages_in format (map report_line_view lines.now))) }
     ensures told { OnOk result (Appends (E.contents err.old) (E.contents err.new)
-        (statuses_in format (map line_told lines.now))) }
+        (statuses_in format (map report_line_view lines.now))) }
     ensures refused { IfErr result (λ e. IsMemory e ⊎ (e ≡ Output)) }
 {
     match format {
@@ -94,7 +94,7 @@ pub(crate) fn print_plan<O: io::Write, E: io::Write>(
     ensures shown { OnOk result (Appends (O.contents out.old) (O.contents out.new)
         (shown words.now root.now inputs.now plan.now)) }
     ensures told { OnOk result (Appends (E.contents err.old) (E.contents err.new)
-        (statuses_in words.now.presentation.format (told_lines plan.now))) }
+        (statuses_in words.now.presentation.format (plan_lines_view plan.now))) }
     ensures refused { IfErr result (λ e. IsMemory e ⊎ (e ≡ Output)) }
 {
     let format = words.presentation.format;

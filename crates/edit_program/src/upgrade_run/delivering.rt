@@ -1,14 +1,14 @@
 //! How a plan is printed and written, from the arguments.
 ghost use Rattle.std.specs.Prelude.{◌≡◌, IfErr, IfOk, option_map, string_bytes};
 ghost use Rattle.edit_base.specs.Errors.{IsMemory};
-ghost use Rattle.edit_lock.specs.Views.{packages_seen};
-ghost use Rattle.edit_metadata.specs.Workspaces.{workspace_said};
+ghost use Rattle.edit_lock.specs.Views.{lock_view};
+ghost use Rattle.edit_metadata.specs.Workspaces.{workspace_view};
 ghost use Rattle.edit_sources.specs.Configured.{given};
 ghost use Rattle.edit_program.specs.Delivery.{delivery_of};
 ghost use Rattle.edit_program.specs.Upgrading.{IsPathOf, delivery_by, diff_root, has_outputs};
 
+use crate::upgrade_output::DeliveryTask;
 use crate::upgrade_run::words::UpgradeWords;
-use crate::upgrade_told::DeliveryTask;
 use edit_base::CargoResult;
 use edit_lock::Lock;
 use edit_metadata::Workspace;
@@ -37,7 +37,7 @@ pub(crate) fn path_of(
 /// The folder that paths in diffs are relative to: the workspace's root, where there is one, else the
 /// current folder.
 fn diff_root<'a>(workspace: Option<&'a Workspace>, current: &'a str) -> &'a str
-    ensures { result.now ≡ diff_root current.now (option_map (λ w. workspace_said w.now) workspace.entry) }
+    ensures { result.now ≡ diff_root current.now (option_map (λ w. workspace_view w.now) workspace.entry) }
 {
     match workspace {
         Some(workspace) => workspace.root.as_str(),
@@ -56,7 +56,7 @@ pub(crate) fn delivery_task<'a>(
     lock: Option<&'a Lock>,
 ) -> DeliveryTask<'a>
     ensures { delivery_of result ≡ delivery_by words.entry.now current.now plan.entry.now target.entry.now
-        (given path.entry) (option_map (λ l. packages_seen l.now) lock.entry) }
+        (given path.entry) (option_map (λ l. lock_view l.now) lock.entry) }
 {
     let workspace = target.workspace.as_ref();
     DeliveryTask {

@@ -9,8 +9,8 @@ ghost use Rattle.edit_steps.specs.Faults.{CountsFault};
 ghost use Rattle.edit_store.specs.Store.{OnlyReads};
 ghost use Rattle.edit_steps.specs.Shared.{HasLists, lists_for};
 ghost use Rattle.edit_steps.specs.Sources.{AreDocuments};
-ghost use Rattle.edit_program.specs.UpgradeCauses.{IsLooksCause};
-ghost use Rattle.edit_program.specs.Looking.{AreLinesOf, AreLooksShown};
+ghost use Rattle.edit_program.specs.UpgradeCauses.{IsLookupsCause};
+ghost use Rattle.edit_program.specs.Looking.{AreLinesOf, AreLookupsPrinted};
 ghost use Rattle.edit_program.specs.Planned.{IsPlanCause};
 
 use crate::looks::{NoIndex, looks_text};
@@ -60,15 +60,21 @@ pub fn looks<S: Store, O: io::Write>(
 ) -> RunResult<()>
     ensures reads { OnlyReads (S.view files.old) (S.view files.new) }
     ensures done { OnOk result ((S.view files.old).tells ≡ true
-        → AreLooksShown (Appends (O.contents out.old) (O.contents out.new)) words.now current.now
+        → AreLookupsPrinted (Appends (O.contents out.old) (O.contents out.new)) words.now current.now
         (given cargo_home.entry) (S.view files.old).file_at) }
     // each error has its cause
-    ensures why { IfErr result (λ r. IsLooksCause words.now current.now (given cargo_home.entry)
+    ensures why { IfErr result (λ r. IsLookupsCause words.now current.now (given cargo_home.entry)
         (S.view files.old) (S.view files.new) r.error) }
     // over any store, an error of the device is counted
     ensures counted { IfErr result (λ r. CountsFault (S.view files.old) (S.view files.new) r.error) }
 {
-    let sources = read_sources(alloc, &words.asked_for_looks(), current, cargo_home, files)?;
+    let sources = read_sources(
+        alloc,
+        &words.to_lookup_request(),
+        current,
+        cargo_home,
+        files,
+    )?;
     let Sources {
         target,
         configs,
@@ -77,7 +83,7 @@ pub fn looks<S: Store, O: io::Write>(
     let lines = match lines_for(alloc, &words.options, &target, &configs) {
         Ok(lines) => lines,
         Err(error) => {
-            let asked = words.asked_for_looks();
+            let asked = words.to_lookup_request();
             let inputs = &target.inputs;
             return Err(explain_upgrade(alloc, error, &asked, current, inputs, &configs, files));
         }

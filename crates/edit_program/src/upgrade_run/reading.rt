@@ -1,14 +1,14 @@
 //! Reads the files that an upgrade depends on.
 ghost use Rattle.std.specs.Prelude.{◌≡◌, ◌⊎◌, IfErr, IfOk, Some, option_map, true};
 ghost use Rattle.edit_base.specs.declared.errors.DeviceCall.TheVariants as call;
-ghost use Rattle.edit_lock.specs.Views.{packages_seen};
+ghost use Rattle.edit_lock.specs.Views.{lock_view};
 ghost use Rattle.edit_sources.specs.Configured.{given};
 ghost use Rattle.edit_steps.specs.Causes.{IsReadCause};
 ghost use Rattle.edit_steps.specs.Faults.{CountsFault};
 ghost use Rattle.edit_steps.specs.Sources.{MayBePlanned};
-ghost use Rattle.edit_store.specs.Store.{OnlyReads, RefusesCall};
+ghost use Rattle.edit_store.specs.Store.{OnlyReads, IsCallError};
 ghost use Rattle.edit_program.specs.LockRead.{HasNoLock, IsLockAt, IsLockRead};
-ghost use Rattle.edit_program.specs.Planned.{asking};
+ghost use Rattle.edit_program.specs.Planned.{to_request};
 ghost use Rattle.edit_program.specs.Upgrading.{IsRead};
 
 use crate::upgrade_run::words::UpgradeWords;
@@ -33,8 +33,8 @@ fn read_lock_at<S: Store>(
 ) -> RunResult<Lock>
     ensures store { OnlyReads (S.view files.old) (S.view files.new) }
     ensures read { IfOk result (λ lock. (S.view files.old).tells ≡ true
-        → IsLockAt (S.view files.old).file_at current.now named.now (packages_seen lock)) }
-    ensures refused { IfErr result (λ r. RefusesCall call.Read (S.view files.old) (S.view files.new) r.error
+        → IsLockAt (S.view files.old).file_at current.now named.now (lock_view lock)) }
+    ensures refused { IfErr result (λ r. IsCallError call.Read (S.view files.old) (S.view files.new) r.error
         ⊎ ((S.view files.old).tells ≡ true
         → HasNoLock (S.view files.old).file_at current.now (Some named.now) r.error)) }
     ensures counted { IfErr result (λ r. CountsFault (S.view files.old) (S.view files.new) r.error) }
@@ -60,8 +60,8 @@ fn read_lock<S: Store>(
 ) -> RunResult<Option<Lock>>
     ensures store { OnlyReads (S.view files.old) (S.view files.new) }
     ensures read { IfOk result (λ lock. (S.view files.old).tells ≡ true
-        → IsLockRead (S.view files.old).file_at current.now (given named.entry) (option_map packages_seen lock)) }
-    ensures refused { IfErr result (λ r. RefusesCall call.Read (S.view files.old) (S.view files.new) r.error
+        → IsLockRead (S.view files.old).file_at current.now (given named.entry) (option_map lock_view lock)) }
+    ensures refused { IfErr result (λ r. IsCallError call.Read (S.view files.old) (S.view files.new) r.error
         ⊎ ((S.view files.old).tells ≡ true
         → HasNoLock (S.view files.old).file_at current.now (given named.entry) r.error)) }
     ensures counted { IfErr result (λ r. CountsFault (S.view files.old) (S.view files.new) r.error) }
@@ -88,9 +88,9 @@ pub(crate) fn read<S: Store>(
         → IsRead words.now current.now (given cargo_home.entry) (S.view files.old).file_at r.sources) }
     ensures locked { IfOk result (λ r. (S.view files.old).tells ≡ true
         → IsLockRead (S.view files.old).file_at current.now (given words.now.lock_file)
-        (option_map packages_seen r.lock)) }
+        (option_map lock_view r.lock)) }
     ensures planned { IfOk result (λ r. MayBePlanned r.sources) }
-    ensures refused { IfErr result (λ r. IsReadCause current.now (given cargo_home.entry) (asking words.now)
+    ensures refused { IfErr result (λ r. IsReadCause current.now (given cargo_home.entry) (to_request words.now)
         (S.view files.old) (S.view files.new) r.error
         ⊎ ((S.view files.old).tells ≡ true
         → HasNoLock (S.view files.old).file_at current.now (given words.now.lock_file) r.error)) }

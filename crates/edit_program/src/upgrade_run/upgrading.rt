@@ -9,11 +9,11 @@ ghost use Rattle.edit_program.specs.UpgradeCauses.{IsUpgradeCause};
 ghost use Rattle.edit_program.specs.Upgrading.{IsBroken, IsUpgraded};
 
 use crate::place::Place;
+use crate::upgrade_output::deliver;
 use crate::upgrade_run::delivering::{delivery_task, has_outputs, path_of};
 use crate::upgrade_run::plan::plan_for;
 use crate::upgrade_run::reading::{Readings, read};
 use crate::upgrade_run::words::UpgradeWords;
-use crate::upgrade_told::deliver;
 use edit_diagnostics::{explain_delivery, explain_upgrade};
 use edit_steps::RunResult;
 use edit_steps::upgrade_read::Sources;

@@ -1,7 +1,7 @@
 //! The arguments of `upgrade`.
 ghost use Rattle.std.specs.Prelude.{◌≡◌};
-ghost use Rattle.edit_steps.specs.Asking.{asking_of};
-ghost use Rattle.edit_program.specs.Planned.{asking, asking_for_looks};
+ghost use Rattle.edit_steps.specs.RequestView.{request_view};
+ghost use Rattle.edit_program.specs.Planned.{to_request, to_lookup_request};
 
 use edit_shown::Presentation;
 use edit_steps::upgrade_read::{Asked, RustChoice};
@@ -36,7 +36,7 @@ pub struct UpgradeWords<'a> {
 impl<'a> UpgradeWords<'a> {
     /// The files to read.
     pub(crate) fn asked(&self) -> Asked<'a>
-        ensures { asking_of result ≡ asking self.now }
+        ensures { request_view result ≡ to_request self.now }
     {
         Asked {
             manifest_path: self.manifest_path,
@@ -51,8 +51,8 @@ impl<'a> UpgradeWords<'a> {
     }
 
     /// The files to read where only the lookups are requested: no index.
-    pub(crate) fn asked_for_looks(&self) -> Asked<'a>
-        ensures { asking_of result ≡ asking_for_looks self.now }
+    pub(crate) fn to_lookup_request(&self) -> Asked<'a>
+        ensures { request_view result ≡ to_lookup_request self.now }
     {
         Asked {
             index_file: None,

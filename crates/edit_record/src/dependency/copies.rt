@@ -26,7 +26,7 @@ pub(crate) fn owned(alloc: Global, text: Option<&str>) -> Result<Option<String>,
 }
 
 /// Returns a deep copy of a list of strings, if there is one.
-fn copied_list(texts: Option<&Vec<String>>) -> Result<Option<Vec<String>>, AllocError>
+fn clone_text_list(texts: Option<&Vec<String>>) -> Result<Option<Vec<String>>, AllocError>
     ensures { IfOk result (λ o. option_map texts_view o
         ≡ option_map texts_view (option_copied texts.entry)) }
 {
@@ -59,7 +59,7 @@ pub(crate) fn copied_lists(
     ensures other { IfOk result (λ p. option_map texts_view p.1
         ≡ option_map texts_view (option_copied other.entry)) }
 {
-    Ok((copied_list(one)?, copied_list(other)?))
+    Ok((clone_text_list(one)?, clone_text_list(other)?))
 }
 
 /// Appends `new` to `old`, if there is one.

@@ -5,7 +5,7 @@ ghost use Rattle.edit_document.specs.ItemViews.{view_of};
 ghost use Rattle.edit_document.specs.Items.{count_in, type_name_of};
 ghost use Rattle.edit_record.specs.EntryRecords.{wrong_type};
 ghost use Rattle.edit_record.specs.ReadEntries.{feature_texts, features_at, first_texts, member_in, old_spelling, text_at, text_of, truth_at, version_at};
-ghost use Rattle.edit_record.specs.RecordViews.{IsRefused, Tells, shown_at, texts_view};
+ghost use Rattle.edit_record.specs.RecordViews.{IsErrorOfResult, IsErrorOf, item_tree, texts_view};
 ghost use Rattle.edit_version.specs.Requirement.{cut};
 
 use edit_base::errors::{CargoResult, Error};
@@ -22,7 +22,7 @@ pub(crate) fn wrong_type(
     item: Item<'_>,
 ) -> Result<Error, AllocError>
     ensures { IfOk result
-        (Tells (wrong_type (type_name_of (view_of item.entry)) name.now expected.now dep.now)) }
+        (IsErrorOf (wrong_type (type_name_of (view_of item.entry)) name.now expected.now dep.now)) }
 {
     Ok(Error::InvalidType {
         actual: String::from_str(alloc, item.type_name())?,
@@ -40,7 +40,7 @@ pub(crate) fn text_of<'a>(
     item: Item<'a>,
 ) -> CargoResult<&'a str>
     ensures ok { IfOk result (λ s. text_of dep.now name.now (view_of item.entry) ≡ Ok s.now) }
-    ensures refused { IfErr result (IsRefused (text_of dep.now name.now (view_of item.entry))) }
+    ensures refused { IfErr result (IsErrorOfResult (text_of dep.now name.now (view_of item.entry))) }
 {
     match item.as_str() {
         Some(text) => Ok(text),
@@ -55,9 +55,9 @@ pub(crate) fn text_at<'a>(
     table: Item<'a>,
     name: &str,
 ) -> CargoResult<Option<&'a str>>
-    ensures ok { IfOk result (λ o. text_at (shown_at table.entry) dep.now name.now
+    ensures ok { IfOk result (λ o. text_at (item_tree table.entry) dep.now name.now
         ≡ Ok (option_map (λ s. s.now) o)) }
-    ensures refused { IfErr result (IsRefused (text_at (shown_at table.entry) dep.now name.now)) }
+    ensures refused { IfErr result (IsErrorOfResult (text_at (item_tree table.entry) dep.now name.now)) }
 {
     match table.get(name) {
         Some(item) => Ok(Some(text_of(alloc, dep, name, item)?)),
@@ -78,9 +78,9 @@ fn owned_version(alloc: Global, text: Option<&str>) -> Result<Option<String>, Al
 
 /// The requirement of the key `version` up to its first `+`, if the key is there.
 pub(crate) fn version_at(alloc: Global, dep: &str, table: Item<'_>) -> CargoResult<Option<String>>
-    ensures ok { IfOk result (λ o. version_at (shown_at table.entry) dep.now
+    ensures ok { IfOk result (λ o. version_at (item_tree table.entry) dep.now
         ≡ Ok (option_map string_bytes o)) }
-    ensures refused { IfErr result (IsRefused (version_at (shown_at table.entry) dep.now)) }
+    ensures refused { IfErr result (IsErrorOfResult (version_at (item_tree table.entry) dep.now)) }
 {
     let text = text_at(alloc, dep, table, "version")?;
     Ok(owned_version(alloc, text)?)
@@ -88,7 +88,7 @@ pub(crate) fn version_at(alloc: Global, dep: &str, table: Item<'_>) -> CargoResu
 
 /// The boolean of a key; `None` where the key is absent or holds no boolean.
 pub(crate) fn truth_at(table: Item<'_>, name: &str) -> Option<bool>
-    ensures { result ≡ truth_at (shown_at table.entry) name.now }
+    ensures { result ≡ truth_at (item_tree table.entry) name.now }
 {
     match table.get(name) {
         Some(item) => item.as_bool(),
@@ -100,9 +100,9 @@ pub(crate) fn truth_at(table: Item<'_>, name: &str) -> Option<bool>
 /// `default-features`.
 pub(crate) fn check_spelling(alloc: Global, dep: &str, table: Item<'_>) -> CargoResult<()>
     ensures ok { IfOk result (λ _.
-        old_spelling dep.now (member_in (shown_at table.entry) (codes "default_features")) ≡ Ok false) }
-    ensures refused { IfErr result (IsRefused
-        (old_spelling dep.now (member_in (shown_at table.entry) (codes "default_features")))) }
+        old_spelling dep.now (member_in (item_tree table.entry) (codes "default_features")) ≡ Ok false) }
+    ensures refused { IfErr result (IsErrorOfResult
+        (old_spelling dep.now (member_in (item_tree table.entry) (codes "default_features")))) }
 {
     match table.get("default_features") {
         Some(_) => Err(Error::OldDefaultFeatures {
@@ -114,10 +114,10 @@ pub(crate) fn check_spelling(alloc: Global, dep: &str, table: Item<'_>) -> Cargo
 
 /// The strings of an array's elements; `Error::InvalidType` where one is no string.
 fn element_texts(alloc: Global, dep: &str, array: Item<'_>) -> CargoResult<Vec<String>>
-    ensures ok { IfOk result (λ v. first_texts (shown_at array.entry) dep.now
+    ensures ok { IfOk result (λ v. first_texts (item_tree array.entry) dep.now
         (count_in (view_of array.entry)) ≡ Ok (texts_view v)) }
-    ensures refused { IfErr result (IsRefused
-        (first_texts (shown_at array.entry) dep.now (count_in (view_of array.entry)))) }
+    ensures refused { IfErr result (IsErrorOfResult
+        (first_texts (item_tree array.entry) dep.now (count_in (view_of array.entry)))) }
 {
     let mut texts = Vec::new(alloc);
     for index in 0..array.len() {
@@ -131,10 +131,10 @@ fn element_texts(alloc: Global, dep: &str, array: Item<'_>) -> CargoResult<Vec<S
 
 /// The strings of the value of `features`; `Error::InvalidType` where it is no array of strings.
 fn feature_texts(alloc: Global, dep: &str, item: Item<'_>) -> CargoResult<Vec<String>>
-    ensures ok { IfOk result (λ v. feature_texts (shown_at item.entry) dep.now (view_of item.entry)
+    ensures ok { IfOk result (λ v. feature_texts (item_tree item.entry) dep.now (view_of item.entry)
         ≡ Ok (texts_view v)) }
-    ensures refused { IfErr result (IsRefused
-        (feature_texts (shown_at item.entry) dep.now (view_of item.entry))) }
+    ensures refused { IfErr result (IsErrorOfResult
+        (feature_texts (item_tree item.entry) dep.now (view_of item.entry))) }
 {
     match item.as_array() {
         Some(array) => element_texts(alloc, dep, array),
@@ -145,9 +145,9 @@ fn feature_texts(alloc: Global, dep: &str, item: Item<'_>) -> CargoResult<Vec<St
 /// The strings of the key `features`, if the key is there; `Error::InvalidType` where it holds no array of
 /// strings.
 pub fn features_at(alloc: Global, dep: &str, table: Item<'_>) -> CargoResult<Option<Vec<String>>>
-    ensures ok { IfOk result (λ o. features_at (shown_at table.entry) dep.now
+    ensures ok { IfOk result (λ o. features_at (item_tree table.entry) dep.now
         ≡ Ok (option_map texts_view o)) }
-    ensures refused { IfErr result (IsRefused (features_at (shown_at table.entry) dep.now)) }
+    ensures refused { IfErr result (IsErrorOfResult (features_at (item_tree table.entry) dep.now)) }
 {
     match table.get("features") {
         Some(item) => Ok(Some(feature_texts(alloc, dep, item)?)),

@@ -3,10 +3,10 @@ ghost use Rattle.std.specs.Prelude.{◌≡◌, None, Some, IfOk, IfErr, codes, o
 ghost use Rattle.std.specs.BTreeMap.{btree_map_len};
 ghost use Rattle.edit_base.specs.Errors.{IsMemory};
 ghost use Rattle.edit_document.specs.ItemViews.{document_of, place_of, view_of};
-ghost use Rattle.edit_tree.specs.Shown.{tree_of};
+ghost use Rattle.edit_tree.specs.DocumentViews.{tree_of};
 ghost use Rattle.edit_record.specs.EntryRecords.{from_git, from_workspace};
 ghost use Rattle.edit_record.specs.ReadEntries.{git_origin, member_in, names_by, options_at, origin_at, path_origin, record_of, repository, table_record, true_workspace, workspace_origin};
-ghost use Rattle.edit_record.specs.RecordViews.{IsRefused, path_view, record_view, repository_view, shown_at, source_view, texts_view};
+ghost use Rattle.edit_record.specs.RecordViews.{IsErrorOfResult, path_view, record_view, repository_view, item_tree, source_view, texts_view};
 
 use super::Dependency;
 use super::copies::owned;
@@ -48,10 +48,10 @@ fn repository(
 
 /// The source of an entry with the key `git`.
 fn git_source(alloc: Global, dep: &str, table: Item<'_>, git: Item<'_>) -> CargoResult<GitSource>
-    ensures ok { IfOk result (λ s. git_origin (shown_at table.entry) dep.now (view_of git.entry)
+    ensures ok { IfOk result (λ s. git_origin (item_tree table.entry) dep.now (view_of git.entry)
         ≡ Ok (from_git (repository_view s))) }
-    ensures refused { IfErr result (IsRefused
-        (git_origin (shown_at table.entry) dep.now (view_of git.entry))) }
+    ensures refused { IfErr result (IsErrorOfResult
+        (git_origin (item_tree table.entry) dep.now (view_of git.entry))) }
 {
     let address = text_of(alloc, dep, "git", git)?;
     let branch = text_at(alloc, dep, table, "branch")?;
@@ -72,10 +72,10 @@ fn path_source(
     table: Item<'_>,
     path: Item<'_>,
 ) -> CargoResult<PathSource>
-    ensures ok { IfOk result (λ s. path_origin (shown_at table.entry) root.now dep.now (view_of path.entry)
+    ensures ok { IfOk result (λ s. path_origin (item_tree table.entry) root.now dep.now (view_of path.entry)
         ≡ Ok (path_view s)) }
-    ensures refused { IfErr result (IsRefused
-        (path_origin (shown_at table.entry) root.now dep.now (view_of path.entry))) }
+    ensures refused { IfErr result (IsErrorOfResult
+        (path_origin (item_tree table.entry) root.now dep.now (view_of path.entry))) }
 {
     let place = text_of(alloc, dep, "path", path)?;
     let version = version_at(alloc, dep, table)?;
@@ -88,7 +88,7 @@ fn path_source(
 /// The source of an entry with the key `workspace`; `Error::WorkspaceFalse` where it is false.
 fn true_workspace(alloc: Global, dep: &str, item: Item<'_>) -> CargoResult<WorkspaceSource>
     ensures ok { IfOk result (λ _. true_workspace dep.now (view_of item.entry) ≡ Ok from_workspace) }
-    ensures refused { IfErr result (IsRefused (true_workspace dep.now (view_of item.entry))) }
+    ensures refused { IfErr result (IsErrorOfResult (true_workspace dep.now (view_of item.entry))) }
 {
     match item.as_bool() {
         Some(truth) => {
@@ -107,9 +107,9 @@ fn true_workspace(alloc: Global, dep: &str, item: Item<'_>) -> CargoResult<Works
 /// no `workspace` either.
 fn workspace_source(alloc: Global, dep: &str, table: Item<'_>) -> CargoResult<WorkspaceSource>
     ensures ok { IfOk result (λ _. workspace_origin dep.now
-        (member_in (shown_at table.entry) (codes "workspace")) ≡ Ok from_workspace) }
-    ensures refused { IfErr result (IsRefused
-        (workspace_origin dep.now (member_in (shown_at table.entry) (codes "workspace")))) }
+        (member_in (item_tree table.entry) (codes "workspace")) ≡ Ok from_workspace) }
+    ensures refused { IfErr result (IsErrorOfResult
+        (workspace_origin dep.now (member_in (item_tree table.entry) (codes "workspace")))) }
 {
     match table.get("workspace") {
         Some(item) => true_workspace(alloc, dep, item),
@@ -121,8 +121,8 @@ fn workspace_source(alloc: Global, dep: &str, table: Item<'_>) -> CargoResult<Wo
 
 /// The source of an entry that is a table or an inline table.
 fn source_of(alloc: Global, root: &str, dep: &str, table: Item<'_>) -> CargoResult<Source>
-    ensures ok { IfOk result (λ s. origin_at (shown_at table.entry) root.now dep.now ≡ Ok (source_view s)) }
-    ensures refused { IfErr result (IsRefused (origin_at (shown_at table.entry) root.now dep.now)) }
+    ensures ok { IfOk result (λ s. origin_at (item_tree table.entry) root.now dep.now ≡ Ok (source_view s)) }
+    ensures refused { IfErr result (IsErrorOfResult (origin_at (item_tree table.entry) root.now dep.now)) }
 {
     if let Some(git) = table.get("git") {
         return Ok(Source::Git(git_source(alloc, dep, table, git)?));
@@ -160,9 +160,9 @@ fn options_at(
     dep: &str,
     table: Item<'_>,
 ) -> CargoResult<(Option<String>, Option<Vec<String>>)>
-    ensures ok { IfOk result (λ o. options_at (shown_at table.entry) dep.now
+    ensures ok { IfOk result (λ o. options_at (item_tree table.entry) dep.now
         ≡ Ok (option_map string_bytes o.0, option_map texts_view o.1)) }
-    ensures refused { IfErr result (IsRefused (options_at (shown_at table.entry) dep.now)) }
+    ensures refused { IfErr result (IsErrorOfResult (options_at (item_tree table.entry) dep.now)) }
 {
     let registry = text_at(alloc, dep, table, "registry")?;
     check_spelling(alloc, dep, table)?;
@@ -172,10 +172,10 @@ fn options_at(
 
 /// Reads an entry that is a table or an inline table.
 fn table_record(alloc: Global, root: &str, dep: &str, table: Item<'_>) -> CargoResult<Dependency>
-    ensures ok { IfOk result (λ d. table_record (shown_at table.entry) root.now dep.now
+    ensures ok { IfOk result (λ d. table_record (item_tree table.entry) root.now dep.now
         ≡ Ok (record_view d)) }
     ensures available { IfOk result (λ d. btree_map_len d.available_features ≡ 0) }
-    ensures refused { IfErr result (IsRefused (table_record (shown_at table.entry) root.now dep.now)) }
+    ensures refused { IfErr result (IsErrorOfResult (table_record (item_tree table.entry) root.now dep.now)) }
 {
     let crate_name = text_at(alloc, dep, table, "package")?;
     let (name, rename) = names(alloc, dep, crate_name)?;
@@ -212,7 +212,7 @@ impl Dependency {
         ensures record { IfOk result (λ d. record_of (tree_of (document_of item.entry)) (place_of item.entry)
             crate_root.now key.now ≡ Ok (record_view d)) }
         ensures available { IfOk result (λ d. btree_map_len d.available_features ≡ 0) }
-        ensures refused { IfErr result (IsRefused (record_of (tree_of (document_of item.entry))
+        ensures refused { IfErr result (IsErrorOfResult (record_of (tree_of (document_of item.entry))
             (place_of item.entry) crate_root.now key.now)) }
     {
         item.stands();

@@ -2,12 +2,12 @@
 ghost use Rattle.std.specs.Prelude.{◌≡◌, ◌++◌, ◌∷◌, [], true, IfOk, IfErr, OnOk, codes, option_copied, option_map, string_bytes};
 ghost use Rattle.edit_base.specs.Errors.{IsMemory};
 ghost use Rattle.edit_tree.specs.NewItems.{a_string, a_truth};
-ghost use Rattle.edit_document.specs.NewItemViews.{item_seen, pairs_seen, value_seen};
+ghost use Rattle.edit_document.specs.NewItemViews.{new_item_view, new_pair_views, new_value_view};
 ghost use Rattle.edit_record.specs.EntryRecords.{key_of};
 ghost use Rattle.edit_record.specs.NewEntries.{is_short, item_of, list_member, option_members, origin_members, path_members, repository_members, text_member, truth_member, written_name, written_registry};
-ghost use Rattle.edit_record.specs.ReadsAgain.{IsPlain, ReadsAgain};
+ghost use Rattle.edit_record.specs.HasRoundTrip.{IsPlain, HasRoundTrip};
 ghost use Rattle.edit_record.specs.RecordViews.{record_view, repository_view, source_view, texts_view};
-ghost use Rattle.edit_record.specs.RelativePaths.{path_field, slashed};
+ghost use Rattle.edit_record.specs.RelativePaths.{path_field, replace_backslashes};
 
 use super::Dependency;
 use super::sources::{GitSource, PathSource, Source};
@@ -17,8 +17,8 @@ use edit_document::{NewItem, NewValue};
 use std::alloc::{AllocError, Global};
 
 /// Replaces each backslash with a slash.
-fn slashed(alloc: Global, text: &str) -> Result<String, AllocError>
-    ensures { IfOk result (λ s. string_bytes s ≡ slashed text.now) }
+fn replace_backslashes(alloc: Global, text: &str) -> Result<String, AllocError>
+    ensures { IfOk result (λ s. string_bytes s ≡ replace_backslashes text.now) }
 {
     text.replace(alloc, '\\', "/")
 }
@@ -29,7 +29,7 @@ pub fn path_field(alloc: Global, root: &str, path: &str) -> CargoResult<String>
     ensures refused { IfErr result IsMemory }
 {
     let way = relative(alloc, path, root)?;
-    Ok(slashed(alloc, way.as_str())?)
+    Ok(replace_backslashes(alloc, way.as_str())?)
 }
 
 /// Appends a key with a value.
@@ -39,8 +39,8 @@ fn push_value(
     name: &str,
     value: NewValue,
 ) -> Result<(), AllocError>
-    ensures { OnOk result (pairs_seen members.new.items
-        ≡ pairs_seen members.old.items ++ (name.now, value_seen value) ∷ []) }
+    ensures { OnOk result (new_pair_views members.new.items
+        ≡ new_pair_views members.old.items ++ (name.now, new_value_view value) ∷ []) }
 {
     let name = String::from_str(alloc, name)?;
     members.push((name, value))?;
@@ -54,7 +54,7 @@ fn push_text(
     name: &str,
     text: Option<&String>,
 ) -> Result<(), AllocError>
-    ensures { OnOk result (pairs_seen members.new.items ≡ pairs_seen members.old.items
+    ensures { OnOk result (new_pair_views members.new.items ≡ new_pair_views members.old.items
         ++ text_member name.now (option_map string_bytes (option_copied text.entry))) }
 {
     match text {
@@ -70,8 +70,8 @@ fn push_truth(
     name: &str,
     truth: Option<bool>,
 ) -> Result<(), AllocError>
-    ensures { OnOk result (pairs_seen members.new.items
-        ≡ pairs_seen members.old.items ++ truth_member name.now truth) }
+    ensures { OnOk result (new_pair_views members.new.items
+        ≡ new_pair_views members.old.items ++ truth_member name.now truth) }
 {
     match truth {
         Some(truth) => push_value(alloc, members, name, NewValue::Bool(truth)),
@@ -86,7 +86,7 @@ fn push_list(
     name: &str,
     texts: Option<&Vec<String>>,
 ) -> Result<(), AllocError>
-    ensures { OnOk result (pairs_seen members.new.items ≡ pairs_seen members.old.items
+    ensures { OnOk result (new_pair_views members.new.items ≡ new_pair_views members.old.items
         ++ list_member name.now (option_map texts_view (option_copied texts.entry))) }
 {
     match texts {
@@ -101,8 +101,8 @@ fn push_repository(
     members: &mut Vec<(String, NewValue)>,
     source: &GitSource,
 ) -> Result<(), AllocError>
-    ensures { OnOk result (pairs_seen members.new.items
-        ≡ pairs_seen members.old.items ++ repository_members (repository_view source.now)) }
+    ensures { OnOk result (new_pair_views members.new.items
+        ≡ new_pair_views members.old.items ++ repository_members (repository_view source.now)) }
 {
     push_text(alloc, members, "git", Some(&source.git))?;
     push_text(alloc, members, "branch", source.branch.as_ref())?;
@@ -118,8 +118,8 @@ fn push_path(
     members: &mut Vec<(String, NewValue)>,
     source: &PathSource,
 ) -> CargoResult<()>
-    ensures ok { OnOk result (pairs_seen members.new.items
-        ≡ pairs_seen members.old.items ++ path_members root.now (string_bytes source.now.path)
+    ensures ok { OnOk result (new_pair_views members.new.items
+        ≡ new_pair_views members.old.items ++ path_members root.now (string_bytes source.now.path)
         (option_map string_bytes source.now.version)) }
     ensures refused { IfErr result IsMemory }
 {
@@ -136,8 +136,8 @@ fn push_source(
     members: &mut Vec<(String, NewValue)>,
     source: &Source,
 ) -> CargoResult<()>
-    ensures ok { OnOk result (pairs_seen members.new.items
-        ≡ pairs_seen members.old.items ++ origin_members root.now (Some (source_view source.now))) }
+    ensures ok { OnOk result (new_pair_views members.new.items
+        ≡ new_pair_views members.old.items ++ origin_members root.now (Some (source_view source.now))) }
     ensures refused { IfErr result IsMemory }
 {
     match source {
@@ -151,7 +151,7 @@ fn push_source(
 
 /// The one key of an entry that inherits everything from the workspace: `workspace = true`.
 fn workspace_members(alloc: Global) -> Result<Vec<(String, NewValue)>, AllocError>
-    ensures { IfOk result (λ v. pairs_seen v.items ≡ (codes "workspace", a_truth true) ∷ []) }
+    ensures { IfOk result (λ v. new_pair_views v.items ≡ (codes "workspace", a_truth true) ∷ []) }
 {
     let mut members = Vec::new(alloc);
     push_truth(alloc, &mut members, "workspace", Some(true))?;
@@ -196,8 +196,8 @@ impl Dependency {
         alloc: Global,
         members: &mut Vec<(String, NewValue)>,
     ) -> Result<(), AllocError>
-        ensures { OnOk result (pairs_seen members.new.items
-            ≡ pairs_seen members.old.items ++ option_members (record_view self.now)) }
+        ensures { OnOk result (new_pair_views members.new.items
+            ≡ new_pair_views members.old.items ++ option_members (record_view self.now)) }
     {
         push_text(alloc, members, "registry", self.written_registry())?;
         push_text(alloc, members, "package", self.written_name())?;
@@ -208,7 +208,7 @@ impl Dependency {
 
     /// The keys of an inline table with everything that is set.
     fn members(&self, alloc: Global, root: &str) -> CargoResult<Vec<(String, NewValue)>>
-        ensures ok { IfOk result (λ v. pairs_seen v.items
+        ensures ok { IfOk result (λ v. new_pair_views v.items
             ≡ origin_members root.now (record_view self.now).origin
             ++ option_members (record_view self.now)) }
         ensures refused { IfErr result IsMemory }
@@ -223,7 +223,7 @@ impl Dependency {
 
     /// Converts the dependency into a new entry, with its path relative to `root`.
     fn new_item(&self, alloc: Global, root: &str) -> CargoResult<NewItem>
-        ensures item { IfOk result (λ i. item_seen i ≡ item_of root.now (record_view self.now)) }
+        ensures item { IfOk result (λ i. new_item_view i ≡ item_of root.now (record_view self.now)) }
         ensures refused { IfErr result IsMemory }
     {
         match &self.source {
@@ -249,9 +249,9 @@ impl Dependency {
     /// folder, and then `registry` with a version, `package` under another key, `default-features`,
     /// `features` and `optional`, each if it is set.
     pub fn to_toml(&self, alloc: Global, crate_root: &str) -> CargoResult<NewItem>
-        ensures item { IfOk result (λ i. item_seen i ≡ item_of crate_root.now (record_view self.now)) }
+        ensures item { IfOk result (λ i. new_item_view i ≡ item_of crate_root.now (record_view self.now)) }
         ensures round_trip { IfOk result (λ i. IsPlain (record_view self.now)
-            → ReadsAgain crate_root.now (key_of (record_view self.now)) (item_seen i)) }
+            → HasRoundTrip crate_root.now (key_of (record_view self.now)) (new_item_view i)) }
         ensures refused { IfErr result IsMemory }
     {
         self.new_item(alloc, crate_root)

@@ -2,9 +2,9 @@
 ghost use Rattle.std.specs.Prelude.{◌≡◌, ◌+◌, ◌^◌, ◌<◌, ◌++◌, IfOk, OnOk, if◌then◌else◌, length, map, string_bytes, take};
 ghost use Rattle.edit_shown.specs.Hunks as spec;
 ghost use Rattle.edit_shown.specs.Hunks.{AreCounted};
-ghost use Rattle.edit_shown.specs.Shown.{is_new, is_old};
+ghost use Rattle.edit_shown.specs.ShownLines.{is_new, is_old};
 
-use crate::diff::marks::Mark;
+use crate::diff::marks::LineKind;
 use crate::diff::shown::{count_new, count_old, is_shown, part_length};
 use std::alloc::{AllocError, Global};
 
@@ -19,13 +19,13 @@ fn ends_with_feed(line: &[u8]) -> bool
 }
 
 /// The character before a line with this mark: space, `-` or `+`.
-fn sign(mark: Mark) -> u8
+fn sign(mark: LineKind) -> u8
     ensures { result ≡ spec.sign mark }
 {
     match mark {
-        Mark::Kept => b' ',
-        Mark::Removed => b'-',
-        Mark::Added => b'+',
+        LineKind::Context => b' ',
+        LineKind::Removed => b'-',
+        LineKind::Added => b'+',
     }
 }
 
@@ -41,7 +41,7 @@ fn note(line: &[u8]) -> &'static str
 }
 
 /// Appends a line, after the character of its mark.
-fn push_line(text: &mut Vec<u8>, mark: Mark, line: &[u8]) -> Result<(), AllocError>
+fn push_line(text: &mut Vec<u8>, mark: LineKind, line: &[u8]) -> Result<(), AllocError>
     ensures ok { OnOk result (text.new.items ≡ text.old.items ++ spec.line_text mark line.now) }
 {
     text.push(sign(mark))?;
@@ -95,22 +95,22 @@ struct LineCounts {
 
 impl LineCounts {
     /// The counts after a line with this mark.
-    fn past(self, mark: Mark) -> LineCounts
+    fn past(self, mark: LineKind) -> LineCounts
         requires old { self.old + 1 < 2 ^ 64 }
         requires new { self.new + 1 < 2 ^ 64 }
         ensures old { result.old ≡ self.old + (if is_old mark then 1 else 0) }
         ensures new { result.new ≡ self.new + (if is_new mark then 1 else 0) }
     {
         match mark {
-            Mark::Kept => LineCounts {
+            LineKind::Context => LineCounts {
                 old: self.old + 1,
                 new: self.new + 1,
             },
-            Mark::Removed => LineCounts {
+            LineKind::Removed => LineCounts {
                 old: self.old + 1,
                 new: self.new,
             },
-            Mark::Added => LineCounts {
+            LineKind::Added => LineCounts {
                 old: self.old,
                 new: self.new + 1,
             },
@@ -119,16 +119,16 @@ impl LineCounts {
 }
 
 /// Appends the header of a hunk; `before` counts the lines before it.
-fn push_head(
+fn push_hunk_header(
     alloc: Global,
     text: &mut Vec<u8>,
     before: LineCounts,
-    part: &[Mark],
+    part: &[LineKind],
 ) -> Result<(), AllocError>
     requires old { before.old + length part.now < 2 ^ 64 }
     requires new { before.new + length part.now < 2 ^ 64 }
     ensures ok { OnOk result (text.new.items
-        ≡ text.old.items ++ spec.head_behind before.old before.new part.now) }
+        ≡ text.old.items ++ spec.hunk_header_after before.old before.new part.now) }
 {
     text.extend_from_slice(b"@@ -")?;
     push_range(alloc, text, before.old, count_old(part))?;
@@ -139,7 +139,7 @@ fn push_head(
 }
 
 /// Whether a hunk begins at a line that is shown.
-fn begins(marks: &[Mark], i: usize) -> bool
+fn begins(marks: &[LineKind], i: usize) -> bool
     requires { i < length marks.now }
     ensures { result ≡ spec.begins marks.now i }
 {
@@ -148,29 +148,29 @@ fn begins(marks: &[Mark], i: usize) -> bool
 
 /// Appends the header of a hunk where one begins at a line that is shown. `before` counts the lines before
 /// it.
-fn push_head_at(
+fn push_hunk_header_at(
     alloc: Global,
     text: &mut Vec<u8>,
-    marks: &[Mark],
+    marks: &[LineKind],
     before: LineCounts,
     i: usize,
 ) -> Result<(), AllocError>
     requires within { i < length marks.now }
     requires counted { AreCounted (take i marks.now) before.old before.new }
-    ensures ok { OnOk result (text.new.items ≡ text.old.items ++ spec.head_where marks.now i) }
+    ensures ok { OnOk result (text.new.items ≡ text.old.items ++ spec.hunk_header_before marks.now i) }
 {
     if !begins(marks, i) {
         return Ok(());
     }
     let part = &marks[i..i + part_length(marks, i)];
-    push_head(alloc, text, before, part)
+    push_hunk_header(alloc, text, before, part)
 }
 
 /// Appends a line of a diff, where it is shown, after the header of its hunk where one begins there.
 fn push_at(
     alloc: Global,
     text: &mut Vec<u8>,
-    marks: &[Mark],
+    marks: &[LineKind],
     lines: &[&[u8]],
     before: LineCounts,
     i: usize,
@@ -184,7 +184,7 @@ fn push_at(
     if !is_shown(marks, i) {
         return Ok(());
     }
-    push_head_at(alloc, text, marks, before, i)?;
+    push_hunk_header_at(alloc, text, marks, before, i)?;
     push_line(text, marks[i], lines[i])
 }
 
@@ -192,7 +192,7 @@ fn push_at(
 pub(crate) fn push_parts(
     alloc: Global,
     text: &mut Vec<u8>,
-    marks: &[Mark],
+    marks: &[LineKind],
     lines: &[&[u8]],
 ) -> Result<(), AllocError>
     requires { length lines.now ≡ length marks.now }

@@ -1,6 +1,6 @@
 //! The lines of a text.
 ghost use Rattle.std.specs.Prelude.{◌≡◌, ◌≤◌, [], IfOk, MatchOption, length, map};
-ghost use Rattle.edit_shown.specs.Lines.{line_length, lines_of, IsCut};
+ghost use Rattle.edit_shown.specs.Lines.{line_length, lines_of, IsSplitAfterLine};
 
 use std::alloc::{AllocError, Global};
 
@@ -19,7 +19,7 @@ fn line_length(text: &[u8]) -> usize
 
 /// The first line and the rest of a text; `None` for an empty text.
 fn first_line(text: &[u8]) -> Option<(&[u8], &[u8])>
-    ensures { MatchOption result (text.now ≡ []) (λ r. IsCut text.now r.0.now r.1.now) }
+    ensures { MatchOption result (text.now ≡ []) (λ r. IsSplitAfterLine text.now r.0.now r.1.now) }
 {
     if text.is_empty() {
         return None;

@@ -1,27 +1,27 @@
 //! Compares two texts line by line.
 ghost use Rattle.std.specs.Prelude.{◌≡◌, [], ◌∷◌, ◌++◌, IfOk, OnOk, map, option_copied, option_map, slice_get};
-ghost use Rattle.edit_shown.specs.Marks.{lines_in, marked, marked_at, marks_in};
+ghost use Rattle.edit_shown.specs.LineKinds.{lines_in, marked, compare_lines_at, line_kinds};
 
 use std::alloc::{AllocError, Global};
 
 /// Whether a line is unchanged, removed or added.
 #[derive(Clone, Copy, Debug, PartialEq, Eq)]
-pub enum Mark {
-    Kept,
+pub enum LineKind {
+    Context,
     Removed,
     Added,
 }
 
 /// Lines with their marks.
 #[derive(Drop)]
-pub(crate) struct MarkedLines<'a> {
-    pub(crate) marks: Vec<Mark>,
+pub(crate) struct DiffLines<'a> {
+    pub(crate) marks: Vec<LineKind>,
     pub(crate) lines: Vec<&'a [u8]>,
 }
 
-impl<'a> MarkedLines<'a> {
+impl<'a> DiffLines<'a> {
     /// Appends a line and its mark.
-    fn push(&mut self, mark: Mark, line: &'a [u8]) -> Result<(), AllocError>
+    fn push(&mut self, mark: LineKind, line: &'a [u8]) -> Result<(), AllocError>
         ensures marks { OnOk result (self.new.marks.items ≡ self.old.marks.items ++ mark ∷ []) }
         ensures lines { OnOk result (map (λ l. l.now) self.new.lines.items
             ≡ map (λ l. l.now) self.old.lines.items ++ line.now ∷ []) }
@@ -35,23 +35,23 @@ impl<'a> MarkedLines<'a> {
     /// removed and the added one.
     fn push_at(&mut self, old: Option<&'a [u8]>, new: Option<&'a [u8]>) -> Result<(), AllocError>
         ensures marks { OnOk result (self.new.marks.items ≡ self.old.marks.items
-            ++ marks_in (marked_at (option_map (λ l. l.now) old.entry)
+            ++ line_kinds (compare_lines_at (option_map (λ l. l.now) old.entry)
             (option_map (λ l. l.now) new.entry))) }
         ensures lines { OnOk result (map (λ l. l.now) self.new.lines.items
             ≡ map (λ l. l.now) self.old.lines.items
-            ++ lines_in (marked_at (option_map (λ l. l.now) old.entry)
+            ++ lines_in (compare_lines_at (option_map (λ l. l.now) old.entry)
             (option_map (λ l. l.now) new.entry))) }
     {
         match (old, new) {
             (Some(old), Some(new)) => {
                 if old == new {
-                    return self.push(Mark::Kept, old);
+                    return self.push(LineKind::Context, old);
                 }
-                self.push(Mark::Removed, old)?;
-                self.push(Mark::Added, new)
+                self.push(LineKind::Removed, old)?;
+                self.push(LineKind::Added, new)
             }
-            (Some(old), None) => self.push(Mark::Removed, old),
-            (None, Some(new)) => self.push(Mark::Added, new),
+            (Some(old), None) => self.push(LineKind::Removed, old),
+            (None, Some(new)) => self.push(LineKind::Added, new),
             (None, None) => Ok(()),
         }
     }
@@ -76,13 +76,13 @@ pub(crate) fn marked<'a>(
     alloc: Global,
     olds: &[&'a [u8]],
     news: &[&'a [u8]],
-) -> Result<MarkedLines<'a>, AllocError>
+) -> Result<DiffLines<'a>, AllocError>
     ensures marks { IfOk result (λ m. m.marks.items
-        ≡ marks_in (marked (map (λ l. l.now) olds.now) (map (λ l. l.now) news.now))) }
+        ≡ line_kinds (marked (map (λ l. l.now) olds.now) (map (λ l. l.now) news.now))) }
     ensures lines { IfOk result (λ m. map (λ l. l.now) m.lines.items
         ≡ lines_in (marked (map (λ l. l.now) olds.now) (map (λ l. l.now) news.now))) }
 {
-    let mut marked = MarkedLines {
+    let mut marked = DiffLines {
         marks: Vec::new(alloc),
         lines: Vec::new(alloc),
     };

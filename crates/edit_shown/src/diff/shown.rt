@@ -1,15 +1,15 @@
 //! Which lines a diff shows.
 ghost use Rattle.std.specs.Prelude.{◌≡◌, ◌+◌, ◌<◌, ◌≤◌, drop, length};
 ghost use Rattle.std.specs.List.{count_by};
-ghost use Rattle.edit_shown.specs.Shown.{is_new, is_old, is_shown, leading, shown_lines};
+ghost use Rattle.edit_shown.specs.ShownLines.{is_new, is_old, is_shown, leading, shown_lines};
 
-use crate::diff::marks::Mark;
+use crate::diff::marks::LineKind;
 
 /// The number of unchanged lines that are shown before and after a change.
 const CONTEXT: usize = 3;
 
 /// Whether a line changes within three lines of this one, or this one does.
-pub(crate) fn is_shown(marks: &[Mark], i: usize) -> bool
+pub(crate) fn is_shown(marks: &[LineKind], i: usize) -> bool
     requires { i < length marks.now }
     ensures { result ≡ is_shown marks.now i }
 {
@@ -19,11 +19,13 @@ pub(crate) fn is_shown(marks: &[Mark], i: usize) -> bool
     } else {
         marks.len()
     };
-    marks[from..to].iter().any(|mark| *mark != Mark::Kept)
+    marks[from..to]
+        .iter()
+        .any(|mark| *mark != LineKind::Context)
 }
 
 /// The number of consecutive lines that are shown, from one on.
-pub(crate) fn part_length(marks: &[Mark], i: usize) -> usize
+pub(crate) fn part_length(marks: &[LineKind], i: usize) -> usize
     requires { i ≤ length marks.now }
     ensures same { result ≡ leading (drop i (shown_lines marks.now)) }
     ensures within { i + result ≤ length marks.now }
@@ -37,15 +39,21 @@ pub(crate) fn part_length(marks: &[Mark], i: usize) -> usize
 }
 
 /// The number of lines of the old text.
-pub(crate) fn count_old(marks: &[Mark]) -> usize
+pub(crate) fn count_old(marks: &[LineKind]) -> usize
     ensures { result ≡ count_by is_old marks.now }
 {
-    marks.iter().filter(|mark| **mark != Mark::Added).count()
+    marks
+        .iter()
+        .filter(|mark| **mark != LineKind::Added)
+        .count()
 }
 
 /// The number of lines of the new text.
-pub(crate) fn count_new(marks: &[Mark]) -> usize
+pub(crate) fn count_new(marks: &[LineKind]) -> usize
     ensures { result ≡ count_by is_new marks.now }
 {
-    marks.iter().filter(|mark| **mark != Mark::Removed).count()
+    marks
+        .iter()
+        .filter(|mark| **mark != LineKind::Removed)
+        .count()
 }

@@ -4,7 +4,7 @@ ghost use Rattle.std.specs.Io.KnownBytes.{Appends};
 ghost use Rattle.edit_base.specs.Errors.{IsMemory};
 ghost use Rattle.edit_base.specs.declared.errors.Error.TheVariants.{Output};
 ghost use Rattle.edit_shown.specs.Lines.{lines_of};
-ghost use Rattle.edit_shown.specs.Marks.{marked};
+ghost use Rattle.edit_shown.specs.LineKinds.{marked};
 ghost use Rattle.edit_shown.specs.Unified as spec;
 
 use crate::diff::hunks::push_parts;

@@ -4,7 +4,7 @@ ghost use Rattle.edit_base.specs.Errors.{IsMemory};
 ghost use Rattle.edit_shown.specs.JsonMessages.{change_members, file_members, message_text, row_members, summary_members, warning_members};
 
 use crate::json::fields::{Field, Member};
-use crate::json::words::{change_word, maybe, why_word};
+use crate::json::words::{borrow_optional_text, change_name, reason_name};
 use crate::json::written::message;
 use edit_base::CargoResult;
 use edit_report::Row;
@@ -30,7 +30,7 @@ pub fn row_message<'a>(alloc: Global, manifest: &'a str, row: &'a Row) -> CargoR
         },
         Member {
             key: "rename",
-            field: Field::Maybe(maybe(&row.rename)),
+            field: Field::Maybe(borrow_optional_text(&row.rename)),
         },
         Member {
             key: "place",
@@ -38,27 +38,27 @@ pub fn row_message<'a>(alloc: Global, manifest: &'a str, row: &'a Row) -> CargoR
         },
         Member {
             key: "old",
-            field: Field::Maybe(maybe(&row.old)),
+            field: Field::Maybe(borrow_optional_text(&row.old)),
         },
         Member {
             key: "compatible",
-            field: Field::Maybe(maybe(&row.compatible)),
+            field: Field::Maybe(borrow_optional_text(&row.compatible)),
         },
         Member {
             key: "latest",
-            field: Field::Maybe(maybe(&row.latest)),
+            field: Field::Maybe(borrow_optional_text(&row.latest)),
         },
         Member {
             key: "new",
-            field: Field::Maybe(maybe(&row.new)),
+            field: Field::Maybe(borrow_optional_text(&row.new)),
         },
         Member {
             key: "why",
-            field: Field::Maybe(why_word(row.reason)),
+            field: Field::Maybe(reason_name(row.reason)),
         },
         Member {
             key: "change",
-            field: Field::Maybe(change_word(row.change)),
+            field: Field::Maybe(change_name(row.change)),
         },
     ];
     message(alloc, &members)

@@ -5,7 +5,7 @@ ghost use Rattle.edit_shown.specs.JsonMessages as spec;
 use edit_report::{Change, Reason};
 
 /// Borrows an optional text.
-pub(crate) fn maybe(text: &Option<String>) -> Option<&str>
+pub(crate) fn borrow_optional_text(text: &Option<String>) -> Option<&str>
     ensures { option_map (λ t. t.now) result ≡ option_map string_bytes text.now }
 {
     match text {
@@ -15,8 +15,8 @@ pub(crate) fn maybe(text: &Option<String>) -> Option<&str>
 }
 
 /// The text of a reason.
-pub(crate) fn why_word(reason: Option<Reason>) -> Option<&'static str>
-    ensures { option_map (λ t. t.now) result ≡ spec.why_word reason }
+pub(crate) fn reason_name(reason: Option<Reason>) -> Option<&'static str>
+    ensures { option_map (λ t. t.now) result ≡ spec.reason_name reason }
 {
     match reason {
         None => None,
@@ -31,8 +31,8 @@ pub(crate) fn why_word(reason: Option<Reason>) -> Option<&'static str>
 }
 
 /// The text of a kind of change.
-pub(crate) fn change_word(change: Option<Change>) -> Option<&'static str>
-    ensures { option_map (λ t. t.now) result ≡ spec.change_word change }
+pub(crate) fn change_name(change: Option<Change>) -> Option<&'static str>
+    ensures { option_map (λ t. t.now) result ≡ spec.change_name change }
 {
     match change {
         None => None,

@@ -3,8 +3,8 @@ ghost use Rattle.std.specs.Prelude.{◌≡◌, ◌⊎◌, true, IfOk, IfErr, map
 ghost use Rattle.std.specs.List.{AllZip};
 ghost use Rattle.edit_base.specs.Errors.{IsMemory};
 ghost use Rattle.edit_sources.specs.Configured.{given};
-ghost use Rattle.edit_sources.specs.ConfigurationFiles.{IsReadOf, IsReadFrom, IsConfigPath, HasFailed, FileFails, PlaceFails, AreConfigs, ConfigsFail, file_in, files_in};
-ghost use Rattle.edit_sources.specs.KeptConfigs.{AreKept};
+ghost use Rattle.edit_sources.specs.ConfigurationFiles.{IsReadOf, IsReadFrom, IsConfigPath, HasFailed, FileFails, PlaceFails, AreConfigs, ConfigsFail, IsFirstMalformed, StopsAtConfig, file_in, files_in};
+ghost use Rattle.edit_sources.specs.CachedConfigs.{AreCached};
 ghost use Rattle.edit_store.specs.Store.{OnlyReads, StoreView};
 
 use super::Config;
@@ -24,7 +24,7 @@ pub struct ConfigCache {
 impl ConfigCache {
     /// Returns an empty cache.
     pub fn new(alloc: Global) -> ConfigCache
-        ensures { (seen : StoreView) → AreKept seen result }
+        ensures { (seen : StoreView) → AreCached seen result }
     {
         ConfigCache {
             found: BTreeMap::new(alloc),
@@ -33,9 +33,9 @@ impl ConfigCache {
 
     /// Stores the configuration that was found in a folder.
     fn keep(&mut self, alloc: Global, place: &str, found: Option<Config>) -> Result<(), AllocError>
-        ensures { (seen : StoreView) → AreKept seen self.old
+        ensures { (seen : StoreView) → AreCached seen self.old
             → (seen.tells ≡ true → IsReadOf (file_in seen.file_at place.now) found)
-            → AreKept seen self.new }
+            → AreCached seen self.new }
     {
         let place = String::from_str(alloc, place)?;
         self.found.insert(place, found)?;
@@ -50,8 +50,8 @@ impl ConfigCache {
         place: &str,
     ) -> CargoResult<Option<Config>>
         ensures store { OnlyReads (S.view store.old) (S.view store.new) }
-        ensures kept { AreKept (S.view store.old) self.old → AreKept (S.view store.new) self.new }
-        ensures read { IfOk result (λ found. AreKept (S.view store.old) self.old
+        ensures kept { AreCached (S.view store.old) self.old → AreCached (S.view store.new) self.new }
+        ensures read { IfOk result (λ found. AreCached (S.view store.old) self.old
             → (S.view store.old).tells ≡ true
             → IsReadOf (file_in (S.view store.old).file_at place.now) found) }
         ensures refused { IfErr result (λ e. IsMemory e
@@ -80,13 +80,17 @@ impl ConfigCache {
         places: &[String],
     ) -> CargoResult<Vec<Config>>
         ensures store { OnlyReads (S.view store.old) (S.view store.new) }
-        ensures kept { AreKept (S.view store.old) self.old → AreKept (S.view store.new) self.new }
-        ensures read { IfOk result (λ v. AreKept (S.view store.old) self.old
+        ensures kept { AreCached (S.view store.old) self.old → AreCached (S.view store.new) self.new }
+        ensures read { IfOk result (λ v. AreCached (S.view store.old) self.old
             → (S.view store.old).tells ≡ true → AllZip IsReadFrom
             (files_in (S.view store.old).file_at (map string_bytes places.now)) v.items) }
         ensures refused { IfErr result (λ e. IsMemory e
             ⊎ (HasFailed (S.view store.old).faults (S.view store.new).faults e ⊎ PlaceFails
             (S.view store.old).tells (S.view store.old).file_at (map string_bytes places.now) e)) }
+        ensures first { IfErr result (λ e. IsMemory e
+            ⊎ (HasFailed (S.view store.old).faults (S.view store.new).faults e
+            ⊎ (AreCached (S.view store.old) self.old → (S.view store.old).tells ≡ true
+            → IsFirstMalformed (S.view store.old).file_at (map string_bytes places.now) e))) }
     {
         let mut configs = Vec::new(alloc);
         for place in places {
@@ -109,8 +113,8 @@ impl ConfigCache {
         cargo_home: Option<&str>,
     ) -> CargoResult<Vec<Config>>
         ensures store { OnlyReads (S.view store.old) (S.view store.new) }
-        ensures kept { AreKept (S.view store.old) self.old → AreKept (S.view store.new) self.new }
-        ensures read { IfOk result (λ v. AreKept (S.view store.old) self.old
+        ensures kept { AreCached (S.view store.old) self.old → AreCached (S.view store.new) self.new }
+        ensures read { IfOk result (λ v. AreCached (S.view store.old) self.old
             → (S.view store.old).tells ≡ true
             → AreConfigs (S.view store.old).file_at manifest_path.now (given cargo_home.entry) v.items) }
         // an error never concerns a folder that is cached
@@ -118,6 +122,11 @@ impl ConfigCache {
             ⊎ (HasFailed (S.view store.old).faults (S.view store.new).faults e
             ⊎ ConfigsFail (S.view store.old).tells (S.view store.old).file_at manifest_path.now
             (given cargo_home.entry) e)) }
+        // of several malformed files the first one is the error
+        ensures first { IfErr result (λ e. IsMemory e
+            ⊎ (HasFailed (S.view store.old).faults (S.view store.new).faults e
+            ⊎ (AreCached (S.view store.old) self.old → (S.view store.old).tells ≡ true
+            → StopsAtConfig (S.view store.old).file_at manifest_path.now (given cargo_home.entry) e))) }
     {
         let places = match places(alloc, manifest_path, cargo_home) {
             Ok(places) => places,
@@ -148,6 +157,11 @@ pub fn read_configs<S: Store>(
         ⊎ (HasFailed (S.view store.old).faults (S.view store.new).faults e
         ⊎ ConfigsFail (S.view store.old).tells (S.view store.old).file_at manifest_path.now
         (given cargo_home.entry) e)) }
+    // of several malformed files the first one is the error
+    ensures first { IfErr result (λ e. IsMemory e
+        ⊎ (HasFailed (S.view store.old).faults (S.view store.new).faults e
+        ⊎ ((S.view store.old).tells ≡ true
+        → StopsAtConfig (S.view store.old).file_at manifest_path.now (given cargo_home.entry) e))) }
 {
     let mut cache = ConfigCache::new(alloc);
     cache.read_configs(alloc, store, manifest_path, cargo_home)

@@ -7,7 +7,7 @@ use super::{Config, ConfigSource};
 use std::alloc::{AllocError, Global};
 
 /// Returns a copy of a string, if there is one.
-fn copied_text(text: Option<&String>) -> Result<Option<String>, AllocError>
+fn clone_config_text(text: Option<&String>) -> Result<Option<String>, AllocError>
     ensures { IfOk result (λ t. option_map string_bytes t
         ≡ option_map string_bytes (option_copied text.entry)) }
 {
@@ -26,18 +26,18 @@ fn copied_registries(
 {
     let mut all = Vec::with_capacity(alloc, registries.len())?;
     for entry in registries {
-        all.push((entry.0.clone()?, copied_text(entry.1.as_ref())?))?;
+        all.push((entry.0.clone()?, clone_config_text(entry.1.as_ref())?))?;
     }
     Ok(all)
 }
 
 /// Returns a deep copy of a source.
-fn copied_source(source: &ConfigSource) -> Result<ConfigSource, AllocError>
+fn clone_config_source(source: &ConfigSource) -> Result<ConfigSource, AllocError>
     ensures { IfOk result (λ s. source_view s ≡ source_view source.now) }
 {
     Ok(ConfigSource {
-        registry: copied_text(source.registry.as_ref())?,
-        replace_with: copied_text(source.replace_with.as_ref())?,
+        registry: clone_config_text(source.registry.as_ref())?,
+        replace_with: clone_config_text(source.replace_with.as_ref())?,
     })
 }
 
@@ -50,7 +50,7 @@ fn copied_sources(
 {
     let mut all = Vec::with_capacity(alloc, sources.len())?;
     for entry in sources {
-        all.push((entry.0.clone()?, copied_source(&entry.1)?))?;
+        all.push((entry.0.clone()?, clone_config_source(&entry.1)?))?;
     }
     Ok(all)
 }

@@ -1,7 +1,7 @@
 //! An index in a folder with a subfolder for each registry.
 ghost use Rattle.std.specs.Prelude.{◌≡◌, Ok, IfOk, string_bytes};
 ghost use Rattle.edit_sources.specs.DirIndex.{DirGives, dir_view, folder_of, store_of};
-ghost use Rattle.edit_sources.specs.Index.{HasLookCause, SameOutcomes, answer_of};
+ghost use Rattle.edit_sources.specs.Index.{HasLookupCause, SameOutcomes, answer_of};
 ghost use Rattle.edit_store.specs.Store.{OnlyReads};
 
 use crate::index::{Index, IndexKrate};
@@ -38,7 +38,7 @@ impl<S: Store> Index for DirIndex<S> {
             (DirGives (folder_of self.new) (S.view (store_of self.new))) }
         ensures given { IfOk result (λ k. DirGives (folder_of self.old) (S.view (store_of self.old))
             registry.now name.now (Ok (answer_of k))) }
-        ensures cause { HasLookCause (dir_view (folder_of self.old) (S.view (store_of self.old)))
+        ensures cause { HasLookupCause (dir_view (folder_of self.old) (S.view (store_of self.old)))
             (dir_view (folder_of self.new) (S.view (store_of self.new))) registry.now name.now result }
         // no file changes
         ensures reads { OnlyReads (S.view (store_of self.old)) (S.view (store_of self.new)) }

@@ -115,8 +115,8 @@ fn with_default(source: Source<'_>) -> Source<'_>
 
 /// Returns the source that was found at a key; where it has no URL and the key is the default registry's
 /// URL, with that URL.
-pub(crate) fn addressed<'a>(key: &str, source: Source<'a>) -> Source<'a>
-    ensures { Some (source_texts result) ≡ spec.addressed key.now (Some (source_texts source.entry)) }
+pub(crate) fn with_address<'a>(key: &str, source: Source<'a>) -> Source<'a>
+    ensures { Some (source_texts result) ≡ spec.with_address key.now (Some (source_texts source.entry)) }
 {
     if key == CRATES_IO_INDEX {
         return with_default(source);

@@ -9,12 +9,12 @@ ghost use Rattle.url.specs.Parser.{parse_url};
 ghost use Rattle.edit_sources.specs.SourceReplacement as spec;
 ghost use Rattle.edit_sources.specs.SourceReplacement.{is_used};
 ghost use Rattle.edit_sources.specs.Configured.{all_definitions, given, HasAddress, HasNoUrl, IsNoUrl};
-ghost use Rattle.edit_sources.specs.Definitions.{Defines, Lacks, Takes, end_at};
+ghost use Rattle.edit_sources.specs.Definitions.{Defines, HasNoSourceLeft, RemovesSource, end_at};
 ghost use Rattle.edit_sources.specs.Sources.{source_texts};
 ghost use Rattle.edit_sources.specs.declared.config.Config.{Config};
 
 use super::chain::{
-    Source, addressed, first_definitions, head, head_key, registry_not_found, source_not_found,
+    Source, first_definitions, head, head_key, registry_not_found, source_not_found, with_address,
 };
 use crate::config::Config;
 use edit_base::{CargoResult, Error};
@@ -68,17 +68,17 @@ impl<'a> Definitions<'a> {
     /// counts as used, and its source stays.
     fn take_out(&mut self, alloc: Global, beginning: &str, key: &'a str) -> CargoResult<Source<'a>>
         ensures takes { IfOk result
-            (λ s. Takes beginning.now key.entry.now self.old self.new (source_texts s)) }
+            (λ s. RemovesSource beginning.now key.entry.now self.old self.new (source_texts s)) }
         ensures shorter { OnOk result (btree_map_len self.new.left < btree_map_len self.old.left) }
         ensures refused { IfErr result (λ e. IsMemory e
             ⊎ ((name : String Global) × (e ≡ SourceNotFound name) × (string_bytes name ≡ key.entry.now))) }
-        ensures lacks { OnErr result (Lacks beginning.now key.entry.now self.old) }
+        ensures lacks { OnErr result (HasNoSourceLeft beginning.now key.entry.now self.old) }
     {
         if beginning == key {
             return Err(source_not_found(alloc, key));
         }
         match self.left.remove(key) {
-            Some(source) => Ok(addressed(key, source)),
+            Some(source) => Ok(with_address(key, source)),
             None => Err(source_not_found(alloc, key)),
         }
     }

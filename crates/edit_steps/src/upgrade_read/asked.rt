@@ -1,6 +1,6 @@
 //! The files that an upgrade is requested to read.
 ghost use Rattle.std.specs.Prelude.{◌≡◌, option_map};
-ghost use Rattle.edit_steps.specs.Asking.{asked_rust};
+ghost use Rattle.edit_steps.specs.RequestView.{rust_request};
 ghost use Rattle.edit_version.specs.RustVersions.{numbers_of};
 
 use edit_version::RustVersion;
@@ -18,7 +18,7 @@ pub enum RustChoice {
 impl RustChoice {
     /// The Rust version, where one is given.
     pub(crate) fn given(self) -> Option<RustVersion>
-        ensures { option_map numbers_of result ≡ (asked_rust self).given }
+        ensures { option_map numbers_of result ≡ (rust_request self).given }
     {
         match self {
             RustChoice::Own | RustChoice::Ignored => None,
@@ -28,7 +28,7 @@ impl RustChoice {
 
     /// Whether the Rust versions of manifests are ignored.
     pub(crate) fn is_ignored(self) -> bool
-        ensures { result ≡ (asked_rust self).ignored }
+        ensures { result ≡ (rust_request self).ignored }
     {
         match self {
             RustChoice::Ignored => true,

@@ -7,10 +7,12 @@ use crate::reread::at_first;
 use crate::toml_fault::toml_fault;
 use edit_base::paths::{folder, join};
 use edit_base::{CargoResult, Error};
+use edit_document::Document;
 use edit_metadata::Input;
 use edit_store::Store;
 use std::alloc::Global;
 use std::collections::BTreeSet;
+use std::str;
 
 /// The help for a configuration that is TOML but has values of other types.
 const SHAPE: &str =
@@ -53,8 +55,18 @@ fn config_paths(
     Ok(paths)
 }
 
-/// The place and the cause of an error of a configuration file: a TOML syntax error, or what its values
-/// must be.
+/// The offset near which a text stops being TOML. `None` where it is TOML or not UTF-8, and where memory ran
+/// out.
+fn syntax_offset(alloc: Global, bytes: &[u8]) -> Option<usize> {
+    let text = str::from_utf8(bytes).ok()?;
+    match Document::read(alloc, text) {
+        Err(Error::NotToml { at }) => Some(at),
+        _ => None,
+    }
+}
+
+/// The place and the cause of an error of a configuration file: a TOML syntax error, with a cause where
+/// `toml` reports one, or what its values must be.
 fn place_and_cause<S: Store>(
     alloc: Global,
     path: &str,
@@ -66,15 +78,18 @@ fn place_and_cause<S: Store>(
         Ok(Some(bytes)) => bytes,
         _ => return (String::from_str(alloc, path).ok(), None),
     };
+    let Some(at) = syntax_offset(alloc, &bytes) else {
+        return (
+            String::from_str(alloc, path).ok(),
+            String::from_str(alloc, SHAPE).ok(),
+        );
+    };
     match toml_fault(alloc, &bytes) {
         Some(fault) => (
             shown_position(alloc, path, &bytes, fault.at),
             Some(fault.message),
         ),
-        None => (
-            String::from_str(alloc, path).ok(),
-            String::from_str(alloc, SHAPE).ok(),
-        ),
+        None => (shown_position(alloc, path, &bytes, at), None),
     }
 }
 

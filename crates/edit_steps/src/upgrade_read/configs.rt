@@ -4,9 +4,10 @@ ghost use Rattle.edit_base.specs.Errors.{IsMemory};
 ghost use Rattle.edit_base.specs.declared.errors.DeviceCall.TheVariants as call;
 ghost use Rattle.edit_sources.specs.ConfigurationFiles.{ConfigsFail, HasFailed};
 ghost use Rattle.edit_sources.specs.Configured.{given};
-ghost use Rattle.edit_sources.specs.KeptConfigs.{AreKept};
-ghost use Rattle.edit_store.specs.Store.{OnlyReads, RefusesCall};
-ghost use Rattle.edit_steps.specs.Causes.{IsUnconfigured};
+ghost use Rattle.edit_sources.specs.CachedConfigs.{AreCached};
+ghost use Rattle.edit_store.specs.Store.{OnlyReads, IsCallError};
+ghost use Rattle.edit_steps.specs.Causes.{IsUnconfigured, IsUngathered, StopsAtInput};
+ghost use Rattle.edit_steps.specs.Errors.{IsConfigError};
 ghost use Rattle.edit_steps.specs.Faults.{CountsFault};
 ghost use Rattle.edit_steps.specs.Named.{AreConfigured, AreGathered, IsUnreadFile, pair_of};
 ghost use Rattle.edit_steps.specs.Shared.{HasLists, lists_for};
@@ -32,8 +33,8 @@ fn gather<S: Store>(
     files: &mut S,
 ) -> CargoResult<Vec<Config>>
     ensures store { OnlyReads (S.view files.old) (S.view files.new) }
-    ensures kept { AreKept (S.view files.old) cache.old → AreKept (S.view files.new) cache.new }
-    ensures read { IfOk result (λ v. AreKept (S.view files.old) cache.old
+    ensures kept { AreCached (S.view files.old) cache.old → AreCached (S.view files.new) cache.new }
+    ensures read { IfOk result (λ v. AreCached (S.view files.old) cache.old
         → (S.view files.old).tells ≡ true → AreGathered (S.view files.old).file_at
         (given cargo_home.entry) (pair_of named.now) manifest.now v.items) }
     ensures refused { IfErr result (λ e. IsMemory e
@@ -41,6 +42,12 @@ fn gather<S: Store>(
         ⊎ (IsUnreadFile (pair_of named.now).first e ⊎ (IsUnreadFile (pair_of named.now).last e
         ⊎ ConfigsFail (S.view files.old).tells (S.view files.old).file_at manifest.now
         (given cargo_home.entry) e)))) }
+    // the files that count before the one at fault were read: that named first, then the manifest's own
+    ensures first { IfErr result (λ e. IsMemory e
+        ⊎ (HasFailed (S.view files.old).faults (S.view files.new).faults e
+        ⊎ (AreCached (S.view files.old) cache.old → (S.view files.old).tells ≡ true
+        → IsUngathered (S.view files.old).file_at (given cargo_home.entry) (pair_of named.now)
+        manifest.now e))) }
 {
     let mut configs = configs_in(alloc, named.first.as_ref())?;
     let mut own = match cache.read_configs(alloc, files, manifest, cargo_home) {
@@ -66,10 +73,17 @@ fn read_all<S: Store>(
         (S.view files.old).file_at (given cargo_home.entry) (pair_of named.now) inputs.now (lists_for s)) }
     ensures each { IfOk result (λ s. length s.which.items ≡ length inputs.now) }
     ensures lists { IfOk result HasLists }
-    ensures refused { IfErr result (λ e. RefusesCall call.Read (S.view files.old) (S.view files.new) e
+    ensures refused { IfErr result (λ e. IsCallError call.Read (S.view files.old) (S.view files.new) e
         ⊎ ((S.view files.old).tells ≡ true → IsUnconfigured (S.view files.old).file_at
         (given cargo_home.entry) (pair_of named.now) inputs.now e)) }
+    // the configurations of the inputs before the one at fault were read
+    ensures first { IfErr result (λ e. IsCallError call.Read (S.view files.old) (S.view files.new) e
+        ⊎ ((S.view files.old).tells ≡ true → StopsAtInput (S.view files.old).file_at
+        (given cargo_home.entry) (pair_of named.now) inputs.now e)) }
     ensures counted { IfErr result (λ e. CountsFault (S.view files.old) (S.view files.new) e) }
+    // over any store
+    ensures only { IfErr result (λ e. IsCallError call.Read (S.view files.old) (S.view files.new) e
+        ⊎ IsConfigError e) }
 {
     let mut cache = ConfigCache::new(alloc);
     let mut known = BTreeMap::new(alloc);
@@ -104,10 +118,17 @@ pub(crate) fn read_configurations<S: Store>(
         (S.view files.old).file_at (given cargo_home.entry) (pair_of named.now) inputs.now (lists_for s)) }
     ensures each { IfOk result (λ s. length s.which.items ≡ length inputs.now) }
     ensures lists { IfOk result HasLists }
-    ensures refused { IfErr result (λ r. RefusesCall call.Read (S.view files.old) (S.view files.new) r.error
+    ensures refused { IfErr result (λ r. IsCallError call.Read (S.view files.old) (S.view files.new) r.error
         ⊎ ((S.view files.old).tells ≡ true → IsUnconfigured (S.view files.old).file_at
         (given cargo_home.entry) (pair_of named.now) inputs.now r.error)) }
+    // the configurations of the inputs before the one at fault were read
+    ensures first { IfErr result (λ r. IsCallError call.Read (S.view files.old) (S.view files.new) r.error
+        ⊎ ((S.view files.old).tells ≡ true → StopsAtInput (S.view files.old).file_at
+        (given cargo_home.entry) (pair_of named.now) inputs.now r.error)) }
     ensures counted { IfErr result (λ r. CountsFault (S.view files.old) (S.view files.new) r.error) }
+    // over any store
+    ensures only { IfErr result (λ r. IsCallError call.Read (S.view files.old) (S.view files.new) r.error
+        ⊎ IsConfigError r.error) }
 {
     match read_all(alloc, named, inputs, cargo_home, files) {
         Ok(all) => Ok(all),

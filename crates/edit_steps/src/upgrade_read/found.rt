@@ -3,14 +3,15 @@ ghost use Rattle.std.specs.Prelude.{◌≡◌, ◌⊎◌, IfErr, IfOk, true};
 ghost use Rattle.edit_manifest.specs.Loaded.{IsBadManifest};
 ghost use Rattle.edit_sources.specs.Configured.{given};
 ghost use Rattle.edit_store.specs.Store.{OnlyReads};
-ghost use Rattle.edit_steps.specs.Asking.{asked_rust};
+ghost use Rattle.edit_steps.specs.RequestView.{rust_request};
 ghost use Rattle.edit_steps.specs.Causes.{IsFailure, IsManifestCause};
+ghost use Rattle.edit_steps.specs.Errors.{IsManifestError};
 ghost use Rattle.edit_steps.specs.Faults.{CountsFault};
-ghost use Rattle.edit_steps.specs.Own.{IsManifestRead, SaysOfItself};
+ghost use Rattle.edit_steps.specs.Own.{IsManifestRead, HasOwnNameAndRust};
 
 use crate::upgrade_read::asked::RustChoice;
 use crate::upgrade_read::locate::manifest_path;
-use crate::upgrade_read::own::{own_name, rust_version_for};
+use crate::upgrade_read::own::{report_name, rust_version_for};
 use crate::{RunResult, at_byte, at_file, at_path};
 use edit_base::Error;
 use edit_document::Document;
@@ -36,14 +37,14 @@ fn manifest_of(
     ensures path { IfOk result (λ m. m.input.path ≡ path) }
     ensures bytes { IfOk result (λ m. m.input.bytes ≡ bytes) }
     ensures document { IfOk result (λ m. m.document.bytes ≡ bytes.items) }
-    ensures says { IfOk result (λ m. SaysOfItself (asked_rust rust) m.input) }
+    ensures says { IfOk result (λ m. HasOwnNameAndRust (rust_request rust) m.input) }
     ensures refused { IfErr result (λ r. IsBadManifest bytes.items r.error) }
 {
     let Manifest { document } = match Manifest::read_bytes(alloc, &bytes) {
         Ok(manifest) => manifest,
         Err(error) => return Err(at_byte(alloc, error, path.as_str(), &bytes)),
     };
-    let name = own_name(alloc, &document)?;
+    let name = report_name(alloc, &document)?;
     let rust_version = rust_version_for(alloc, rust, &document)?;
     let input = Input {
         name,
@@ -66,13 +67,16 @@ pub(crate) fn read_manifest<S: Store>(
 ) -> RunResult<ReadManifest>
     ensures store { OnlyReads (S.view files.old) (S.view files.new) }
     ensures read { IfOk result (λ m. (S.view files.old).tells ≡ true
-        → IsManifestRead (S.view files.old).file_at current.now (given named.entry) (asked_rust rust)
+        → IsManifestRead (S.view files.old).file_at current.now (given named.entry) (rust_request rust)
         m.input) }
     ensures document { IfOk result (λ m. m.document.bytes ≡ m.input.bytes.items) }
     ensures refused { IfErr result (λ r. IsFailure (S.view files.old) (S.view files.new) r.error
         ⊎ ((S.view files.old).tells ≡ true
         → IsManifestCause (S.view files.old).file_at current.now (given named.entry) r.error)) }
     ensures counted { IfErr result (λ r. CountsFault (S.view files.old) (S.view files.new) r.error) }
+    // over any store
+    ensures only { IfErr result (λ r. IsFailure (S.view files.old) (S.view files.new) r.error
+        ⊎ IsManifestError current.now (given named.entry) r.error) }
 {
     let path = manifest_path(alloc, named, current, writes, files)?;
     let bytes = match files.read(alloc, path.as_str()) {

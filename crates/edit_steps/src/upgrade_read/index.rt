@@ -1,9 +1,10 @@
 //! The index that an upgrade queries.
-ghost use Rattle.std.specs.Prelude.{◌≡◌, ◌⊎◌, IfErr, IfOk, true};
+ghost use Rattle.std.specs.Prelude.{◌≡◌, ◌⊎◌, IfErr, IfOk, Some, true};
 ghost use Rattle.edit_base.specs.declared.errors.DeviceCall.TheVariants as call;
 ghost use Rattle.edit_sources.specs.Configured.{given};
-ghost use Rattle.edit_store.specs.Store.{OnlyReads, RefusesCall};
+ghost use Rattle.edit_store.specs.Store.{OnlyReads, IsCallError};
 ghost use Rattle.edit_steps.specs.Causes.{HasNoIndex, IsIndexCause};
+ghost use Rattle.edit_steps.specs.Errors.{IsIndexError};
 ghost use Rattle.edit_steps.specs.Faults.{CountsFault};
 ghost use Rattle.edit_steps.specs.Sources.{IsIndexAt, IsIndexOf};
 
@@ -34,10 +35,13 @@ fn read_file<S: Store>(
     ensures store { OnlyReads (S.view files.old) (S.view files.new) }
     ensures read { IfOk result (λ i. (S.view files.old).tells ≡ true
         → IsIndexAt (S.view files.old).file_at current.now named.now i) }
-    ensures refused { IfErr result (λ r. RefusesCall call.Read (S.view files.old) (S.view files.new) r.error
+    ensures refused { IfErr result (λ r. IsCallError call.Read (S.view files.old) (S.view files.new) r.error
         ⊎ ((S.view files.old).tells ≡ true
         → IsIndexCause (S.view files.old).file_at current.now named.now r.error)) }
     ensures counted { IfErr result (λ r. CountsFault (S.view files.old) (S.view files.new) r.error) }
+    // over any store
+    ensures only { IfErr result (λ r. IsCallError call.Read (S.view files.old) (S.view files.new) r.error
+        ⊎ IsIndexError (Some named.now) r.error) }
 {
     let path = absolute(alloc, current, named)?;
     let lines = match files.read_stream(alloc, path.as_str()) {
@@ -63,10 +67,13 @@ pub(crate) fn read_index<S: Store>(
     ensures store { OnlyReads (S.view files.old) (S.view files.new) }
     ensures read { IfOk result (λ i. (S.view files.old).tells ≡ true
         → IsIndexOf (S.view files.old).file_at current.now (given file.entry) (given dir.entry) i) }
-    ensures refused { IfErr result (λ r. RefusesCall call.Read (S.view files.old) (S.view files.new) r.error
+    ensures refused { IfErr result (λ r. IsCallError call.Read (S.view files.old) (S.view files.new) r.error
         ⊎ ((S.view files.old).tells ≡ true
         → HasNoIndex (S.view files.old).file_at current.now (given file.entry) r.error)) }
     ensures counted { IfErr result (λ r. CountsFault (S.view files.old) (S.view files.new) r.error) }
+    // over any store
+    ensures only { IfErr result (λ r. IsCallError call.Read (S.view files.old) (S.view files.new) r.error
+        ⊎ IsIndexError (given file.entry) r.error) }
 {
     if let Some(named) = file {
         let index = read_file(alloc, named, current, files)?;

@@ -1,8 +1,8 @@
 //! Finds the manifest.
 ghost use Rattle.std.specs.Prelude.{◌≡◌, ◌⊎◌, IfErr, IfOk, string_bytes, true};
 ghost use Rattle.edit_base.specs.declared.errors.DeviceCall.TheVariants as call;
-ghost use Rattle.edit_store.specs.Store.{OnlyReads, RefusesCall};
-ghost use Rattle.edit_manifest.specs.Located.{HasNoManifest, IsManifestPath};
+ghost use Rattle.edit_store.specs.Store.{OnlyReads, IsCallError};
+ghost use Rattle.edit_manifest.specs.Located.{HasNoManifest, IsManifestPath, NamesStart};
 ghost use Rattle.edit_sources.specs.Configured.{given};
 ghost use Rattle.edit_steps.specs.Faults.{CountsFault};
 
@@ -42,10 +42,13 @@ pub(crate) fn manifest_path<S: Store>(
     ensures store { OnlyReads (S.view files.old) (S.view files.new) }
     ensures found { IfOk result (λ p. (S.view files.old).tells ≡ true
         → IsManifestPath (S.view files.old).file_at current.now (given named.entry) (string_bytes p)) }
-    ensures refused { IfErr result (λ r. RefusesCall call.Kind (S.view files.old) (S.view files.new) r.error
+    ensures refused { IfErr result (λ r. IsCallError call.Kind (S.view files.old) (S.view files.new) r.error
         ⊎ ((S.view files.old).tells ≡ true
         → HasNoManifest (S.view files.old).file_at current.now r.error (given named.entry))) }
     ensures counted { IfErr result (λ r. CountsFault (S.view files.old) (S.view files.new) r.error) }
+    // over any store
+    ensures only { IfErr result (λ r. IsCallError call.Kind (S.view files.old) (S.view files.new) r.error
+        ⊎ NamesStart current.now (given named.entry) r.error) }
 {
     match find(alloc, files, named, current) {
         Ok(path) => {

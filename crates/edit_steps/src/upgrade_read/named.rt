@@ -3,11 +3,12 @@ ghost use Rattle.std.specs.Prelude.{◌≡◌, ◌⊎◌, IfErr, IfOk, option_ma
 ghost use Rattle.edit_base.specs.Errors.{IsMemory};
 ghost use Rattle.edit_base.specs.declared.errors.DeviceCall.TheVariants as call;
 ghost use Rattle.edit_sources.specs.Configured.{given};
-ghost use Rattle.edit_store.specs.Store.{OnlyReads, RefusesCall};
-ghost use Rattle.edit_steps.specs.Asking.{asking_of};
+ghost use Rattle.edit_store.specs.Store.{OnlyReads, IsCallError};
+ghost use Rattle.edit_steps.specs.RequestView.{request_view};
 ghost use Rattle.edit_steps.specs.Causes.{LacksNamed};
+ghost use Rattle.edit_steps.specs.Errors.{IsNamedError, IsPairError};
 ghost use Rattle.edit_steps.specs.Faults.{CountsFault};
-ghost use Rattle.edit_steps.specs.Named.{ArePairRead, AreSaid, HasNoFile, IsNamedRead, IsUnreadFile, pair_of, path_and_bytes, seen};
+ghost use Rattle.edit_steps.specs.Named.{ArePairRead, AreConfigsIn, HasNoFile, IsNamedRead, IsUnreadFile, pair_of, path_and_bytes, seen};
 
 use crate::upgrade_read::asked::Asked;
 use crate::{RunResult, absolute, at_file, at_path};
@@ -41,10 +42,13 @@ fn read_file<S: Store>(
     ensures store { OnlyReads (S.view files.old) (S.view files.new) }
     ensures read { IfOk result (λ f. (S.view files.old).tells ≡ true → IsNamedRead
         (S.view files.old).file_at current.now (given named.entry) (option_map path_and_bytes f)) }
-    ensures refused { IfErr result (λ r. RefusesCall call.Read (S.view files.old) (S.view files.new) r.error
+    ensures refused { IfErr result (λ r. IsCallError call.Read (S.view files.old) (S.view files.new) r.error
         ⊎ ((S.view files.old).tells ≡ true
         → HasNoFile (S.view files.old).file_at current.now (given named.entry) r.error)) }
     ensures counted { IfErr result (λ r. CountsFault (S.view files.old) (S.view files.new) r.error) }
+    // over any store
+    ensures only { IfErr result (λ r. IsCallError call.Read (S.view files.old) (S.view files.new) r.error
+        ⊎ IsNamedError (given named.entry) r.error) }
 {
     let Some(named) = named else {
         return Ok(None);
@@ -66,11 +70,14 @@ pub(crate) fn read_named<S: Store>(
 ) -> RunResult<NamedFiles>
     ensures store { OnlyReads (S.view files.old) (S.view files.new) }
     ensures read { IfOk result (λ n. (S.view files.old).tells ≡ true → ArePairRead
-        (S.view files.old).file_at current.now (asking_of asked.now) (pair_of n)) }
-    ensures refused { IfErr result (λ r. RefusesCall call.Read (S.view files.old) (S.view files.new) r.error
+        (S.view files.old).file_at current.now (request_view asked.now) (pair_of n)) }
+    ensures refused { IfErr result (λ r. IsCallError call.Read (S.view files.old) (S.view files.new) r.error
         ⊎ ((S.view files.old).tells ≡ true
-        → LacksNamed (S.view files.old).file_at current.now (asking_of asked.now) r.error)) }
+        → LacksNamed (S.view files.old).file_at current.now (request_view asked.now) r.error)) }
     ensures counted { IfErr result (λ r. CountsFault (S.view files.old) (S.view files.new) r.error) }
+    // over any store
+    ensures only { IfErr result (λ r. IsCallError call.Read (S.view files.old) (S.view files.new) r.error
+        ⊎ IsPairError (request_view asked.now) r.error) }
 {
     let first = read_file(alloc, asked.config, current, files)?;
     let last = read_file(alloc, asked.default_config, current, files)?;
@@ -79,7 +86,7 @@ pub(crate) fn read_named<S: Store>(
 
 /// Parses the configuration of a file, where there is one. A file that is no configuration is an error.
 pub(crate) fn configs_in(alloc: Global, file: Option<&NamedFile>) -> CargoResult<Vec<Config>>
-    ensures said { IfOk result (λ v. AreSaid (seen file.entry) v.items) }
+    ensures said { IfOk result (λ v. AreConfigsIn (seen file.entry) v.items) }
     ensures refused { IfErr result (λ e. IsMemory e ⊎ IsUnreadFile (seen file.entry) e) }
 {
     let mut configs = Vec::new(alloc);

@@ -2,9 +2,9 @@
 ghost use Rattle.std.specs.Prelude.{◌≡◌, IfErr, IfOk, option_map, string_bytes};
 ghost use Rattle.edit_base.specs.Errors.{IsMemory};
 ghost use Rattle.edit_metadata.specs.Inputs.{rust_version_for};
-ghost use Rattle.edit_tree.specs.Shown.{tree_of};
-ghost use Rattle.edit_steps.specs.Asking.{asked_rust};
-ghost use Rattle.edit_steps.specs.Own.{own_name, own_rust, package_text};
+ghost use Rattle.edit_tree.specs.DocumentViews.{tree_of};
+ghost use Rattle.edit_steps.specs.RequestView.{rust_request};
+ghost use Rattle.edit_steps.specs.Own.{report_name, declared_rust, package_text};
 ghost use Rattle.edit_version.specs.RustVersions.{numbers_of};
 
 use crate::upgrade_read::asked::RustChoice;
@@ -25,7 +25,7 @@ fn package_text<'a>(document: &'a Document, key: &str) -> Option<&'a str>
 
 /// The manifest's `rust-version`, where it has a valid one.
 fn own_rust_version(alloc: Global, document: &Document) -> CargoResult<Option<RustVersion>>
-    ensures ok { IfOk result (λ v. option_map numbers_of v ≡ own_rust (tree_of document.now)) }
+    ensures ok { IfOk result (λ v. option_map numbers_of v ≡ declared_rust (tree_of document.now)) }
     ensures refused { IfErr result IsMemory }
 {
     let Some(text) = package_text(document, "rust-version") else {
@@ -41,7 +41,7 @@ pub(crate) fn rust_version_for(
     document: &Document,
 ) -> CargoResult<Option<RustVersion>>
     ensures ok { IfOk result (λ v. option_map numbers_of v
-        ≡ rust_version_for (asked_rust choice) (own_rust (tree_of document.now))) }
+        ≡ rust_version_for (rust_request choice) (declared_rust (tree_of document.now))) }
     ensures refused { IfErr result IsMemory }
 {
     match choice {
@@ -52,8 +52,8 @@ pub(crate) fn rust_version_for(
 }
 
 /// The name of the manifest in reports.
-pub(crate) fn own_name(alloc: Global, document: &Document) -> CargoResult<String>
-    ensures ok { IfOk result (λ s. string_bytes s ≡ own_name (tree_of document.now)) }
+pub(crate) fn report_name(alloc: Global, document: &Document) -> CargoResult<String>
+    ensures ok { IfOk result (λ s. string_bytes s ≡ report_name (tree_of document.now)) }
     ensures refused { IfErr result IsMemory }
 {
     let name = package_text(document, "name").unwrap_or("virtual workspace");

@@ -2,8 +2,9 @@
 ghost use Rattle.std.specs.Prelude.{◌≡◌, ◌⊎◌, IfErr, IfOk, true};
 ghost use Rattle.edit_sources.specs.Configured.{given};
 ghost use Rattle.edit_store.specs.Store.{OnlyReads};
-ghost use Rattle.edit_steps.specs.Asking.{asking_of};
-ghost use Rattle.edit_steps.specs.Causes.{IsReadCause};
+ghost use Rattle.edit_steps.specs.RequestView.{request_view};
+ghost use Rattle.edit_steps.specs.Causes.{IsFailure, IsReadCause};
+ghost use Rattle.edit_steps.specs.Errors.{IsSourceError};
 ghost use Rattle.edit_steps.specs.Faults.{CountsFault};
 ghost use Rattle.edit_steps.specs.Sources.{AreRead, MayBePlanned};
 
@@ -39,12 +40,15 @@ pub fn read_sources<S: Store>(
 ) -> RunResult<Sources>
     ensures store { OnlyReads (S.view files.old) (S.view files.new) }
     ensures read { IfOk result (λ s. (S.view files.old).tells ≡ true
-        → AreRead (S.view files.old).file_at current.now (given cargo_home.entry) (asking_of asked.now) s) }
+        → AreRead (S.view files.old).file_at current.now (given cargo_home.entry) (request_view asked.now) s) }
     // and what a plan requires, over any store
     ensures planned { IfOk result MayBePlanned }
     ensures refused { IfErr result (λ r. IsReadCause current.now (given cargo_home.entry)
-        (asking_of asked.now) (S.view files.old) (S.view files.new) r.error) }
+        (request_view asked.now) (S.view files.old) (S.view files.new) r.error) }
     ensures counted { IfErr result (λ r. CountsFault (S.view files.old) (S.view files.new) r.error) }
+    // over any store
+    ensures only { IfErr result (λ r. IsFailure (S.view files.old) (S.view files.new) r.error
+        ⊎ IsSourceError current.now (request_view asked.now) r.error) }
 {
     let target = read_target(alloc, asked, current, files)?;
     let named = read_named(alloc, asked, current, files)?;

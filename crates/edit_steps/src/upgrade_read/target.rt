@@ -2,8 +2,9 @@
 ghost use Rattle.std.specs.Prelude.{◌≡◌, ◌⊎◌, ◌∷◌, [], None, IfErr, IfOk, true};
 ghost use Rattle.edit_metadata.specs.Inputs.{HaveOwnPaths};
 ghost use Rattle.edit_store.specs.Store.{OnlyReads};
-ghost use Rattle.edit_steps.specs.Asking.{asking_of};
+ghost use Rattle.edit_steps.specs.RequestView.{request_view};
 ghost use Rattle.edit_steps.specs.Causes.{HasNoTarget, IsFailure};
+ghost use Rattle.edit_steps.specs.Errors.{IsTargetError};
 ghost use Rattle.edit_steps.specs.Faults.{CountsFault};
 ghost use Rattle.edit_steps.specs.Sources.{AreDocuments, IsTargetRead};
 
@@ -52,13 +53,17 @@ pub(crate) fn read_target<S: Store>(
 ) -> RunResult<Target>
     ensures store { OnlyReads (S.view files.old) (S.view files.new) }
     ensures read { IfOk result (λ t. (S.view files.old).tells ≡ true
-        → IsTargetRead (S.view files.old).file_at current.now (asking_of asked.now) t) }
+        → IsTargetRead (S.view files.old).file_at current.now (request_view asked.now) t) }
     ensures paths { IfOk result (λ t. HaveOwnPaths t.inputs.items) }
     ensures documents { IfOk result (λ t. AreDocuments t.documents.items t.inputs.items) }
     ensures refused { IfErr result (λ r. IsFailure (S.view files.old) (S.view files.new) r.error
         ⊎ ((S.view files.old).tells ≡ true
-        → HasNoTarget (S.view files.old).file_at current.now (asking_of asked.now) r.error)) }
+        → HasNoTarget (S.view files.old).file_at current.now (request_view asked.now) r.error)) }
     ensures counted { IfErr result (λ r. CountsFault (S.view files.old) (S.view files.new) r.error) }
+    // over any store
+    ensures only { IfErr result (λ r. IsFailure (S.view files.old) (S.view files.new) r.error
+        ⊎ IsTargetError current.now (request_view asked.now).metadata
+        (request_view asked.now).manifest r.error) }
 {
     let (rust, writes) = (asked.rust, asked.writes);
     let Some(named) = asked.metadata_json else {

@@ -4,7 +4,7 @@ ghost use Rattle.std.specs.List.{prefix_len};
 ghost use Rattle.std.specs.Char as chars;
 ghost use Rattle.edit_syntax.specs.Characters as spec;
 ghost use Rattle.edit_syntax.specs.Reading as reading;
-ghost use Rattle.edit_syntax.specs.Noting.{class_test};
+ghost use Rattle.edit_syntax.specs.AppendedTokens.{class_test};
 
 /// The classes of bytes that `run_len` can count.
 #[derive(Clone, Copy)]
@@ -76,8 +76,8 @@ fn is_blank(b: u8) -> bool
 }
 
 /// Whether a comment may hold this byte.
-fn is_ch(b: u8) -> bool
-    ensures { result ≡ spec.is_ch b }
+fn is_comment_byte(b: u8) -> bool
+    ensures { result ≡ spec.is_comment_byte b }
 {
     CLASSES[b as usize] & COMMENT != 0
 }
@@ -118,7 +118,7 @@ pub(crate) fn is_in(class: Class, b: u8) -> bool
 {
     match class {
         Class::Blank => is_blank(b),
-        Class::Comment => is_ch(b),
+        Class::Comment => is_comment_byte(b),
         Class::Bare => is_bare(b),
         Class::Basic => is_basic_ch(b),
         Class::Literal => is_literal_ch(b),

@@ -1,7 +1,7 @@
 //! Finds where dates and times end (TOML 1.0.0, "Offset Date-Time" to "Local Time").
 ghost use Rattle.std.specs.Prelude.{◌≡◌};
 ghost use Rattle.edit_syntax.specs.ReadingNumbers as reading;
-ghost use Rattle.edit_syntax.specs.Noting.{Skips, seen_token, told_token, value_kind};
+ghost use Rattle.edit_syntax.specs.AppendedTokens.{Skips, token_view, parsed_token, value_kind};
 
 use super::bytes::{Class, first, is_in, past, past_run, run_len, skip};
 use super::marks::MarkKind;
@@ -78,7 +78,7 @@ fn past_offset(s: &[u8]) -> Option<&[u8]>
     Some(s)
 }
 
-/// Whether a time follows a date.
+/// Whether the input behind a date begins with `T`, `t`, or a space and a digit, so that a time follows.
 fn joins(s: &[u8]) -> bool
     ensures { result ≡ reading.joins s.now }
 {
@@ -88,9 +88,9 @@ fn joins(s: &[u8]) -> bool
 }
 
 /// The input behind a date and the time that may follow it.
-#[tactic(auto, unfolding(crate::specs::ReadingNumbers::dated_at))]
-pub(crate) fn past_dated(s: &[u8]) -> Option<(MarkKind, &[u8])>
-    ensures { seen_token result ≡ told_token value_kind (reading.dated_at s.now) }
+#[tactic(auto, unfolding(crate::specs::ReadingNumbers::date_time_at))]
+pub(crate) fn past_date_time(s: &[u8]) -> Option<(MarkKind, &[u8])>
+    ensures { token_view result ≡ parsed_token value_kind (reading.date_time_at s.now) }
 {
     let behind = past_date(s)?;
     if !joins(behind) {
@@ -102,9 +102,9 @@ pub(crate) fn past_dated(s: &[u8]) -> Option<(MarkKind, &[u8])>
 }
 
 /// The kind of the token of a local time, and the input behind it.
-#[tactic(auto, unfolding(crate::specs::ReadingNumbers::timed_at))]
-pub(crate) fn past_timed(s: &[u8]) -> Option<(MarkKind, &[u8])>
-    ensures { seen_token result ≡ told_token value_kind (reading.timed_at s.now) }
+#[tactic(auto, unfolding(crate::specs::ReadingNumbers::local_time_at))]
+pub(crate) fn past_local_time(s: &[u8]) -> Option<(MarkKind, &[u8])>
+    ensures { token_view result ≡ parsed_token value_kind (reading.local_time_at s.now) }
 {
     let rest = past_time(s)?;
     Some((MarkKind::DateTime, rest))

@@ -6,10 +6,10 @@ ghost use Rattle.edit_syntax.specs.Spans.{bytes_at};
 ghost use Rattle.edit_syntax.specs.Characters.{quote};
 ghost use Rattle.std.specs.Str.Parse.{digits_value};
 ghost use Rattle.edit_syntax.specs.Strings as strings;
-ghost use Rattle.edit_syntax.specs.Strings.{Piece, piece, IsBasicPiece, IsMultiPiece, NamesScalar};
+ghost use Rattle.edit_syntax.specs.Strings.{Piece, piece, IsBasicPiece, IsMultiPiece, IsScalarCode};
 ghost use Rattle.edit_syntax.specs.ReadingSteps as reading;
 ghost use Rattle.edit_syntax.specs.Decoding as decoding;
-ghost use Rattle.edit_syntax.specs.Decoding.{delimiter, delimited, IsEscape, IsMarked, IsOneLine, FoldStops, LineSays, Says};
+ghost use Rattle.edit_syntax.specs.Decoding.{delimiter, delimited, IsEscape, BeginsWithBackslash, IsOneLine, IsFoldEnd, HasLineValue, HasDecodedValue};
 
 use super::bytes::{Class, byte_at, first, is_in, run_len, skip};
 use super::marks::{Mark, MarkKind};
@@ -35,7 +35,7 @@ pub fn content(text: &str, mark: Mark) -> &str
     // Holds for any way to split the text around the token.
     ensures { (before content rest said : List ℕ) → text.now ≡ before ++ delimited mark.kind content rest →
         mark.from ≡ length (delimited mark.kind content rest) → mark.to ≡ length rest →
-        Says mark.kind content said → result.now ≡ content }
+        HasDecodedValue mark.kind content said → result.now ≡ content }
 {
     let width = delimiter_len(mark.kind);
     let start = text.len().saturating_sub(mark.from as usize) + width as usize;
@@ -52,7 +52,7 @@ pub fn content_span(mark: Mark) -> Span
     ensures { (text before content rest said : List ℕ) → IsUtf8 text → text ≡ before
         ++ delimited mark.kind content rest →
         mark.from ≡ length (delimited mark.kind content rest) → mark.to ≡ length rest →
-        Says mark.kind content said → bytes_at text result ≡ content }
+        HasDecodedValue mark.kind content said → bytes_at text result ≡ content }
 {
     let width = delimiter_len(mark.kind);
     Span {
@@ -63,9 +63,9 @@ pub fn content_span(mark: Mark) -> Span
 
 /// Whether the content of a token is its own decoded value, so that it needs no decoding.
 pub fn is_plain(kind: MarkKind, content: &str) -> bool
-    ensures written { (said : List ℕ) → Says kind content.now said → IsTrue result → content.now ≡ said }
+    ensures written { (said : List ℕ) → HasDecodedValue kind content.now said → IsTrue result → content.now ≡ said }
     // A content on one line that says itself is found to do so.
-    ensures found { IsOneLine kind → Says kind content.now content.now → IsTrue result }
+    ensures found { IsOneLine kind → HasDecodedValue kind content.now content.now → IsTrue result }
 {
     match kind {
         MarkKind::BasicPart | MarkKind::BasicString => {
@@ -93,7 +93,7 @@ fn escaped(letter: u8) -> char
 /// The character whose code point the first `n` hexadecimal digits give.
 fn coded(bytes: &[u8], n: usize) -> char
     requires { n ≤ 8 }
-    ensures { (digits rest : List ℕ) → bytes.now ≡ digits ++ rest → NamesScalar n digits →
+    ensures { (digits rest : List ℕ) → bytes.now ≡ digits ++ rest → IsScalarCode n digits →
         result ≡ digits_value 16 digits }
 {
     if bytes.len() < n {
@@ -142,8 +142,8 @@ fn behind(s: &str, n: usize) -> &str
 
 /// Decodes the escape or the line fold at the front into `out` and returns its length in bytes.
 fn push_piece(out: &mut String, bytes: &[u8]) -> CargoResult<usize>
-    ensures says { (p : Piece) (rest : List ℕ) → IsMarked p → IsMultiPiece p
-        → FoldStops p (reading.first rest) → bytes.now ≡ piece quote p rest →
+    ensures says { (p : Piece) (rest : List ℕ) → BeginsWithBackslash p → IsMultiPiece p
+        → IsFoldEnd p (reading.first rest) → bytes.now ≡ piece quote p rest →
         IfOk result (λ n. (string_bytes out.new ≡ string_bytes out.old ++ strings.said quote p)
         × (n ≡ length (piece quote p []))) }
     ensures some { IfOk result (λ n. 1 ≤ n) }
@@ -159,7 +159,7 @@ fn push_piece(out: &mut String, bytes: &[u8]) -> CargoResult<usize>
 
 /// Decodes the content of a basic string; a newline right behind the opening delimiter is not skipped here.
 fn decoded(alloc: Global, content: &str) -> CargoResult<String>
-    ensures text { (said : List ℕ) → LineSays content.now said → IfOk result (λ s. string_bytes s ≡ said) }
+    ensures text { (said : List ℕ) → HasLineValue content.now said → IfOk result (λ s. string_bytes s ≡ said) }
     ensures refused { IfErr result IsMemory }
 {
     let mut out = String::new(alloc);
@@ -193,7 +193,7 @@ fn past_break(content: &str) -> &str
 
 /// The decoded value of a token with this content (TOML 1.0.0, "String" and "Keys").
 pub fn said(alloc: Global, kind: MarkKind, content: &str) -> CargoResult<String>
-    ensures text { (said : List ℕ) → Says kind content.now said → IfOk result (λ s. string_bytes s ≡ said) }
+    ensures text { (said : List ℕ) → HasDecodedValue kind content.now said → IfOk result (λ s. string_bytes s ≡ said) }
     ensures refused { IfErr result IsMemory }
 {
     match kind {

@@ -2,7 +2,7 @@
 //! end.
 ghost use Rattle.std.specs.Prelude.{◌≡◌};
 ghost use Rattle.edit_syntax.specs.Reading as reading;
-ghost use Rattle.edit_syntax.specs.Noting.{Skips};
+ghost use Rattle.edit_syntax.specs.AppendedTokens.{Skips};
 
 use super::bytes::{Class, byte_at, first, is_in, past_run, skip};
 

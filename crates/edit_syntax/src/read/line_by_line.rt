@@ -4,7 +4,7 @@ ghost use Rattle.edit_base.specs.Errors.{IsMemory};
 ghost use Rattle.edit_syntax.specs.Strings.{LineEnd, line_end};
 ghost use Rattle.edit_syntax.specs.Grammar.{Lines, AreLines, lines as lines_text};
 ghost use Rattle.edit_syntax.specs.Depth.{lines_depth};
-ghost use Rattle.edit_syntax.specs.FirstLine.{after_first, first_marks};
+ghost use Rattle.edit_syntax.specs.FirstLine.{after_first, tokens_of_first_line};
 
 use super::gaps::past_line_end;
 use super::lines::line;
@@ -17,7 +17,7 @@ pub fn first_line<'a>(out: &mut Vec<Mark>, text: &'a [u8]) -> CargoResult<&'a [u
     // The first line of any lines in the grammar is read, unless memory runs out.
     ensures only { (form : Lines) → text.now ≡ lines_text form → AreLines form → lines_depth form ≤ 80 →
         MatchResult result
-        (λ rest. (rest.now ≡ after_first form) × (out.new.items ≡ out.old.items ++ first_marks form))
+        (λ rest. (rest.now ≡ after_first form) × (out.new.items ≡ out.old.items ++ tokens_of_first_line form))
         IsMemory }
 {
     match line(out, text, 80) {

@@ -5,8 +5,8 @@ ghost use Rattle.edit_syntax.specs.Characters.{left_bracket};
 ghost use Rattle.edit_syntax.specs.Grammar.{Lines, AreLines, lines};
 ghost use Rattle.edit_syntax.specs.Depth.{lines_depth};
 ghost use Rattle.edit_syntax.specs.Reading as reading;
-ghost use Rattle.edit_syntax.specs.Marks.{statement_marks, line_marks, lines_marks};
-ghost use Rattle.edit_syntax.specs.Noting.{Notes};
+ghost use Rattle.edit_syntax.specs.SyntaxTokens.{tokens_of_statement, tokens_of_line, tokens_of_lines};
+ghost use Rattle.edit_syntax.specs.AppendedTokens.{AppendsTokens};
 
 use super::bytes::{Class, byte_at, first, past, past_run, skip};
 use super::gaps::past_line_end;
@@ -18,7 +18,7 @@ use std::alloc::Global;
 #[tactic(auto, unfolding(crate::specs::Reading::header_at))]
 fn header<'a>(out: &mut Vec<Mark>, s: &'a [u8]) -> Result<&'a [u8], ReadError>
     requires { reading.first s.now ≡ left_bracket }
-    ensures { Notes statement_marks out.old out.new result (reading.header_at s.now) }
+    ensures { AppendsTokens tokens_of_statement out.old out.new result (reading.header_at s.now) }
 {
     let after_key = key(out, past_run(skip(s, 1), Class::Blank))?;
     let end = past_run(after_key, Class::Blank);
@@ -34,7 +34,7 @@ fn header<'a>(out: &mut Vec<Mark>, s: &'a [u8]) -> Result<&'a [u8], ReadError>
 fn element_header<'a>(out: &mut Vec<Mark>, s: &'a [u8]) -> Result<&'a [u8], ReadError>
     requires first { reading.first s.now ≡ left_bracket }
     requires second { slice_index s.now 1 ≡ left_bracket }
-    ensures { Notes statement_marks out.old out.new result (reading.element_header_at s.now) }
+    ensures { AppendsTokens tokens_of_statement out.old out.new result (reading.element_header_at s.now) }
 {
     let after_key = key(out, past_run(skip(s, 2), Class::Blank))?;
     let end = past_run(after_key, Class::Blank);
@@ -52,7 +52,7 @@ fn element_header<'a>(out: &mut Vec<Mark>, s: &'a [u8]) -> Result<&'a [u8], Read
 #[tactic(auto, unfolding(crate::specs::Reading::statement_at))]
 fn statement<'a>(out: &mut Vec<Mark>, s: &'a [u8], depth: usize) -> Result<&'a [u8], ReadError>
     requires { depth < 1000 }
-    ensures { Notes statement_marks out.old out.new result (reading.statement_at depth s.now) }
+    ensures { AppendsTokens tokens_of_statement out.old out.new result (reading.statement_at depth s.now) }
 {
     if first(s) != b'[' {
         return pair(out, s, depth);
@@ -89,7 +89,7 @@ pub(crate) fn line<'a>(
     depth: usize,
 ) -> Result<&'a [u8], ReadError>
     requires { depth < 1000 }
-    ensures { Notes line_marks out.old out.new result (reading.line_at depth s.now) }
+    ensures { AppendsTokens tokens_of_line out.old out.new result (reading.line_at depth s.now) }
 {
     let start = past_run(s, Class::Blank);
     if is_line_over(first(start)) {
@@ -102,9 +102,9 @@ pub(crate) fn line<'a>(
 /// The tokens of all lines of a text, with arrays and inline tables nested at most 80 deep.
 pub(crate) fn lines(alloc: Global, text: &[u8]) -> Result<Vec<Mark>, ReadError>
     ensures found { IfOk result (λ v. (form : Lines) × (text.now ≡ lines form) × AreLines form
-        × (lines_depth form ≤ 80) × (v.items ≡ lines_marks form)) }
+        × (lines_depth form ≤ 80) × (v.items ≡ tokens_of_lines form)) }
     ensures only { (form : Lines) → text.now ≡ lines form → AreLines form → lines_depth form ≤ 80
-        → MatchResult result (λ v. v.items ≡ lines_marks form) (λ e. e ≡ Memory) }
+        → MatchResult result (λ v. v.items ≡ tokens_of_lines form) (λ e. e ≡ Memory) }
 {
     let mut out = Vec::new(alloc);
     let mut rest = text;

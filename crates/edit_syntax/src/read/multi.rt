@@ -1,7 +1,7 @@
 //! Finds where multi-line strings end (TOML 1.0.0, "String").
 ghost use Rattle.std.specs.Prelude.{◌≡◌, ◌+◌, length};
 ghost use Rattle.edit_syntax.specs.Reading as reading;
-ghost use Rattle.edit_syntax.specs.Noting.{Skips};
+ghost use Rattle.edit_syntax.specs.AppendedTokens.{Skips};
 
 use super::bytes::{Class, byte_at, first, is_basic_ch, is_in, past_run, skip};
 use super::gaps::past_line_end;
@@ -59,20 +59,20 @@ fn past_fold(s: &[u8]) -> Option<&[u8]>
 }
 
 /// The input behind a newline that is part of the string.
-#[tactic(auto, unfolding(crate::specs::Reading::feed_at))]
-fn past_feed(s: &[u8]) -> Option<&[u8]>
-    ensures { Skips result (reading.feed_at s.now) }
+#[tactic(auto, unfolding(crate::specs::Reading::text_newline_at))]
+fn past_text_newline(s: &[u8]) -> Option<&[u8]>
+    ensures { Skips result (reading.text_newline_at s.now) }
 {
     past_line_end(s)
 }
 
 /// The input behind one piece of a multi-line basic string that is not a quote.
-#[tactic(auto, unfolding(crate::specs::Reading::spot_at))]
-fn past_spot(s: &[u8]) -> Option<&[u8]>
-    ensures { Skips result (reading.spot_at s.now) }
+#[tactic(auto, unfolding(crate::specs::Reading::basic_piece_at))]
+fn past_basic_piece(s: &[u8]) -> Option<&[u8]>
+    ensures { Skips result (reading.basic_piece_at s.now) }
 {
     if is_line_break(first(s)) {
-        return past_feed(s);
+        return past_text_newline(s);
     }
     if first(s) == b'\\' {
         if is_line_break(first(past_run(skip(s, 1), Class::Blank))) {
@@ -88,12 +88,12 @@ fn past_spot(s: &[u8]) -> Option<&[u8]>
 }
 
 /// The input behind one piece of a multi-line literal string that is not an apostrophe.
-#[tactic(auto, unfolding(crate::specs::Reading::raw_at))]
-fn past_raw(s: &[u8]) -> Option<&[u8]>
-    ensures { Skips result (reading.raw_at s.now) }
+#[tactic(auto, unfolding(crate::specs::Reading::literal_piece_at))]
+fn past_literal_piece(s: &[u8]) -> Option<&[u8]>
+    ensures { Skips result (reading.literal_piece_at s.now) }
 {
     if is_line_break(first(s)) {
-        return past_feed(s);
+        return past_text_newline(s);
     }
     if is_in(Class::Literal, first(s)) {
         Some(skip(s, 1))
@@ -108,9 +108,9 @@ fn past_line_piece(s: &[u8], mark: u8) -> Option<&[u8]>
     ensures { Skips result (reading.line_piece_at mark s.now) }
 {
     if mark == b'"' {
-        past_spot(s)
+        past_basic_piece(s)
     } else {
-        past_raw(s)
+        past_literal_piece(s)
     }
 }
 

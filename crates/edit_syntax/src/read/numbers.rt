@@ -5,10 +5,10 @@ ghost use Rattle.edit_syntax.specs.Numbers as numbers;
 ghost use Rattle.edit_syntax.specs.Numbers.{Sign, Base};
 ghost use Rattle.edit_syntax.specs.ReadingNumbers as reading;
 ghost use Rattle.edit_syntax.specs.ReadingSteps as steps;
-ghost use Rattle.edit_syntax.specs.Noting.{Skips, seen_token, told_token, value_kind, class_test};
+ghost use Rattle.edit_syntax.specs.AppendedTokens.{Skips, token_view, parsed_token, value_kind, class_test};
 
 use super::bytes::{Class, byte_at, first, is_in, past_run, skip};
-use super::dates::{past_dated, past_timed};
+use super::dates::{past_date_time, past_local_time};
 use super::marks::MarkKind;
 
 /// Whether the bytes are digits of the class with single underscores between them.
@@ -87,8 +87,8 @@ fn past_sign(s: &[u8]) -> &[u8]
 }
 
 /// Whether this byte is `e` or `E`, which begins an exponent.
-fn is_power(b: u8) -> bool
-    ensures { result ≡ reading.is_power b }
+fn is_exponent_letter(b: u8) -> bool
+    ensures { result ≡ reading.is_exponent_letter b }
 {
     b == b'e' || b == b'E'
 }
@@ -105,9 +105,9 @@ fn past_exponent(s: &[u8]) -> Option<&[u8]>
 #[tactic(auto, unfolding(crate::specs::ReadingNumbers::fraction_read))]
 fn behind_fraction(s: &[u8]) -> Option<(MarkKind, &[u8])>
     ensures { (sign : Sign) (whole fraction : List ℕ)
-        → seen_token result ≡ told_token value_kind (reading.fraction_read sign whole fraction s.now) }
+        → token_view result ≡ parsed_token value_kind (reading.fraction_read sign whole fraction s.now) }
 {
-    if is_power(first(s)) {
+    if is_exponent_letter(first(s)) {
         let rest = past_exponent(s)?;
         return Some((MarkKind::Float, rest));
     }
@@ -118,13 +118,13 @@ fn behind_fraction(s: &[u8]) -> Option<(MarkKind, &[u8])>
 #[tactic(auto, unfolding(crate::specs::ReadingNumbers::whole_read))]
 fn behind_whole(s: &[u8]) -> Option<(MarkKind, &[u8])>
     ensures { (sign : Sign) (whole : List ℕ)
-        → seen_token result ≡ told_token value_kind (reading.whole_read sign whole s.now) }
+        → token_view result ≡ parsed_token value_kind (reading.whole_read sign whole s.now) }
 {
     if first(s) == b'.' {
         let behind = past_digits(skip(s, 1), Class::Decimal)?;
         return behind_fraction(behind);
     }
-    if is_power(first(s)) {
+    if is_exponent_letter(first(s)) {
         let rest = past_exponent(s)?;
         return Some((MarkKind::Float, rest));
     }
@@ -141,7 +141,7 @@ pub(crate) fn begins(s: &[u8], word: [u8; 3]) -> bool
 /// The kind of a decimal number and the input behind it; `s` begins behind the sign.
 #[tactic(auto, unfolding(crate::specs::ReadingNumbers::decimal_at))]
 fn past_decimal(s: &[u8]) -> Option<(MarkKind, &[u8])>
-    ensures { (sign : Sign) → seen_token result ≡ told_token value_kind (reading.decimal_at sign s.now) }
+    ensures { (sign : Sign) → token_view result ≡ parsed_token value_kind (reading.decimal_at sign s.now) }
 {
     if begins(s, *b"inf") {
         return Some((MarkKind::Float, skip(s, 3)));
@@ -157,7 +157,7 @@ fn past_decimal(s: &[u8]) -> Option<(MarkKind, &[u8])>
 #[tactic(auto, unfolding(crate::specs::ReadingNumbers::based_at))]
 fn past_based(s: &[u8], class: Class) -> Option<(MarkKind, &[u8])>
     ensures { (base : Base) → class_test class ≡ numbers.base_digit base
-        → seen_token result ≡ told_token value_kind (reading.based_at base s.now) }
+        → token_view result ≡ parsed_token value_kind (reading.based_at base s.now) }
 {
     let rest = past_digits(s, class)?;
     Some((MarkKind::Integer, rest))
@@ -173,14 +173,14 @@ fn has_prefix(s: &[u8], letter: u8) -> bool
 /// The kind of a number without a sign and the input behind it.
 #[tactic(auto, unfolding(crate::specs::ReadingNumbers::unsigned_at))]
 fn past_unsigned(s: &[u8]) -> Option<(MarkKind, &[u8])>
-    ensures { seen_token result ≡ told_token value_kind (reading.unsigned_at s.now) }
+    ensures { token_view result ≡ parsed_token value_kind (reading.unsigned_at s.now) }
 {
     let behind = first(past_run(s, Class::Decimal));
     if behind == b'-' {
-        return past_dated(s);
+        return past_date_time(s);
     }
     if behind == b':' {
-        return past_timed(s);
+        return past_local_time(s);
     }
     if has_prefix(s, b'x') {
         return past_based(skip(s, 2), Class::Hexadecimal);
@@ -197,7 +197,7 @@ fn past_unsigned(s: &[u8]) -> Option<(MarkKind, &[u8])>
 /// The kind of a number, a date or a time, and the input behind it.
 #[tactic(auto, unfolding(crate::specs::ReadingNumbers::number_at))]
 pub(crate) fn past_number(s: &[u8]) -> Option<(MarkKind, &[u8])>
-    ensures { seen_token result ≡ told_token value_kind (reading.number_at s.now) }
+    ensures { token_view result ≡ parsed_token value_kind (reading.number_at s.now) }
 {
     if first(s) == b'+' || first(s) == b'-' {
         return past_decimal(skip(s, 1));

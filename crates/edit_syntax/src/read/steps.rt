@@ -5,9 +5,9 @@ ghost use Rattle.edit_syntax.specs.declared.read.marks.ReadError.TheVariants.{Me
 ghost use Rattle.edit_syntax.specs.Characters.{equals};
 ghost use Rattle.edit_syntax.specs.Strings.{◌·◌, Key, key as key_text};
 ghost use Rattle.edit_syntax.specs.Grammar.{Between, gap, Value, value as value_text};
-ghost use Rattle.edit_syntax.specs.Marks.{key_marks};
+ghost use Rattle.edit_syntax.specs.SyntaxTokens.{tokens_of_key};
 ghost use Rattle.edit_syntax.specs.Reading as reading;
-ghost use Rattle.edit_syntax.specs.Steps.{IsItem, IsNaming};
+ghost use Rattle.edit_syntax.specs.Steps.{IsItem, IsKeyAndSign};
 
 use super::bytes::{Class, past, past_run};
 use super::marks::{Mark, ReadError};
@@ -49,10 +49,10 @@ pub fn past_value(alloc: Global, s: &[u8]) -> CargoResult<&[u8]>
 /// The input behind the key at the front, its equals sign and the white space around it; the tokens of the
 /// key's parts are appended to `out` (TOML 1.0.0, "Keys").
 pub fn past_name<'a>(out: &mut Vec<Mark>, s: &'a [u8]) -> CargoResult<&'a [u8]>
-    ensures { (k : Key) (a b more : List ℕ) → IsNaming k a b more
+    ensures { (k : Key) (a b more : List ℕ) → IsKeyAndSign k a b more
         → s.now ≡ key_text k (a · equals ∷ (b · more))
         → MatchResult result (λ r. (r.now ≡ more)
-        × (out.new.items ≡ out.old.items ++ key_marks k (a · equals ∷ (b · more)))) IsMemory }
+        × (out.new.items ≡ out.old.items ++ tokens_of_key k (a · equals ∷ (b · more)))) IsMemory }
 {
     let after_key = match key(out, s) {
         Ok(rest) => rest,

@@ -2,8 +2,8 @@
 ghost use Rattle.std.specs.Prelude.{◌≡◌, ℕ, ◌≤◌, List, length, slice_index};
 ghost use Rattle.edit_syntax.specs.Reading as reading;
 ghost use Rattle.edit_syntax.specs.Strings.{Piece};
-ghost use Rattle.edit_syntax.specs.Noting.{Skips, seen_token, told_token, value_kind};
-ghost use Rattle.edit_syntax.specs.Marks.{part_kind};
+ghost use Rattle.edit_syntax.specs.AppendedTokens.{Skips, token_view, parsed_token, value_kind};
+ghost use Rattle.edit_syntax.specs.SyntaxTokens.{part_kind};
 
 use super::bytes::{Class, byte_at, first, is_bare, is_basic_ch, past, past_run, skip};
 use super::marks::MarkKind;
@@ -25,7 +25,7 @@ pub(crate) fn scalar(digits: &[u8]) -> Option<char>
 /// The input behind `n` hexadecimal digits of a Unicode scalar value.
 fn past_code(s: &[u8], n: usize) -> Option<&[u8]>
     requires { n ≤ 8 }
-    ensures { (made : List ℕ → Piece) → Skips result (reading.coded_at made n s.now) }
+    ensures { (made : List ℕ → Piece) → Skips result (reading.scalar_escape_at made n s.now) }
 {
     if s.len() < n {
         return None;
@@ -88,7 +88,7 @@ fn past_literal(s: &[u8]) -> Option<&[u8]>
 /// The kind of a part of a key, and the input behind it.
 #[tactic(auto, unfolding(crate::specs::Reading::part_at))]
 pub(crate) fn past_part(s: &[u8]) -> Option<(MarkKind, &[u8])>
-    ensures { seen_token result ≡ told_token part_kind (reading.part_at s.now) }
+    ensures { token_view result ≡ parsed_token part_kind (reading.part_at s.now) }
 {
     let b = first(s);
     if b == b'"' {
@@ -119,7 +119,7 @@ fn starts(s: &[u8], word: [u8; 4]) -> bool
 /// The kind of a value of a single token, and the input behind it.
 #[tactic(auto, unfolding(crate::specs::Reading::scalar_at))]
 pub(crate) fn past_scalar(s: &[u8]) -> Option<(MarkKind, &[u8])>
-    ensures { seen_token result ≡ told_token value_kind (reading.scalar_at s.now) }
+    ensures { token_view result ≡ parsed_token value_kind (reading.scalar_at s.now) }
 {
     if begins(s, *b"\"\"\"") {
         let rest = past_multi(skip(s, 3), b'"')?;

@@ -3,8 +3,8 @@ ghost use Rattle.std.specs.Prelude.{◌≡◌, ◌+◌, ◌<◌, MatchResult, dr
 ghost use Rattle.edit_syntax.specs.declared.read.marks.ReadError.TheVariants.{Memory};
 ghost use Rattle.edit_syntax.specs.Characters.{left_brace, left_bracket};
 ghost use Rattle.edit_syntax.specs.Reading as reading;
-ghost use Rattle.edit_syntax.specs.Marks.{mark, key_marks, value_marks};
-ghost use Rattle.edit_syntax.specs.Noting.{Notes, Noted, part_marks, array_marks, pair_marks, inner_marks};
+ghost use Rattle.edit_syntax.specs.SyntaxTokens.{mark, tokens_of_key, tokens_of_value};
+ghost use Rattle.edit_syntax.specs.AppendedTokens.{AppendsTokens, AppendsToken, tokens_of_part, tokens_of_array, tokens_of_pair, tokens_of_inline_table};
 
 use super::bytes::{Class, first, past, past_run, skip};
 use super::gaps::past_gap;
@@ -25,7 +25,7 @@ pub(crate) fn note(
     from: &[u8],
     to: &[u8],
 ) -> Result<(), ReadError>
-    ensures { Noted out.old out.new result (mark kind from.now to.now) }
+    ensures { AppendsToken out.old out.new result (mark kind from.now to.now) }
 {
     let mark = Mark {
         kind,
@@ -38,7 +38,7 @@ pub(crate) fn note(
 
 /// Reads a part of a key.
 fn part<'a>(out: &mut Vec<Mark>, s: &'a [u8]) -> Result<&'a [u8], ReadError>
-    ensures { Notes part_marks out.old out.new result (reading.part_at s.now) }
+    ensures { AppendsTokens tokens_of_part out.old out.new result (reading.part_at s.now) }
 {
     let Some((kind, rest)) = past_part(s) else {
         return Err(ReadError::NotToml { left: s.len() });
@@ -49,7 +49,7 @@ fn part<'a>(out: &mut Vec<Mark>, s: &'a [u8]) -> Result<&'a [u8], ReadError>
 
 /// Reads a key: one part or several joined by dots.
 pub(crate) fn key<'a>(out: &mut Vec<Mark>, s: &'a [u8]) -> Result<&'a [u8], ReadError>
-    ensures { Notes key_marks out.old out.new result (reading.key_at s.now) }
+    ensures { AppendsTokens tokens_of_key out.old out.new result (reading.key_at s.now) }
 {
     let mut rest = part(out, s)?;
     'parts: for _part in 0..s.len() {
@@ -64,7 +64,7 @@ pub(crate) fn key<'a>(out: &mut Vec<Mark>, s: &'a [u8]) -> Result<&'a [u8], Read
 
 /// Reads a value of a single token.
 fn scalar<'a>(out: &mut Vec<Mark>, s: &'a [u8]) -> Result<&'a [u8], ReadError>
-    ensures { Notes value_marks out.old out.new result (reading.scalar_at s.now) }
+    ensures { AppendsTokens tokens_of_value out.old out.new result (reading.scalar_at s.now) }
 {
     let Some((kind, rest)) = past_scalar(s) else {
         return Err(ReadError::NotToml { left: s.len() });
@@ -82,7 +82,7 @@ pub(crate) fn pair<'a>(
     depth: usize,
 ) -> Result<&'a [u8], ReadError>
     requires { depth < 1000 }
-    ensures { Notes pair_marks out.old out.new result (reading.pair_at (reading.value_at depth) s.now) }
+    ensures { AppendsTokens tokens_of_pair out.old out.new result (reading.pair_at (reading.value_at depth) s.now) }
 {
     let after_key = key(out, s)?;
     let sign = past_run(after_key, Class::Blank);
@@ -108,7 +108,7 @@ fn members<'a>(
     count: usize,
 ) -> Result<&'a [u8], ReadError>
     requires { depth < 1000 }
-    ensures { Notes inner_marks out.old out.new result
+    ensures { AppendsTokens tokens_of_inline_table out.old out.new result
         (reading.members_at (reading.value_at depth) count s.now) }
 {
     let mut rest = s;
@@ -141,7 +141,7 @@ fn elements<'a>(
     count: usize,
 ) -> Result<&'a [u8], ReadError>
     requires { depth < 1000 }
-    ensures { Notes array_marks out.old out.new result
+    ensures { AppendsTokens tokens_of_array out.old out.new result
         (reading.elements_at (reading.value_at depth) count s.now) }
 {
     let mut rest = s;
@@ -170,7 +170,7 @@ fn elements<'a>(
 fn array<'a>(out: &mut Vec<Mark>, s: &'a [u8], depth: usize) -> Result<&'a [u8], ReadError>
     requires shallow { depth < 1000 }
     requires opened { reading.first s.now ≡ left_bracket }
-    ensures { Notes value_marks out.old out.new result (reading.value_at (depth + 1) s.now) }
+    ensures { AppendsTokens tokens_of_value out.old out.new result (reading.value_at (depth + 1) s.now) }
 {
     let behind = skip(s, 1);
     note(out, MarkKind::OpenArray, s, behind)?;
@@ -182,7 +182,7 @@ fn array<'a>(out: &mut Vec<Mark>, s: &'a [u8], depth: usize) -> Result<&'a [u8],
 fn inline_table<'a>(out: &mut Vec<Mark>, s: &'a [u8], depth: usize) -> Result<&'a [u8], ReadError>
     requires shallow { depth < 1000 }
     requires opened { reading.first s.now ≡ left_brace }
-    ensures { Notes value_marks out.old out.new result (reading.value_at (depth + 1) s.now) }
+    ensures { AppendsTokens tokens_of_value out.old out.new result (reading.value_at (depth + 1) s.now) }
 {
     let behind = skip(s, 1);
     note(out, MarkKind::OpenTable, s, behind)?;
@@ -198,7 +198,7 @@ pub(crate) fn value<'a>(
     depth: usize,
 ) -> Result<&'a [u8], ReadError>
     requires { depth < 1000 }
-    ensures { Notes value_marks out.old out.new result (reading.value_at depth s.now) }
+    ensures { AppendsTokens tokens_of_value out.old out.new result (reading.value_at depth s.now) }
 {
     if depth == 0 {
         return scalar(out, s);

@@ -1,5 +1,5 @@
 //! Reads a manifest, looks up an entry, and sets another version.
-use crate::stop::{must, same, text};
+use crate::assertion_helpers::{check_result, text, unwrap_ok};
 use cargo_edit::document::Step;
 use cargo_edit::{CargoResult, Manifest, get_dep_version};
 use semver::Version;
@@ -30,7 +30,7 @@ fn requirement(rt: &impl Abort, alloc: Global, manifest: &Manifest, name: &str) 
         Step::Key(text(rt, alloc, name)),
     ];
     let entry = manifest.document.item(&place)?;
-    let found = must(rt, get_dep_version(entry));
+    let found = unwrap_ok(rt, get_dep_version(entry));
     Some(text(rt, alloc, found))
 }
 
@@ -38,18 +38,18 @@ fn requirement(rt: &impl Abort, alloc: Global, manifest: &Manifest, name: &str) 
 fn one_literal_changes(rt: HostRuntime) {
     let alloc = rt.alloc();
     let version = Version::parse(alloc, "0.2.0").expect(&rt, "a version");
-    let new = must(&rt, with_version(alloc, MANIFEST, &version));
+    let new = unwrap_ok(&rt, with_version(alloc, MANIFEST, &version));
     let (front, rest) = MANIFEST.split_once("0.1.0").expect(&rt, "the version");
     let wanted = format!(in alloc; "{front}0.2.0{rest}").expect(&rt, "memory");
-    same(&rt, "the manifest", new.as_str(), wanted.as_str());
+    check_result(&rt, "the manifest", new.as_str(), wanted.as_str());
 }
 
 #[test]
 fn an_entry_has_a_requirement(rt: HostRuntime) {
     let alloc = rt.alloc();
-    let manifest = must(&rt, Manifest::read(alloc, MANIFEST));
+    let manifest = unwrap_ok(&rt, Manifest::read(alloc, MANIFEST));
     let found = requirement(&rt, alloc, &manifest, "serde").expect(&rt, "an entry");
-    same(&rt, "serde", found.as_str(), "1.0");
+    check_result(&rt, "serde", found.as_str(), "1.0");
     let none = requirement(&rt, alloc, &manifest, "syn").is_none();
     assert!(&rt; none, "no entry of that name");
 }

@@ -1,5 +1,5 @@
 //! Raises a requirement to a version.
-use crate::stop::{must, same};
+use crate::assertion_helpers::{check_result, unwrap_ok};
 use cargo_edit::{CargoResult, upgrade_requirement};
 use semver::Version;
 use std::alloc::Global;
@@ -16,8 +16,8 @@ fn raised(alloc: Global, requirement: &str, version: &Version) -> CargoResult<St
 fn a_requirement_keeps_its_form(rt: HostRuntime) {
     let alloc = rt.alloc();
     let version = Version::parse(alloc, "1.4.2").expect(&rt, "a version");
-    let tilde = must(&rt, raised(alloc, "~1.0", &version));
-    same(&rt, "~1.0", tilde.as_str(), "~1.4");
-    let caret = must(&rt, raised(alloc, "1", &version));
-    same(&rt, "1", caret.as_str(), "1");
+    let tilde = unwrap_ok(&rt, raised(alloc, "~1.0", &version));
+    check_result(&rt, "~1.0", tilde.as_str(), "~1.4");
+    let caret = unwrap_ok(&rt, raised(alloc, "1", &version));
+    check_result(&rt, "1", caret.as_str(), "1");
 }

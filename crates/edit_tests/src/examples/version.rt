@@ -1,5 +1,5 @@
 //! The latest version of a crate, from the lines of an index.
-use crate::stop::{must, same};
+use crate::assertion_helpers::{check_result, unwrap_ok};
 use cargo_edit::index::{FileIndex, IndexCache};
 use cargo_edit::registry::resolve;
 use cargo_edit::{CargoResult, find_latest_version};
@@ -32,8 +32,8 @@ fn latest(alloc: Global, lines: &[u8], name: &str) -> CargoResult<Option<String>
 #[test]
 fn the_latest_version_of_a_crate(rt: HostRuntime) {
     let alloc = rt.alloc();
-    let version = must(&rt, latest(alloc, LINES, "serde")).expect(&rt, "a version");
-    same(&rt, "serde", version.as_str(), "1.0.219");
-    let none = must(&rt, latest(alloc, LINES, "syn")).is_none();
+    let version = unwrap_ok(&rt, latest(alloc, LINES, "serde")).expect(&rt, "a version");
+    check_result(&rt, "serde", version.as_str(), "1.0.219");
+    let none = unwrap_ok(&rt, latest(alloc, LINES, "syn")).is_none();
     assert!(&rt; none, "no entry of that name");
 }

@@ -1,5 +1,5 @@
 //! New versions of the members of a workspace, written to files in memory.
-use crate::stop::{must, same, text};
+use crate::assertion_helpers::{check_result, text, unwrap_ok};
 use cargo_edit::CargoResult;
 use cargo_edit::set_version::{BumpLevel, Selection, TargetVersion, plan_set_version};
 use cargo_edit::store::{MemoryStore, Store};
@@ -47,13 +47,13 @@ fn raise(alloc: Global, files: &mut MemoryStore, member: &str) -> CargoResult<()
 fn dependents_follow(rt: HostRuntime) {
     let alloc = rt.alloc();
     let mut files = MemoryStore::new(alloc);
-    must(&rt, files.write(alloc, "/w/Cargo.toml", ROOT));
-    must(&rt, files.write(alloc, "/w/a/Cargo.toml", FIRST));
-    must(&rt, files.write(alloc, "/w/b/Cargo.toml", SECOND));
-    must(&rt, raise(alloc, &mut files, "a"));
-    let bytes = must(&rt, files.read(alloc, "/w/b/Cargo.toml")).expect(&rt, "a file");
+    unwrap_ok(&rt, files.write(alloc, "/w/Cargo.toml", ROOT));
+    unwrap_ok(&rt, files.write(alloc, "/w/a/Cargo.toml", FIRST));
+    unwrap_ok(&rt, files.write(alloc, "/w/b/Cargo.toml", SECOND));
+    unwrap_ok(&rt, raise(alloc, &mut files, "a"));
+    let bytes = unwrap_ok(&rt, files.read(alloc, "/w/b/Cargo.toml")).expect(&rt, "a file");
     let found = text(&rt, alloc, str::from_utf8(&bytes).expect(&rt, "UTF-8"));
-    same(
+    check_result(
         &rt,
         "the dependent",
         found.as_str(),

@@ -1,6 +1,6 @@
 //! Tests of finding, reading and writing manifests.
+use crate::assertion_helpers::{check_result, kept, made, told, unwrap_ok};
 use crate::rows::field;
-use crate::stop::{kept, made, must, same, told};
 use edit_base::CargoResult;
 use edit_manifest::{LocalManifest, find};
 use edit_store::{FaultStore, MemoryStore, Store};
@@ -27,7 +27,7 @@ fn store_of(rt: &impl Abort, alloc: Global, at: u64) -> FaultStore {
             "" => b"a\xff".as_slice(),
             text => text.as_bytes(),
         };
-        must(rt, store.write(alloc, field(row, 0), bytes));
+        unwrap_ok(rt, store.write(alloc, field(row, 0), bytes));
     }
     FaultStore::new(store, at, 0)
 }
@@ -52,8 +52,8 @@ fn written(
     named: Option<&str>,
     current: &str,
 ) -> String {
-    let mut local = must(rt, LocalManifest::find(alloc, store, named, current));
-    must(rt, local.set_package_version(alloc, &Version::new(0, 2, 0)));
+    let mut local = unwrap_ok(rt, LocalManifest::find(alloc, store, named, current));
+    unwrap_ok(rt, local.set_package_version(alloc, &Version::new(0, 2, 0)));
     match local.write(alloc, store) {
         Ok(()) => {
             let path = local.path.as_str();
@@ -108,17 +108,17 @@ const WRITE_FAULTS: &str = "3 Failed to write updated Cargo.toml|write|-|/v";
 
 /// Ends the test at the first row of a table that does not give its expected result over files whose call
 /// number `at` fails.
-fn hold(rt: &impl Abort, alloc: Global, table: &str, at: u64) {
+fn check_table(rt: &impl Abort, alloc: Global, table: &str, at: u64) {
     'rows: for row in table.lines() {
         let mut store = store_of(rt, alloc, at);
         let seen = answer(rt, alloc, &mut store, row);
-        same(rt, row, seen.as_str(), field(row, 0));
+        check_result(rt, row, seen.as_str(), field(row, 0));
     }
 }
 
 #[test]
 fn finds_reads_and_writes_manifests(rt: HostRuntime) {
-    hold(&rt, rt.alloc(), ROWS, 99);
-    hold(&rt, rt.alloc(), FAULTS, 0);
-    hold(&rt, rt.alloc(), WRITE_FAULTS, 2);
+    check_table(&rt, rt.alloc(), ROWS, 99);
+    check_table(&rt, rt.alloc(), FAULTS, 0);
+    check_table(&rt, rt.alloc(), WRITE_FAULTS, 2);
 }

@@ -1,6 +1,6 @@
 //! Kinds of dependencies and their tables.
-use crate::rows::{LINES, rows_hold};
-use crate::stop::{kept, must, text};
+use crate::assertion_helpers::{kept, text, unwrap_ok};
+use crate::rows::{LINES, check_rows};
 use edit_manifest::{DepKind, DepTable};
 use std::alloc::Global;
 use std::process::Abort;
@@ -20,7 +20,7 @@ fn table_of(rt: &impl Abort, alloc: Global, kind: &str, target: &str) -> DepTabl
     if target.is_empty() {
         return table;
     }
-    must(rt, table.set_target(alloc, target))
+    unwrap_ok(rt, table.set_target(alloc, target))
 }
 
 /// The name of a table, and its target.
@@ -35,7 +35,7 @@ fn shown(rt: &impl Abort, alloc: Global, table: &DepTable) -> String {
 /// The name of a table of a kind, and the target of its copy.
 fn answer(rt: &impl Abort, alloc: Global, kind: &str, target: &str) -> String {
     let table = table_of(rt, alloc, kind, target);
-    let copy = must(rt, table.try_clone(alloc));
+    let copy = unwrap_ok(rt, table.try_clone(alloc));
     if copy != table {
         return text(rt, alloc, "another copy");
     }
@@ -51,7 +51,7 @@ dev-dependencies cfg(unix)|development|cfg(unix)";
 
 #[test]
 fn makes_tables_of_kinds(rt: HostRuntime) {
-    rows_hold(&rt, rt.alloc(), KINDS, LINES, answer);
+    check_rows(&rt, rt.alloc(), KINDS, LINES, answer);
     assert!(rt; DepTable::default() == DepTable::new());
     assert!(rt; DepTable::from(DepKind::Build) == DepTable::new().set_kind(DepKind::Build));
     assert!(rt; DepKind::Normal < DepKind::Development);

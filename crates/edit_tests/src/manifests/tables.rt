@@ -1,6 +1,6 @@
 //! Tests of dependency tables, by calls that no program makes.
-use crate::rows::{TILDES, rows_hold};
-use crate::stop::{kept, must, push, same, text};
+use crate::assertion_helpers::{check_result, kept, push, text, unwrap_ok};
+use crate::rows::{TILDES, check_rows};
 use edit_document::{Step, copied_place};
 use edit_manifest::Manifest;
 use std::alloc::Global;
@@ -25,7 +25,7 @@ fn shown(rt: &impl Abort, alloc: Global, place: &[Step]) -> String {
 
 /// The table `workspace.dependencies`.
 fn shared(rt: &impl Abort, alloc: Global, manifest: &Manifest) -> String {
-    match must(rt, manifest.get_workspace_dependency_table_mut(alloc)) {
+    match unwrap_ok(rt, manifest.get_workspace_dependency_table_mut(alloc)) {
         Some(place) => shown(rt, alloc, &place),
         None => text(rt, alloc, "none"),
     }
@@ -34,7 +34,7 @@ fn shared(rt: &impl Abort, alloc: Global, manifest: &Manifest) -> String {
 /// The dependency tables of a manifest, each followed by a semicolon.
 fn tables(rt: &impl Abort, alloc: Global, manifest: &Manifest) -> String {
     let mut seen = String::new(alloc);
-    'places: for place in &must(rt, manifest.get_dependency_tables_mut(alloc)) {
+    'places: for place in &unwrap_ok(rt, manifest.get_dependency_tables_mut(alloc)) {
         kept(rt, seen.push_str(shown(rt, alloc, place).as_str()));
         kept(rt, seen.push(';'));
     }
@@ -43,7 +43,7 @@ fn tables(rt: &impl Abort, alloc: Global, manifest: &Manifest) -> String {
 
 /// The dependency tables of a manifest, or the table `workspace.dependencies`.
 fn answer(rt: &impl Abort, alloc: Global, call: &str, source: &str) -> String {
-    let manifest = must(rt, Manifest::read(alloc, source));
+    let manifest = unwrap_ok(rt, Manifest::read(alloc, source));
     match call {
         "shared" => shared(rt, alloc, &manifest),
         _ => tables(rt, alloc, &manifest),
@@ -64,15 +64,15 @@ none|shared|workspace = 1\n~\
 none|shared|[[workspace]]\n[workspace.dependencies]\n";
 
 #[test]
-fn tells_the_dependency_tables(rt: HostRuntime) {
-    rows_hold(&rt, rt.alloc(), TABLES, TILDES, answer);
+fn lists_dependency_tables(rt: HostRuntime) {
+    check_rows(&rt, rt.alloc(), TABLES, TILDES, answer);
 }
 
 #[test]
 fn copies_a_place(rt: HostRuntime) {
     let steps = [Step::Key(text(&rt, rt.alloc(), "bin")), Step::Index(2)];
-    let copy = must(&rt, copied_place(rt.alloc(), &steps));
-    same(
+    let copy = unwrap_ok(&rt, copied_place(rt.alloc(), &steps));
+    check_result(
         &rt,
         "a place",
         shown(&rt, rt.alloc(), &copy).as_str(),

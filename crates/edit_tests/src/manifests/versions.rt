@@ -1,6 +1,6 @@
 //! Tests of the versions in manifests, by calls that no program makes.
-use crate::rows::{TILDES, rows_hold};
-use crate::stop::{must, push, said, text, told};
+use crate::assertion_helpers::{push, text, told, unwrap_ok, word_or_error};
+use crate::rows::{TILDES, check_rows};
 use edit_document::{Document, Place, Step};
 use edit_manifest::{Manifest, get_dep_version, set_dep_version};
 use semver::Version;
@@ -29,7 +29,7 @@ fn requirement(rt: &impl Abort, alloc: Global, document: &Document, place: &[Ste
 fn require(rt: &impl Abort, alloc: Global, document: &mut Document, words: &str) -> String {
     let (names, new) = words.split_once(' ').unwrap_or((words, ""));
     let place = place_of(rt, alloc, names);
-    let word = said(
+    let word = word_or_error(
         rt,
         alloc,
         set_dep_version(alloc, document, &place, new),
@@ -53,13 +53,13 @@ fn set(rt: &impl Abort, alloc: Global, manifest: &mut Manifest, word: &str, rest
     }
     let version = version_of(rt, alloc, rest);
     match word {
-        "package" => said(
+        "package" => word_or_error(
             rt,
             alloc,
             manifest.set_package_version(alloc, &version),
             "done",
         ),
-        _ => said(
+        _ => word_or_error(
             rt,
             alloc,
             manifest.set_workspace_version(alloc, &version),
@@ -88,8 +88,8 @@ fn changed(
 
 /// The result for a copy of a manifest: a requirement, or its text after a change.
 fn answer(rt: &impl Abort, alloc: Global, call: &str, source: &str) -> String {
-    let manifest = must(rt, Manifest::read(alloc, source));
-    let mut copy = must(rt, manifest.try_clone(alloc));
+    let manifest = unwrap_ok(rt, Manifest::read(alloc, source));
+    let mut copy = unwrap_ok(rt, manifest.try_clone(alloc));
     let (word, rest) = call.split_once(' ').unwrap_or((call, ""));
     if word == "requirement" {
         return requirement(rt, alloc, &copy.document, &place_of(rt, alloc, rest));
@@ -134,7 +134,7 @@ a = { version = \"2\" }\n|require a 2|a = { version = [ 1, 2 ] }\n~\
 13 No version literal to set|require a 2|[a.version]\nworkspace = true\n";
 
 #[test]
-fn tells_and_sets_versions(rt: HostRuntime) {
-    rows_hold(&rt, rt.alloc(), VERSIONS, TILDES, answer);
-    rows_hold(&rt, rt.alloc(), REQUIREMENTS, TILDES, answer);
+fn reads_and_sets_versions(rt: HostRuntime) {
+    check_rows(&rt, rt.alloc(), VERSIONS, TILDES, answer);
+    check_rows(&rt, rt.alloc(), REQUIREMENTS, TILDES, answer);
 }

@@ -1,7 +1,7 @@
 //! A plan of two manifests in distinct folders.
 ghost use Rattle.std.specs.Prelude.{◌≡◌, string_bytes};
 
-use crate::stop::{kept, must, push, same, text};
+use crate::assertion_helpers::{check_result, kept, push, text, unwrap_ok};
 use cargo_edit::upgrade::{Options, UpgradePlan, plan_shared, plan_upgrade};
 use cargo_edit::workspace::Input;
 use edit_cache::IndexCache;
@@ -55,12 +55,12 @@ fn planned(rt: &impl Abort, alloc: Global, index: &mut IndexCache<FileIndex>) ->
     ];
     let configs = [Vec::new(alloc), Vec::new(alloc)];
     let options = plain(alloc);
-    must(rt, plan_upgrade(alloc, &options, &inputs, &configs, index))
+    unwrap_ok(rt, plan_upgrade(alloc, &options, &inputs, &configs, index))
 }
 
 /// The sizes of the plan's lists.
 fn outcome(rt: &impl Abort, alloc: Global) -> String {
-    let lines = must(rt, FileIndex::read(alloc, INDEX.as_bytes()));
+    let lines = unwrap_ok(rt, FileIndex::read(alloc, INDEX.as_bytes()));
     let mut index = IndexCache::new(alloc, lines);
     let plan = planned(rt, alloc, &mut index);
     let (outputs, rows, looks) = (plan.outputs.len(), plan.rows.len(), plan.looks.len());
@@ -73,7 +73,7 @@ fn outcome(rt: &impl Abort, alloc: Global) -> String {
 #[test]
 fn a_crate_that_two_manifests_have(rt: HostRuntime) {
     let seen = outcome(&rt, rt.alloc());
-    same(
+    check_result(
         &rt,
         "two manifests",
         seen.as_str(),
@@ -110,7 +110,7 @@ fn addresses(rt: &impl Abort, alloc: Global, index: &mut IndexCache<FileIndex>) 
     ];
     let options = plain(alloc);
     let which = [1, 0];
-    let plan = must(
+    let plan = unwrap_ok(
         rt,
         plan_shared(alloc, &options, &inputs, &[], &lists, &which, index),
     );
@@ -124,10 +124,10 @@ fn addresses(rt: &impl Abort, alloc: Global, index: &mut IndexCache<FileIndex>) 
 #[test]
 fn lists_that_two_manifests_choose(rt: HostRuntime) {
     let alloc = rt.alloc();
-    let lines = must(&rt, FileIndex::read(alloc, INDEX.as_bytes()));
+    let lines = unwrap_ok(&rt, FileIndex::read(alloc, INDEX.as_bytes()));
     let mut index = IndexCache::new(alloc, lines);
     let seen = addresses(&rt, alloc, &mut index);
-    same(
+    check_result(
         &rt,
         "two lists",
         seen.as_str(),

@@ -1,9 +1,9 @@
 //! Tests of the calls that build a `Dependency`, of its text and its order.
-use super::entry_rows::record_told;
+use super::entry_rows::dependency_fields;
 use super::parts::compared;
 use super::written_rows::record_of;
-use crate::rows::{LINES, rows_hold};
-use crate::stop::{kept, must, text};
+use crate::assertion_helpers::{kept, text, unwrap_ok};
+use crate::rows::{LINES, check_rows};
 use edit_record::{Dependency, Source};
 use std::alloc::Global;
 use std::process::Abort;
@@ -72,13 +72,13 @@ fn kind(source: &Source) -> &'static str {
 
 /// The fields of a `Dependency`, and the variant of its source.
 fn record_shown(rt: &impl Abort, alloc: Global, record: &Dependency) -> String {
-    let told = record_told(rt, alloc, record);
+    let told = dependency_fields(rt, alloc, record);
     let kind = record.source().map_or("none", kind);
     kept(rt, format!(in alloc; "{told}, {kind}"))
 }
 
 /// The fields of the copy of a `Dependency`.
-fn copy_told(rt: &impl Abort, alloc: Global, record: &Dependency, copy: &Dependency) -> String {
+fn copied_fields(rt: &impl Abort, alloc: Global, record: &Dependency, copy: &Dependency) -> String {
     if copy == record {
         record_shown(rt, alloc, copy)
     } else {
@@ -89,13 +89,13 @@ fn copy_told(rt: &impl Abort, alloc: Global, record: &Dependency, copy: &Depende
 /// The fields of a copy of the `Dependency` of a row.
 fn built(rt: &impl Abort, alloc: Global, name: &str, parts: &str) -> String {
     let record = record_of(rt, alloc, name, parts);
-    let copy = must(rt, record.try_clone(alloc));
-    copy_told(rt, alloc, &record, &copy)
+    let copy = unwrap_ok(rt, record.try_clone(alloc));
+    copied_fields(rt, alloc, &record, &copy)
 }
 
 #[test]
 fn built_records(rt: HostRuntime) {
-    rows_hold(&rt, rt.alloc(), BUILT, LINES, built);
+    check_rows(&rt, rt.alloc(), BUILT, LINES, built);
 }
 
 /// How two `Dependency` values with these parts compare.
@@ -107,5 +107,5 @@ fn compared_parts(rt: &impl Abort, alloc: Global, one: &str, other: &str) -> Str
 
 #[test]
 fn compared_records(rt: HostRuntime) {
-    rows_hold(&rt, rt.alloc(), COMPARED, LINES, compared_parts);
+    check_rows(&rt, rt.alloc(), COMPARED, LINES, compared_parts);
 }

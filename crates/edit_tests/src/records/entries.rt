@@ -1,7 +1,7 @@
 //! Tests of calls of index entries and of Rust versions that no program makes.
 use super::parts::{chosen, compared, shown};
-use crate::rows::{LINES, rows_hold};
-use crate::stop::{kept, must, push, text};
+use crate::assertion_helpers::{kept, push, text, unwrap_ok};
+use crate::rows::{LINES, check_rows};
 use edit_record::{
     IndexVersion, RustVersion, dependency_on, find_compatible_version, find_latest_version,
     read_candidate,
@@ -37,7 +37,7 @@ fn compatible(rt: &impl Abort, alloc: Global, entries: &[IndexVersion]) -> Strin
 }
 
 /// The version that is selected where an entry is the only one.
-fn only(rt: &impl Abort, alloc: Global, call: &str, told: IndexVersion) -> String {
+fn selected_alone(rt: &impl Abort, alloc: Global, call: &str, told: IndexVersion) -> String {
     let mut entries = Vec::new(alloc);
     push(rt, &mut entries, told);
     match call {
@@ -51,7 +51,7 @@ fn only(rt: &impl Abort, alloc: Global, call: &str, told: IndexVersion) -> Strin
 
 /// Whether an entry supports Rust 1.0.0.
 fn suits(rt: &impl Abort, alloc: Global, told: &IndexVersion) -> String {
-    match must(rt, read_candidate(alloc, told)) {
+    match unwrap_ok(rt, read_candidate(alloc, told)) {
         Some(candidate) => {
             let suits = candidate.is_for(Some(RustVersion::MIN));
             kept(rt, format!(in alloc; "{suits}"))
@@ -62,14 +62,14 @@ fn suits(rt: &impl Abort, alloc: Global, told: &IndexVersion) -> String {
 
 /// The dependency on an entry.
 fn depends(rt: &impl Abort, alloc: Global, told: &IndexVersion) -> String {
-    let dependency = must(rt, dependency_on(alloc, told));
+    let dependency = unwrap_ok(rt, dependency_on(alloc, told));
     shown(rt, alloc, &dependency)
 }
 
 /// The copy of an entry.
 fn copied(rt: &impl Abort, alloc: Global) -> IndexVersion {
     let entry = entry(rt, alloc);
-    must(rt, entry.try_clone(alloc))
+    unwrap_ok(rt, entry.try_clone(alloc))
 }
 
 /// The result of a call on the copy of an entry.
@@ -78,13 +78,13 @@ fn found(rt: &impl Abort, alloc: Global, call: &str, _row: &str) -> String {
     match call {
         "depends" => depends(rt, alloc, &copy),
         "suits 1.0.0" => suits(rt, alloc, &copy),
-        _ => only(rt, alloc, call, copy),
+        _ => selected_alone(rt, alloc, call, copy),
     }
 }
 
 #[test]
 fn entries_are_found(rt: HostRuntime) {
-    rows_hold(&rt, rt.alloc(), FOUND, LINES, found);
+    check_rows(&rt, rt.alloc(), FOUND, LINES, found);
 }
 
 /// The Rust version of a version; the least and the greatest; how two compare, and whether they have one
@@ -114,8 +114,8 @@ fn numbers(rt: &impl Abort, alloc: Global, version: RustVersion) -> String {
 /// How the Rust versions of two texts compare.
 fn compared_texts(rt: &impl Abort, alloc: Global, texts: &str) -> String {
     let (one, other) = texts.split_once(' ').unwrap_or((texts, ""));
-    let one = must(rt, RustVersion::from_str(alloc, one));
-    let other = must(rt, RustVersion::from_str(alloc, other));
+    let one = unwrap_ok(rt, RustVersion::from_str(alloc, one));
+    let other = unwrap_ok(rt, RustVersion::from_str(alloc, other));
     compared(rt, alloc, &one, &other)
 }
 
@@ -136,6 +136,6 @@ fn rust(rt: &impl Abort, alloc: Global, call: &str, text: &str) -> String {
 }
 
 #[test]
-fn rust_versions(rt: HostRuntime) {
-    rows_hold(&rt, rt.alloc(), RUST_VERSIONS, LINES, rust);
+fn compares_rust_versions(rt: HostRuntime) {
+    check_rows(&rt, rt.alloc(), RUST_VERSIONS, LINES, rust);
 }

@@ -1,7 +1,7 @@
 //! Tests of entries of a dependency table, each read as a `Dependency`.
 use super::parts::record_at;
-use crate::rows::{LINES, rows_hold};
-use crate::stop::{kept, text, unfolded};
+use crate::assertion_helpers::{kept, text, unfolded};
+use crate::rows::{LINES, check_rows};
 use edit_record::Dependency;
 use std::alloc::Global;
 use std::process::Abort;
@@ -72,7 +72,7 @@ fn features(rt: &impl Abort, alloc: Global, texts: Option<&Vec<String>>) -> Stri
 }
 
 /// The features of a `Dependency`, its default features, and whether it is optional.
-fn rest_told(rt: &impl Abort, alloc: Global, record: &Dependency) -> String {
+fn feature_fields(rt: &impl Abort, alloc: Global, record: &Dependency) -> String {
     let features = features(rt, alloc, record.features.as_ref());
     let default_features = truth(record.default_features());
     let optional = truth(record.optional());
@@ -83,8 +83,8 @@ fn rest_told(rt: &impl Abort, alloc: Global, record: &Dependency) -> String {
 }
 
 /// The fields of a `Dependency`.
-pub(crate) fn record_told(rt: &impl Abort, alloc: Global, record: &Dependency) -> String {
-    let rest = rest_told(rt, alloc, record);
+pub(crate) fn dependency_fields(rt: &impl Abort, alloc: Global, record: &Dependency) -> String {
+    let rest = feature_fields(rt, alloc, record);
     let key = record.toml_key();
     let version = record.version().unwrap_or("-");
     let registry = record.registry().unwrap_or("-");
@@ -99,10 +99,10 @@ fn entry(rt: &impl Abort, alloc: Global, key: &str, entries: &str) -> String {
     let entries = unfolded(rt, alloc, entries);
     let manifest = kept(rt, format!(in alloc; "[dependencies]\n{entries}"));
     let record = record_at(rt, alloc, "/foo", key, manifest.as_str());
-    record_told(rt, alloc, &record)
+    dependency_fields(rt, alloc, &record)
 }
 
 #[test]
 fn entries(rt: HostRuntime) {
-    rows_hold(&rt, rt.alloc(), ENTRIES, LINES, entry);
+    check_rows(&rt, rt.alloc(), ENTRIES, LINES, entry);
 }

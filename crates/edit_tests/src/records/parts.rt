@@ -1,5 +1,5 @@
 //! What the tests of records make and tell.
-use crate::stop::{kept, must, text, told};
+use crate::assertion_helpers::{kept, text, told, unwrap_ok};
 use edit_base::CargoResult;
 use edit_document::{Document, Item};
 use edit_record::Dependency;
@@ -21,9 +21,9 @@ pub(crate) fn record_at(
     key: &str,
     manifest: &str,
 ) -> Dependency {
-    let document = must(rt, Document::read(alloc, manifest));
+    let document = unwrap_ok(rt, Document::read(alloc, manifest));
     match entry_at(&document, key) {
-        Some(item) => must(rt, Dependency::from_toml(alloc, root, key, item)),
+        Some(item) => unwrap_ok(rt, Dependency::from_toml(alloc, root, key, item)),
         None => panic!(rt; "no entry"),
     }
 }

@@ -1,8 +1,8 @@
 //! Rows of entries that come to say what a record says: the manifest that is left, the manifest, and the
 //! record, its parts between semicolons. Lines end with `@`; a manifest without a header is one of entries.
 use super::written_rows::record;
-use crate::rows::{LINES, rows_hold};
-use crate::stop::{kept, must, push, said, text, unfolded};
+use crate::assertion_helpers::{kept, push, text, unfolded, unwrap_ok, word_or_error};
+use crate::rows::{LINES, check_rows};
 use edit_base::CargoResult;
 use edit_document::{Document, Place, Step};
 use edit_record::Dependency;
@@ -154,10 +154,10 @@ fn manifest(rt: &impl Abort, alloc: Global, lines: &str) -> String {
 /// The manifest of a row after an update of its dependency from a `Dependency`.
 fn left_by(rt: &impl Abort, alloc: Global, lines: &str, record: &Dependency) -> String {
     let manifest = manifest(rt, alloc, lines);
-    let mut document = must(rt, Document::read(alloc, manifest.as_str()));
+    let mut document = unwrap_ok(rt, Document::read(alloc, manifest.as_str()));
     let place = place_of(rt, alloc, lines);
     let answer = update(alloc, &mut document, record, &place);
-    let refusal = said(rt, alloc, answer, "");
+    let refusal = word_or_error(rt, alloc, answer, "");
     left(rt, alloc, &document, refusal.as_str())
 }
 
@@ -169,5 +169,5 @@ fn updated(rt: &impl Abort, alloc: Global, lines: &str, parts: &str) -> String {
 
 #[test]
 fn entries_are_updated(rt: HostRuntime) {
-    rows_hold(&rt, rt.alloc(), UPDATED, LINES, updated);
+    check_rows(&rt, rt.alloc(), UPDATED, LINES, updated);
 }

@@ -1,6 +1,6 @@
 //! Tests of calls of versions and of `NAME@REQUIREMENT` arguments that no program makes.
-use crate::rows::{LINES, rows_hold};
-use crate::stop::{kept, must, text};
+use crate::assertion_helpers::{kept, text, unwrap_ok};
+use crate::rows::{LINES, check_rows};
 use edit_version::{CrateSpec, VersionExt, cut};
 use semver::Version;
 use std::alloc::Global;
@@ -22,7 +22,7 @@ fn version(rt: &impl Abort, alloc: Global, text: &str) -> Version {
 /// The next patch version.
 fn patched(rt: &impl Abort, alloc: Global, text: &str) -> String {
     let mut version = version(rt, alloc, text);
-    must(rt, version.increment_patch());
+    unwrap_ok(rt, version.increment_patch());
     kept(rt, format!(in alloc; "{version}"))
 }
 
@@ -34,7 +34,7 @@ fn has_prerelease(rt: &impl Abort, alloc: Global, text: &str) -> String {
 
 /// The name and the requirement of an argument.
 fn named(rt: &impl Abort, alloc: Global, word: &str) -> String {
-    let spec = must(rt, CrateSpec::from_str(alloc, word));
+    let spec = unwrap_ok(rt, CrateSpec::from_str(alloc, word));
     let name = spec.name.as_str();
     let req = spec.version_req.as_ref().map_or("-", |text| text.as_str());
     kept(rt, format!(in alloc; "{name} {req}"))
@@ -52,5 +52,5 @@ fn given(rt: &impl Abort, alloc: Global, call: &str, argument: &str) -> String {
 
 #[test]
 fn calls_of_versions(rt: HostRuntime) {
-    rows_hold(&rt, rt.alloc(), CALLS, LINES, given);
+    check_rows(&rt, rt.alloc(), CALLS, LINES, given);
 }

@@ -1,8 +1,8 @@
 //! Rows of records and their new entries: what is written, the folder of the manifest, and what the record
 //! says, its parts between semicolons.
 use super::parts::record_at;
-use crate::rows::{LINES, rows_hold};
-use crate::stop::{kept, made, must, push, text};
+use crate::assertion_helpers::{kept, made, push, text, unwrap_ok};
+use crate::rows::{LINES, check_rows};
 use edit_document::NewItem;
 use edit_record::{Dependency, GitSource, PathSource, RegistrySource, Source, WorkspaceSource};
 use std::alloc::Global;
@@ -55,14 +55,14 @@ fn words(rt: &impl Abort, alloc: Global, words: &str) -> Vec<String> {
 /// A git source with a branch, a tag or a revision set in turn, the last of which counts; without a
 /// version.
 fn repository(rt: &impl Abort, alloc: Global, part: &str, text: &str) -> GitSource {
-    let git = must(rt, GitSource::new(alloc, "u"));
+    let git = unwrap_ok(rt, GitSource::new(alloc, "u"));
     match part {
-        "bare tag" => must(rt, git.set_tag(alloc, text)),
-        "bare rev" => must(rt, git.set_rev(alloc, text)),
+        "bare tag" => unwrap_ok(rt, git.set_tag(alloc, text)),
+        "bare rev" => unwrap_ok(rt, git.set_rev(alloc, text)),
         _ => versioned(
             rt,
             alloc,
-            must(rt, git.set_version(alloc, "0.1+c")),
+            unwrap_ok(rt, git.set_version(alloc, "0.1+c")),
             part,
             text,
         ),
@@ -73,19 +73,19 @@ fn repository(rt: &impl Abort, alloc: Global, part: &str, text: &str) -> GitSour
 fn versioned(rt: &impl Abort, alloc: Global, git: GitSource, part: &str, text: &str) -> GitSource {
     match part {
         "branch" => {
-            let git = must(rt, git.set_tag(alloc, "t"));
-            let git = must(rt, git.set_rev(alloc, "r"));
-            must(rt, git.set_branch(alloc, text))
+            let git = unwrap_ok(rt, git.set_tag(alloc, "t"));
+            let git = unwrap_ok(rt, git.set_rev(alloc, "r"));
+            unwrap_ok(rt, git.set_branch(alloc, text))
         }
         "tag" => {
-            let git = must(rt, git.set_rev(alloc, "r"));
-            let git = must(rt, git.set_branch(alloc, "b"));
-            must(rt, git.set_tag(alloc, text))
+            let git = unwrap_ok(rt, git.set_rev(alloc, "r"));
+            let git = unwrap_ok(rt, git.set_branch(alloc, "b"));
+            unwrap_ok(rt, git.set_tag(alloc, text))
         }
         _ => {
-            let git = must(rt, git.set_branch(alloc, "b"));
-            let git = must(rt, git.set_tag(alloc, "t"));
-            must(rt, git.set_rev(alloc, text))
+            let git = unwrap_ok(rt, git.set_branch(alloc, "b"));
+            let git = unwrap_ok(rt, git.set_tag(alloc, "t"));
+            unwrap_ok(rt, git.set_rev(alloc, text))
         }
     }
 }
@@ -93,8 +93,8 @@ fn versioned(rt: &impl Abort, alloc: Global, git: GitSource, part: &str, text: &
 /// The source that a part describes.
 fn source(rt: &impl Abort, alloc: Global, part: &str, text: &str) -> Source {
     match part {
-        "registry" => Source::from(must(rt, RegistrySource::new(alloc, text))),
-        "git" => Source::from(must(rt, GitSource::new(alloc, text))),
+        "registry" => Source::from(unwrap_ok(rt, RegistrySource::new(alloc, text))),
+        "git" => Source::from(unwrap_ok(rt, GitSource::new(alloc, text))),
         "workspace" => Source::from(WorkspaceSource::new()),
         "path" | "versioned path" | "path version" => path(rt, alloc, part, text),
         _ => Source::from(repository(rt, alloc, part, text)),
@@ -104,11 +104,11 @@ fn source(rt: &impl Abort, alloc: Global, part: &str, text: &str) -> Source {
 /// A path source, with or without a version.
 fn path(rt: &impl Abort, alloc: Global, part: &str, text: &str) -> Source {
     let folder = if part == "path version" { "/w/x" } else { text };
-    let source = must(rt, PathSource::new(alloc, folder));
+    let source = unwrap_ok(rt, PathSource::new(alloc, folder));
     match part {
         "path" => Source::from(source),
-        "path version" => Source::from(must(rt, source.set_version(alloc, text))),
-        _ => Source::from(must(rt, source.set_version(alloc, "3"))),
+        "path version" => Source::from(unwrap_ok(rt, source.set_version(alloc, text))),
+        _ => Source::from(unwrap_ok(rt, source.set_version(alloc, "3"))),
     }
 }
 
@@ -132,7 +132,7 @@ fn with_features(
     match part {
         "features" => record.set_features(words),
         "inherited features" => record.set_inherited_features(words),
-        _ => must(rt, record.extend_features(alloc, words)),
+        _ => unwrap_ok(rt, record.extend_features(alloc, words)),
     }
 }
 
@@ -146,8 +146,8 @@ fn with_part(
 ) -> Dependency {
     match part {
         "bare" => record,
-        "rename" => must(rt, record.set_rename(alloc, text)),
-        "registry name" => must(rt, record.set_registry(alloc, text)),
+        "rename" => unwrap_ok(rt, record.set_rename(alloc, text)),
+        "registry name" => unwrap_ok(rt, record.set_registry(alloc, text)),
         "default features" => record.set_default_features(text == "true"),
         "optional" => record.set_optional(text == "true"),
         _ => with_values(rt, alloc, record, part, text),
@@ -173,7 +173,7 @@ fn with_values(
 
 /// The `Dependency` of this name with these parts.
 pub(crate) fn record_of(rt: &impl Abort, alloc: Global, name: &str, parts: &str) -> Dependency {
-    let mut record = must(rt, Dependency::new(alloc, name));
+    let mut record = unwrap_ok(rt, Dependency::new(alloc, name));
     'parts: for part in parts.split(';') {
         let (part, text) = part.split_once('=').unwrap_or((part, ""));
         record = with_part(rt, alloc, record, part, text);
@@ -196,7 +196,7 @@ fn told(rt: &impl Abort, alloc: Global, item: &NewItem) -> String {
 
 /// The new entry of a `Dependency`.
 fn entry(rt: &impl Abort, alloc: Global, root: &str, record: &Dependency) -> String {
-    let item = must(rt, record.to_toml(alloc, root));
+    let item = unwrap_ok(rt, record.to_toml(alloc, root));
     told(rt, alloc, &item)
 }
 
@@ -229,5 +229,5 @@ fn written(rt: &impl Abort, alloc: Global, root: &str, parts: &str) -> String {
 
 #[test]
 fn entries_are_written(rt: HostRuntime) {
-    rows_hold(&rt, rt.alloc(), WRITTEN, LINES, written);
+    check_rows(&rt, rt.alloc(), WRITTEN, LINES, written);
 }

@@ -1,5 +1,5 @@
 //! Builds the error with a number, from the fields in a row.
-use crate::stop::{push, text as text_of};
+use crate::assertion_helpers::{push, text as text_of};
 use clap::Command;
 use edit_base::{DeviceCall, Error, MergedCommand, MissingKind, MissingNames};
 use std::alloc::{AllocError, Global};

@@ -1,6 +1,6 @@
 //! Tests of messages to a writer, and of the exit statuses of programs.
-use crate::rows::{LINES, field, rows_hold};
-use crate::stop::{kept, must};
+use crate::assertion_helpers::{kept, unwrap_ok};
+use crate::rows::{LINES, check_rows, field};
 use edit_base::{CargoResult, CliError, Error};
 use edit_report::{shell_print, shell_write_stderr, shell_write_stdout};
 use std::alloc::Global;
@@ -20,7 +20,7 @@ fn write_by(out: &mut Vec<u8>, call: &str, first: &str, message: &str) -> CargoR
 /// The contents of a writer after a message: its status and the message, with `@` for a line end.
 fn written(rt: &impl Abort, alloc: Global, call: &str, words: &str) -> String {
     let mut out = Vec::new(alloc);
-    must(
+    unwrap_ok(
         rt,
         write_by(&mut out, call, field(words, 0), field(words, 1)),
     );
@@ -39,7 +39,7 @@ a fragment|stdout||a fragment";
 
 #[test]
 fn writes_messages(rt: HostRuntime) {
-    rows_hold(&rt, rt.alloc(), MESSAGES, LINES, written);
+    check_rows(&rt, rt.alloc(), MESSAGES, LINES, written);
 }
 
 /// The `CliError` that the call of this name makes.
@@ -72,5 +72,5 @@ const ENDS: &str = "\
 
 #[test]
 fn ends_with_a_status(rt: HostRuntime) {
-    rows_hold(&rt, rt.alloc(), ENDS, LINES, status);
+    check_rows(&rt, rt.alloc(), ENDS, LINES, status);
 }

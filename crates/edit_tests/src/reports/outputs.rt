@@ -1,7 +1,7 @@
 //! Tests of outputs written to files in memory, where a write may fail.
 ghost use Rattle.std.specs.Prelude.{◌≡◌, string_bytes};
 
-use crate::stop::{kept, must, same, text, told};
+use crate::assertion_helpers::{check_result, kept, text, told, unwrap_ok};
 use edit_base::CargoResult;
 use edit_report::{Output, apply};
 use edit_store::{FaultStore, MemoryStore, Store};
@@ -32,15 +32,15 @@ fn applied(rt: &impl Abort, alloc: Global, files: &mut FaultStore) -> CargoResul
 /// The files before the outputs are written; the write at this index fails.
 fn files_failing(rt: &impl Abort, alloc: Global, at: u64) -> FaultStore {
     let mut files = MemoryStore::new(alloc);
-    must(rt, files.write(alloc, "/w/a/Cargo.toml", b"old a"));
-    must(rt, files.write(alloc, "/w/b/Cargo.toml", b"old b"));
-    must(rt, files.write(alloc, "/w/c/Cargo.toml", b"old c"));
+    unwrap_ok(rt, files.write(alloc, "/w/a/Cargo.toml", b"old a"));
+    unwrap_ok(rt, files.write(alloc, "/w/b/Cargo.toml", b"old b"));
+    unwrap_ok(rt, files.write(alloc, "/w/c/Cargo.toml", b"old c"));
     FaultStore::new(files, at, 0)
 }
 
 /// The contents of a file.
 fn held(rt: &impl Abort, alloc: Global, files: &mut FaultStore, path: &str) -> String {
-    let bytes = must(rt, files.read(alloc, path)).expect(rt, "a file");
+    let bytes = unwrap_ok(rt, files.read(alloc, path)).expect(rt, "a file");
     text(rt, alloc, str::from_utf8(&bytes).expect(rt, "UTF-8"))
 }
 
@@ -64,10 +64,10 @@ fn outcome(rt: &impl Abort, alloc: Global, at: u64) -> String {
 #[test]
 fn applies_outputs(rt: HostRuntime) {
     let seen = outcome(&rt, rt.alloc(), 9);
-    same(&rt, "each write", seen.as_str(), "done; new a; new c");
+    check_result(&rt, "each write", seen.as_str(), "done; new a; new c");
     let seen = outcome(&rt, rt.alloc(), 1);
     let want = "3 Failed to write updated Cargo.toml; new a; old c";
-    same(&rt, "the second write fails", seen.as_str(), want);
+    check_result(&rt, "the second write fails", seen.as_str(), want);
 }
 
 #[test]
@@ -76,9 +76,9 @@ fn applies_each_output_once(rt: HostRuntime) {
     let mut files = files_failing(&rt, rt.alloc(), 3);
     let answer = applied(&rt, rt.alloc(), &mut files);
     let seen = ended(&rt, rt.alloc(), answer);
-    same(&rt, "three writes", seen.as_str(), "done");
+    check_result(&rt, "three writes", seen.as_str(), "done");
     let next = files.write(rt.alloc(), "/w/a/Cargo.toml", b"newer a");
     let seen = ended(&rt, rt.alloc(), next);
     let want = "3 Failed to write updated Cargo.toml";
-    same(&rt, "the fourth write", seen.as_str(), want);
+    check_result(&rt, "the fourth write", seen.as_str(), want);
 }

@@ -1,7 +1,7 @@
 //! Rows of calls that follow an upgrade: words that are refused, and that are not read at a dry run. The
 //! program reads each word before.
-use crate::rows::{LINES, rows_hold};
-use crate::stop::{kept, must, push, text, told};
+use crate::assertion_helpers::{kept, push, text, told, unwrap_ok};
+use crate::rows::{LINES, check_rows};
 use edit_metadata::Workspace;
 use edit_upgrade::update::update_calls;
 use edit_upgrade::{Options, UpgradePlan};
@@ -14,7 +14,7 @@ const METADATA: &str = "\
 \"manifest_path\":\"/c/Cargo.toml\",\"version\":\"1.2.3\",\"source\":\"\"}]}";
 
 /// A word as a list.
-fn alone(rt: &impl Abort, alloc: Global, word: &str) -> Vec<String> {
+fn single_argument(rt: &impl Abort, alloc: Global, word: &str) -> Vec<String> {
     let mut words = Vec::new(alloc);
     push(rt, &mut words, text(rt, alloc, word));
     words
@@ -28,7 +28,7 @@ fn plan_of(rt: &impl Abort, alloc: Global, modified: &str) -> UpgradePlan {
         looks: Vec::new(alloc),
         warnings: Vec::new(alloc),
         missing: Vec::new(alloc),
-        modified: alone(rt, alloc, modified),
+        modified: single_argument(rt, alloc, modified),
         git_crates: Vec::new(alloc),
         pinned_present: false,
         incompatible_present: false,
@@ -41,7 +41,7 @@ fn options_of(rt: &impl Abort, alloc: Global, flags: &str, word: &str) -> Option
         compatible: flags.contains('c'),
         incompatible: false,
         pinned: false,
-        package: alone(rt, alloc, word),
+        package: single_argument(rt, alloc, word),
         exclude: Vec::new(alloc),
         dry_run: flags.contains('d'),
         locked: false,
@@ -55,7 +55,7 @@ fn options_of(rt: &impl Abort, alloc: Global, flags: &str, word: &str) -> Option
 fn calls(rt: &impl Abort, alloc: Global, flags: &str, word: &str) -> String {
     let options = options_of(rt, alloc, flags, word);
     let plan = plan_of(rt, alloc, "serde");
-    let workspace = must(rt, Workspace::read(alloc, METADATA.as_bytes()));
+    let workspace = unwrap_ok(rt, Workspace::read(alloc, METADATA.as_bytes()));
     match update_calls(alloc, &plan, &workspace, &options) {
         Ok(calls) => kept(rt, format!(in alloc; "{} calls", calls.len())),
         Err(error) => told(rt, alloc, error),
@@ -70,5 +70,5 @@ const CALLS: &str = "\
 
 #[test]
 fn calls_that_follow(rt: HostRuntime) {
-    rows_hold(&rt, rt.alloc(), CALLS, LINES, calls);
+    check_rows(&rt, rt.alloc(), CALLS, LINES, calls);
 }

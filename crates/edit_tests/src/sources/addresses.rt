@@ -1,7 +1,7 @@
 //! Addresses under configuration files.
 use super::looks::files_of;
+use crate::assertion_helpers::{check_result, kept, text, told, unwrap_ok};
 use crate::rows::field;
-use crate::stop::{kept, must, same, text, told};
 use edit_sources::config::{Config, ConfigCache, read_configs};
 use edit_sources::registry::{registry_url, resolve};
 use edit_store::{FaultStore, MemoryStore};
@@ -42,7 +42,7 @@ fn shown(rt: &impl Abort, alloc: Global, configs: &[Config]) -> String {
 
 /// What counts for the other manifest, and the address.
 fn counted(rt: &impl Abort, alloc: Global, store: &mut MemoryStore) -> String {
-    let configs = must(
+    let configs = unwrap_ok(
         rt,
         read_configs(alloc, store, "/w/b/Cargo.toml", Some("/home")),
     );
@@ -54,7 +54,7 @@ fn counted(rt: &impl Abort, alloc: Global, store: &mut MemoryStore) -> String {
 fn without_a_cache(rt: HostRuntime) {
     let mut store = files_of(&rt, rt.alloc(), WORKSPACE);
     let seen = counted(&rt, rt.alloc(), &mut store);
-    same(
+    check_result(
         &rt,
         "a member without",
         seen.as_str(),
@@ -66,8 +66,8 @@ fn without_a_cache(rt: HostRuntime) {
 /// Whether the call for the address alone gives a member its own one.
 fn a_member_alone(rt: &impl Abort, alloc: Global, store: &mut MemoryStore) {
     let url = registry_url(alloc, store, "/w/a/Cargo.toml", Some("/home"), Some("r"));
-    let url = must(rt, url);
-    same(rt, "a member's own", url.as_str(), "file:///a");
+    let url = unwrap_ok(rt, url);
+    check_result(rt, "a member's own", url.as_str(), "file:///a");
 }
 
 /// What counts for a manifest, and the address, by a cache.
@@ -88,7 +88,7 @@ fn by_cache(
 fn kept_rows(rt: &impl Abort, alloc: Global, cache: &mut ConfigCache, store: &mut FaultStore) {
     'rows: for row in MEMBERS.lines() {
         let seen = by_cache(rt, alloc, cache, store, field(row, 2));
-        same(rt, row, seen.as_str(), field(row, 0));
+        check_result(rt, row, seen.as_str(), field(row, 0));
     }
 }
 
@@ -102,11 +102,11 @@ fn configurations_by_one_cache(rt: HostRuntime) {
 }
 
 #[test]
-fn a_refusal_is_not_kept(rt: HostRuntime) {
+fn config_errors_are_not_cached(rt: HostRuntime) {
     let mut store = FaultStore::new(files_of(&rt, rt.alloc(), WORKSPACE), 1, 0);
     let mut cache = ConfigCache::new(rt.alloc());
     let seen = by_cache(&rt, rt.alloc(), &mut cache, &mut store, "/w/a/Cargo.toml");
-    same(
+    check_result(
         &rt,
         "the second read",
         seen.as_str(),

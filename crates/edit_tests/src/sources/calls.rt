@@ -1,8 +1,8 @@
 //! Calls of an index and of its cache, as texts.
 use super::looks::entries;
+use crate::assertion_helpers::{check_result, kept, text, told, word_or_error};
 use crate::records::parts::chosen;
 use crate::rows::field;
-use crate::stop::{kept, said, same, text, told};
 use edit_cache::{IndexCache, Ranked};
 use edit_sources::{Index, IndexKrate};
 use semver::VersionReq;
@@ -123,7 +123,7 @@ fn done<I: Index>(
         "rank" => cache.rank(alloc, registry, name),
         _ => cache.update_krate(registry, name),
     };
-    said(rt, alloc, done, "done")
+    word_or_error(rt, alloc, done, "done")
 }
 
 /// The result of a call. Its row has a name, the call, the crate's name, and a version or a requirement.
@@ -141,11 +141,11 @@ fn call<I: Index>(
         "has" => has(rt, alloc, cache, registry, name),
         "has version" => has_version(rt, alloc, cache, registry, name, field(row, 3)),
         "ranked" => ranked(rt, alloc, cache, registry, name),
-        "shown ranking" => ranking(rt, alloc, cache.shown_ranking(registry, name)),
+        "shown ranking" => ranking(rt, alloc, cache.cached_ranking(registry, name)),
         "choice" => choice(
             rt,
             alloc,
-            cache.shown_ranking(registry, name),
+            cache.cached_ranking(registry, name),
             field(row, 3),
         ),
         _ => done(rt, alloc, cache, registry, row),
@@ -164,6 +164,6 @@ pub(crate) fn calls<I: Index>(
         .expect(rt, "an address");
     'rows: for row in rows.lines() {
         let seen = call(rt, alloc, cache, &registry, row);
-        same(rt, row, seen.as_str(), field(row, 4));
+        check_result(rt, row, seen.as_str(), field(row, 4));
     }
 }

@@ -1,7 +1,7 @@
 //! Cached answers and rankings.
 use super::calls::calls;
 use super::looks::files_of;
-use crate::stop::must;
+use crate::assertion_helpers::unwrap_ok;
 use edit_cache::IndexCache;
 use edit_sources::{FileIndex, Index, LocalIndex};
 use edit_store::FaultStore;
@@ -17,8 +17,8 @@ const TWO: &[u8] =
 const OVER_TWO: &str = "both lines, in order|krate|a||a 1.0.0.a 1.1.0!";
 
 #[test]
-fn a_look_in_one_file(rt: HostRuntime) {
-    let index = must(&rt, FileIndex::read(rt.alloc(), TWO));
+fn looks_up_in_one_file(rt: HostRuntime) {
+    let index = unwrap_ok(&rt, FileIndex::read(rt.alloc(), TWO));
     let mut cache = IndexCache::new(rt.alloc(), index);
     calls(&rt, rt.alloc(), &mut cache, OVER_TWO);
 }
@@ -73,7 +73,7 @@ fn over_each(rt: &impl Abort, alloc: Global, indexes: &[(&str, u64, &str)]) {
 }
 
 #[test]
-fn no_refusal_is_kept(rt: HostRuntime) {
+fn errors_are_not_cached(rt: HostRuntime) {
     let indexes = [(BROKEN, 9, OVER_BROKEN), (REPAIRED, 0, OVER_REPAIRED)];
     over_each(&rt, rt.alloc(), &indexes);
 }
@@ -105,7 +105,7 @@ the next look|ranked|a||1.0.0;
 the other answer|shown|b||b 2.0.0.";
 
 #[test]
-fn a_refused_ranking_is_not_kept(rt: HostRuntime) {
+fn failed_rankings_are_not_cached(rt: HostRuntime) {
     let first = (HALF_BROKEN, 9, OVER_HALF_BROKEN);
     over_each(&rt, rt.alloc(), &[first, (REPAIRED, 0, AFTER_HALF_BROKEN)]);
 }
@@ -159,7 +159,7 @@ the next ranking|ranked|a||2.0.0;
 no such name|ranked|b||none";
 
 #[test]
-fn ranked_once(rt: HostRuntime) {
+fn rankings_are_cached(rt: HostRuntime) {
     over_each(
         &rt,
         rt.alloc(),

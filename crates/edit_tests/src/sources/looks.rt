@@ -1,6 +1,6 @@
 //! Files of indexes, and the entries of an answer.
+use crate::assertion_helpers::{kept, unfolded, unwrap_ok};
 use crate::rows::field;
-use crate::stop::{kept, must, unfolded};
 use edit_sources::IndexKrate;
 use edit_store::{MemoryStore, Store};
 use std::alloc::{AllocError, Global};
@@ -19,7 +19,7 @@ pub(crate) fn entries(rt: &impl Abort, alloc: Global, krate: &IndexKrate) -> Str
 /// Puts the file of a row into a store: its path and its lines.
 fn put(rt: &impl Abort, alloc: Global, store: &mut MemoryStore, row: &str) {
     let lines = unfolded(rt, alloc, field(row, 1));
-    must(rt, store.write(alloc, field(row, 0), lines.as_bytes()));
+    unwrap_ok(rt, store.write(alloc, field(row, 0), lines.as_bytes()));
 }
 
 /// The files of a table, in memory. A row has a path and the file's lines.

@@ -1,6 +1,6 @@
 //! Calls of a store, as texts.
+use crate::assertion_helpers::{check_result, kept, text, told, word_or_error};
 use crate::rows::field;
-use crate::stop::{kept, said, same, text, told};
 use edit_store::{Kind, Store};
 use std::alloc::Global;
 use std::process::Abort;
@@ -26,7 +26,7 @@ fn read<S: Store>(rt: &impl Abort, alloc: Global, store: &mut S, path: &str) -> 
 
 /// The result of a write.
 fn write<S: Store>(rt: &impl Abort, alloc: Global, store: &mut S, path: &str, new: &str) -> String {
-    said(
+    word_or_error(
         rt,
         alloc,
         store.write(alloc, path, new.as_bytes()),
@@ -49,6 +49,6 @@ fn step<S: Store>(rt: &impl Abort, alloc: Global, store: &mut S, path: &str, row
 pub(crate) fn steps<S: Store>(rt: &impl Abort, alloc: Global, store: &mut S, rows: &str) {
     'rows: for row in rows.lines() {
         let seen = step(rt, alloc, store, field(row, 2), row);
-        same(rt, row, seen.as_str(), field(row, 4));
+        check_result(rt, row, seen.as_str(), field(row, 4));
     }
 }

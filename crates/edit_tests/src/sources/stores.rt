@@ -1,6 +1,6 @@
 //! Stores in memory, a store whose call fails, and devices of the machine.
 use super::steps::steps;
-use crate::stop::kept;
+use crate::assertion_helpers::kept;
 use edit_store::{FaultStore, HostStore, MemoryStore};
 
 /// Rows: a name, a call, a path, the text to write, and the expected result.

@@ -1,7 +1,7 @@
 //! Tests of reading the manifests of a workspace where the device fails. The others are in
 //! `tests/cases/upgrade/workspace_manifests.toml`.
-use crate::rows::{TILDES, rows_hold};
-use crate::stop::{kept, must, said};
+use crate::assertion_helpers::{kept, unwrap_ok, word_or_error};
+use crate::rows::{TILDES, check_rows};
 use edit_metadata::{Workspace, workspace_inputs};
 use edit_store::{FaultStore, MemoryStore, Store};
 use std::alloc::Global;
@@ -17,16 +17,16 @@ const METADATA: &str = "\
 /// A store of its manifests, whose call number `at` fails.
 fn failing_store(rt: &impl Abort, alloc: Global, at: u64) -> FaultStore {
     let mut files = MemoryStore::new(alloc);
-    must(rt, files.write(alloc, "/w/Cargo.toml", b"#13"));
-    must(rt, files.write(alloc, "/w/a/Cargo.toml", b"#15"));
+    unwrap_ok(rt, files.write(alloc, "/w/Cargo.toml", b"#13"));
+    unwrap_ok(rt, files.write(alloc, "/w/a/Cargo.toml", b"#15"));
     FaultStore::new(files, at, 0)
 }
 
 /// The result of reading the inputs from a store.
 fn inputs(rt: &impl Abort, alloc: Global, store: &mut FaultStore) -> String {
-    let workspace = must(rt, Workspace::read(alloc, METADATA.as_bytes()));
+    let workspace = unwrap_ok(rt, Workspace::read(alloc, METADATA.as_bytes()));
     let inputs = workspace_inputs(alloc, store, &workspace, None, false);
-    said(rt, alloc, inputs, "inputs")
+    word_or_error(rt, alloc, inputs, "inputs")
 }
 
 /// The inputs where one call of the device fails.
@@ -44,6 +44,6 @@ const FAILING: &str = "\
 ~3 Failed to read a file, 1|1|/w/a/Cargo.toml";
 
 #[test]
-fn refuses_where_the_device_fails(rt: HostRuntime) {
-    rows_hold(&rt, rt.alloc(), FAILING, TILDES, failing);
+fn device_errors_are_reported(rt: HostRuntime) {
+    check_rows(&rt, rt.alloc(), FAILING, TILDES, failing);
 }

@@ -1,7 +1,7 @@
 //! Tests of errors in an input other than the first. The others are in
 //! `tests/cases/upgrade/error_places.toml`.
-use crate::rows::{TILDES, rows_hold};
-use crate::stop::{kept, push, text};
+use crate::assertion_helpers::{kept, push, text};
+use crate::rows::{TILDES, check_rows};
 use edit_base::Error;
 use edit_metadata::Input;
 use edit_steps::{Refusal, at_input};
@@ -26,7 +26,7 @@ fn input_of(rt: &impl Abort, alloc: Global, row: &str) -> Input {
 }
 
 /// A refusal by a word; any other word is that of a text that is no manifest, at the byte behind as many.
-fn refusal_of(word: &str) -> Error {
+fn error_of_word(word: &str) -> Error {
     match word {
         "utf8" => Error::NotUtf8,
         "path" => Error::NoPath,
@@ -57,7 +57,7 @@ fn shown(rt: &impl Abort, alloc: Global, refusal: &Refusal) -> String {
 /// The place of an error of a plan over inputs.
 fn place_of(rt: &impl Abort, alloc: Global, word: &str, inputs: &str) -> String {
     let all = inputs_of(rt, alloc, inputs);
-    let refusal = at_input(alloc, refusal_of(word), &all);
+    let refusal = at_input(alloc, error_of_word(word), &all);
     shown(rt, alloc, &refusal)
 }
 
@@ -69,6 +69,6 @@ const PLACES: &str = "\
 ~-|utf8|/a/Cargo.toml =";
 
 #[test]
-fn places_refusals(rt: HostRuntime) {
-    rows_hold(&rt, rt.alloc(), PLACES, TILDES, place_of);
+fn locates_errors(rt: HostRuntime) {
+    check_rows(&rt, rt.alloc(), PLACES, TILDES, place_of);
 }

@@ -1,7 +1,7 @@
 //! Tests of the files that an upgrade reads. Errors are in `tests/cases/upgrade/inputs_rejected.toml`.
 use super::workspaces::{quoted, rust_shown};
-use crate::rows::{TILDES, rows_hold};
-use crate::stop::{kept, must, told, unfolded};
+use crate::assertion_helpers::{kept, told, unfolded, unwrap_ok};
+use crate::rows::{TILDES, check_rows};
 use edit_sources::Config;
 use edit_steps::upgrade_read::{Asked, IndexSource, RustChoice, Sources, read_sources};
 use edit_store::{MemoryStore, Store};
@@ -33,7 +33,7 @@ fn put_file(rt: &impl Abort, alloc: Global, store: &mut MemoryStore, row: &str) 
     let (path, held) = row.split_once(' ').unwrap_or((row, ""));
     let lines = unfolded(rt, alloc, held);
     let bytes = quoted(rt, alloc, lines.as_str());
-    must(rt, store.write(alloc, path, bytes.as_bytes()));
+    unwrap_ok(rt, store.write(alloc, path, bytes.as_bytes()));
 }
 
 /// Puts the files of the table into a store.
@@ -91,7 +91,7 @@ fn choice(rt: &impl Abort, alloc: Global, word: Option<&str>) -> RustChoice {
     match word {
         None => RustChoice::Own,
         Some("!") => RustChoice::Ignored,
-        Some(word) => RustChoice::Given(must(rt, RustVersion::from_str(alloc, word))),
+        Some(word) => RustChoice::Given(unwrap_ok(rt, RustVersion::from_str(alloc, word))),
     }
 }
 
@@ -150,5 +150,5 @@ of/w/c /w/c/Cargo.toml - 3 2; files, 0|- /w/all.json|- !\
 
 #[test]
 fn reads_sources(rt: HostRuntime) {
-    rows_hold(&rt, rt.alloc(), READ, TILDES, read);
+    check_rows(&rt, rt.alloc(), READ, TILDES, read);
 }

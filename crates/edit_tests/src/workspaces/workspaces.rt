@@ -1,6 +1,6 @@
 //! Tests of workspaces read from metadata. Errors are in `tests/cases/upgrade/metadata_rejected.toml`.
-use crate::rows::{TILDES, rows_hold};
-use crate::stop::{kept, must, text, told};
+use crate::assertion_helpers::{kept, text, told, unwrap_ok};
+use crate::rows::{TILDES, check_rows};
 use edit_metadata::{Package, Workspace, manifest_from_pkgid};
 use edit_version::RustVersion;
 use std::alloc::Global;
@@ -75,7 +75,7 @@ fn told_of(rt: &impl Abort, alloc: Global, workspace: &Workspace) -> String {
 /// The workspace of the metadata with one text replaced by another.
 fn workspace(rt: &impl Abort, alloc: Global, old: &str, new: &str) -> Workspace {
     let json = changed(rt, alloc, old, new);
-    must(rt, Workspace::read(alloc, json.as_bytes()))
+    unwrap_ok(rt, Workspace::read(alloc, json.as_bytes()))
 }
 
 /// The result of reading the metadata with one text replaced by another.
@@ -104,7 +104,7 @@ const READ: &str = "\
 
 #[test]
 fn reads_workspaces(rt: HostRuntime) {
-    rows_hold(&rt, rt.alloc(), READ, TILDES, read);
+    check_rows(&rt, rt.alloc(), READ, TILDES, read);
 }
 
 /// The path of the member with a name.
@@ -126,5 +126,5 @@ workspace. Try adding `--workspace`.|c|['A','B']";
 
 #[test]
 fn finds_members_by_name(rt: HostRuntime) {
-    rows_hold(&rt, rt.alloc(), NAMED, TILDES, named);
+    check_rows(&rt, rt.alloc(), NAMED, TILDES, named);
 }

@@ -1,9 +1,9 @@
 //! The arguments of `cargo update` calls.
 ghost use Rattle.std.specs.Prelude.{◌≡◌, ◌∷◌, ◌++◌, [], codes, IfOk, OnOk, string_bytes};
-ghost use Rattle.edit_metadata.specs.Workspaces.{package_said};
-ghost use Rattle.edit_upgrade.specs.PinViews.{pin_seen};
-ghost use Rattle.edit_upgrade.specs.UpdateCalls.{package_words, precise_call};
-ghost use Rattle.edit_upgrade.specs.Views.{words_seen};
+ghost use Rattle.edit_metadata.specs.Workspaces.{package_view};
+ghost use Rattle.edit_upgrade.specs.PinViews.{pin_view};
+ghost use Rattle.edit_upgrade.specs.UpdateCalls.{package_args, precise_call};
+ghost use Rattle.edit_upgrade.specs.Views.{args_view};
 ghost use Rattle.semver.specs.Identifiers.{parts_of, parts_text};
 
 use crate::update::pins::Pin;
@@ -16,7 +16,7 @@ pub(crate) type Call = Vec<String>;
 
 /// Appends an argument.
 fn add(alloc: Global, words: &mut Call, word: &str) -> Result<(), AllocError>
-    ensures { OnOk result (words_seen words.new.items ≡ words_seen words.old.items ++ word.now ∷ []) }
+    ensures { OnOk result (args_view words.new.items ≡ args_view words.old.items ++ word.now ∷ []) }
 {
     let word = String::from_str(alloc, word)?;
     words.push(word)?;
@@ -25,7 +25,7 @@ fn add(alloc: Global, words: &mut Call, word: &str) -> Result<(), AllocError>
 
 /// The arguments that each call for a manifest begins with.
 pub(crate) fn begun(alloc: Global, manifest: &str) -> Result<Call, AllocError>
-    ensures { IfOk result (λ v. words_seen v.items ≡ codes "cargo" ∷ codes "update"
+    ensures { IfOk result (λ v. args_view v.items ≡ codes "cargo" ∷ codes "update"
         ∷ codes "--manifest-path" ∷ manifest.now ∷ []) }
 {
     let mut words = Vec::new(alloc);
@@ -38,24 +38,24 @@ pub(crate) fn begun(alloc: Global, manifest: &str) -> Result<Call, AllocError>
 
 /// Appends the argument that each call ends with.
 pub(crate) fn end(alloc: Global, words: &mut Call) -> Result<(), AllocError>
-    ensures { OnOk result (words_seen words.new.items
-        ≡ words_seen words.old.items ++ codes "--offline" ∷ []) }
+    ensures { OnOk result (args_view words.new.items
+        ≡ args_view words.old.items ++ codes "--offline" ∷ []) }
 {
     add(alloc, words, "--offline")
 }
 
 /// Appends `--aggressive`, which also updates the dependencies of the packages.
 pub(crate) fn add_aggressive(alloc: Global, words: &mut Call) -> Result<(), AllocError>
-    ensures { OnOk result (words_seen words.new.items
-        ≡ words_seen words.old.items ++ codes "--aggressive" ∷ []) }
+    ensures { OnOk result (args_view words.new.items
+        ≡ args_view words.old.items ++ codes "--aggressive" ∷ []) }
 {
     add(alloc, words, "--aggressive")
 }
 
 /// A package ID specification `NAME@VERSION`, as one argument.
-fn package_word(alloc: Global, krate: &Package) -> Result<String, AllocError>
-    ensures { IfOk result (λ s. string_bytes s ≡ (package_said krate.now).name
-        ++ (codes "@" ++ parts_text (package_said krate.now).version)) }
+fn package_spec_arg(alloc: Global, krate: &Package) -> Result<String, AllocError>
+    ensures { IfOk result (λ s. string_bytes s ≡ (package_view krate.now).name
+        ++ (codes "@" ++ parts_text (package_view krate.now).version)) }
 {
     format!(in alloc; "{}@{}", krate.name, krate.version)
 }
@@ -66,11 +66,11 @@ pub(crate) fn add_package(
     words: &mut Call,
     krate: &Package,
 ) -> Result<(), AllocError>
-    ensures { OnOk result (words_seen words.new.items
-        ≡ words_seen words.old.items ++ package_words (package_said krate.now)) }
+    ensures { OnOk result (args_view words.new.items
+        ≡ args_view words.old.items ++ package_args (package_view krate.now)) }
 {
     add(alloc, words, "--package")?;
-    let word = package_word(alloc, krate)?;
+    let word = package_spec_arg(alloc, krate)?;
     words.push(word)?;
     Ok(())
 }
@@ -89,8 +89,8 @@ pub(crate) fn precise_call(
     pin: &Pin,
     krate: &Package,
 ) -> Result<Call, AllocError>
-    ensures { IfOk result (λ v. words_seen v.items
-        ≡ precise_call manifest.now (pin_seen pin.now) (package_said krate.now)) }
+    ensures { IfOk result (λ v. args_view v.items
+        ≡ precise_call manifest.now (pin_view pin.now) (package_view krate.now)) }
 {
     let mut words = begun(alloc, manifest)?;
     add(alloc, &mut words, "--precise")?;

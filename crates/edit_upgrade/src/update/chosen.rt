@@ -1,10 +1,10 @@
 //! The packages that a call names.
 ghost use Rattle.std.specs.Prelude.{◌≡◌, ◌&&◌, IfOk, is_none, map, string_bytes};
-ghost use Rattle.edit_metadata.specs.Workspaces.{package_said, packages_said};
+ghost use Rattle.edit_metadata.specs.Workspaces.{package_view, packages_view};
 ghost use Rattle.edit_upgrade.specs.Groups.{nows};
 ghost use Rattle.edit_upgrade.specs.Names.{HasNames};
 ghost use Rattle.edit_metadata.specs.Reading.{holds};
-ghost use Rattle.edit_upgrade.specs.PinViews.{pins_seen};
+ghost use Rattle.edit_upgrade.specs.PinViews.{pins_view};
 ghost use Rattle.edit_upgrade.specs.Pins.{pin_at};
 ghost use Rattle.edit_upgrade.specs.UpdateCalls.{from_git, is_from_git, unpinned};
 
@@ -29,7 +29,7 @@ fn names_of<'a>(alloc: Global, names: &'a [String]) -> Result<Names<'a>, AllocEr
 
 /// Whether a package comes from a git repository.
 fn is_from_git(krate: &Package) -> bool
-    ensures { result ≡ is_from_git (package_said krate.now) }
+    ensures { result ≡ is_from_git (package_view krate.now) }
 {
     match &krate.source {
         Some(source) => source.as_str().starts_with("git+"),
@@ -40,7 +40,7 @@ fn is_from_git(krate: &Package) -> bool
 /// Whether a package has one of these names and comes from a git repository.
 fn is_named_from_git(names: &Names, krate: &Package) -> bool
     ensures { result ≡ (holds names.now (string_bytes krate.now.name)
-        && is_from_git (package_said krate.now)) }
+        && is_from_git (package_view krate.now)) }
 {
     names.contains(krate.name.as_str()) && is_from_git(krate)
 }
@@ -48,7 +48,7 @@ fn is_named_from_git(names: &Names, krate: &Package) -> bool
 /// Whether a package has one of these names, and no precise version is given for that name.
 fn is_unpinned(names: &Names, pins: &Pins, krate: &Package) -> bool
     ensures { result ≡ (holds names.now (string_bytes krate.now.name)
-        && is_none (pin_at (pins_seen pins.now) (string_bytes krate.now.name))) }
+        && is_none (pin_at (pins_view pins.now) (string_bytes krate.now.name))) }
 {
     let name = krate.name.as_str();
     names.contains(name) && pin_at(pins, name).is_none()
@@ -60,8 +60,8 @@ pub(crate) fn from_git<'a>(
     names: &[String],
     packages: &'a [Package],
 ) -> Result<Vec<&'a Package>, AllocError>
-    ensures { IfOk result (λ v. packages_said (nows v.items)
-        ≡ from_git (map string_bytes names.now) (packages_said packages.now)) }
+    ensures { IfOk result (λ v. packages_view (nows v.items)
+        ≡ from_git (map string_bytes names.now) (packages_view packages.now)) }
 {
     let names = names_of(alloc, names)?;
     let mut found = Vec::new(alloc);
@@ -80,8 +80,8 @@ pub(crate) fn unpinned<'a>(
     names: &[String],
     packages: &'a [Package],
 ) -> Result<Vec<&'a Package>, AllocError>
-    ensures { IfOk result (λ v. packages_said (nows v.items)
-        ≡ unpinned (pins_seen pins.now) (map string_bytes names.now) (packages_said packages.now)) }
+    ensures { IfOk result (λ v. packages_view (nows v.items)
+        ≡ unpinned (pins_view pins.now) (map string_bytes names.now) (packages_view packages.now)) }
 {
     let names = names_of(alloc, names)?;
     let mut found = Vec::new(alloc);

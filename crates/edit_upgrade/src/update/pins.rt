@@ -4,9 +4,9 @@ ghost use Rattle.std.specs.Ordering.{is_lt};
 ghost use Rattle.edit_base.specs.Errors.{IsMemory};
 ghost use Rattle.edit_version.specs.Greatest.{pick};
 ghost use Rattle.edit_version.specs.VersionOrder.{full_order};
-ghost use Rattle.edit_upgrade.specs.PinViews.{pin_seen, pins_seen};
-ghost use Rattle.edit_upgrade.specs.Words.{IsWord};
-ghost use Rattle.edit_upgrade.specs.WordCauses.{StopsAtWord};
+ghost use Rattle.edit_upgrade.specs.PinViews.{pin_view, pins_view};
+ghost use Rattle.edit_upgrade.specs.Words.{IsPackageArg};
+ghost use Rattle.edit_upgrade.specs.WordCauses.{FailsAtPackageArg};
 ghost use Rattle.edit_upgrade.specs.Pins.{is_strict, named_version, pin_at, pin_of, pins_of, precise_version};
 ghost use Rattle.semver.specs.Identifiers.{comparator_view, parts_of};
 
@@ -96,7 +96,7 @@ fn precise_version(alloc: Global, comparators: &[Comparator]) -> Result<Option<V
 
 /// Parses a requirement, and returns it with its precise version where it names one.
 fn pin_of(alloc: Global, text: &str) -> CargoResult<Option<Pin>>
-    ensures ok { IfOk result (λ o. option_map pin_seen o ≡ pin_of text.now) }
+    ensures ok { IfOk result (λ o. option_map pin_view o ≡ pin_of text.now) }
     ensures refused { IfErr result IsMemory }
 {
     let Some(req) = read_requirement(alloc, text)? else {
@@ -110,7 +110,7 @@ fn pin_of(alloc: Global, text: &str) -> CargoResult<Option<Pin>>
 
 /// Parses an optional requirement, and returns it with its precise version where it names one.
 fn maybe_pin(alloc: Global, text: Option<&String>) -> CargoResult<Option<Pin>>
-    ensures ok { IfOk result (λ o. option_map pin_seen o
+    ensures ok { IfOk result (λ o. option_map pin_view o
         ≡ option_and_then pin_of (option_map string_bytes (option_copied text.entry))) }
     ensures refused { IfErr result IsMemory }
 {
@@ -124,10 +124,10 @@ fn maybe_pin(alloc: Global, text: Option<&String>) -> CargoResult<Option<Pin>>
 ///
 /// Fails where an argument cannot be parsed.
 pub(crate) fn read_pins(alloc: Global, words: &[String]) -> CargoResult<Pins>
-    ensures pins { IfOk result (λ m. pins_seen m ≡ pins_of (map string_bytes words.now)) }
-    ensures read { IfOk result (λ m. All IsWord (map string_bytes words.now)) }
+    ensures pins { IfOk result (λ m. pins_view m ≡ pins_of (map string_bytes words.now)) }
+    ensures read { IfOk result (λ m. All IsPackageArg (map string_bytes words.now)) }
     ensures refused { IfErr result
-        (λ e. IsMemory e ⊎ StopsAtWord (map string_bytes words.now) e) }
+        (λ e. IsMemory e ⊎ FailsAtPackageArg (map string_bytes words.now) e) }
 {
     let mut pins = BTreeMap::new(alloc);
     'words: for word in words {
@@ -141,7 +141,7 @@ pub(crate) fn read_pins(alloc: Global, words: &[String]) -> CargoResult<Pins>
 
 /// The pin of a name, where there is one.
 pub(crate) fn pin_at<'a>(pins: &'a Pins, name: &str) -> Option<&'a Pin>
-    ensures { option_map pin_seen (option_copied result) ≡ pin_at (pins_seen pins.now) name.now }
+    ensures { option_map pin_view (option_copied result) ≡ pin_at (pins_view pins.now) name.now }
 {
     match pins.get(name) {
         Some(pin) => pin.as_ref(),

@@ -1,10 +1,10 @@
 //! Calls of `cargo update --precise` for selected names with a precise version.
 ghost use Rattle.std.specs.Prelude.{◌≡◌, ◌++◌, IfOk, OnOk, option_copied, option_map};
-ghost use Rattle.edit_metadata.specs.Workspaces.{packages_said};
+ghost use Rattle.edit_metadata.specs.Workspaces.{packages_view};
 ghost use Rattle.edit_upgrade.specs.Groups.{group, nows};
-ghost use Rattle.edit_upgrade.specs.PinViews.{entry_seen, pin_seen, pins_seen};
+ghost use Rattle.edit_upgrade.specs.PinViews.{pin_entry_view, pin_view, pins_view};
 ghost use Rattle.edit_upgrade.specs.UpdateCalls.{admitted_calls, entry_calls, precise_calls};
-ghost use Rattle.edit_upgrade.specs.Views.{calls_seen};
+ghost use Rattle.edit_upgrade.specs.Views.{calls_view};
 
 use crate::update::call::{Call, precise_call};
 use crate::update::groups::{Groups, grouped};
@@ -21,8 +21,8 @@ fn add_admitted(
     packages: &[&Package],
     calls: &mut Vec<Call>,
 ) -> Result<(), AllocError>
-    ensures { OnOk result (calls_seen calls.new.items ≡ calls_seen calls.old.items
-        ++ admitted_calls manifest.now (pin_seen pin.now) (packages_said (nows packages.now))) }
+    ensures { OnOk result (calls_view calls.new.items ≡ calls_view calls.old.items
+        ++ admitted_calls manifest.now (pin_view pin.now) (packages_view (nows packages.now))) }
 {
     'packages: for package in packages {
         if admits(&pin.req, &package.version) {
@@ -42,9 +42,9 @@ fn add_entry(
     pin: Option<&Pin>,
     calls: &mut Vec<Call>,
 ) -> Result<(), AllocError>
-    ensures { OnOk result (calls_seen calls.new.items ≡ calls_seen calls.old.items
-        ++ entry_calls manifest.now (packages_said (group groups.now name.now))
-        (option_map pin_seen (option_copied pin.entry))) }
+    ensures { OnOk result (calls_view calls.new.items ≡ calls_view calls.old.items
+        ++ entry_calls manifest.now (packages_view (group groups.now name.now))
+        (option_map pin_view (option_copied pin.entry))) }
 {
     let Some(pin) = pin else {
         return Ok(());
@@ -62,8 +62,8 @@ pub(crate) fn precise_calls(
     packages: &[Package],
     pins: &Pins,
 ) -> Result<Vec<Call>, AllocError>
-    ensures { IfOk result (λ v. calls_seen v.items
-        ≡ precise_calls manifest.now (packages_said packages.now) (pins_seen pins.now)) }
+    ensures { IfOk result (λ v. calls_view v.items
+        ≡ precise_calls manifest.now (packages_view packages.now) (pins_view pins.now)) }
 {
     let mut calls = Vec::new(alloc);
     if pins.is_empty() {

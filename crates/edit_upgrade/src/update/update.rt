@@ -1,15 +1,15 @@
 //! The calls of `cargo update` that follow an upgrade.
 ghost use Rattle.std.specs.Prelude.{◌≡◌, ◌⊎◌, ◌++◌, All, IfErr, IfOk, OnOk, map, string_bytes, true};
 ghost use Rattle.edit_base.specs.Errors.{IsMemory};
-ghost use Rattle.edit_metadata.specs.Workspaces.{packages_said, workspace_said};
-ghost use Rattle.edit_upgrade.specs.Asked.{asked_by, asks_repositories, is_due, is_recursive};
+ghost use Rattle.edit_metadata.specs.Workspaces.{packages_view, workspace_view};
+ghost use Rattle.edit_upgrade.specs.ParsedOptions.{call_options, is_git_updated, is_due, is_recursive};
 ghost use Rattle.edit_upgrade.specs.Groups.{nows};
-ghost use Rattle.edit_upgrade.specs.PinViews.{pins_seen};
-ghost use Rattle.edit_upgrade.specs.Words.{IsWord};
-ghost use Rattle.edit_upgrade.specs.WordCauses.{StopsAtWord};
+ghost use Rattle.edit_upgrade.specs.PinViews.{pins_view};
+ghost use Rattle.edit_upgrade.specs.Words.{IsPackageArg};
+ghost use Rattle.edit_upgrade.specs.WordCauses.{FailsAtPackageArg};
 ghost use Rattle.edit_upgrade.specs.Pins.{pins_of};
-ghost use Rattle.edit_upgrade.specs.UpdateCalls.{aggressive_calls, calls_for, git_calls, packages_words, recursive_calls, unpinned, update_calls};
-ghost use Rattle.edit_upgrade.specs.Views.{calls_seen, words_seen};
+ghost use Rattle.edit_upgrade.specs.UpdateCalls.{aggressive_calls, calls_for, git_calls, packages_args, recursive_calls, unpinned, update_calls};
+ghost use Rattle.edit_upgrade.specs.Views.{calls_view, args_view};
 
 use crate::update::call::{Call, add_aggressive, add_package, begun, end};
 use crate::update::chosen::{from_git, unpinned};
@@ -23,21 +23,21 @@ use std::alloc::{AllocError, Global};
 
 /// Whether any calls are needed.
 fn is_due(plan: &UpgradePlan, options: &Options) -> bool
-    ensures { result ≡ is_due (asked_by plan.now options.now) }
+    ensures { result ≡ is_due (call_options plan.now options.now) }
 {
     !plan.modified.is_empty() && !options.dry_run && !options.locked
 }
 
 /// Whether git dependencies are updated.
-fn asks_repositories(plan: &UpgradePlan, options: &Options) -> bool
-    ensures { result ≡ asks_repositories (asked_by plan.now options.now) }
+fn is_git_updated(plan: &UpgradePlan, options: &Options) -> bool
+    ensures { result ≡ is_git_updated (call_options plan.now options.now) }
 {
     options.compatible && !plan.git_crates.is_empty()
 }
 
 /// Whether the dependencies of the modified packages are updated as well.
 fn is_recursive(plan: &UpgradePlan, options: &Options) -> bool
-    ensures { result ≡ is_recursive (asked_by plan.now options.now) }
+    ensures { result ≡ is_recursive (call_options plan.now options.now) }
 {
     match options.recursive {
         Some(said) => said,
@@ -47,8 +47,8 @@ fn is_recursive(plan: &UpgradePlan, options: &Options) -> bool
 
 /// Appends the arguments that name these packages.
 fn add_packages(alloc: Global, words: &mut Call, packages: &[&Package]) -> Result<(), AllocError>
-    ensures { OnOk result (words_seen words.new.items
-        ≡ words_seen words.old.items ++ packages_words (packages_said (nows packages.now))) }
+    ensures { OnOk result (args_view words.new.items
+        ≡ args_view words.old.items ++ packages_args (packages_view (nows packages.now))) }
 {
     'packages: for package in packages {
         add_package(alloc, words, package)?;
@@ -65,10 +65,10 @@ fn add_git_call(
     packages: &[Package],
     calls: &mut Vec<Call>,
 ) -> Result<(), AllocError>
-    ensures { OnOk result (calls_seen calls.new.items ≡ calls_seen calls.old.items
-        ++ git_calls manifest.now (asked_by plan.now options.now) (packages_said packages.now)) }
+    ensures { OnOk result (calls_view calls.new.items ≡ calls_view calls.old.items
+        ++ git_calls manifest.now (call_options plan.now options.now) (packages_view packages.now)) }
 {
-    if !asks_repositories(plan, options) {
+    if !is_git_updated(plan, options) {
         return Ok(());
     }
     let found = from_git(alloc, &plan.git_crates, packages)?;
@@ -86,8 +86,8 @@ fn add_aggressive_call(
     packages: &[&Package],
     calls: &mut Vec<Call>,
 ) -> Result<(), AllocError>
-    ensures { OnOk result (calls_seen calls.new.items ≡ calls_seen calls.old.items
-        ++ aggressive_calls manifest.now (packages_said (nows packages.now))) }
+    ensures { OnOk result (calls_view calls.new.items ≡ calls_view calls.old.items
+        ++ aggressive_calls manifest.now (packages_view (nows packages.now))) }
 {
     if packages.is_empty() {
         return Ok(());
@@ -110,9 +110,9 @@ fn add_recursive_call(
     packages: &[Package],
     calls: &mut Vec<Call>,
 ) -> Result<(), AllocError>
-    requires { pins_seen pins.now ≡ pins_of (map string_bytes options.now.package.items) }
-    ensures { OnOk result (calls_seen calls.new.items ≡ calls_seen calls.old.items
-        ++ recursive_calls manifest.now (asked_by plan.now options.now) (packages_said packages.now)) }
+    requires { pins_view pins.now ≡ pins_of (map string_bytes options.now.package.items) }
+    ensures { OnOk result (calls_view calls.new.items ≡ calls_view calls.old.items
+        ++ recursive_calls manifest.now (call_options plan.now options.now) (packages_view packages.now)) }
 {
     if !is_recursive(plan, options) {
         return Ok(());
@@ -130,9 +130,9 @@ fn calls_for(
     pins: &Pins,
     packages: &[Package],
 ) -> Result<Vec<Call>, AllocError>
-    requires { pins_seen pins.now ≡ pins_of (map string_bytes options.now.package.items) }
-    ensures { IfOk result (λ v. calls_seen v.items
-        ≡ calls_for manifest.now (asked_by plan.now options.now) (packages_said packages.now)) }
+    requires { pins_view pins.now ≡ pins_of (map string_bytes options.now.package.items) }
+    ensures { IfOk result (λ v. calls_view v.items
+        ≡ calls_for manifest.now (call_options plan.now options.now) (packages_view packages.now)) }
 {
     let mut calls = precise_calls(alloc, manifest, packages, pins)?;
     add_git_call(alloc, manifest, plan, options, packages, &mut calls)?;
@@ -152,15 +152,15 @@ pub fn update_calls(
     workspace: &Workspace,
     options: &Options,
 ) -> CargoResult<Vec<Vec<String>>>
-    ensures calls { IfOk result (λ v. calls_seen v.items
-        ≡ update_calls (asked_by plan.now options.now) (workspace_said workspace.now)) }
+    ensures calls { IfOk result (λ v. calls_view v.items
+        ≡ update_calls (call_options plan.now options.now) (workspace_view workspace.now)) }
     // where calls are needed, each `--package` argument can be parsed
-    ensures words { IfOk result (λ v. is_due (asked_by plan.now options.now) ≡ true
-        → All IsWord (map string_bytes options.now.package.items)) }
+    ensures words { IfOk result (λ v. is_due (call_options plan.now options.now) ≡ true
+        → All IsPackageArg (map string_bytes options.now.package.items)) }
     // out of memory, or calls are needed and a `--package` argument cannot be parsed
     ensures refused { IfErr result (λ e. IsMemory e
-        ⊎ ((is_due (asked_by plan.now options.now) ≡ true)
-        × StopsAtWord (map string_bytes options.now.package.items) e)) }
+        ⊎ ((is_due (call_options plan.now options.now) ≡ true)
+        × FailsAtPackageArg (map string_bytes options.now.package.items) e)) }
 {
     if !is_due(plan, options) {
         return Ok(Vec::new(alloc));

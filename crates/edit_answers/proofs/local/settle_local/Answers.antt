@@ -14,19 +14,19 @@ returns-in-Ok-None-clause-told g c t = no_folder (rw c.in-Ok-None.field-0-is at
 pub returns-in-Ok-None-read-clause-told : goal.returns-in-Ok-None-read-clause-told
 returns-in-Ok-None-read-clause-told g c t =
     let l = lookup_text c.args.lookup.now in
-    let reads = c.standing_folder.ensures.reads in
+    let reads = c.existing_folder.ensures.reads in
     let path = local_path (string_bytes c.in-Ok-Some.folder) l.path in
     let is = c.as_str-2.ensures.value ∙ (c.in_ok-path.ensures
     ∙ ap (λ f. local_path f l.path) c.as_str.ensures.value) in
     absent (string_bytes c.in-Ok-Some.folder) (rw c.in-Ok-Some.field-0-is at (c.in-Ok-Some.ensures.folder t))
-    (sym (reads.files path) ∙ (ap (g.S.Store.view c.standing_folder.new.files).file_at (sym is)
+    (sym (reads.files path) ∙ (ap (g.S.Store.view c.existing_folder.new.files).file_at (sym is)
     ∙ sym (rw c.in-Ok-None-read.field-0-is at (c.in-Ok-None-read.ensures.bytes (reads.tells ∙ t)))))
 
 pub returns-in-Ok-Some-read-clause-changes : goal.returns-in-Ok-Some-read-clause-changes
 returns-in-Ok-Some-read-clause-changes g c =
     let p = c.args.places.now in
     let l = lookup_text c.args.lookup.now in
-    after-reads (Puts p l) (Puts p l Fetched) _ _ _ _ c.standing_folder.ensures.reads
+    after-reads (Puts p l) (Puts p l Fetched) _ _ _ _ c.existing_folder.ensures.reads
     (after-reads (Puts p l) (Puts p l Fetched) _ _ _ _
     (record {
       tells = c.read.ensures.tells;
@@ -39,14 +39,14 @@ returns-in-Ok-Some-read-clause-changes g c =
 pub returns-in-Ok-Some-read-clause-told : goal.returns-in-Ok-Some-read-clause-told
 returns-in-Ok-Some-read-clause-told g c =
     let l = lookup_text c.args.lookup.now in
-    let reads = c.standing_folder.ensures.reads in
+    let reads = c.existing_folder.ensures.reads in
     let path = local_path (string_bytes c.in-Ok-Some.folder) l.path in
     let is = c.as_str-2.ensures.value ∙ (c.in_ok-path.ensures
     ∙ ap (λ f. local_path f l.path) c.as_str.ensures.value) in
     on-ok _ _ c.put_local.result
     (λ o h t. present (string_bytes c.in-Ok-Some.folder) c.deref.result.now o
     (rw c.in-Ok-Some.field-0-is at (c.in-Ok-Some.ensures.folder t))
-    (sym (reads.files path) ∙ (ap (g.S.Store.view c.standing_folder.new.files).file_at (sym is)
+    (sym (reads.files path) ∙ (ap (g.S.Store.view c.existing_folder.new.files).file_at (sym is)
     ∙ (sym (rw c.in-Ok-Some-read.field-0-is at (c.in-Ok-Some-read.ensures.bytes (reads.tells ∙ t)))
     ∙ ap Some (sym c.deref.ensures.value))))
     h)

@@ -1,6 +1,6 @@
 use Rattle.std.proofs.Common.{ap, sym, ◌∙◌}
-use Rattle.edit_answers.specs.Followed.{is_sparse}
-use Rattle.edit_answers.specs.Followed.MeansFor.{not_fetchable, offline, online}
+use Rattle.edit_answers.specs.OutcomeRules.{is_sparse}
+use Rattle.edit_answers.specs.OutcomeRules.MeansFor.{not_fetchable, offline, online}
 use Rattle.edit_answers.proofs.lookups.meaning_for.Goals as goal
 
 pub returns-then-not-is_sparse : goal.returns-then-not-is_sparse

@@ -2,7 +2,7 @@ use Rattle.std.proofs.Common.{◌≡◌, length, map, true}
 use Rattle.std.specs.Prelude.{Ok}
 use Rattle.edit_lookups.specs.Lookups.{lookup_text}
 use Rattle.edit_answers.specs.Changes.{Changes}
-use Rattle.edit_answers.specs.Followed.{AllFollow}
+use Rattle.edit_answers.specs.OutcomeRules.{AllFollow}
 use Rattle.edit_answers.specs.Outcomes.{PutsOne, PutsSome}
 use Rattle.edit_answers.proofs.lookups.settle_all.Given as goal
 

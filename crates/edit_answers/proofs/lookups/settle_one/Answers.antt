@@ -1,6 +1,6 @@
 use Rattle.std.proofs.Common.{ap, sym, ◌∙◌}
-use Rattle.edit_answers.specs.Followed.{is_local}
-use Rattle.edit_answers.specs.Followed.Follows.{answered, local}
+use Rattle.edit_answers.specs.OutcomeRules.{is_local}
+use Rattle.edit_answers.specs.OutcomeRules.HasOutcome.{answered, local}
 use Rattle.edit_answers.proofs.ChangeLemmas.{on-ok}
 use Rattle.edit_answers.proofs.lookups.settle_one.Goals as goal
 

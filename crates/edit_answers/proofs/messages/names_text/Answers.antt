@@ -2,7 +2,7 @@ use Rattle.std.proofs.Common.{◌≡◌, ◌++◌, ◌∙◌, ap, map, string_by
 use Rattle.std.specs.Prelude.{codes}
 use Rattle.std.specs.List.{flat_map}
 use Rattle.std.proofs.lemmas.List.Folds.{flat_map-map}
-use Rattle.edit_lookups.specs.Escaped.{escaped}
+use Rattle.edit_lookups.specs.ControlEscapes.{escaped}
 use Rattle.edit_answers.specs.Messages.{names_text}
 use Rattle.edit_answers.proofs.messages.names_text.Goals as goal
 

@@ -1,7 +1,7 @@
 use Rattle.std.proofs.Common.{◌≡◌, ◌++◌, take}
 use Rattle.std.specs.Prelude.{codes, string_bytes}
 use Rattle.std.specs.List.{flat_map}
-use Rattle.edit_lookups.specs.Escaped.{escaped}
+use Rattle.edit_lookups.specs.ControlEscapes.{escaped}
 use Rattle.edit_answers.proofs.messages.push_names.Given as goal
 
 abbrev pub invariant-loop-name : goal.invariant-loop-name

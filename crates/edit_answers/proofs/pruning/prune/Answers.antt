@@ -1,6 +1,6 @@
 use Rattle.std.proofs.Common.{◌≡◌, ◌<◌, ◌∙◌, ap, arith, get_or, inl, inr, length, map, sym, true, ⊎_elim}
 use Rattle.std.proofs.lemmas.List.{length-map}
-use Rattle.edit_answers.specs.Aging.{aged_text, is_used, owner_of, staying}
+use Rattle.edit_answers.specs.Aging.{aged_text, is_used, owner_of, remaining_files}
 use Rattle.edit_answers.proofs.ChangeLemmas.{raised-later}
 use Rattle.edit_answers.proofs.PruneLemmas.{all-gone, at-place, gone-step, none-gone, raised-on, stays-step}
 use Rattle.edit_answers.proofs.pruning.prune.Goals as goal
@@ -9,7 +9,7 @@ pub returns-in-Err : goal.returns-in-Err
 returns-in-Err g c = record {
   tells = c.list.ensures.tells;
   later = c.list.ensures.later;
-  stays = λ t. ap (staying (g.S.AgingStore.aging c.args.cache.now).files) (c.list.ensures.files t);
+  stays = λ t. ap (remaining_files (g.S.AgingStore.aging c.args.cache.now).files) (c.list.ensures.files t);
   gone = tt;
   refused = ⊎_elim (λ memory. inl memory)
       (λ failed. inr (failed.0, failed.1, failed.2, c.list.ensures.files)) c.in-Err.ensures.refused;
@@ -21,7 +21,7 @@ loop-i-init g c =
     record {
       tells = c.list.ensures.tells;
       later = c.list.ensures.later;
-      stays = λ t. ap (staying old.files) (c.list.ensures.files t);
+      stays = λ t. ap (remaining_files old.files) (c.list.ensures.files t);
       gone = λ t none. c.list.ensures.files t ∙ none-gone old.files;
     }
 

@@ -1,6 +1,6 @@
 use Rattle.std.proofs.Common.{Some, ap, ◌∙◌, subst}
 use Rattle.std.specs.Prelude.{None}
-use Rattle.edit_lookups.specs.Cached.{cached_path}
+use Rattle.edit_lookups.specs.CachePaths.{cached_path}
 use Rattle.edit_lookups.specs.Lookups.{lookup_text}
 use Rattle.edit_answers.specs.Outcomes.{HasDamage, PutsIndexed, by_cached}
 use Rattle.edit_answers.proofs.CacheLemmas.{from-damage, from-link}

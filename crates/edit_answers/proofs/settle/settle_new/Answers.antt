@@ -1,5 +1,5 @@
 use Rattle.std.proofs.Common.{◌≡◌, ◌∙◌, Some, sym, subst}
-use Rattle.edit_lookups.specs.Cached.{cached_path}
+use Rattle.edit_lookups.specs.CachePaths.{cached_path}
 use Rattle.edit_lookups.specs.Lookups.{lookup_text}
 use Rattle.edit_answers.specs.Meanings.{new_meaning}
 use Rattle.edit_answers.specs.Outcomes.{FromCache, Puts, PutsIndexed, Settles}

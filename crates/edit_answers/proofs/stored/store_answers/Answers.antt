@@ -1,9 +1,9 @@
 use Rattle.std.proofs.Common.{◌≡◌, ◌∷◌, ◌++◌, true, map, ◌∙◌, sym, subst}
 use Rattle.std.specs.Prelude.{codes}
-use Rattle.edit_lookups.specs.Lookups.{SaysLookups, lookup_text}
+use Rattle.edit_lookups.specs.Lookups.{HasLookupLines, lookup_text}
 use Rattle.edit_answers.specs.Outcomes.{PutsSome}
-use Rattle.edit_answers.specs.Stored.{PutsOf, ReportsOn, text_of}
-use Rattle.edit_answers.specs.Stored.Reports.{malformed, readable}
+use Rattle.edit_answers.specs.StoredResults.{PutsOf, ReportsOn, text_of}
+use Rattle.edit_answers.specs.StoredResults.Reports.{malformed, readable}
 use Rattle.edit_answers.specs.declared.messages.Report.{Report}
 use Rattle.edit_answers.proofs.ChangeLemmas.{after-reads, on-ok, only-reads, reads-fails, reads-refused, weakened-told}
 use Rattle.edit_answers.proofs.ReportLemmas.{report-same}
@@ -26,11 +26,11 @@ returns-in-Some-clause-changes g c =
     let may = PutsOf p files in
     let ls = map lookup_text c.deref.result.now in
     let say : (g.S.Store.view c.args.files.now).tells ≡ true
-    → SaysLookups (text_of (files (p.room.now ++ 47 ∷ codes "lookups"))) ls
-    = λ t. subst (λ xs. SaysLookups (text_of (files (p.room.now ++ 47 ∷ codes "lookups")))
+    → HasLookupLines (text_of (files (p.room.now ++ 47 ∷ codes "lookups"))) ls
+    = λ t. subst (λ xs. HasLookupLines (text_of (files (p.room.now ++ 47 ∷ codes "lookups")))
     (map lookup_text xs))
     (sym c.deref.ensures.value)
-    (subst (λ text. SaysLookups text (map lookup_text c.in-Some.lookups.items))
+    (subst (λ text. HasLookupLines text (map lookup_text c.in-Some.lookups.items))
     (c.as_str.ensures.value ∙ c.in-Ok.ensures.text t)
     (rw c.in-Some.is at c.in_ok-lookups.ensures)) in
     after-reads {T = Report} (λ _. may) may _ _ _ _ c.read_from_room.ensures.reads
@@ -69,7 +69,7 @@ returns-in-Some-clause-report g c =
     let reads = c.read_from_room.ensures.reads in
     let ls = c.in-Some.lookups.items in
     on-ok _ _ c.store_lookups.result
-    (λ r h t. readable ls (subst (λ text. SaysLookups text (map lookup_text ls))
+    (λ r h t. readable ls (subst (λ text. HasLookupLines text (map lookup_text ls))
     (c.as_str.ensures.value ∙ c.in-Ok.ensures.text t)
     (rw c.in-Some.is at c.in_ok-lookups.ensures))
     (report-same p c.args.options.now old mid ls r reads.files
@@ -79,5 +79,5 @@ returns-in-Some-clause-report g c =
 pub returns-clause-report : goal.returns-clause-report
 returns-clause-report g c t =
     malformed (λ ls says. (rw c.in-None.is at c.in_ok-lookups.ensures) ls
-    (subst (λ text. SaysLookups text ls) (sym (c.as_str.ensures.value ∙ c.in-Ok.ensures.text t)) says))
+    (subst (λ text. HasLookupLines text ls) (sym (c.as_str.ensures.value ∙ c.in-Ok.ensures.text t)) says))
     c.in_ok-unreadable-in-None.ensures

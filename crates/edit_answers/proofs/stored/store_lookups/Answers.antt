@@ -1,11 +1,11 @@
 use Rattle.std.proofs.Common.{◌≡◌, ◌∙◌, Vec, Global, map, subst}
 use Rattle.edit_lookups.specs.Lookups.{lookup_text}
 use Rattle.edit_answers.specs.Answers.{AreFirst, AreFound}
-use Rattle.edit_answers.specs.Followed.{AllFollow}
-use Rattle.edit_answers.specs.Groups.{upgraded}
+use Rattle.edit_answers.specs.OutcomeRules.{AllFollow}
+use Rattle.edit_answers.specs.Groups.{included_lookups}
 use Rattle.edit_answers.specs.Messages.{IsReport}
 use Rattle.edit_answers.specs.Outcomes.{PutsOne, PutsSome}
-use Rattle.edit_answers.specs.Stored.{answers_text}
+use Rattle.edit_answers.specs.StoredResults.{answers_text}
 use Rattle.edit_answers.specs.declared.meaning.Outcome.{Outcome}
 use Rattle.edit_answers.specs.declared.messages.Report.{Report}
 use Rattle.edit_answers.proofs.ChangeLemmas.{after-reads, as-err, as-ok, ok-refused, reads-fails, reads-refused}
@@ -76,6 +76,6 @@ returns-clause-report g c t =
             c.deref.ensures.value (c.in-Ok-settle_all.ensures.follows (reads.tells ∙ t)));
       };
       says = subst (λ x. IsReport p.cache.now c.args.options.now.offline
-          (upgraded c.args.options.now.excluded.now ls x) c.in_ok-report_of.field-0)
+          (included_lookups c.args.options.now.excluded.now ls x) c.in_ok-report_of.field-0)
           c.deref-2.ensures.value c.in_ok-report_of.ensures;
     }

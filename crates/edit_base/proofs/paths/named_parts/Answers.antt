@@ -1,6 +1,6 @@
 use Rattle.std.proofs.Common.{◌≡◌, ℕ, ◌<◌, List, [], ◌∷◌, ◌++◌, length, take, map, get_or, ap, sym, ◌∙◌, Bor, subst, rules}
 use Rattle.std.proofs.lemmas.List.{map-append}
-use Rattle.edit_base.specs.Paths.{Named, IsIdle}
+use Rattle.edit_base.specs.Paths.{Named, IsEmptyOrDot}
 use Rattle.edit_base.specs.Paths.Named.{none as named_none, drop as named_drop, take as named_take}
 use Rattle.edit_base.proofs.PathParts.{part_more}
 use Rattle.edit_base.proofs.paths.named_parts.Goals as goal
@@ -8,10 +8,10 @@ use Rattle.edit_base.proofs.paths.named_parts.Goals as goal
 pub loop-part-init : goal.loop-part-init
 loop-part-init c = subst (λ zs. Named [] (map (λ x. x.now) zs)) (sym c.new-names.ensures.items) named_none
 
-pub loop-part-preserved-then-is_idle : goal.loop-part-preserved-then-is_idle
-loop-part-preserved-then-is_idle c =
+pub loop-part-preserved-then-is_empty_or_dot : goal.loop-part-preserved-then-is_empty_or_dot
+loop-part-preserved-then-is_empty_or_dot c =
     let d : Bor (List ℕ) = record { ref_ptr = (0, 0); now = [] } in
-    let idle : IsIdle (get_or c.args.parts.now c.loop-part.part-index d).now = search rules in
+    let idle : IsEmptyOrDot (get_or c.args.parts.now c.loop-part.part-index d).now = search rules in
     let within : c.loop-part.part-index < length c.args.parts.now = c.loop-part-test.true in
     let one = part_more c.args.parts.now c.loop-part.part-index d within in
     subst (λ ps. Named ps (map (λ x. x.now) c.loop-part.names.items)) (sym one)
@@ -20,7 +20,7 @@ loop-part-preserved-then-is_idle c =
 pub loop-part-preserved : goal.loop-part-preserved
 loop-part-preserved c =
     let d : Bor (List ℕ) = record { ref_ptr = (0, 0); now = [] } in
-    let busy : IsIdle (get_or c.args.parts.now c.loop-part.part-index d).now → ⊥ = search rules in
+    let busy : IsEmptyOrDot (get_or c.args.parts.now c.loop-part.part-index d).now → ⊥ = search rules in
     let within : c.loop-part.part-index < length c.args.parts.now = c.loop-part-test.true in
     let one = part_more c.args.parts.now c.loop-part.part-index d within in
     let all : map (λ x. x.now) c.push.new.self.items ≡ map (λ x. x.now) c.loop-part.names.items

@@ -1,7 +1,7 @@
 use Rattle.std.proofs.Common.{◌≡◌, ℕ, ◌-◌, List, ◌++◌, length, take, drop, ap, sym, ◌∙◌, subst, rules, Bor}
 use Rattle.std.specs.Prelude.{string_bytes}
 use Rattle.std.proofs.lemmas.List.{map-append, take_rest, take-append-drop, length-map, length-drop}
-use Rattle.edit_base.specs.Paths.{texts, Named, parts_of, way_text}
+use Rattle.edit_base.specs.Paths.{texts, Named, parts_of, relative_text}
 use Rattle.edit_base.proofs.paths.relative.Goals as goal
 
 -- a list of names is its front and the rest
@@ -23,7 +23,7 @@ returns-clause-text c =
     let whole : all ≡ to = c.deref-5.ensures.value in
     let rest = take_rest all n in
     let counted : c.len.result ≡ length from = search rules in
-    let said : string_bytes c.in_ok-text.text ≡ way_text (length from - n) (texts (drop n to)) =
+    let said : string_bytes c.in_ok-text.text ≡ relative_text (length from - n) (texts (drop n to)) =
     c.in_ok-text.ensures ∙ cc in
     record {
       common = texts (take n to);
@@ -33,5 +33,5 @@ returns-clause-text c =
       reads_from = subst (λ t. Named (parts_of c.args.from.now) t) (cut n from
           ∙ ap (λ t. t ++ texts (drop n from)) (sym same)) from_named;
       longest = search rules;
-      writes = said ∙ ap (λ k. way_text k (texts (drop n to))) (sym length_up);
+      writes = said ∙ ap (λ k. relative_text k (texts (drop n to))) (sym length_up);
     }

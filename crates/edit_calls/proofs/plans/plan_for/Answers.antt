@@ -8,4 +8,4 @@ use Rattle.edit_calls.proofs.plans.plan_for.Goals as goal
 pub returns : goal.returns
 returns c =
     subst (λ is. IfOk c.plan_set_version.result (λ (plan : SetVersionPlan). OutputsInOrder is plan.outputs.items))
-    c.deref.ensures.value (plans_in_order _ _ _ _ c.plan_set_version.result c.plan_set_version.ensures.planned)
+    c.deref.ensures.value (plans_in_order _ _ _ _ c.plan_set_version.result c.plan_set_version.ensures.print_plan_result)

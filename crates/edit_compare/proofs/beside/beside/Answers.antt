@@ -18,7 +18,7 @@ returns-in_default c same =
     walk_ends SameBeside beside_goes c.args.document.now c.args.other.now c.args.place.now c.steps.step-index
     c.step-item.result
     c.steps-test.true c.step-item.is c.steps.number c.steps.there c.steps.invariant.1.1 c.steps.invariant.2.1
-    c.is_tree-2.ensures.below (c.in_default.ensures {u = tt})
+    c.lemma_tree-2.ensures.below (c.in_default.ensures {u = tt})
 
 pub steps-preserved : goal.steps-preserved
 steps-preserved c =

@@ -1,11 +1,11 @@
 use Rattle.std.proofs.Common.{take}
-use Rattle.edit_document.specs.Items.{place_seen}
-use Rattle.edit_tree.specs.Shown.{tree_of}
+use Rattle.edit_document.specs.Items.{place_view}
+use Rattle.edit_tree.specs.DocumentViews.{tree_of}
 use Rattle.edit_document.specs.Compared.{SameBeside, IsNumber}
 use Rattle.edit_compare.proofs.beside.beside.Given as goal
 
 -- the same but at the steps so far, which lead to the nodes
 abbrev pub invariant-steps : goal.invariant-steps
 invariant-steps l =
-    let p = place_seen (take l.step-index l.place) in
+    let p = place_view (take l.step-index l.place) in
     SameBeside p (tree_of l.document) (tree_of l.other) × IsNumber l.document p l.number × IsNumber l.other p l.there

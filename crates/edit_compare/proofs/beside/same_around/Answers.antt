@@ -1,5 +1,5 @@
 use Rattle.std.proofs.Common.{sym, ◌∙◌}
-use Rattle.edit_document.specs.Items.{step_seen}
+use Rattle.edit_document.specs.Items.{step_view}
 use Rattle.edit_compare.proofs.Besides.{around_same, around_view, around_parts, around_lacks}
 use Rattle.edit_compare.proofs.beside.same_around.Goals as goal
 
@@ -8,22 +8,22 @@ returns-then-not-same_view-clause-same c = (
   λ e. absurd cc,
   λ h. sym c.if-not-same_view.true ∙
       c.same_view.ensures.1 (around_view c.args.document.now c.args.number c.args.other.now
-      c.args.there (step_seen c.args.step.now) c.stands.ensures c.stands-2.ensures h),
+      c.args.there (step_view c.args.step.now) c.stands.ensures c.stands-2.ensures h),
 )
 
 pub returns-clause-same : goal.returns-clause-same
 returns-clause-same c =
     let same = c.same_view.ensures.0 c.if-not-same_view.false in (
-      λ e. around_same c.args.document.now c.args.number c.args.other.now c.args.there (step_seen c.args.step.now)
-          c.stands.ensures c.stands-2.ensures c.is_tree.ensures.below c.is_tree-2.ensures.below
+      λ e. around_same c.args.document.now c.args.number c.args.other.now c.args.there (step_view c.args.step.now)
+          c.stands.ensures c.stands-2.ensures c.lemma_tree.ensures.below c.lemma_tree-2.ensures.below
           c.is_whole.ensures.parts c.is_whole-2.ensures.parts same (c.same_parts_but.ensures.0 e),
       λ h. c.same_parts_but.ensures.1
           (around_parts c.args.document.now c.args.number c.args.other.now c.args.there
-          (step_seen c.args.step.now) c.stands.ensures c.stands-2.ensures h),
+          (step_view c.args.step.now) c.stands.ensures c.stands-2.ensures h),
     )
 
-pub returns-clause-lacks : goal.returns-clause-lacks
-returns-clause-lacks c e none =
-    around_lacks c.args.document.now c.args.number c.args.other.now c.args.there (step_seen c.args.step.now)
+pub returns-clause-absent : goal.returns-clause-absent
+returns-clause-absent c e none =
+    around_lacks c.args.document.now c.args.number c.args.other.now c.args.there (step_view c.args.step.now)
     c.stands.ensures c.stands-2.ensures c.is_whole-2.ensures.parts c.is_whole.ensures.stands
     (c.same_view.ensures.0 c.if-not-same_view.false) none

@@ -1,5 +1,5 @@
 use Rattle.std.proofs.Common.{sym, ◌∙◌}
-use Rattle.edit_document.specs.Items.{step_seen}
+use Rattle.edit_document.specs.Items.{step_view}
 use Rattle.edit_compare.proofs.LosesParts.{part_view, part_parts, part_all}
 use Rattle.edit_compare.proofs.removed.loses_part.Goals as goal
 
@@ -8,15 +8,15 @@ returns-then-not-loses_view c = (
   λ e. absurd cc,
   λ h. sym c.if-not-loses_view.true ∙
       c.loses_view.ensures.1 (part_view c.args.document.now c.args.number c.args.other.now
-      c.args.there (step_seen c.args.step.now) c.stands.ensures c.stands-2.ensures h),
+      c.args.there (step_view c.args.step.now) c.stands.ensures c.stands-2.ensures h),
 )
 
 pub returns : goal.returns
 returns c = (
-  λ e. part_all c.args.document.now c.args.number c.args.other.now c.args.there (step_seen c.args.step.now)
-      c.stands.ensures c.stands-2.ensures c.is_tree.ensures.below c.is_tree-2.ensures.below
+  λ e. part_all c.args.document.now c.args.number c.args.other.now c.args.there (step_view c.args.step.now)
+      c.stands.ensures c.stands-2.ensures c.lemma_tree.ensures.below c.lemma_tree-2.ensures.below
       c.is_whole.ensures.parts c.is_whole-2.ensures.parts c.is_whole.ensures.keys c.requires.part
       c.is_whole.ensures.steps (c.loses_view.ensures.0 c.if-not-loses_view.false) (c.moved_parts.ensures.0 e),
   λ h. c.moved_parts.ensures.1 (part_parts c.args.document.now c.args.number c.args.other.now c.args.there
-      (step_seen c.args.step.now) c.stands.ensures c.stands-2.ensures h),
+      (step_view c.args.step.now) c.stands.ensures c.stands-2.ensures h),
 )

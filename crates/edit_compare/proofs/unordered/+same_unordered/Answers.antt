@@ -1,6 +1,6 @@
 use Rattle.std.proofs.Common.{List, [], ◌∷◌, length, length-append, sym, ap, ◌∙◌, refl, arith}
 use Rattle.edit_tree.specs.Assertions.{Step}
-use Rattle.edit_document.specs.Items.{place_numbered, view_numbered}
+use Rattle.edit_document.specs.Items.{node_place, node_view}
 use Rattle.edit_document.proofs.SameParts.{part_some}
 use Rattle.edit_compare.proofs.UnorderedNodes.{unordered_all, unordered_here, unordered_down, unordered_more, unordered_lacks}
 use Rattle.edit_compare.proofs.unordered.+same_unordered.Goals as goal
@@ -15,7 +15,7 @@ returns-then-not-same_but_order t c = (
 
 pub returns-in_default : goal.returns-in_default
 returns-in_default t c =
-    absurd (part_some (view_numbered c.args.document.now c.args.number) c.parts.index
+    absurd (part_some (node_view c.args.document.now c.args.number) c.parts.index
     (omega (arith, c.parts-test.true, c.member_count-count.ensures)) (c.in_default.ensures {u = tt}))
 
 pub returns-in_default-counterpart : goal.returns-in_default-counterpart
@@ -45,7 +45,7 @@ pub returns : goal.returns
 returns t c = (
   λ e. unordered_all c.args.document.now c.args.number c.args.other.now c.args.there c.stands.ensures
       c.stands-2.ensures
-      c.is_tree.ensures.below c.is_tree-2.ensures.below c.is_whole.ensures.parts c.is_whole-2.ensures.parts
+      c.lemma_tree.ensures.below c.lemma_tree-2.ensures.below c.is_whole.ensures.parts c.is_whole-2.ensures.parts
       (c.same_but_order.ensures.0 c.if-not-same_but_order.false)
       (λ j s lt ps. c.parts.invariant j s
       (omega (arith, lt, c.parts-test.false, c.member_count-count.ensures)) ps),
@@ -59,5 +59,5 @@ pub same_unordered-requires : goal.same_unordered-requires
 same_unordered-requires t c =
     let part = c.in-Some.ensures {u = tt} in
     let deep = ap {A = List Step} length part.3
-    ∙ length-append (place_numbered c.args.document.now c.args.number) (part.0 ∷ []) in
+    ∙ length-append (node_place c.args.document.now c.args.number) (part.0 ∷ []) in
     (omega arith, (part.2, ((c.in-Some-counterpart.ensures {u = tt} part.0 part.1).2, omega (arith, deep))))

@@ -3,7 +3,7 @@ use Rattle.std.specs.Prelude.{option_map, nat_lt}
 use Rattle.std.proofs.lemmas.Bool.Decides.{nat_tests}
 use Rattle.std.proofs.lemmas.Option.{slice_get-map, slice_get_read}
 use Rattle.edit_tree.specs.NewItems.{NewValue}
-use Rattle.edit_document.specs.NewItemViews.{pair_seen, pairs_seen}
+use Rattle.edit_document.specs.NewItemViews.{new_pair_view, new_pair_views}
 use Rattle.edit_document.proofs.entry_part.nth_name.Goals as goal
 
 pub returns : goal.returns
@@ -14,6 +14,6 @@ returns c =
     let inside : c.args.index < length list = grind (arith, nat_tests) in
     let there = slice_get_read list (length list) c.args.index c.in_ok-member.member.now refl inside got.1 in
     ap (λ (b : List ℕ). Some b) c.as_str.ensures.value
-    ∙ sym (slice_get-map (λ (m : List ℕ × NewValue). m.0) (pairs_seen list) c.args.index
+    ∙ sym (slice_get-map (λ (m : List ℕ × NewValue). m.0) (new_pair_views list) c.args.index
     ∙ ap (option_map (λ (m : List ℕ × NewValue). m.0))
-    (slice_get-map pair_seen list c.args.index ∙ ap (option_map pair_seen) there))
+    (slice_get-map new_pair_view list c.args.index ∙ ap (option_map new_pair_view) there))

@@ -8,11 +8,11 @@ loop-i-init g c = record {
   made = λ tells. none_yet _ _ _ c.new-requests.ensures.items;
 }
 
-pub loop-i-preserved-then-not-is_fetched : goal.loop-i-preserved-then-not-is_fetched
-loop-i-preserved-then-not-is_fetched g c = record {
+pub loop-i-preserved-then-not-is_sparse_registry : goal.loop-i-preserved-then-not-is_sparse_registry
+loop-i-preserved-then-not-is_sparse_registry g c = record {
   store = c.loop-i.invariant.store;
   made = λ tells. passed_more _ _ _ _ _ _ _ c.loop-i-test.true c.as_bytes.ensures.value
-      (c.loop-i.invariant.made tells) (sym c.is_fetched.ensures ∙ c.if-not-is_fetched.true);
+      (c.loop-i.invariant.made tells) (sym c.is_sparse_registry.ensures ∙ c.if-not-is_sparse_registry.true);
 }
 
 pub loop-i-preserved : goal.loop-i-preserved
@@ -27,7 +27,7 @@ loop-i-preserved g c =
       };
       made = λ tells. fetched_more _ _ _ _ _ _ _ c.in-Ok.request _ c.loop-i-test.true
           c.as_bytes.ensures.value (c.loop-i.invariant.made tells)
-          (sym c.is_fetched.ensures ∙ c.if-not-is_fetched.false)
+          (sym c.is_sparse_registry.ensures ∙ c.if-not-is_sparse_registry.false)
           (request_same _ _ _ _ _ _ store.files (c.in-Ok.ensures.request (store.tells ∙ tells)))
           c.in_ok-push-in-Ok.ensures.items;
     }

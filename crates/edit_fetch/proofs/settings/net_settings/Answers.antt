@@ -26,5 +26,5 @@ loop-config-preserved g c =
           (subst (λ file. IsReadAt path file value) (store.files path)
           (subst (λ p. IsReadAt p ((g.S.Store.view c.loop-config.store).file_at p) value)
           c.as_str.ensures.value (c.in-Ok.ensures.read (store.tells ∙ tells))))
-          c.values_or-values.ensures;
+          c.merge_values-values.ensures;
     }

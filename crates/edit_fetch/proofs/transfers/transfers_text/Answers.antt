@@ -6,4 +6,4 @@ pub loop-i-preserved : goal.loop-i-preserved
 loop-i-preserved c =
     config_text_more (transfer_options c.args.settings.now c.args.room.now) c.args.requests.now c.loop-i.i
     c.index-requests-i.result _ _ c.loop-i-test.true c.index-requests-i.is c.loop-i.invariant
-    (then_more _ _ _ _ _ c.in_ok-push_parting.ensures c.in_ok-push_transfer.ensures)
+    (then_more _ _ _ _ _ c.in_ok-push_separator.ensures c.in_ok-push_transfer.ensures)

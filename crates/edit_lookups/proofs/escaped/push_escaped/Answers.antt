@@ -4,7 +4,7 @@ use Rattle.std.specs.List.{flat_map}
 use Rattle.std.proofs.lemmas.Iterator.{YieldsList-from_chars}
 use Rattle.std.proofs.lemmas.Iterator.Consumers.{YieldsList-end}
 use Rattle.std.proofs.lemmas.List.{flat_map_more, map-id}
-use Rattle.edit_lookups.specs.Escaped.{escaped_char}
+use Rattle.edit_lookups.specs.ControlEscapes.{escaped_char}
 use Rattle.edit_lookups.proofs.escaped.push_escaped.Goals as goal
 
 pub loop-c-preserved : goal.loop-c-preserved

@@ -1,7 +1,7 @@
 use Rattle.std.proofs.Common.{◌≡◌, ◌++◌}
 use Rattle.std.specs.Prelude.{string_bytes}
 use Rattle.std.specs.List.{flat_map}
-use Rattle.edit_lookups.specs.Escaped.{escaped_char}
+use Rattle.edit_lookups.specs.ControlEscapes.{escaped_char}
 use Rattle.edit_lookups.proofs.escaped.push_escaped.Given as goal
 
 abbrev pub invariant-loop-c : goal.invariant-loop-c

@@ -1,5 +1,5 @@
 use Rattle.std.proofs.Common.{◌≡◌, ◌-◌, ◌<◌, ◌≤◌, drop, get_or}
-use Rattle.edit_lookups.specs.Shown.{userinfo_len}
+use Rattle.edit_lookups.specs.UserinfoAddresses.{userinfo_len}
 use Rattle.edit_lookups.proofs.UserinfoLemmas.{more}
 use Rattle.edit_lookups.proofs.shown.userinfo_len.Given as goal
 

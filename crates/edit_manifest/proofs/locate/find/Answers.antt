@@ -1,7 +1,7 @@
 use Rattle.std.proofs.Common.{Bor, List, Option, ap, inl, inr, ⊎_elim, ℕ, ◌∙◌}
 use Rattle.std.proofs.lemmas.Result.{IfErr-weaker, IfOk-weaker}
 use Rattle.std.specs.Prelude.{option_map}
-use Rattle.edit_manifest.proofs.PassedWords.{none_specified, none_unspecified, path_specified, path_unspecified, start_specified, start_unspecified}
+use Rattle.edit_manifest.proofs.SearchLemmas.{none_specified, none_unspecified, path_specified, path_unspecified, start_specified, start_unspecified}
 use Rattle.edit_manifest.proofs.locate.find.Goals as goal
 
 -- what is given of a text that is lent

@@ -3,7 +3,7 @@ use Rattle.std.proofs.lemmas.Result.{IfErr-weaker, IfOk-weaker}
 use Rattle.edit_base.specs.declared.errors.DeviceCall.TheVariants as call
 use Rattle.edit_manifest.specs.Located.{NamesFolder}
 use Rattle.edit_manifest.proofs.Faults.{fault_later}
-use Rattle.edit_manifest.proofs.PassedWords.{none_found, path_named, path_nearest}
+use Rattle.edit_manifest.proofs.SearchLemmas.{none_found, path_named, path_nearest}
 use Rattle.edit_manifest.proofs.locate.find_at.Goals as goal
 
 pub returns-in-Ok-File-clause-found : goal.returns-in-Ok-File-clause-found

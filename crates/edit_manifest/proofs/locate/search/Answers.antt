@@ -1,6 +1,6 @@
 use Rattle.std.proofs.Common.{◌≡◌, ◌≢◌, ◌∙◌, ⊎_elim, inl, inr, rules, arith}
 use Rattle.std.specs.Prelude.{codes}
-use Rattle.edit_manifest.proofs.PassedWords.{passed_more, passed_none, none_above}
+use Rattle.edit_manifest.proofs.SearchLemmas.{passed_more, passed_none, none_above}
 use Rattle.edit_manifest.proofs.locate.search.Goals as goal
 
 pub folders-init : goal.folders-init

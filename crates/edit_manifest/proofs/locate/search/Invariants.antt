@@ -2,7 +2,7 @@ use denote.Shadow.{shadow}
 use denote.Text.{Utf8}
 use Rattle.edit_store.specs.Store.{OnlyReads}
 use Rattle.edit_manifest.proofs.Heights.{height}
-use Rattle.edit_manifest.proofs.PassedWords.{HasPassed}
+use Rattle.edit_manifest.proofs.SearchLemmas.{HasPassed}
 use Rattle.edit_manifest.proofs.locate.search.Given as goal
 
 abbrev pub invariant-folders : goal.invariant-folders

@@ -3,7 +3,7 @@ use Rattle.std.specs.List.{AllZip}
 use Rattle.std.proofs.lemmas.List.{map_push}
 use Rattle.std.proofs.lemmas.Slice.Zip.{all_zipped_more}
 use Rattle.edit_metadata.specs.Folders.{IsManifestFolder}
-use Rattle.edit_metadata.specs.Workspaces.{member_paths, packages_said}
+use Rattle.edit_metadata.specs.Workspaces.{member_paths, packages_view}
 use Rattle.edit_metadata.proofs.MemberPaths.{paths-kept, paths-more}
 use Rattle.edit_metadata.proofs.folders.member_folders.Goals as goal
 use Rattle.edit_metadata.proofs.folders.member_folders.Goals.{then-package+in_ok-folder+in_ok-push, else-package}
@@ -11,13 +11,13 @@ use Rattle.edit_metadata.proofs.folders.member_folders.Goals.{then-package+in_ok
 pub packages-preserved : goal.packages-preserved
 packages-preserved c =
     let i = c.packages.package-index in
-    let paths = member_paths (packages_said (take i c.args.packages.now)) in
+    let paths = member_paths (packages_view (take i c.args.packages.now)) in
     elim c.if-package.branch [
       | then-package+in_ok-folder+in_ok-push w ↦
           let pushed = ap (λ v. map string_bytes v.items) w.folders-is
           ∙ ap (map string_bytes) w.in_ok-push.ensures.items
           ∙ map_push string_bytes c.packages.folders.items w.in_ok-folder.folder in
-          subst (AllZip IsManifestFolder (member_paths (packages_said (take (i + 1) c.args.packages.now))))
+          subst (AllZip IsManifestFolder (member_paths (packages_view (take (i + 1) c.args.packages.now))))
           (sym pushed)
           (subst (λ ps. AllZip IsManifestFolder ps (map string_bytes c.packages.folders.items
           ++ string_bytes w.in_ok-folder.folder ∷ []))
@@ -27,7 +27,7 @@ packages-preserved c =
           c.packages.invariant (subst (λ p. IsManifestFolder p (string_bytes w.in_ok-folder.folder))
           w.as_str.ensures.value w.in_ok-folder.ensures.ok)))
       | else-package w ↦
-          subst (λ v. AllZip IsManifestFolder (member_paths (packages_said
+          subst (λ v. AllZip IsManifestFolder (member_paths (packages_view
           (take (i + 1) c.args.packages.now))) (map string_bytes v.items)) (sym w.folders-is)
           (subst (λ ps. AllZip IsManifestFolder ps (map string_bytes c.packages.folders.items))
           (sym (paths-kept c.args.packages.now i c.package-item.result c.packages-test.true c.package-item.is

@@ -1,17 +1,17 @@
 use Rattle.std.proofs.Common.{◌∷◌, [], arith, inl, inr, ⊎_elim, refl, rules, subst, sym, zero}
 use Rattle.edit_base.specs.Paths.{IsNormalOf}
 use Rattle.edit_metadata.specs.Inputs.{IsNoInput, manifest_of}
-use Rattle.edit_metadata.specs.Workspaces.{package_said}
+use Rattle.edit_metadata.specs.Workspaces.{package_view}
 use Rattle.edit_metadata.proofs.inputs.member_input.Goals as goal
 
 pub returns-in_err-bytes-clause-refused : goal.returns-in_err-bytes-clause-refused
 returns-in_err-bytes-clause-refused g c =
     let why : IsNoInput (g.S.Store.view c.args.store.now) (g.S.Store.view c.read_manifest.new.store)
-    (manifest_of (package_said c.args.member.now) ∷ []) c.in_err-bytes.field-0.0
+    (manifest_of (package_view c.args.member.now) ∷ []) c.in_err-bytes.field-0.0
     = ⊎_elim (λ refused. inl refused) (λ none. inr (
       none.0,
       λ tells. record {
-        manifest = manifest_of (package_said c.args.member.now);
+        manifest = manifest_of (package_view c.args.member.now);
         among = (zero, omega arith, refl);
         path = c.as_str-3.result.now;
         is_normal = subst (λ p. IsNormalOf p c.as_str-3.result.now) c.as_str-2.ensures.value

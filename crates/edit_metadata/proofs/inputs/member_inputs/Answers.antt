@@ -5,8 +5,8 @@ use Rattle.std.proofs.lemmas.List.Elements.{All-push}
 use Rattle.std.proofs.lemmas.Slice.Zip.{all_zipped_more}
 use Rattle.edit_store.specs.Store.{OnlyReads}
 use Rattle.edit_version.specs.RustVersions.{numbers_of}
-use Rattle.edit_metadata.specs.Inputs.{IsInputOf, IsNoInput, IsReadFrom, RustAsked, manifest_of, member_manifests}
-use Rattle.edit_metadata.specs.Workspaces.{package_said, packages_said}
+use Rattle.edit_metadata.specs.Inputs.{IsInputOf, IsNoInput, IsReadFrom, RustOptions, manifest_of, member_manifests}
+use Rattle.edit_metadata.specs.Workspaces.{package_view, packages_view}
 use Rattle.edit_metadata.proofs.InputLemmas.{among-members, manifests-kept, manifests-more, no-input-later, reads-on}
 use Rattle.edit_metadata.proofs.inputs.member_inputs.Goals as goal
 use Rattle.edit_metadata.proofs.inputs.member_inputs.Goals.{then-package+in_ok-input+in_ok-push, else-package}
@@ -14,7 +14,7 @@ use Rattle.edit_metadata.proofs.inputs.member_inputs.Goals.{then-package+in_ok-i
 pub returns-in_err-input-clause-refused : goal.returns-in_err-input-clause-refused
 returns-in_err-input-clause-refused g c =
     let why : IsNoInput (g.S.Store.view c.args.store.now) (g.S.Store.view c.member_input.new.store)
-    (member_manifests (packages_said c.args.packages.now)) c.in_err-input.field-0.0
+    (member_manifests (packages_view c.args.packages.now)) c.in_err-input.field-0.0
     = no-input-later (g.S.Store.view c.args.store.now) (g.S.Store.view c.packages.store)
     (g.S.Store.view c.member_input.new.store) _ _ _ c.packages.invariant.store
     (among-members c.args.packages.now c.packages.package-index c.package-item.result c.packages-test.true
@@ -28,20 +28,20 @@ packages-preserved g c =
     let p = c.package-item.result in
     let first = g.S.Store.view c.args.store.now in
     let before = c.packages.invariant in
-    let asked : RustAsked = record { given = option_map numbers_of c.args.given; ignored = c.args.ignore } in
+    let asked : RustOptions = record { given = option_map numbers_of c.args.given; ignored = c.args.ignore } in
     let old = c.packages.inputs.items in
     elim c.if-package.branch [
       | then-package+in_ok-input+in_ok-push w ↦
           let input = w.in_ok-input.input in
           let pushed : c.if-package.inputs.items ≡ old ++ input ∷ []
           = ap (λ v. v.items) w.inputs-is ∙ w.in_ok-push.ensures.items in
-          let zipped = all_zipped_more (IsInputOf asked) (member_manifests (packages_said (take i ps))) old
-          (manifest_of (package_said p)) input before.inputs w.in_ok-input.ensures.input in
+          let zipped = all_zipped_more (IsInputOf asked) (member_manifests (packages_view (take i ps))) old
+          (manifest_of (package_view p)) input before.inputs w.in_ok-input.ensures.input in
           let more = manifests-more ps i p c.packages-test.true c.package-item.is w.if-package.true in
           record {
             store = subst (λ s. OnlyReads first (g.S.Store.view s)) (sym w.store-is)
                 (reads-on _ _ _ before.store w.in_ok-input.ensures.reads);
-            inputs = subst (AllZip (IsInputOf asked) (member_manifests (packages_said (take (i + 1) ps))))
+            inputs = subst (AllZip (IsInputOf asked) (member_manifests (packages_view (take (i + 1) ps))))
                 (sym pushed) (subst (λ ms. AllZip (IsInputOf asked) ms (old ++ input ∷ [])) (sym more)
                 zipped);
             bytes = λ tells. subst (All (IsReadFrom first.file_at)) (sym pushed)
@@ -54,7 +54,7 @@ packages-preserved g c =
           let same = manifests-kept ps i p c.packages-test.true c.package-item.is w.if-package.false in
           record {
             store = subst (λ s. OnlyReads first (g.S.Store.view s)) (sym w.store-is) before.store;
-            inputs = subst (AllZip (IsInputOf asked) (member_manifests (packages_said (take (i + 1) ps))))
+            inputs = subst (AllZip (IsInputOf asked) (member_manifests (packages_view (take (i + 1) ps))))
                 (sym kept) (subst (λ ms. AllZip (IsInputOf asked) ms old) (sym same) before.inputs);
             bytes = λ tells. subst (All (IsReadFrom first.file_at)) (sym kept) (before.bytes tells);
           }

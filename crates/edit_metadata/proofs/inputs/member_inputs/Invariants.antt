@@ -4,14 +4,14 @@ use Rattle.std.specs.List.{AllZip}
 use Rattle.edit_store.specs.Store.{OnlyReads}
 use Rattle.edit_version.specs.RustVersions.{numbers_of}
 use Rattle.edit_metadata.specs.Inputs.{IsInputOf, IsReadFrom, member_manifests}
-use Rattle.edit_metadata.specs.Workspaces.{packages_said}
+use Rattle.edit_metadata.specs.Workspaces.{packages_view}
 use Rattle.edit_metadata.proofs.inputs.member_inputs.Given as goal
 
 abbrev pub invariant-packages : goal.invariant-packages
 invariant-packages g l = record {
   store : OnlyReads (g.S.Store.view l.initial.store) (g.S.Store.view l.store);
   inputs : AllZip (IsInputOf (record { given = option_map numbers_of l.given; ignored = l.ignore }))
-      (member_manifests (packages_said (take l.package-index l.packages))) l.inputs.items;
+      (member_manifests (packages_view (take l.package-index l.packages))) l.inputs.items;
   bytes : (g.S.Store.view l.initial.store).tells ≡ true
       → All (IsReadFrom (g.S.Store.view l.initial.store).file_at) l.inputs.items;
 }

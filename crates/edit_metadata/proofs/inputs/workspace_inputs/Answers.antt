@@ -4,34 +4,34 @@ use Rattle.std.specs.List.{AllZip}
 use Rattle.std.proofs.lemmas.List.Elements.{Contains-append_right}
 use Rattle.edit_base.specs.Paths.{IsNormalOf}
 use Rattle.edit_version.specs.RustVersions.{numbers_of}
-use Rattle.edit_metadata.specs.Inputs.{AreInputs, IsInputOf, IsNoInput, RustAsked, input_paths, least, manifests, member_manifests, root_manifest, rust_version_for}
+use Rattle.edit_metadata.specs.Inputs.{AreInputs, IsInputOf, IsNoInput, RustOptions, input_paths, least, manifests, member_manifests, root_manifest, rust_version_for}
 use Rattle.edit_metadata.specs.Inputs.AreInputs.{of_members, with_root}
-use Rattle.edit_metadata.specs.Workspaces.{packages_said, workspace_said}
+use Rattle.edit_metadata.specs.Workspaces.{packages_view, workspace_view}
 use Rattle.edit_metadata.specs.declared.input.Input.{Input}
 use Rattle.edit_metadata.proofs.InputLemmas.{member_versions, no-input-among, refused-later}
 use Rattle.edit_metadata.proofs.inputs.workspace_inputs.Goals as goal
 
 pub returns-in_err-inputs-clause-refused : goal.returns-in_err-inputs-clause-refused
 returns-in_err-inputs-clause-refused g c =
-    let said = workspace_said c.args.workspace.now in
+    let said = workspace_view c.args.workspace.now in
     let why : IsNoInput (g.S.Store.view c.args.store.now) (g.S.Store.view c.member_inputs.new.store)
     (manifests said) c.in_err-inputs.field-0.0
     = no-input-among (g.S.Store.view c.args.store.now) (g.S.Store.view c.member_inputs.new.store)
-    (member_manifests (packages_said c.deref.result.now)) _ _
+    (member_manifests (packages_view c.deref.result.now)) _ _
     (λ m has. Contains-append_right (root_manifest said ∷ [])
     (member_manifests said.packages) m
-    (subst (λ ps. Contains (member_manifests (packages_said ps)) m) c.deref.ensures.value has))
+    (subst (λ ps. Contains (member_manifests (packages_view ps)) m) c.deref.ensures.value has))
     c.in_err-inputs.ensures.refused in
     search (rules, why)
 
 pub returns-then-has_path-clause-inputs : goal.returns-then-has_path-clause-inputs
 returns-then-has_path-clause-inputs g c =
-    let asked : RustAsked
+    let asked : RustOptions
     = record { given = option_map numbers_of c.args.rust_version; ignored = c.args.ignore } in
     let is = c.in_ok-inputs.inputs.items in
     let has = c.has_path.ensures.0 c.if-has_path.true in
     of_members (string_bytes c.in_ok-root.root) is
-    (subst (λ ps. AllZip (IsInputOf asked) (member_manifests (packages_said ps)) is) c.deref.ensures.value
+    (subst (λ ps. AllZip (IsInputOf asked) (member_manifests (packages_view ps)) is) c.deref.ensures.value
     c.in_ok-inputs.ensures.inputs) c.in_ok-root.ensures.path
     (subst (λ (xs : List Input). Contains (input_paths xs) (string_bytes c.in_ok-root.root))
     c.deref-2.ensures.value
@@ -39,7 +39,7 @@ returns-then-has_path-clause-inputs g c =
 
 pub returns-in_err-input-clause-refused : goal.returns-in_err-input-clause-refused
 returns-in_err-input-clause-refused g c =
-    let said = workspace_said c.args.workspace.now in
+    let said = workspace_view c.args.workspace.now in
     let before = c.in_ok-inputs.ensures.reads in
     let why : IsNoInput (g.S.Store.view c.args.store.now) (g.S.Store.view c.root_input.new.store)
     (manifests said) c.in_err-input.field-0.0
@@ -59,8 +59,8 @@ returns-in_err-input-clause-refused g c =
 
 pub returns-clause-inputs : goal.returns-clause-inputs
 returns-clause-inputs g c =
-    let said = workspace_said c.args.workspace.now in
-    let asked : RustAsked
+    let said = workspace_view c.args.workspace.now in
+    let asked : RustOptions
     = record { given = option_map numbers_of c.args.rust_version; ignored = c.args.ignore } in
     let is = c.in_ok-inputs.inputs.items in
     let input = c.in_ok-input.input in
@@ -72,7 +72,7 @@ returns-clause-inputs g c =
       rust_version = ap (option_map numbers_of) c.in_ok-input.ensures.rust_version
           ∙ c.rust_version_for-own.ensures
           ∙ ap (rust_version_for asked) (c.least_rust_version-own.ensures
-          ∙ ap (λ ps. least (member_versions (packages_said ps))) c.deref-3.ensures.value);
+          ∙ ap (λ ps. least (member_versions (packages_view ps))) c.deref-3.ensures.value);
     } in
     let none : Contains (input_paths is) (string_bytes input.path) → ⊥ = λ has.
     let there = subst (Contains (input_paths is))
@@ -82,5 +82,5 @@ returns-clause-inputs g c =
     there)) in
     subst (AreInputs asked said) (sym c.in_ok-insert.ensures.items)
     (with_root input is
-    (subst (λ ps. AllZip (IsInputOf asked) (member_manifests (packages_said ps)) is) c.deref.ensures.value
+    (subst (λ ps. AllZip (IsInputOf asked) (member_manifests (packages_view ps)) is) c.deref.ensures.value
     c.in_ok-inputs.ensures.inputs) root none)

@@ -1,11 +1,11 @@
 use Rattle.std.proofs.Common.{length}
 use Rattle.serde_json.specs.Data.{object}
 use Rattle.edit_json.proofs.MemberLoop.{HasRead}
-use Rattle.edit_metadata.specs.Texts.{ShowsPackage}
+use Rattle.edit_metadata.specs.Texts.{HasPackageTexts}
 use Rattle.edit_metadata.proofs.package_texts.read_package.Given as goal
 
 abbrev pub invariant-loop-key : goal.invariant-loop-key
-invariant-loop-key l = HasRead 124 (λ ms. ShowsPackage (object ms) l.texts) l.initial.reader l.reader
+invariant-loop-key l = HasRead 124 (λ ms. HasPackageTexts (object ms) l.texts) l.initial.reader l.reader
 
 abbrev pub decreases-loop-key : goal.decreases-loop-key
 decreases-loop-key l = length l.reader

@@ -4,9 +4,9 @@ use Rattle.serde_json.specs.View.{view}
 use Rattle.edit_base.specs.Errors.{IsMemory}
 use Rattle.edit_base.specs.declared.errors.Error.{Error}
 use Rattle.edit_base.specs.declared.errors.Error.TheVariants.{Metadata}
-use Rattle.edit_metadata.specs.Metadata.{SaysWorkspace}
-use Rattle.edit_metadata.specs.Reading.{IsUnsaid}
-use Rattle.edit_metadata.specs.Workspaces.{SayNothing, workspace_said}
+use Rattle.edit_metadata.specs.Metadata.{IsWorkspaceValue}
+use Rattle.edit_metadata.specs.Reading.{IsReadingError}
+use Rattle.edit_metadata.specs.Workspaces.{HaveNoWorkspace, workspace_view}
 use Rattle.edit_metadata.specs.declared.workspace.Workspace.{Workspace}
 use Rattle.edit_metadata.proofs.Values.{some-same}
 use Rattle.edit_metadata.proofs.workspace.read_by_tree.Goals as goal
@@ -19,11 +19,11 @@ err-as (Err e) P Q R other h = other e h
 pub returns-in-Ok-clause-refused : goal.returns-in-Ok-clause-refused
 returns-in-Ok-clause-refused c =
     let d = view c.in-Ok.value in
-    err-as c.said_by.result (λ (w : Workspace). SaysWorkspace d (workspace_said w))
-    (IsUnsaid (SaysWorkspace d)) (λ e. IsMemory e ⊎ ((e ≡ Metadata) × SayNothing c.args.json.now))
+    err-as c.workspace_from_value.result (λ (w : Workspace). IsWorkspaceValue d (workspace_view w))
+    (IsReadingError (IsWorkspaceValue d)) (λ e. IsMemory e ⊎ ((e ≡ Metadata) × HaveNoWorkspace c.args.json.now))
     (λ e. ⊎_elim (λ memory. inl memory) (λ unsaid. inr (
       unsaid.0,
-      λ w are. unsaid.1 w (subst (λ v. SaysWorkspace v w) (some-same are.value d
+      λ w are. unsaid.1 w (subst (λ v. IsWorkspaceValue v w) (some-same are.value d
           (sym are.reads ∙ c.in-Ok.ensures.ok.1)) are.says),
     )))
-    c.said_by.ensures
+    c.workspace_from_value.ensures

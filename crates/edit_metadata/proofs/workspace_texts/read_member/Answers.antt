@@ -7,7 +7,7 @@ use Rattle.serde_json.specs.Find.{as_array, as_str, get_member}
 use Rattle.edit_json.specs.Reads.{ReadsValue}
 use Rattle.edit_json.proofs.PutMemberLemmas.{at_key, off_key, not_key}
 use Rattle.edit_metadata.specs.Metadata.{IsText, values}
-use Rattle.edit_metadata.specs.Texts.{ShowsPackage}
+use Rattle.edit_metadata.specs.Texts.{HasPackageTexts}
 use Rattle.edit_metadata.proofs.workspace_texts.read_member.Goals as goal
 
 -- what holds of a text or a list that may be there, by way of what held of it
@@ -56,7 +56,7 @@ returns-then-eq-2-clause-value c =
 pub returns-then-eq-3-clause-value : goal.returns-then-eq-3-clause-value
 returns-then-eq-3-clause-value c =
     let key : c.args.key.now ≡ codes "packages" = (bytes_eq-Decides c.args.key.now (codes "packages")).0 (sym c.eq-3.ensures ∙ c.if-eq-3.true) in
-    let found = subst (λ o. IfSome o (λ v. (ds : Items) × ReadsValue 126 c.args.reader.now (array ds) c.read_packages.new.reader × AllZip ShowsPackage (values ds) v.items)) c.in-Some-3.is c.in_ok-packages.ensures.value in
+    let found = subst (λ o. IfSome o (λ v. (ds : Items) × ReadsValue 126 c.args.reader.now (array ds) c.read_packages.new.reader × AllZip HasPackageTexts (values ds) v.items)) c.in-Some-3.is c.in_ok-packages.ensures.value in
     let d = array found.0 in (
       d,
       found.1,

@@ -1,5 +1,5 @@
 use Rattle.std.proofs.Common.{[], ◌∙◌, ap, refl, sym}
-use Rattle.edit_program.specs.Asked.{status_of_value}
+use Rattle.edit_program.specs.ParsedOptions.{status_of_value}
 use Rattle.edit_program.proofs.AskedLemmas.{value_is}
 use Rattle.edit_program.proofs.asked.status_of.Goals as goal
 

@@ -43,8 +43,8 @@ returns-in-Some-subcommand-clause-asked g c =
     let entered = entered_by (app_of c.in_ok-command.command) words c.in-Ok.matches met.matches.now
     met.name.now c.in_ok-command.ensures.app c.in_ok-command.ensures.simple c.in-Ok.ensures.matches
     (c.in-Ok.ensures.kinds c.in_ok-command.ensures.free) met.ensures.name met.ensures.rows in
-    command_asked words met.name.now (rows_of (found_of met.matches.now)) c.subcommand_asked.result
-    entered c.subcommand_asked.ensures.asked
+    command_asked words met.name.now (rows_of (found_of met.matches.now)) c.run_subcommand.result
+    entered c.run_subcommand.ensures.asked
 
 pub returns-in-Some-subcommand-clause-fault : goal.returns-in-Some-subcommand-clause-fault
 returns-in-Some-subcommand-clause-fault g c =
@@ -53,8 +53,8 @@ returns-in-Some-subcommand-clause-fault g c =
     let entered = entered_by (app_of c.in_ok-command.command) words c.in-Ok.matches met.matches.now
     met.name.now c.in_ok-command.ensures.app c.in_ok-command.ensures.simple c.in-Ok.ensures.matches
     (c.in-Ok.ensures.kinds c.in_ok-command.ensures.free) met.ensures.name met.ensures.rows in
-    command_fault words met.name.now (rows_of (found_of met.matches.now)) c.subcommand_asked.result
-    entered c.subcommand_asked.ensures.fault
+    command_fault words met.name.now (rows_of (found_of met.matches.now)) c.run_subcommand.result
+    entered c.run_subcommand.ensures.fault
 
 pub returns-in-Some-subcommand-clause-ended : goal.returns-in-Some-subcommand-clause-ended
 returns-in-Some-subcommand-clause-ended g c =
@@ -63,8 +63,8 @@ returns-in-Some-subcommand-clause-ended g c =
     let entered = entered_by (app_of c.in_ok-command.command) words c.in-Ok.matches met.matches.now
     met.name.now c.in_ok-command.ensures.app c.in_ok-command.ensures.simple c.in-Ok.ensures.matches
     (c.in-Ok.ensures.kinds c.in_ok-command.ensures.free) met.ensures.name met.ensures.rows in
-    command_ended words met.name.now (rows_of (found_of met.matches.now)) _ _ _ c.subcommand_asked.result _ entered c.subcommand_asked.ensures.status
-    c.subcommand_asked.ensures.checked c.subcommand_asked.ensures.done
+    command_ended words met.name.now (rows_of (found_of met.matches.now)) _ _ _ c.run_subcommand.result _ entered c.run_subcommand.ensures.status
+    c.run_subcommand.ensures.checked c.run_subcommand.ensures.done
 
 pub returns-in-Some-subcommand-clause-refused : goal.returns-in-Some-subcommand-clause-refused
 returns-in-Some-subcommand-clause-refused g c =
@@ -73,7 +73,7 @@ returns-in-Some-subcommand-clause-refused g c =
     let entered = entered_by (app_of c.in_ok-command.command) words c.in-Ok.matches met.matches.now
     met.name.now c.in_ok-command.ensures.app c.in_ok-command.ensures.simple c.in-Ok.ensures.matches
     (c.in-Ok.ensures.kinds c.in_ok-command.ensures.free) met.ensures.name met.ensures.rows in
-    command_refused words met.name.now (rows_of (found_of met.matches.now)) _ _ _ c.subcommand_asked.result _ entered c.subcommand_asked.ensures.refused
+    command_refused words met.name.now (rows_of (found_of met.matches.now)) _ _ _ c.run_subcommand.result _ entered c.run_subcommand.ensures.refused
 
 pub returns-in-Some-subcommand-clause-why : goal.returns-in-Some-subcommand-clause-why
 returns-in-Some-subcommand-clause-why g c =
@@ -82,7 +82,7 @@ returns-in-Some-subcommand-clause-why g c =
     let entered = entered_by (app_of c.in_ok-command.command) words c.in-Ok.matches met.matches.now
     met.name.now c.in_ok-command.ensures.app c.in_ok-command.ensures.simple c.in-Ok.ensures.matches
     (c.in-Ok.ensures.kinds c.in_ok-command.ensures.free) met.ensures.name met.ensures.rows in
-    command_why words met.name.now (rows_of (found_of met.matches.now)) _ _ c.subcommand_asked.result entered c.subcommand_asked.ensures.why
+    command_why words met.name.now (rows_of (found_of met.matches.now)) _ _ c.run_subcommand.result entered c.run_subcommand.ensures.why
 
 pub returns-in-None-clause-fault : goal.returns-in-None-clause-fault
 returns-in-None-clause-fault g c two = inr (inl (none_by (app_of c.in_ok-command.command)

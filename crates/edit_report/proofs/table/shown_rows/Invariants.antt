@@ -1,6 +1,6 @@
 use Rattle.std.proofs.Common.{◌≡◌, map, take}
 use Rattle.std.specs.List.{filter}
-use Rattle.edit_report.specs.Shown.{is_shown}
+use Rattle.edit_report.specs.ShownRows.{is_shown}
 use Rattle.edit_report.proofs.table.shown_rows.Given as goal
 
 abbrev pub invariant-loop-row : goal.invariant-loop-row

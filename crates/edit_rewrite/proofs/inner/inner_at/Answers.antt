@@ -3,12 +3,12 @@ use Rattle.std.proofs.lemmas.Result.{err_from_is_err_and}
 use Rattle.edit_syntax.specs.declared.read.marks.Mark.{Mark}
 use Rattle.edit_syntax.specs.Characters.{equals}
 use Rattle.edit_syntax.specs.Grammar.{gap, value}
-use Rattle.edit_syntax.specs.Marks.{key_marks}
+use Rattle.edit_syntax.specs.SyntaxTokens.{tokens_of_key}
 use Rattle.edit_syntax.specs.Strings.{key}
-use Rattle.edit_tree.specs.EditBytes.{as_it_is}
+use Rattle.edit_tree.specs.EditBytes.{unresolved}
 use Rattle.edit_rewrite.specs.Entries.{AreParts}
 use Rattle.edit_rewrite.specs.Inner.{inner_in}
-use Rattle.edit_document.specs.Items.{place_seen}
+use Rattle.edit_document.specs.Items.{place_view}
 use Rattle.edit_tree.specs.Slots.{Slot}
 use Rattle.edit_tree.specs.SlotTexts.{Ends}
 use Rattle.edit_tree.specs.Statements.{parts}
@@ -37,18 +37,18 @@ pub returns : goal.returns
 returns c above it g rest h start =
     let text = c.args.text.now in
     let s = c.args.s.now in
-    let place = place_seen c.args.place.now in
+    let place = place_view c.args.place.now in
     let f = pair_at_front text s _ it g rest h refl in
     let more = f.a ++ (equals ∷ (f.b ++ value f.v (gap g rest))) in
     let n = c.in_ok-value.ensures {u = tt} f.k f.a f.b (value f.v (gap g rest)) f.naming f.spelled in
-    let marks : c.as_slice.result.now ≡ key_marks f.k more ++ [] =
-    c.as_slice.ensures.value ∙ n.1 ∙ ap (λ (l : List Mark). l ++ key_marks f.k more) c.new-marks.ensures.items
-    ∙ sym (append-nil (key_marks f.k more)) in
+    let marks : c.as_slice.result.now ≡ tokens_of_key f.k more ++ [] =
+    c.as_slice.ensures.value ∙ n.1 ∙ ap (λ (l : List Mark). l ++ tokens_of_key f.k more) c.new-marks.ensures.items
+    ∙ sym (append-nil (tokens_of_key f.k more)) in
     let ends : Ends text (key f.k more) =
     (h.within.0, h.within.1 ∙ ap (λ (x : List ℕ). h.within.0 ++ x) f.spelled) in
     let are = subst (λ (ms : List Mark). AreParts text (parts f.k more) ms) (sym marks)
     (key_are text f.k more [] f.naming.key c.utf8.text ends refl) in
-    let goes = (c.in_ok-front.ensures {u = tt}).goes above as_it_is _ _ are (follows_itself place) start in
+    let goes = (c.in_ok-front.ensures {u = tt}).goes above unresolved _ _ are (follows_itself place) start in
     let behind = c.in_ok-rest.ensures {u = tt} f.v g rest f.item n.0 in (
       inner_made s c.in_ok-rest.rest.now (key f.k more) (gap g rest) c.in_ok-front.front _ c.inner_from.result
           c.inner_from.ensures goes.1 f.spelled behind

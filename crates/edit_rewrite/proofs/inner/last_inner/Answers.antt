@@ -4,9 +4,9 @@ use Rattle.std.proofs.lemmas.Result.{err_from_is_err_and}
 use Rattle.edit_syntax.specs.Characters.{comma, right_brace}
 use Rattle.edit_syntax.specs.Reading.{first, past_gap}
 use Rattle.edit_rewrite.specs.declared.inner.Inner.{Inner}
-use Rattle.edit_tree.specs.EditBytes.{last_made}
+use Rattle.edit_tree.specs.EditBytes.{last_result}
 use Rattle.edit_rewrite.specs.Inner.{inner_of}
-use Rattle.edit_document.specs.Items.{place_seen}
+use Rattle.edit_document.specs.Items.{place_view}
 use Rattle.edit_tree.specs.Statements.{paired_members}
 use Rattle.edit_rewrite.proofs.InnerTurns.{inner_turn, last_folded, or_none}
 use Rattle.edit_rewrite.proofs.SlotSteps.{keeps_memory}
@@ -17,28 +17,28 @@ use Rattle.edit_rewrite.proofs.inner.last_inner.Goals as goal
 pub members-init : goal.members-init
 members-init c above g ms after h start =
     let text = c.args.text.now in
-    let place = place_seen c.args.place.now in
+    let place = place_view c.args.place.now in
     let turn = inner_turn place above in
     let rest = c.past_gap-rest.result.now in
     let come = c.past_gap-rest.ensures ∙ ap past_gap c.behind_one.ensures in
-    let all = last_made (inner_of place) (paired_members above ms (right_brace ∷ after)) in
+    let all = last_result (inner_of place) (paired_members above ms (right_brace ∷ after)) in
     subst (λ (x : Option Inner). AtMembers turn text after 0 rest None x)
     (last_folded place above ms (right_brace ∷ after) None ∙ or_none all)
     (members_start turn text c.args.table.now g ms after rest None h come)
 
 pub returns-then-begins : goal.returns-then-begins
 returns-then-begins c above g ms after h start =
-    let place = place_seen c.args.place.now in
+    let place = place_view c.args.place.now in
     sym (members_closed (inner_turn place above) c.args.text.now after c.members.index c.members.rest.now
     c.members.last
-    (last_made (inner_of place) (paired_members above ms (right_brace ∷ after)))
+    (last_result (inner_of place) (paired_members above ms (right_brace ∷ after)))
     (c.members.invariant above g ms after h start) (sym c.begins.ensures ∙ c.if-begins.true))
 
 pub returns-in_err-here : goal.returns-in_err-here
 returns-in_err-here c above g ms after h start =
     let p = err_from_is_err_and c.from_residual.result c.from_residual.ensures.1 in
-    let place = place_seen c.args.place.now in
-    let target = last_made (inner_of place) (paired_members above ms (right_brace ∷ after)) in
+    let place = place_view c.args.place.now in
+    let target = last_result (inner_of place) (paired_members above ms (right_brace ∷ after)) in
     let f = members_front (inner_turn place above) c.args.text.now after c.members.index c.members.rest.now
     c.members.last
     target (c.members.invariant above g ms after h start) (sym c.begins.ensures ∙ c.if-begins.false) in
@@ -48,10 +48,10 @@ returns-in_err-here c above g ms after h start =
 pub returns-then-not-begins : goal.returns-then-not-begins
 returns-then-not-begins c above g ms after h start =
     let text = c.args.text.now in
-    let place = place_seen c.args.place.now in
+    let place = place_view c.args.place.now in
     let rest = c.members.rest.now in
     let f = members_front (inner_turn place above) text after c.members.index rest c.members.last
-    (last_made (inner_of place) (paired_members above ms (right_brace ∷ after)))
+    (last_result (inner_of place) (paired_members above ms (right_brace ∷ after)))
     (c.members.invariant above g ms after h start) (sym c.begins.ensures ∙ c.if-begins.false) in
     let r = c.in_ok-here.ensures {u = tt} above f.it f.gap_behind f.behind f.stands start in
     let stop : c.past_gap-stop.result.now ≡ f.behind =
@@ -63,10 +63,10 @@ returns-then-not-begins c above g ms after h start =
 pub members-preserved : goal.members-preserved
 members-preserved c above g ms after h start =
     let text = c.args.text.now in
-    let place = place_seen c.args.place.now in
+    let place = place_view c.args.place.now in
     let turn = inner_turn place above in
     let rest = c.members.rest.now in
-    let target = last_made (inner_of place) (paired_members above ms (right_brace ∷ after)) in
+    let target = last_result (inner_of place) (paired_members above ms (right_brace ∷ after)) in
     let f = members_front turn text after c.members.index rest c.members.last target
     (c.members.invariant above g ms after h start) (sym c.begins.ensures ∙ c.if-begins.false) in
     let r = c.in_ok-here.ensures {u = tt} above f.it f.gap_behind f.behind f.stands start in
@@ -83,8 +83,8 @@ members-preserved c above g ms after h start =
 
 pub returns : goal.returns
 returns c above g ms after h start =
-    let place = place_seen c.args.place.now in
+    let place = place_view c.args.place.now in
     absurd (members_over (inner_turn place above) c.args.text.now after c.members.index c.members.rest.now
     c.members.last
-    (last_made (inner_of place) (paired_members above ms (right_brace ∷ after)))
+    (last_result (inner_of place) (paired_members above ms (right_brace ∷ after)))
     (c.members.invariant above g ms after h start) (omega (arith, c.members-test.false)))

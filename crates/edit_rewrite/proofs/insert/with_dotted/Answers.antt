@@ -3,7 +3,7 @@ use Rattle.std.specs.Prelude.{codes}
 use Rattle.std.proofs.lemmas.Result.{IfOk-weaker}
 use Rattle.edit_rewrite.specs.declared.locate.Entry.{Entry}
 use Rattle.edit_tree.specs.EditBytes.{new_line, with_splice}
-use Rattle.edit_rewrite.specs.Spots.{key_to}
+use Rattle.edit_rewrite.specs.StatementOffsets.{key_to}
 use Rattle.edit_rewrite.proofs.insert.with_dotted.Goals as goal
 
 pub returns-clause-text : goal.returns-clause-text

@@ -2,7 +2,7 @@ use Rattle.std.proofs.Common.{ℕ, List, ap, ◌∙◌}
 use Rattle.std.proofs.lemmas.Result.{IfOk-weaker}
 use Rattle.edit_rewrite.specs.declared.locate.Entry.{Entry}
 use Rattle.edit_tree.specs.EditBytes.{put_before, with_splice}
-use Rattle.edit_rewrite.specs.Spots.{section_text}
+use Rattle.edit_rewrite.specs.StatementOffsets.{section_text}
 use Rattle.edit_rewrite.proofs.insert.with_header.Goals as goal
 
 pub returns-clause-text : goal.returns-clause-text

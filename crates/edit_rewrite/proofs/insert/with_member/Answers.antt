@@ -3,16 +3,16 @@ use Rattle.std.specs.Prelude.{MatchOption}
 use Rattle.std.proofs.lemmas.Result.{IfOk-weaker}
 use Rattle.edit_syntax.specs.Grammar.{Text}
 use Rattle.edit_tree.specs.EditBytes.{in_inline, inserted_text}
-use Rattle.edit_document.specs.Items.{place_seen}
-use Rattle.edit_document.specs.NewItemViews.{value_seen}
+use Rattle.edit_document.specs.Items.{place_view}
+use Rattle.edit_document.specs.NewItemViews.{new_value_view}
 use Rattle.edit_tree.specs.Assertions.{IsDocument}
 use Rattle.edit_rewrite.proofs.InsertedLines.{each_ok}
 use Rattle.edit_rewrite.proofs.insert.with_member.Goals as goal
 
 pub returns-in-Some-clause-text : goal.returns-in-Some-clause-text
 returns-in-Some-clause-text c form m =
-    let place = place_seen c.args.place.now in
-    let v = value_seen c.args.value.now in
+    let place = place_view c.args.place.now in
+    let v = new_value_view c.args.value.now in
     let pair = c.as_str-pair.result.now in
     subst (λ (o : Option (String Global)). MatchOption o (in_inline place pair form ≡ None)
     (λ t. string_bytes t ≡ inserted_text place c.args.key.now v form)) c.in-Some.is
@@ -21,8 +21,8 @@ returns-in-Some-clause-text c form m =
 
 pub returns-clause-text : goal.returns-clause-text
 returns-clause-text c =
-    let place = place_seen c.args.place.now in
-    let v = value_seen c.args.value.now in
+    let place = place_view c.args.place.now in
+    let v = new_value_view c.args.value.now in
     let bytes = c.args.document.now.bytes in
     let pair = c.as_str-pair.result.now in
     let is = c.as_str-pair.ensures.value ∙ (c.in_ok-written.ensures {u = tt}).text in

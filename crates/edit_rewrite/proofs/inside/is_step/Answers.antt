@@ -1,15 +1,15 @@
 use Rattle.std.proofs.Common.{◌≡◌, ℕ, List, string_bytes, sym, ap, ◌∙◌}
 use Rattle.edit_document.specs.declared.place.Step.{Step}
 use Rattle.edit_tree.specs.Assertions.{key, same_bytes, same_step}
-use Rattle.edit_document.specs.Items.{step_seen}
+use Rattle.edit_document.specs.Items.{step_view}
 use Rattle.edit_rewrite.proofs.SlotKeys.{word_is}
 use Rattle.edit_rewrite.proofs.inside.is_step.Goals as goal
 
 pub returns-in_ok-words-in-Key : goal.returns-in_ok-words-in-Key
 returns-in_ok-words-in-Key c name h =
-    let word = c.words_in.result.now in
-    let said : word ≡ name = c.words_in.ensures ∙ (c.in_ok-words-in-Key.ensures {u = tt}).says name h in
+    let word = c.decoded_str.result.now in
+    let said : word ≡ name = c.decoded_str.ensures ∙ (c.in_ok-words-in-Key.ensures {u = tt}).says name h in
     c.eq.ensures ∙ word_is word c.as_str.result.now
     ∙ ap (λ (x : List ℕ). same_bytes x word) c.as_str.ensures.value
     ∙ ap (λ (x : List ℕ). same_bytes (string_bytes c.in-Key.key) x) said
-    ∙ ap (λ (s : Step). same_step (step_seen s) (key name)) (sym c.in-Key.is)
+    ∙ ap (λ (s : Step). same_step (step_view s) (key name)) (sym c.in-Key.is)

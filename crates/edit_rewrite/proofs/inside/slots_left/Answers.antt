@@ -2,7 +2,7 @@ use Rattle.std.proofs.Common.{◌≡◌, ℕ, Bool, eqb, if◌then◌else◌, Li
 use Rattle.std.proofs.lemmas.Result.{err_from_is_err_and}
 use Rattle.edit_syntax.specs.Characters.{comma, left_brace}
 use Rattle.edit_syntax.specs.Reading.{first, past_gap}
-use Rattle.edit_document.specs.Items.{place_seen}
+use Rattle.edit_document.specs.Items.{place_view}
 use Rattle.edit_rewrite.specs.Remainders.{before_end}
 use Rattle.edit_tree.specs.Slots.{closing, goes, enclosed_left}
 use Rattle.edit_tree.specs.SlotTexts.{StandsAt}
@@ -21,10 +21,10 @@ slots-init c t g ss h =
     let new = c.in_ok-left.ensures {u = tt} in
     let firm = new.firm ∙ c.before-2.ensures ∙ ap (λ (x : List ℕ). before_end x rest) bytes in (
       table,
-      at_with t text (place_seen c.args.below.now) 0 0 rest
+      at_with t text (place_view c.args.below.now) 0 0 rest
           (before_end text rest) c.in_ok-left.left.firm.items [] c.in_ok-left.left.with_comma.items []
           c.in_ok-left.left.without_comma.items _
-          (enclosed_start t text (place_seen c.args.below.now) g ss rest h
+          (enclosed_start t text (place_view c.args.below.now) g ss rest h
           (c.past_gap-rest.ensures ∙ ap past_gap (c.behind_one.ensures ∙ ap (drop 1) bytes)))
           refl firm new.rest.0 new.rest.1,
     )
@@ -37,7 +37,7 @@ returns-then-begins c t g ss h =
     let shut = ap (λ (x : ℕ). eqb (first rest) x) (sym ends) ∙ sym c.begins.ensures ∙ c.if-begins.true in
     c.in_ok-with.ensures {u = tt} ∙
     sym (slots_closed t c.args.text.now
-    (place_seen c.args.below.now) c.slots.index rest c.slots.left.firm.items c.slots.left.with_comma.items
+    (place_view c.args.below.now) c.slots.index rest c.slots.left.firm.items c.slots.left.with_comma.items
     c.slots.left.without_comma.items _ inv.1 shut)
 
 pub returns-in_err-is_gone : goal.returns-in_err-is_gone
@@ -49,19 +49,19 @@ returns-in_err-is_gone c t g ss h =
     let ends : c.closer-end.result ≡ closing t = c.closer-end.ensures ∙ ap closing (sym inv.0) in
     let unshut = ap (λ (x : ℕ). eqb (first rest) x) (sym ends) ∙ sym c.begins.ensures ∙ c.if-begins.false in
     let f = slots_front t c.args.text.now
-    (place_seen c.args.below.now) c.slots.index rest c.slots.left.firm.items c.slots.left.with_comma.items
+    (place_view c.args.below.now) c.slots.index rest c.slots.left.firm.items c.slots.left.with_comma.items
     c.slots.left.without_comma.items _ inv.1 unshut in
     let stands = subst (λ (b : Bool). StandsAt c.args.text.now rest b f.it f.gap_behind f.behind) inv.0
     f.stands in
     keeps_memory c.from_residual-in_err-is_gone.result c.in_err-is_gone.field-0.0 p.0
-    (λ v. v.items ≡ enclosed_left t (place_seen c.args.below.now) g ss) p.1 p.2
+    (λ v. v.items ≡ enclosed_left t (place_view c.args.below.now) g ss) p.1 p.2
     (c.in_err-is_gone.ensures {u = tt} f.it f.gap_behind f.behind stands)
 
 pub returns-then-not-begins : goal.returns-then-not-begins
 returns-then-not-begins c t g ss h =
     let inv = c.slots.invariant t g ss h in
     let text = c.args.text.now in
-    let below = place_seen c.args.below.now in
+    let below = place_view c.args.below.now in
     let rest = c.slots.rest.now in
     let firm = c.slots.left.firm.items in
     let commas = c.slots.left.with_comma.items in
@@ -86,7 +86,7 @@ pub slots-preserved : goal.slots-preserved
 slots-preserved c t g ss h =
     let inv = c.slots.invariant t g ss h in
     let text = c.args.text.now in
-    let below = place_seen c.args.below.now in
+    let below = place_view c.args.below.now in
     let i = c.slots.index in
     let rest = c.slots.rest.now in
     let firm = c.slots.left.firm.items in
@@ -114,6 +114,6 @@ slots-preserved c t g ss h =
 pub returns : goal.returns
 returns c t g ss h =
     let inv = c.slots.invariant t g ss h in
-    absurd (slots_over t c.args.text.now (place_seen c.args.below.now) c.slots.index c.slots.rest.now
+    absurd (slots_over t c.args.text.now (place_view c.args.below.now) c.slots.index c.slots.rest.now
     c.slots.left.firm.items c.slots.left.with_comma.items c.slots.left.without_comma.items _ inv.1
     (omega (arith, c.slots-test.false, ap length c.as_bytes-bytes.ensures.value)))

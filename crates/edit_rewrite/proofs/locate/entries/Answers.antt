@@ -2,16 +2,16 @@ use Rattle.std.proofs.Common.{◌≡◌, List, ◌++◌, length, refl, sym, ap, 
 use Rattle.std.proofs.lemmas.Bool.{eqb-true, eqb-false}
 use Rattle.edit_syntax.specs.declared.read.marks.Mark.{Mark}
 use Rattle.edit_syntax.specs.Reading.{past_mark}
-use Rattle.edit_syntax.specs.FirstLine.{first_marks}
-use Rattle.edit_rewrite.specs.declared.locate.Spots.{Spots}
-use Rattle.edit_document.specs.Items.{place_seen}
+use Rattle.edit_syntax.specs.FirstLine.{tokens_of_first_line}
+use Rattle.edit_rewrite.specs.declared.locate.StatementOffsets.{StatementOffsets}
+use Rattle.edit_document.specs.Items.{place_view}
 use Rattle.edit_rewrite.proofs.StatedLines.{at_start, turn_empty, turn_full, end_empty, end_full, at_line_as}
 use Rattle.edit_rewrite.proofs.locate.entries.Goals.{then-not-is_empty+in_ok-take+in_ok-push, else-not-is_empty}
 use Rattle.edit_rewrite.proofs.locate.entries.Goals as goal
 
 pub lines-init : goal.lines-init
 lines-init c form m =
-    at_start c.args.text.now (place_seen c.args.place.now) form c.in_ok-standing.standing
+    at_start c.args.text.now (place_view c.args.place.now) form c.in_ok-standing.standing
     c.new-found.result.items c.past_mark-rest.result.now m c.utf8.text c.new-found.ensures.items
     (c.past_mark-rest.ensures ∙ ap past_mark c.as_bytes.ensures.value)
     (c.in_ok-standing.ensures {u = tt}).none
@@ -19,19 +19,19 @@ lines-init c form m =
 pub returns-then-is_empty-clause-found : goal.returns-then-is_empty-clause-found
 returns-then-is_empty-clause-found c form m =
     let text = c.args.text.now in
-    let target = place_seen c.args.place.now in
+    let target = place_view c.args.place.now in
     let d = c.lines.invariant form m in
     let f = c.in-Ok.ensures.only d.left d.same d.valid d.shallow in
     let marks = c.as_slice-seen.result.now in
-    let marked : marks ≡ first_marks d.left = c.as_slice-seen.ensures.value ∙ f.1 ∙
-    ap (λ (xs : List Mark). xs ++ first_marks d.left) c.clear.ensures.items in
+    let marked : marks ≡ tokens_of_first_line d.left = c.as_slice-seen.ensures.value ∙ f.1 ∙
+    ap (λ (xs : List Mark). xs ++ tokens_of_first_line d.left) c.clear.ensures.items in
     let after = c.in-Ok.after.now in
     let next = c.next_line-next.result.now in
     let over : length after ≡ 0 = eqb-true _ _ (sym c.is_empty-in-lines.ensures ∙ c.if-is_empty.true) in
     elim c.if-not-is_empty.branch [
       | then-not-is_empty+in_ok-take+in_ok-push w ↦
           let some : length marks ≡ 0 → ⊥ = eqb-false _ _ (sym c.is_empty.ensures ∙ w.if-not-is_empty.true) in
-          let spots : Spots = record {
+          let spots : StatementOffsets = record {
             line = length c.lines.rest.now;
             key = w.first_from.result;
             after = length after;
@@ -52,19 +52,19 @@ returns-then-is_empty-clause-found c form m =
 pub lines-preserved : goal.lines-preserved
 lines-preserved c form m =
     let text = c.args.text.now in
-    let target = place_seen c.args.place.now in
+    let target = place_view c.args.place.now in
     let d = c.lines.invariant form m in
     let f = c.in-Ok.ensures.only d.left d.same d.valid d.shallow in
     let marks = c.as_slice-seen.result.now in
-    let marked : marks ≡ first_marks d.left = c.as_slice-seen.ensures.value ∙ f.1 ∙
-    ap (λ (xs : List Mark). xs ++ first_marks d.left) c.clear.ensures.items in
+    let marked : marks ≡ tokens_of_first_line d.left = c.as_slice-seen.ensures.value ∙ f.1 ∙
+    ap (λ (xs : List Mark). xs ++ tokens_of_first_line d.left) c.clear.ensures.items in
     let after = c.in-Ok.after.now in
     let next = c.next_line-next.result.now in
     let more : length after ≡ 0 → ⊥ = eqb-false _ _ (sym c.is_empty-in-lines.ensures ∙ c.if-is_empty.false) in
     elim c.if-not-is_empty.branch [
       | then-not-is_empty+in_ok-take+in_ok-push w ↦
           let some : length marks ≡ 0 → ⊥ = eqb-false _ _ (sym c.is_empty.ensures ∙ w.if-not-is_empty.true) in
-          let spots : Spots = record {
+          let spots : StatementOffsets = record {
             line = length c.lines.rest.now;
             key = w.first_from.result;
             after = length after;

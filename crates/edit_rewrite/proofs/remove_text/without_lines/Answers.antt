@@ -4,9 +4,9 @@ use Rattle.std.proofs.lemmas.List.{drop_more, drop_all}
 use Rattle.edit_syntax.specs.Grammar.{lines, byte_order_mark}
 use Rattle.edit_syntax.specs.Reading.{past_mark}
 use Rattle.edit_syntax.proofs.TextLaws.{lines_only}
-use Rattle.edit_document.specs.Items.{place_seen}
+use Rattle.edit_document.specs.Items.{place_view}
 use Rattle.edit_tree.specs.RemovedBytes.{lines_left}
-use Rattle.edit_tree.specs.Statements.{stated}
+use Rattle.edit_tree.specs.Statements.{placed_statements}
 use Rattle.edit_rewrite.proofs.EntryChoices.{no_entry}
 use Rattle.edit_rewrite.proofs.LeftLines.{AtStatement, at_first, past_one, past_last}
 use Rattle.edit_rewrite.proofs.remove_text.without_lines.Goals.{then-entry, else-entry}
@@ -15,7 +15,7 @@ use Rattle.edit_rewrite.proofs.remove_text.without_lines.Goals as goal
 pub entries-init : goal.entries-init
 entries-init c form m =
     let text = c.args.text.now in
-    at_first text form (place_seen c.args.place.now) _ _ _ m c.utf8.text
+    at_first text form (place_view c.args.place.now) _ _ _ m c.utf8.text
     (ap length (c.past_mark-from.ensures ∙ ap past_mark c.as_bytes.ensures.value
     ∙ lines_only text form m.grammar))
     ((c.in_ok-out.ensures {u = tt}).ok ∙ c.between.ensures)
@@ -24,11 +24,11 @@ entries-init c form m =
 pub entries-preserved : goal.entries-preserved
 entries-preserved c form m =
     let text = c.args.text.now in
-    let gone = place_seen c.args.place.now in
+    let gone = place_view c.args.place.now in
     let xs = c.as_slice-found.result.now in
     let i = c.entries.entry-index in
     let e = get_or xs i no_entry in
-    let whole = byte_order_mark form.marked (lines_left gone (lines form.lines) (stated form)) in
+    let whole = byte_order_mark form.marked (lines_left gone (lines form.lines) (placed_statements form)) in
     let done = string_bytes c.entries.out in
     let at = subst (AtStatement text gone whole done c.entries.from)
     (drop_more xs i no_entry c.entries-test.true)
@@ -46,9 +46,9 @@ entries-preserved c form m =
 pub returns-clause-text : goal.returns-clause-text
 returns-clause-text c form m =
     let text = c.args.text.now in
-    let gone = place_seen c.args.place.now in
+    let gone = place_view c.args.place.now in
     let xs = c.as_slice-found.result.now in
-    let whole = byte_order_mark form.marked (lines_left gone (lines form.lines) (stated form)) in
+    let whole = byte_order_mark form.marked (lines_left gone (lines form.lines) (placed_statements form)) in
     let done = string_bytes c.entries.out in
     past_last text gone whole done _ c.entries.from
     (subst (AtStatement text gone whole done c.entries.from)

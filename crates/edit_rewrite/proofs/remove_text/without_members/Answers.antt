@@ -5,7 +5,7 @@ use Rattle.std.proofs.lemmas.Result.{IfOk-weaker}
 use Rattle.edit_base.specs.Errors.{IsMemory}
 use Rattle.edit_syntax.specs.Grammar.{value}
 use Rattle.edit_tree.specs.EditBytes.{with_splice}
-use Rattle.edit_document.specs.Items.{place_seen}
+use Rattle.edit_document.specs.Items.{place_view}
 use Rattle.edit_rewrite.proofs.AroundValues.{value_between, plain_left}
 use Rattle.edit_rewrite.proofs.LeftTexts.{left_text}
 use Rattle.edit_rewrite.proofs.remove_text.without_members.Goals as goal
@@ -13,7 +13,7 @@ use Rattle.edit_rewrite.proofs.remove_text.without_members.Goals as goal
 pub returns-then-not-is_container-clause-text : goal.returns-then-not-is_container-clause-text
 returns-then-not-is_container-clause-text c w s =
     let text = c.args.text.now in
-    let gone = w.place ++ place_seen c.args.below.now in
+    let gone = w.place ++ place_view c.args.below.now in
     let old : c.between-old.result.now ≡ value w.value [] =
     c.between-old.ensures ∙ value_between text w c.args.from c.args.to s in
     let tells = c.is_container.ensures w.value s.valid (c.as_bytes.ensures.value ∙ old) in
@@ -47,7 +47,7 @@ unreachable-requires c =
     let new = c.in_ok-value_without.ensures {u = tt} w.place w.value is s.valid s.shallow old in
     let ok = (c.in-Err.ensures {u = tt}).succeeds
     (subst IsUtf8 (sym new)
-    (left_text w.place (place_seen c.args.below.now) w.value is s.valid s.shallow
+    (left_text w.place (place_view c.args.below.now) w.value is s.valid s.shallow
     (subst IsUtf8 old c.between-old.utf8))) in
     true≢false (sym ok)
 

@@ -5,7 +5,7 @@ use Rattle.std.specs.Prelude.{take}
 use Rattle.edit_syntax.specs.Grammar.{value}
 use Rattle.edit_syntax.proofs.Members.{contained_among}
 use Rattle.edit_rewrite.specs.Entries.{way}
-use Rattle.edit_document.specs.Items.{step_seen, place_seen}
+use Rattle.edit_document.specs.Items.{step_view, place_view}
 use Rattle.edit_tree.specs.Assertions.{IsDocument}
 use Rattle.edit_tree.specs.Tree.{is_value_at}
 use Rattle.edit_tree.specs.Written.{values}
@@ -17,12 +17,12 @@ use Rattle.edit_rewrite.proofs.replace_entry.spots_in.Goals as goal
 pub returns-in-Some-clause-told : goal.returns-in-Some-clause-told
 returns-in-Some-clause-told c form m =
     let text = c.as_str-text.result.now in
-    let place = place_seen c.args.place.now in
+    let place = place_view c.args.place.now in
     let end = c.args.end in
     let here : IsDocument text form =
     subst (λ (b : List ℕ). IsDocument b form) (sym c.as_str-text.ensures) m in
     let range = c.in-Some.ensures form m in
-    let w = range.valued in
+    let w = range.placed_value in
     let among = contained_among w (values form) range.told in
     let stands = values_stand text form here c.as_str-text.utf8 w among in
     let from =
@@ -32,14 +32,14 @@ returns-in-Some-clause-told c form m =
     (sym here.grammar.spelled))
     c.as_bytes.ensures.value
     ∙ suffix_is text (value w.value w.after) stands.ends in
-    let there : w.place ≡ take end place = range.there ∙ sym (take-map step_seen end c.args.place.now) in
-    let size = length-map c.args.place.now step_seen in
-    IfOk-weaker c.table_spots.result _ _ (λ o t. inner_told form place end w o m.no_clash among
+    let there : w.place ≡ take end place = range.there ∙ sym (take-map step_view end c.args.place.now) in
+    let size = length-map c.args.place.now step_view in
+    IfOk-weaker c.table_offsets.result _ _ (λ o t. inner_told form place end w o m.no_clash among
     there t)
-    (c.table_spots.ensures.told w stands from
+    (c.table_offsets.ensures.told w stands from
     (front_way end place (omega (arith, c.requires, size)) ∙ ap (way place) (sym there)))
 
 pub returns-in-None-clause-told : goal.returns-in-None-clause-told
 returns-in-None-clause-told c form m =
-    no_inner_told form (place_seen c.args.place.now) c.args.end
-    (ap (is_value_at form) (take-map step_seen c.args.end c.args.place.now) ∙ c.in-None.ensures form m)
+    no_inner_told form (place_view c.args.place.now) c.args.end
+    (ap (is_value_at form) (take-map step_view c.args.end c.args.place.now) ∙ c.in-None.ensures form m)

@@ -3,9 +3,9 @@ use Rattle.std.proofs.lemmas.Result.{IfOk-weaker}
 use Rattle.edit_syntax.specs.Grammar.{text as text_of}
 use Rattle.edit_syntax.proofs.Members.{contained_among}
 use Rattle.edit_tree.specs.EditBytes.{Splice, with_splice, with_any}
-use Rattle.edit_document.specs.Items.{place_seen}
+use Rattle.edit_document.specs.Items.{place_view}
 use Rattle.edit_tree.specs.NewItems.{new_entry}
-use Rattle.edit_document.specs.NewItemViews.{item_seen}
+use Rattle.edit_document.specs.NewItemViews.{new_item_view}
 use Rattle.edit_tree.specs.Assertions.{IsDocument}
 use Rattle.edit_tree.specs.Statements.{line_pairs, inner_pairs}
 use Rattle.edit_rewrite.proofs.EntryCuts.{pairs_fit}
@@ -16,8 +16,8 @@ use Rattle.edit_rewrite.proofs.replace_entry.with_entry.Goals as goal
 pub returns-clause-text : goal.returns-clause-text
 returns-clause-text c =
     let text = c.as_str.result.now in
-    let place = place_seen c.args.place.now in
-    let item = item_seen c.args.item.now in
+    let place = place_view c.args.place.now in
+    let item = new_item_view c.args.item.now in
     let now = c.as_str-2.ensures.value ∙ c.in_ok-push_entry.ensures {u = tt}
     ∙ ap (λ (l : List ℕ). l ++ new_entry item []) c.new-now.ensures.bytes in
     each_ok c.swapped.result _ (λ form. each_ok c.swapped.result _ (λ m.

@@ -2,7 +2,7 @@ use Rattle.std.proofs.Common.{◌≡◌, ℕ, List, ◌∷◌, ◌++◌, ap, ◌
 use Rattle.std.specs.Prelude.{codes}
 use Rattle.std.proofs.lemmas.Result.{IfOk-weaker}
 use Rattle.edit_tree.specs.EditBytes.{put_before, with_splice}
-use Rattle.edit_rewrite.specs.Spots.{section_text}
+use Rattle.edit_rewrite.specs.StatementOffsets.{section_text}
 use Rattle.edit_rewrite.proofs.spots.with_section.Goals as goal
 
 -- a header and a line, piece by piece

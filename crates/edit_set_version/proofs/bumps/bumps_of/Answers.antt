@@ -7,10 +7,10 @@ use Rattle.std.proofs.lemmas.Result.{err_from_is_err_and}
 use Rattle.edit_version.specs.Laws.{IsReadable}
 use Rattle.edit_set_version.specs.Bumps.{bump, target_of}
 use Rattle.edit_set_version.specs.Chosen.{Member}
-use Rattle.edit_set_version.specs.Crates.{bumps_seen, member_of, members_of}
+use Rattle.edit_set_version.specs.Crates.{bumps_view, member_of, members_of}
 use Rattle.edit_set_version.specs.Admitted.{AreVersions}
 use Rattle.edit_set_version.specs.PlanRefused.{IsBumpable}
-use Rattle.edit_set_version.specs.Selections.{asked_of}
+use Rattle.edit_set_version.specs.Selections.{selection_view}
 use Rattle.edit_set_version.specs.SetVersioned.{bump_of}
 use Rattle.edit_set_version.specs.declared.crates.Bump.{Bump as Bumping}
 use Rattle.edit_set_version.specs.declared.crates.Crate.{Crate}
@@ -20,7 +20,7 @@ use Rattle.edit_set_version.proofs.bumps.bumps_of.Goals as goal
 pub crates-preserved : goal.crates-preserved
 crates-preserved c =
     let t = target_of c.args.target.now in
-    let a = asked_of c.args.selection.now in
+    let a = selection_view c.args.selection.now in
     let i = c.crates.found-index in
     let all = c.args.crates.now in
     let own = member_of c.found-item.result in
@@ -58,23 +58,23 @@ returns-in_err-push_bump-clause-refused c =
 
 pub crates-init : goal.crates-init
 crates-init c = record {
-  seen = ap bumps_seen c.new-bumps.ensures.items;
+  seen = ap bumps_view c.new-bumps.ensures.items;
   bumpable = λ k d below. absurd (omega (arith, below));
-  versions = λ target each. subst (λ (bs : List Bumping). AreVersions (bumps_seen bs))
+  versions = λ target each. subst (λ (bs : List Bumping). AreVersions (bumps_view bs))
       (sym c.new-bumps.ensures.items) (λ k d below. absurd (omega (arith, below)));
 }
 
 pub returns-clause-ok : goal.returns-clause-ok
 returns-clause-ok c =
     let t = target_of c.args.target.now in
-    let a = asked_of c.args.selection.now in
+    let a = selection_view c.args.selection.now in
     c.crates.invariant.seen ∙ ap (λ cs. filter_map (bump_of t a) (members_of cs))
     (take_all c.crates.found-index c.args.crates.now c.crates-test.false)
 
 pub returns-clause-bumpable : goal.returns-clause-bumpable
 returns-clause-bumpable c =
     let t = target_of c.args.target.now in
-    let a = asked_of c.args.selection.now in
+    let a = selection_view c.args.selection.now in
     let Fits : Member → Type 0 = λ m. IsBumpable (bump t a.metadata m.version) in
     subst (λ (cs : List Crate). All Fits (members_of cs))
     (take_all c.crates.found-index c.args.crates.now c.crates-test.false) c.crates.invariant.bumpable

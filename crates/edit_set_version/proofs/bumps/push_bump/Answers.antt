@@ -4,7 +4,7 @@ use Rattle.std.proofs.lemmas.List.{map_push}
 use Rattle.std.proofs.lemmas.List.Elements.{All-push}
 use Rattle.std.proofs.lemmas.Result.{err_from_is_err_and}
 use Rattle.edit_version.specs.Laws.{IsVersion}
-use Rattle.edit_set_version.specs.Crates.{bump_seen, bumps_seen}
+use Rattle.edit_set_version.specs.Crates.{bump_view, bumps_view}
 use Rattle.edit_set_version.specs.Admitted.{AreVersions}
 use Rattle.edit_set_version.specs.SetVersioned.{Bump}
 use Rattle.edit_set_version.specs.declared.crates.Bump.{Bump as Bumping}
@@ -14,11 +14,11 @@ pub returns-in_ok-push-in-Some-clause-versions : goal.returns-in_ok-push-in-Some
 returns-in_ok-push-in-Some-clause-versions c = λ target current all.
     let b = c.in-Some.bump in
     let was = c.args.bumps.now.items in
-    let is = subst (λ (o : Option Bumping). IfSome o (λ x. IsVersion (bump_seen x).next)) c.in-Some.is
+    let is = subst (λ (o : Option Bumping). IfSome o (λ x. IsVersion (bump_view x).next)) c.in-Some.is
     (c.in_ok-bump.ensures.versions target current) in
-    subst (λ (xs : List Bumping). AreVersions (bumps_seen xs)) (sym c.in_ok-push-in-Some.ensures.items)
-    (subst AreVersions (sym (map_push bump_seen was b))
-    (All-push (λ (x : Bump). IsVersion x.next) (bumps_seen was) (bump_seen b) all is))
+    subst (λ (xs : List Bumping). AreVersions (bumps_view xs)) (sym c.in_ok-push-in-Some.ensures.items)
+    (subst AreVersions (sym (map_push bump_view was b))
+    (All-push (λ (x : Bump). IsVersion x.next) (bumps_view was) (bump_view b) all is))
 
 pub returns-in_err-bump-clause-refused : goal.returns-in_err-bump-clause-refused
 returns-in_err-bump-clause-refused c =
@@ -34,19 +34,19 @@ returns-in_err-push-in-Some-clause-refused c =
 pub returns-in_ok-push-in-Some-clause-ok : goal.returns-in_ok-push-in-Some-clause-ok
 returns-in_ok-push-in-Some-clause-ok c =
     let was = c.args.bumps.now.items in
-    ap bumps_seen c.in_ok-push-in-Some.ensures.items ∙ map_push bump_seen was c.in-Some.bump
-    ∙ ap (λ o. bumps_seen was ++ option_to_list o)
-    (ap (option_map bump_seen) (sym c.in-Some.is) ∙ c.in_ok-bump.ensures.ok)
+    ap bumps_view c.in_ok-push-in-Some.ensures.items ∙ map_push bump_view was c.in-Some.bump
+    ∙ ap (λ o. bumps_view was ++ option_to_list o)
+    (ap (option_map bump_view) (sym c.in-Some.is) ∙ c.in_ok-bump.ensures.ok)
 
 pub returns-in_ok-push-in-Some-clause-bumpable : goal.returns-in_ok-push-in-Some-clause-bumpable
 returns-in_ok-push-in-Some-clause-bumpable c = c.in_ok-bump.ensures.bumpable
 
 pub returns-in-None-clause-ok : goal.returns-in-None-clause-ok
 returns-in-None-clause-ok c =
-    let was = bumps_seen c.args.bumps.now.items in
+    let was = bumps_view c.args.bumps.now.items in
     sym (append-nil was)
     ∙ ap (λ o. was ++ option_to_list o)
-    (ap (option_map bump_seen) (sym c.in-None.is) ∙ c.in_ok-bump.ensures.ok)
+    (ap (option_map bump_view) (sym c.in-None.is) ∙ c.in_ok-bump.ensures.ok)
 
 pub returns-in-None-clause-bumpable : goal.returns-in-None-clause-bumpable
 returns-in-None-clause-bumpable c = c.in_ok-bump.ensures.bumpable

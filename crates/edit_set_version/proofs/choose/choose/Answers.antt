@@ -6,17 +6,17 @@ use Rattle.std.proofs.lemmas.Result.{err_from_is_err_and}
 use Rattle.edit_base.specs.Errors.{IsMemory}
 use Rattle.edit_set_version.specs.Chosen.{Member, added, inheriting, is_among}
 use Rattle.edit_set_version.specs.Crates.{member_of, members_of}
-use Rattle.edit_set_version.specs.PlanCauses.{IsHeldBack}
-use Rattle.edit_set_version.specs.Selections.{asked_of}
-use Rattle.edit_set_version.specs.Wanted.{is_in}
+use Rattle.edit_set_version.specs.PlanCauses.{IsExcludeError}
+use Rattle.edit_set_version.specs.Selections.{selection_view}
+use Rattle.edit_set_version.specs.SelectedNames.{is_in}
 use Rattle.edit_set_version.specs.declared.choose.Part.TheVariants.{Others}
 use Rattle.edit_set_version.proofs.ChoiceLemmas.{asked_part, inheriting_part, others_part}
 use Rattle.edit_set_version.proofs.choose.choose.Goals as goal
-use Rattle.edit_set_version.proofs.choose.choose.Goals.{then-asks_whole, else-asks_whole}
+use Rattle.edit_set_version.proofs.choose.choose.Goals.{then-is_whole_selected, else-is_whole_selected}
 
 pub returns-in_err-check_excluded-clause-refused : goal.returns-in_err-check_excluded-clause-refused
 returns-in_err-check_excluded-clause-refused c =
-    let a = asked_of c.args.selection.now in
+    let a = selection_view c.args.selection.now in
     let ms = members_of c.args.crates.now in
     let w = c.in_ok-wanted.wanted in
     let is = c.in_ok-wanted.ensures.ok in
@@ -33,14 +33,14 @@ returns-in_err-check_excluded-clause-refused c =
     c.from_residual-in_err-check_excluded.ensures.1 in
     let e = c.in_err-check_excluded.field-0.0 in
     rw (p.1, p.2)
-    (subst (λ xs. IsMemory e ⊎ IsHeldBack (filter held xs) (inheriting a ms) e)
+    (subst (λ xs. IsMemory e ⊎ IsExcludeError (filter held xs) (inheriting a ms) e)
     (ap members_of c.deref-2.ensures.value ∙ more)
-    (subst (λ ys. IsMemory e ⊎ IsHeldBack (filter held (members_of c.deref-2.result.now)) ys e)
+    (subst (λ ys. IsMemory e ⊎ IsExcludeError (filter held (members_of c.deref-2.result.now)) ys e)
     (ap members_of c.deref-3.ensures.value ∙ inh) c.in_err-check_excluded.ensures.refused))
 
 pub returns-clause-chosen : goal.returns-clause-chosen
 returns-clause-chosen c =
-    let a = asked_of c.args.selection.now in
+    let a = selection_view c.args.selection.now in
     let ms = members_of c.args.crates.now in
     let w = c.in_ok-wanted.wanted in
     let is = c.in_ok-wanted.ensures.ok in
@@ -59,26 +59,26 @@ returns-clause-chosen c =
 
 pub returns-clause-workspace : goal.returns-clause-workspace
 returns-clause-workspace c =
-    let a = asked_of c.args.selection.now in
+    let a = selection_view c.args.selection.now in
     let ms = members_of c.args.crates.now in
     let is = c.in_ok-wanted.ensures.ok in
     let inh : members_of c.in_ok-inheriting.inheriting.items ≡ inheriting a ms
     = c.in_ok-inheriting.ensures.ok ∙ inheriting_part a c.in_ok-wanted.wanted ms is in
     let some = not (length (inheriting a ms) == 0) in
-    elim c.if-asks_whole.branch [
-      | then-asks_whole w ↦
-          w.workspace-is ∙ w.if-asks_whole.true
-          ∙ sym (ap (λ b. b || some) (sym c.asks_whole.ensures ∙ w.if-asks_whole.true))
-      | else-asks_whole w ↦
+    elim c.if-is_whole_selected.branch [
+      | then-is_whole_selected w ↦
+          w.workspace-is ∙ w.if-is_whole_selected.true
+          ∙ sym (ap (λ b. b || some) (sym c.is_whole_selected.ensures ∙ w.if-is_whole_selected.true))
+      | else-is_whole_selected w ↦
           w.workspace-is ∙ ap not w.is_none.ensures
-          ∙ ap (λ (n : ℕ). not (n == 0)) (ap length w.deref-else-asks_whole.ensures.value
+          ∙ ap (λ (n : ℕ). not (n == 0)) (ap length w.deref-else-is_whole_selected.ensures.value
           ∙ sym (length-map c.in_ok-inheriting.inheriting.items member_of) ∙ ap length inh)
-          ∙ sym (ap (λ b. b || some) (sym c.asks_whole.ensures ∙ w.if-asks_whole.false))
+          ∙ sym (ap (λ b. b || some) (sym c.is_whole_selected.ensures ∙ w.if-is_whole_selected.false))
     ]
 
 pub returns-clause-excluded : goal.returns-clause-excluded
 returns-clause-excluded c =
-    let a = asked_of c.args.selection.now in
+    let a = selection_view c.args.selection.now in
     let ms = members_of c.args.crates.now in
     let w = c.in_ok-wanted.wanted in
     let is = c.in_ok-wanted.ensures.ok in

@@ -3,7 +3,7 @@ use Rattle.std.specs.List.{filter}
 use Rattle.std.specs.Prelude.{if◌then◌else◌}
 use Rattle.std.proofs.lemmas.List.{take_all}
 use Rattle.edit_set_version.specs.Crates.{member_of, members_of}
-use Rattle.edit_set_version.specs.Wanted.{is_in}
+use Rattle.edit_set_version.specs.SelectedNames.{is_in}
 use Rattle.edit_set_version.proofs.ChoiceLemmas.{kept_more}
 use Rattle.edit_set_version.proofs.choose.crates_in.Goals as goal
 

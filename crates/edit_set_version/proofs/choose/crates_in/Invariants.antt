@@ -1,7 +1,7 @@
 use Rattle.std.proofs.Common.{◌≡◌, take}
 use Rattle.std.specs.List.{filter}
 use Rattle.edit_set_version.specs.Crates.{members_of}
-use Rattle.edit_set_version.specs.Wanted.{is_in}
+use Rattle.edit_set_version.specs.SelectedNames.{is_in}
 use Rattle.edit_set_version.proofs.choose.crates_in.Given as goal
 
 abbrev pub invariant-crates : goal.invariant-crates

@@ -5,13 +5,13 @@ use Rattle.std.specs.List.{filter}
 use Rattle.std.proofs.lemmas.List.{take_all}
 use Rattle.edit_set_version.specs.Chosen.{Member, is_among}
 use Rattle.edit_set_version.specs.Crates.{member_of, members_of}
-use Rattle.edit_set_version.specs.Selections.{asked_of}
+use Rattle.edit_set_version.specs.Selections.{selection_view}
 use Rattle.edit_set_version.proofs.ChoiceLemmas.{kept_more}
 use Rattle.edit_set_version.proofs.choose.held_back.Goals as goal
 
 pub crates-preserved : goal.crates-preserved
 crates-preserved c =
-    let test : Member → Bool = λ m. is_among (asked_of c.args.selection.now).exclude m.name in
+    let test : Member → Bool = λ m. is_among (selection_view c.args.selection.now).exclude m.name in
     let own = member_of c.found-item.result in
     c.in_ok-push_where.ensures.ok
     ∙ ap (λ b. members_of c.crates.list.items ++ (if b then own ∷ [] else []))
@@ -28,7 +28,7 @@ crates-init c = ap members_of c.new-list.ensures.items
 
 pub returns : goal.returns
 returns c = record {
-  ok = let test : Member → Bool = λ m. is_among (asked_of c.args.selection.now).exclude m.name in
+  ok = let test : Member → Bool = λ m. is_among (selection_view c.args.selection.now).exclude m.name in
       c.crates.invariant ∙ ap (λ cs. filter test (members_of cs))
       (take_all c.crates.found-index c.args.crates.now c.crates-test.false);
 }

@@ -1,9 +1,9 @@
 use Rattle.std.proofs.Common.{◌∙◌, ◌++◌, ◌∷◌, [], ap, sym, subst, map, append_assoc, arith}
 use Rattle.std.specs.Prelude.{All, option_to_list}
 use Rattle.std.proofs.lemmas.Result.{err_from_is_err_and}
-use Rattle.edit_tree.specs.Shown.{tree_of}
-use Rattle.edit_set_version.specs.Dependents.{HasRisen, dependent_seen, memory, numbered}
-use Rattle.edit_set_version.specs.Pointed.{pointed_view, pointed_views}
+use Rattle.edit_tree.specs.DocumentViews.{tree_of}
+use Rattle.edit_set_version.specs.Dependents.{HasRaisedText, numbered_dependent_view, memory, with_bump_index}
+use Rattle.edit_set_version.specs.PathDependency.{path_dependency_view, path_dependency_views}
 use Rattle.edit_set_version.proofs.DependentLemmas.{numbered_more, unraised}
 use Rattle.edit_set_version.proofs.dependents.dependents_of.Goals as goal
 
@@ -14,10 +14,10 @@ entries-preserved c =
     record {
       seen = λ bs tells.
           c.in_ok-push_dependent.ensures.ok bs tells
-          ∙ ap (λ fs. fs ++ option_to_list (numbered bs file (pointed_view e)))
+          ∙ ap (λ fs. fs ++ option_to_list (with_bump_index bs file (path_dependency_view e)))
           (c.entries.invariant.seen bs tells)
           ∙ sym (numbered_more bs file c.entries.yielded e);
-      rest = ap pointed_views (append_assoc c.entries.yielded (e ∷ []) c.next.new.self.rest.items
+      rest = ap path_dependency_views (append_assoc c.entries.yielded (e ∷ []) c.next.new.self.rest.items
           ∙ ap (λ xs. c.entries.yielded ++ xs) (sym c.in-Some.ensures.steps.0)) ∙ c.entries.invariant.rest;
       risen = c.in_ok-push_dependent.ensures.risen c.entries.invariant.risen;
     }
@@ -28,16 +28,16 @@ returns-in_err-push_dependent-clause-refused c =
     c.from_residual-in_err-push_dependent.ensures.1 in
     rw (p.1, p.2) (λ bs tells. unraised bs c.args.file.now (tree_of c.args.document.now) c.entries.yielded
     c.in-Some.entry c.next.new.self.rest.items c.in_err-push_dependent.field-0.0
-    (ap (λ xs. pointed_views (c.entries.yielded ++ xs)) (sym c.in-Some.ensures.steps.0)
+    (ap (λ xs. path_dependency_views (c.entries.yielded ++ xs)) (sym c.in-Some.ensures.steps.0)
     ∙ c.entries.invariant.rest)
     (c.in_err-push_dependent.ensures.refused bs tells))
 
 pub entries-init : goal.entries-init
 entries-init c = record {
-  seen = λ bs tells. ap (map dependent_seen) c.new-dependents.ensures.items;
-  rest = ap pointed_views c.into_iter-entry-iterator.ensures.into_iter_gives.0
+  seen = λ bs tells. ap (map numbered_dependent_view) c.new-dependents.ensures.items;
+  rest = ap path_dependency_views c.into_iter-entry-iterator.ensures.into_iter_gives.0
       ∙ c.in_ok-entries.ensures.entries;
-  risen = subst (All HasRisen) (sym c.new-dependents.ensures.items) (λ k d below. absurd (omega
+  risen = subst (All HasRaisedText) (sym c.new-dependents.ensures.items) (λ k d below. absurd (omega
       (arith, below)));
 }
 

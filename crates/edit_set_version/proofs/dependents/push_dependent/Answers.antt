@@ -3,62 +3,62 @@ use Rattle.std.specs.Prelude.{All, option_to_list}
 use Rattle.std.proofs.lemmas.List.{map_push}
 use Rattle.std.proofs.lemmas.List.Elements.{All-push}
 use Rattle.std.proofs.lemmas.Result.{err_from_is_err_and}
-use Rattle.edit_set_version.specs.Dependents.{HasRisen, dependent_seen, lacks, stays}
+use Rattle.edit_set_version.specs.Dependents.{HasRaisedText, numbered_dependent_view, lacks, stays}
 use Rattle.edit_set_version.specs.Folders.{reached}
-use Rattle.edit_set_version.specs.Numbers.{numbered_seen, told_in}
-use Rattle.edit_set_version.specs.Pointed.{pointed_view}
+use Rattle.edit_set_version.specs.BumpsByFolder.{numbered_view, numbered_at}
+use Rattle.edit_set_version.specs.PathDependency.{path_dependency_view}
 use Rattle.edit_set_version.proofs.DependentLemmas.{led_numbered, numbered_by}
 use Rattle.edit_set_version.proofs.dependents.push_dependent.Goals as goal
 
 pub returns-in_err-dependent-in-Some-clause-refused : goal.returns-in_err-dependent-in-Some-clause-refused
 returns-in_err-dependent-in-Some-clause-refused c =
     let file = c.args.file.now in
-    let q = pointed_view c.args.entry in
-    let n = numbered_seen c.in-Some.bump in
+    let q = path_dependency_view c.args.entry in
+    let n = numbered_view c.in-Some.bump in
     let told = c.in_ok-bump.ensures.ok
-    ∙ ap (λ p. told_in c.args.numbers.now (reached file p)) c.as_str.ensures.value in
+    ∙ ap (λ p. numbered_at c.args.numbers.now (reached file p)) c.as_str.ensures.value in
     let p = err_from_is_err_and c.from_residual-in_err-dependent-in-Some.result
     c.from_residual-in_err-dependent-in-Some.ensures.1 in
     rw (p.1, p.2) (λ bs tells. stays (record { place = q.place; text = q.text; next = n.1 })
     (led_numbered bs file q ∙ ap (option_map (λ n. n.1)) (numbered_by bs c.args.numbers.now file q
-    (option_map numbered_seen c.in_ok-bump.bump) tells told
+    (option_map numbered_view c.in_ok-bump.bump) tells told
     ∙ ap (λ b. option_map (λ n. (n.0, record { place = q.place; text = q.text; next = n.1 }))
-    (option_map numbered_seen b)) c.in-Some.is)) c.in_err-dependent-in-Some.ensures.refused)
+    (option_map numbered_view b)) c.in-Some.is)) c.in_err-dependent-in-Some.ensures.refused)
 
 pub returns-in_ok-push-in-Some-clause-ok : goal.returns-in_ok-push-in-Some-clause-ok
 returns-in_ok-push-in-Some-clause-ok c = λ bs tells.
     let file = c.args.file.now in
-    let q = pointed_view c.args.entry in
+    let q = path_dependency_view c.args.entry in
     let f = c.in_ok-dependent-in-Some.dependent in
     let was = c.args.dependents.now.items in
     let told = c.in_ok-bump.ensures.ok
-    ∙ ap (λ p. told_in c.args.numbers.now (reached file p)) c.as_str.ensures.value in
-    let is = numbered_by bs c.args.numbers.now file q (option_map numbered_seen c.in_ok-bump.bump) tells told
+    ∙ ap (λ p. numbered_at c.args.numbers.now (reached file p)) c.as_str.ensures.value in
+    let is = numbered_by bs c.args.numbers.now file q (option_map numbered_view c.in_ok-bump.bump) tells told
     ∙ ap (λ b. option_map (λ n. (n.0, record { place = q.place; text = q.text; next = n.1 }))
-    (option_map numbered_seen b)) c.in-Some.is in
-    ap (map dependent_seen) c.in_ok-push-in-Some.ensures.items ∙ map_push dependent_seen was f
-    ∙ ap (λ x. map dependent_seen was ++ x ∷ [])
+    (option_map numbered_view b)) c.in-Some.is in
+    ap (map numbered_dependent_view) c.in_ok-push-in-Some.ensures.items ∙ map_push numbered_dependent_view was f
+    ∙ ap (λ x. map numbered_dependent_view was ++ x ∷ [])
     (ap₂ (λ a b. (a, b)) (ap (λ z. z.0) c.in_ok-dependent-in-Some.ensures.bump)
     c.in_ok-dependent-in-Some.ensures.entry)
-    ∙ ap (λ o. map dependent_seen was ++ option_to_list o) (sym is)
+    ∙ ap (λ o. map numbered_dependent_view was ++ option_to_list o) (sym is)
 
 pub returns-in_ok-push-in-Some-clause-risen : goal.returns-in_ok-push-in-Some-clause-risen
 returns-in_ok-push-in-Some-clause-risen c = λ all.
-    subst (All HasRisen) (sym c.in_ok-push-in-Some.ensures.items)
-    (All-push HasRisen c.args.dependents.now.items c.in_ok-dependent-in-Some.dependent all
+    subst (All HasRaisedText) (sym c.in_ok-push-in-Some.ensures.items)
+    (All-push HasRaisedText c.args.dependents.now.items c.in_ok-dependent-in-Some.dependent all
     c.in_ok-dependent-in-Some.ensures.risen)
 
 pub returns-in-None-clause-ok : goal.returns-in-None-clause-ok
 returns-in-None-clause-ok c = λ bs tells.
     let file = c.args.file.now in
-    let q = pointed_view c.args.entry in
+    let q = path_dependency_view c.args.entry in
     let told = c.in_ok-bump.ensures.ok
-    ∙ ap (λ p. told_in c.args.numbers.now (reached file p)) c.as_str.ensures.value in
-    let is = numbered_by bs c.args.numbers.now file q (option_map numbered_seen c.in_ok-bump.bump) tells told
+    ∙ ap (λ p. numbered_at c.args.numbers.now (reached file p)) c.as_str.ensures.value in
+    let is = numbered_by bs c.args.numbers.now file q (option_map numbered_view c.in_ok-bump.bump) tells told
     ∙ ap (λ b. option_map (λ n. (n.0, record { place = q.place; text = q.text; next = n.1 }))
-    (option_map numbered_seen b)) c.in-None.is in
-    sym (ap (λ o. map dependent_seen c.args.dependents.now.items ++ option_to_list o) is
-    ∙ append-nil (map dependent_seen c.args.dependents.now.items))
+    (option_map numbered_view b)) c.in-None.is in
+    sym (ap (λ o. map numbered_dependent_view c.args.dependents.now.items ++ option_to_list o) is
+    ∙ append-nil (map numbered_dependent_view c.args.dependents.now.items))
 
 pub returns-in_err-bump-clause-refused : goal.returns-in_err-bump-clause-refused
 returns-in_err-bump-clause-refused c =

@@ -7,14 +7,14 @@ use Rattle.edit_manifest.specs.Versions.{IsNoValue, package_version}
 use Rattle.edit_syntax.specs.Grammar.{Text}
 use Rattle.edit_tree.specs.Assertions.{IsDocument}
 use Rattle.edit_tree.specs.Tree.{is_value_at}
-use Rattle.edit_set_version.specs.Crates.{bumps_seen}
+use Rattle.edit_set_version.specs.Crates.{bumps_view}
 use Rattle.edit_set_version.specs.SetVersioned.{writes_own}
 use Rattle.edit_set_version.proofs.EditsStand.{has_literal, unvalued_stands}
 use Rattle.edit_set_version.proofs.literals.check_literal.Goals as goal
 
 pub returns-in_err-push_own-clause-refused : goal.returns-in_err-push_own-clause-refused
 returns-in_err-push_own-clause-refused c =
-    let bs = bumps_seen c.args.writing.now.bumps.now in
+    let bs = bumps_view c.args.writing.now.bumps.now in
     let m = c.args.manifest.now in
     let e = c.in_err-push_own.field-0.0 in
     let p = err_from_is_err_and c.from_residual.result c.from_residual.ensures.1 in
@@ -24,7 +24,7 @@ returns-in_err-push_own-clause-refused c =
 
 pub returns-clause-literal : goal.returns-clause-literal
 returns-clause-literal c =
-    let bs = bumps_seen c.args.writing.now.bumps.now in
+    let bs = bumps_view c.args.writing.now.bumps.now in
     let m = c.args.manifest.now in
     has_literal bs c.args.input.now m c.requires.read
     (subst (λ path. filter (writes_own path) bs ≢ [] → (form : Text) → IsDocument m.document.bytes form

@@ -3,14 +3,14 @@ use Rattle.std.proofs.Math.Seq.{take-length}
 use Rattle.std.proofs.lemmas.List.Elements.{All-more, All-nil}
 use Rattle.std.proofs.lemmas.Result.{err_from_is_err_and}
 use Rattle.std.proofs.lemmas.Slice.Zip.{AllZip-long}
-use Rattle.edit_set_version.specs.Crates.{IsReadOf, bumps_seen}
+use Rattle.edit_set_version.specs.Crates.{IsReadOf, bumps_view}
 use Rattle.edit_set_version.specs.PlanRefused.{HasLiteral}
 use Rattle.edit_set_version.proofs.ChoiceLemmas.{element_among}
 use Rattle.edit_set_version.proofs.ProjectRoot.{read_beside}
 use Rattle.edit_set_version.proofs.literals.check_literals.Goals as goal
 
 pub inputs-init : goal.inputs-init
-inputs-init c = All-nil (HasLiteral (bumps_seen c.args.writing.now.bumps.now))
+inputs-init c = All-nil (HasLiteral (bumps_view c.args.writing.now.bumps.now))
 
 pub bounds-manifests-i : goal.bounds-manifests-i
 bounds-manifests-i c =
@@ -42,13 +42,13 @@ returns-in_err-check_literal-clause-refused c =
 
 pub inputs-preserved : goal.inputs-preserved
 inputs-preserved c =
-    let bs = bumps_seen c.args.writing.now.bumps.now in
+    let bs = bumps_view c.args.writing.now.bumps.now in
     All-more (HasLiteral bs) c.args.inputs.now c.inputs.i c.index-inputs-i.result c.inputs-test.true
     c.inputs.invariant (subst (HasLiteral bs) c.index-inputs-i.is c.in_ok-check_literal.ensures.literal)
 
 pub returns-clause-literals : goal.returns-clause-literals
 returns-clause-literals c =
-    let bs = bumps_seen c.args.writing.now.bumps.now in
+    let bs = bumps_view c.args.writing.now.bumps.now in
     let all : take c.inputs.i c.args.inputs.now ≡ c.args.inputs.now
     = search (rules, take-length c.args.inputs.now, c.inputs-test.false, c.inputs.auto) in
     subst (All (HasLiteral bs)) all c.inputs.invariant

@@ -1,7 +1,7 @@
 use Rattle.std.proofs.Common.{All, take}
-use Rattle.edit_set_version.specs.Crates.{bumps_seen}
+use Rattle.edit_set_version.specs.Crates.{bumps_view}
 use Rattle.edit_set_version.specs.PlanRefused.{HasLiteral}
 use Rattle.edit_set_version.proofs.literals.check_literals.Given as goal
 
 abbrev pub invariant-inputs : goal.invariant-inputs
-invariant-inputs l = All (HasLiteral (bumps_seen l.writing.bumps.now)) (take l.i l.inputs)
+invariant-inputs l = All (HasLiteral (bumps_view l.writing.bumps.now)) (take l.i l.inputs)

@@ -4,9 +4,9 @@ use Rattle.std.proofs.lemmas.Result.{err_from_is_err_and}
 use Rattle.edit_manifest.specs.Versions.{package_version}
 use Rattle.edit_syntax.specs.Grammar.{Text}
 use Rattle.edit_tree.specs.Assertions.{IsDocument}
-use Rattle.edit_tree.specs.Shown.{tree_of}
+use Rattle.edit_tree.specs.DocumentViews.{tree_of}
 use Rattle.edit_tree.specs.Tree.{is_value_at}
-use Rattle.edit_set_version.specs.Crates.{bumps_seen}
+use Rattle.edit_set_version.specs.Crates.{bumps_view}
 use Rattle.edit_set_version.specs.Dependents.{IsUnraised}
 use Rattle.edit_set_version.specs.Admitted.{AllRise}
 use Rattle.edit_set_version.specs.SetVersioned.{writes_own}
@@ -15,7 +15,7 @@ use Rattle.edit_set_version.proofs.outputs.edits_of.Goals as goal
 
 pub returns-in_err-push_dependents-clause-refused : goal.returns-in_err-push_dependents-clause-refused
 returns-in_err-push_dependents-clause-refused c =
-    let bs = bumps_seen c.args.writing.now.bumps.now in
+    let bs = bumps_view c.args.writing.now.bumps.now in
     let m = c.args.manifest.now in
     let p = err_from_is_err_and c.from_residual-in_err-push_dependents.result
     c.from_residual-in_err-push_dependents.ensures.1 in
@@ -25,7 +25,7 @@ returns-in_err-push_dependents-clause-refused c =
 
 pub returns-clause-clear : goal.returns-clause-clear
 returns-clause-clear c =
-    let bs = bumps_seen c.args.writing.now.bumps.now in
+    let bs = bumps_view c.args.writing.now.bumps.now in
     let m = c.args.manifest.now in
     written_clear bs c.args.input.now m c.requires.read
     (subst (λ path. filter (writes_own path) bs ≢ [] → (form : Text) → IsDocument m.document.bytes form

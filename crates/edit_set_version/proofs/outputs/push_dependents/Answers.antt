@@ -3,14 +3,14 @@ use Rattle.std.specs.Prelude.{All}
 use Rattle.std.proofs.lemmas.List.Elements.{All-map, All-weaker}
 use Rattle.edit_version.specs.Requirement.{raise}
 use Rattle.edit_set_version.specs.Admitted.{CanRise}
-use Rattle.edit_set_version.specs.Dependents.{HasRisen, dependent_seen, dependent_of}
+use Rattle.edit_set_version.specs.Dependents.{HasRaisedText, numbered_dependent_view, dependent_of}
 use Rattle.edit_set_version.specs.declared.dependents.DependentEntry.{DependentEntry}
 use Rattle.std.specs.List.{filter_map}
 use Rattle.std.proofs.lemmas.Result.{err_from_is_err_and}
-use Rattle.edit_tree.specs.Shown.{tree_of}
+use Rattle.edit_tree.specs.DocumentViews.{tree_of}
 use Rattle.edit_tree.specs.Replaces.{Edits}
-use Rattle.edit_document.specs.Ranges.{edits_seen}
-use Rattle.edit_set_version.specs.Crates.{bumps_seen}
+use Rattle.edit_document.specs.Ranges.{edit_views}
+use Rattle.edit_set_version.specs.Crates.{bumps_view}
 use Rattle.edit_set_version.specs.SetVersioned.{Dependent, dependents, requirement_edit}
 use Rattle.edit_set_version.proofs.DependentLemmas.{dependents_numbered}
 use Rattle.edit_set_version.proofs.outputs.push_dependents.Goals as goal
@@ -18,29 +18,29 @@ use Rattle.edit_set_version.proofs.outputs.push_dependents.Goals as goal
 pub returns-in_err-dependents-clause-refused : goal.returns-in_err-dependents-clause-refused
 returns-in_err-dependents-clause-refused c =
     let p = err_from_is_err_and c.from_residual.result c.from_residual.ensures.1 in
-    rw (p.1, p.2) (c.in_err-dependents.ensures.refused (bumps_seen c.args.writing.now.bumps.now)
+    rw (p.1, p.2) (c.in_err-dependents.ensures.refused (bumps_view c.args.writing.now.bumps.now)
     c.requires.numbers)
 
 -- the entries that depend on bumped crates have the requirements on them
 same : (c : goal.After-drop-dependents-2)
     → map dependent_of c.in_ok-dependents.dependents.items
-    ≡ dependents (bumps_seen c.args.writing.now.bumps.now) c.args.path.now (tree_of c.args.document.now)
+    ≡ dependents (bumps_view c.args.writing.now.bumps.now) c.args.path.now (tree_of c.args.document.now)
 same c =
-    let bs = bumps_seen c.args.writing.now.bumps.now in
+    let bs = bumps_view c.args.writing.now.bumps.now in
     without c.in_ok-dependents.dependents.items
     ∙ ap (map (λ (n : ℕ × Dependent). n.1)) (c.in_ok-dependents.ensures.ok bs c.requires.numbers)
     ∙ sym (dependents_numbered bs c.args.path.now (tree_of c.args.document.now))
   where
     without : (fs : List DependentEntry)
-        → map dependent_of fs ≡ map (λ (n : ℕ × Dependent). n.1) (map dependent_seen fs)
+        → map dependent_of fs ≡ map (λ (n : ℕ × Dependent). n.1) (map numbered_dependent_view fs)
     without [] = refl
     without (f ∷ fs) = ap (λ (xs : List Dependent). dependent_of f ∷ xs) (without fs)
 
 pub returns-clause-ok : goal.returns-clause-ok
 returns-clause-ok c =
-    let was = edits_seen c.args.edits.now.items in
+    let was = edit_views c.args.edits.now.items in
     c.in_ok-push_requirements.ensures.ok
-    (subst (All HasRisen) (sym c.deref.ensures.value) c.in_ok-dependents.ensures.risen)
+    (subst (All HasRaisedText) (sym c.deref.ensures.value) c.in_ok-dependents.ensures.risen)
     ∙ ap (λ (fs : List DependentEntry). was ++ filter_map requirement_edit (map dependent_of fs))
     c.deref.ensures.value
     ∙ ap (λ (fs : List Dependent). was ++ filter_map requirement_edit fs) (same c)
@@ -49,5 +49,5 @@ pub returns-clause-rise : goal.returns-clause-rise
 returns-clause-rise c =
     subst (All (λ f. CanRise (raise f.text f.next))) (same c)
     (All-map (λ f. CanRise (raise f.text f.next)) dependent_of c.in_ok-dependents.dependents.items
-    (All-weaker HasRisen (λ f. CanRise (raise (dependent_of f).text (dependent_of f).next)) (λ f h. h.can)
+    (All-weaker HasRaisedText (λ f. CanRise (raise (dependent_of f).text (dependent_of f).next)) (λ f h. h.can)
     c.in_ok-dependents.dependents.items c.in_ok-dependents.ensures.risen))

@@ -6,23 +6,23 @@ use Rattle.semver.specs.Identifiers.{parts_of}
 use Rattle.edit_base.specs.Errors.{IsMemory}
 use Rattle.edit_base.specs.declared.errors.Error.{Error}
 use Rattle.edit_metadata.specs.Metadata.{members}
-use Rattle.edit_metadata.specs.Workspaces.{workspace_said}
+use Rattle.edit_metadata.specs.Workspaces.{workspace_view}
 use Rattle.edit_version.specs.Laws.{IsReadable}
 use Rattle.edit_set_version.specs.Apart.{AreApart}
 use Rattle.edit_set_version.specs.Bumps.{target_of}
 use Rattle.edit_set_version.specs.Chosen.{Member, missing}
-use Rattle.edit_set_version.specs.Crates.{IsReadOf, bumps_seen, project_seen}
+use Rattle.edit_set_version.specs.Crates.{IsReadOf, bumps_view, project_view}
 use Rattle.edit_set_version.specs.Admitted.{AreVersions}
 use Rattle.edit_set_version.specs.Plan.{IsPlan}
 use Rattle.edit_set_version.specs.PlanLines.{lines_of, manifests, shared_lines}
 use Rattle.edit_set_version.specs.PlanRefused.{HasBadInputBy, IsBehindLiterals, IsCauseOf, IsInputClearBy}
 use Rattle.edit_set_version.specs.PlanRefused.IsCauseOf.{memory as of_memory, no_manifest as of_input, no_package as of_package, project as of_project}
-use Rattle.edit_set_version.specs.Planned.{HasOutputsBy, OutputsInOrder, has_lines, told_lines}
+use Rattle.edit_set_version.specs.Planned.{HasOutputsBy, OutputsInOrder, has_lines, plan_lines_view}
 use Rattle.edit_set_version.specs.Projects.{HasProject}
-use Rattle.edit_set_version.specs.Selections.{asked_of}
+use Rattle.edit_set_version.specs.Selections.{selection_view}
 use Rattle.edit_set_version.specs.SetVersioned.{bumps, workspace_current, workspace_next}
 use Rattle.edit_set_version.specs.ToldLines.{HasUnraised}
-use Rattle.edit_set_version.specs.Written.{TellsShared}
+use Rattle.edit_set_version.specs.Written.{HasSharedVersion}
 use Rattle.edit_set_version.specs.declared.plan.SetVersionPlan.{SetVersionPlan}
 use Rattle.edit_set_version.proofs.ApartBumps.{bumps_apart}
 use Rattle.edit_set_version.proofs.InputPaths.{inputs_apart}
@@ -42,7 +42,7 @@ pub returns-in_err-versions-clause-refused : goal.returns-in_err-versions-clause
 returns-in_err-versions-clause-refused c =
     let r = err_from_is_err_and c.from_residual-in_err-versions.result
     c.from_residual-in_err-versions.ensures.1 in
-    let p = project_seen c.in_ok-project.project in
+    let p = project_view c.in_ok-project.project in
     rw (r.1, r.2) (elim c.in_err-versions.ensures.refused [
       | inl none ↦ of_memory none
       | inr why ↦ of_project c.in_ok-check_names.ensures.found p c.in_ok-project.ensures.ok why
@@ -51,38 +51,38 @@ returns-in_err-versions-clause-refused c =
 pub plan_with-requires-clause-apart : goal.plan_with-requires-clause-apart
 plan_with-requires-clause-apart c =
     subst AreApart (sym c.in_ok-versions.ensures.bumps)
-    (bumps_apart (target_of c.args.target.now) (asked_of c.args.selection.now)
-    (workspace_said c.args.workspace.now) c.args.inputs.now (project_seen c.in_ok-project.project)
+    (bumps_apart (target_of c.args.target.now) (selection_view c.args.selection.now)
+    (workspace_view c.args.workspace.now) c.args.inputs.now (project_view c.in_ok-project.project)
     c.requires.folders c.in_ok-project.ensures.ok)
 
 pub plan_with-requires-clause-distinct : goal.plan_with-requires-clause-distinct
 plan_with-requires-clause-distinct c =
-    inputs_apart (workspace_said c.args.workspace.now) c.args.inputs.now c.requires.folders c.requires.inputs
+    inputs_apart (workspace_view c.args.workspace.now) c.args.inputs.now c.requires.folders c.requires.inputs
 
 pub plan_with-requires-clause-shared : goal.plan_with-requires-clause-shared
 plan_with-requires-clause-shared c =
-    let p = project_seen c.in_ok-project.project in
-    subst (TellsShared c.args.inputs.now p.path) (sym c.in_ok-versions.ensures.next)
-    (tells_shared (target_of c.args.target.now) (asked_of c.args.selection.now)
-    (workspace_said c.args.workspace.now) c.args.inputs.now p c.in_ok-project.ensures.ok)
+    let p = project_view c.in_ok-project.project in
+    subst (HasSharedVersion c.args.inputs.now p.path) (sym c.in_ok-versions.ensures.next)
+    (tells_shared (target_of c.args.target.now) (selection_view c.args.selection.now)
+    (workspace_view c.args.workspace.now) c.args.inputs.now p c.in_ok-project.ensures.ok)
 
 pub returns-clause-planned : goal.returns-clause-planned
 returns-clause-planned c =
     let t = target_of c.args.target.now in
-    let a = asked_of c.args.selection.now in
-    let w = workspace_said c.args.workspace.now in
+    let a = selection_view c.args.selection.now in
+    let w = workspace_view c.args.workspace.now in
     let is = c.args.inputs.now in
-    let p = project_seen c.in_ok-project.project in
+    let p = project_view c.in_ok-project.project in
     let project = c.in_ok-project.ensures.ok in
     let versions = c.in_ok-versions.versions in
     let made = c.in_ok-versions.ensures in
     let m = option_map parts_of versions.current in
     let n = option_map parts_of versions.next in
-    let bs = bumps_seen versions.bumps.items in
+    let bs = bumps_view versions.bumps.items in
     where_all c.plan_with.result
     (λ (plan : SetVersionPlan). All (HasOutputsBy p.path n bs plan.outputs.items) is)
     (λ (plan : SetVersionPlan). OutputsInOrder is plan.outputs.items)
-    (λ (plan : SetVersionPlan). told_lines plan ≡ shared_lines m n ++ flat_map (lines_of p) bs)
+    (λ (plan : SetVersionPlan). plan_lines_view plan ≡ shared_lines m n ++ flat_map (lines_of p) bs)
     (λ (plan : SetVersionPlan). plan.changed ≡ has_lines plan)
     (All (IsInputClearBy bs) is)
     (λ (plan : SetVersionPlan). HasProject w is (IsPlan t a is plan))
@@ -117,11 +117,11 @@ returns-clause-planned c =
 pub returns-clause-refused : goal.returns-clause-refused
 returns-clause-refused c =
     let t = target_of c.args.target.now in
-    let a = asked_of c.args.selection.now in
-    let w = workspace_said c.args.workspace.now in
+    let a = selection_view c.args.selection.now in
+    let w = workspace_view c.args.workspace.now in
     let is = c.args.inputs.now in
-    let p = project_seen c.in_ok-project.project in
-    let bs = bumps_seen c.in_ok-versions.versions.bumps.items in
+    let p = project_view c.in_ok-project.project in
+    let bs = bumps_view c.in_ok-versions.versions.bumps.items in
     where_err c.plan_with.result
     (λ (e : Error). IsMemory e ⊎ (IsBehindLiterals bs is e
     × (HasUnraised bs (manifests p) e ⊎ HasBadInputBy bs is e)))

@@ -3,36 +3,36 @@ use Rattle.std.specs.Prelude.{All}
 use Rattle.std.proofs.lemmas.Result.{err_from_is_err_and}
 use Rattle.semver.specs.Identifiers.{parts_of}
 use Rattle.edit_set_version.specs.Apart.{AreApart}
-use Rattle.edit_set_version.specs.Crates.{bumps_seen, project_seen}
-use Rattle.edit_set_version.specs.Numbers.{TellsFirst}
+use Rattle.edit_set_version.specs.Crates.{bumps_view, project_view}
+use Rattle.edit_set_version.specs.BumpsByFolder.{HasFirstBumps}
 use Rattle.edit_set_version.specs.PlanLines.{manifests}
 use Rattle.edit_set_version.specs.PlanRefused.{HasBadInputBy, HasLiteral, IsInputClearBy}
 use Rattle.edit_set_version.specs.ToldLines.{HasUnraised}
-use Rattle.edit_set_version.specs.Written.{TellsShared, shared_seen}
+use Rattle.edit_set_version.specs.Written.{HasSharedVersion, shared_version_view}
 use Rattle.edit_set_version.specs.declared.crates.Bump.{Bump as Bumping}
 use Rattle.edit_set_version.proofs.PlanLemmas.{lines_for, seen_copied, set_for}
 use Rattle.edit_set_version.proofs.planned.plan_with.Goals as goal
 
 pub check_literals-requires-clause-numbers : goal.check_literals-requires-clause-numbers
 check_literals-requires-clause-numbers c =
-    subst (λ (bs : List Bumping). TellsFirst (bumps_seen bs) c.in_ok-numbers.numbers)
+    subst (λ (bs : List Bumping). HasFirstBumps (bumps_view bs) c.in_ok-numbers.numbers)
     (c.deref.ensures.value ∙ sym c.deref-2.ensures.value) c.in_ok-numbers.ensures.ok
 
 pub check_literals-requires-clause-apart : goal.check_literals-requires-clause-apart
 check_literals-requires-clause-apart c =
-    subst (λ (bs : List Bumping). AreApart (bumps_seen bs)) (sym c.deref-2.ensures.value) c.requires.apart
+    subst (λ (bs : List Bumping). AreApart (bumps_view bs)) (sym c.deref-2.ensures.value) c.requires.apart
 
 pub check_literals-requires-clause-read : goal.check_literals-requires-clause-read
 check_literals-requires-clause-read c = c.requires.read
 
 pub plan_lines-requires-clause-numbers : goal.plan_lines-requires-clause-numbers
 plan_lines-requires-clause-numbers c =
-    subst (λ (bs : List Bumping). TellsFirst (bumps_seen bs) c.in_ok-numbers.numbers)
+    subst (λ (bs : List Bumping). HasFirstBumps (bumps_view bs) c.in_ok-numbers.numbers)
     (c.deref.ensures.value ∙ sym c.deref-3.ensures.value) c.in_ok-numbers.ensures.ok
 
 pub outputs_of-requires-clause-numbers : goal.outputs_of-requires-clause-numbers
 outputs_of-requires-clause-numbers c =
-    subst (λ (bs : List Bumping). TellsFirst (bumps_seen bs) c.in_ok-numbers.numbers)
+    subst (λ (bs : List Bumping). HasFirstBumps (bumps_view bs) c.in_ok-numbers.numbers)
     (c.deref.ensures.value ∙ sym c.deref-2.ensures.value) c.in_ok-numbers.ensures.ok
 
 pub returns-in_err-numbers-clause-refused : goal.returns-in_err-numbers-clause-refused
@@ -42,7 +42,7 @@ returns-in_err-numbers-clause-refused c =
 
 pub plan_lines-requires-clause-apart : goal.plan_lines-requires-clause-apart
 plan_lines-requires-clause-apart c =
-    subst (λ (bs : List Bumping). AreApart (bumps_seen bs)) (sym c.deref-3.ensures.value) c.requires.apart
+    subst (λ (bs : List Bumping). AreApart (bumps_view bs)) (sym c.deref-3.ensures.value) c.requires.apart
 
 pub returns-in_err-check_literals-clause-refused : goal.returns-in_err-check_literals-clause-refused
 returns-in_err-check_literals-clause-refused c =
@@ -53,7 +53,7 @@ returns-in_err-check_literals-clause-refused c =
       | inl none ↦ inl none
       | inr why ↦ inr (
         inl why.0,
-        inr (subst (λ (bs : List Bumping). HasBadInputBy (bumps_seen bs) c.args.inputs.now e)
+        inr (subst (λ (bs : List Bumping). HasBadInputBy (bumps_view bs) c.args.inputs.now e)
             c.deref-2.ensures.value why.1),
       )
     ])
@@ -62,20 +62,20 @@ pub returns-in_err-lines-clause-refused : goal.returns-in_err-lines-clause-refus
 returns-in_err-lines-clause-refused c =
     let r = err_from_is_err_and c.from_residual-in_err-lines.result
     c.from_residual-in_err-lines.ensures.1 in
-    let all = manifests (project_seen c.args.project.now) in
+    let all = manifests (project_view c.args.project.now) in
     let e = c.in_err-lines.field-0.0 in
     rw (r.1, r.2) (elim c.in_err-lines.ensures.refused [
       | inl none ↦ inl none
       | inr why ↦ inr (
-        inr (subst (λ (bs : List Bumping). All (HasLiteral (bumps_seen bs)) c.args.inputs.now)
+        inr (subst (λ (bs : List Bumping). All (HasLiteral (bumps_view bs)) c.args.inputs.now)
             c.deref-2.ensures.value c.in_ok-check_literals.ensures.literals),
-        inl (subst (λ (bs : List Bumping). HasUnraised (bumps_seen bs) all e) c.deref-3.ensures.value why),
+        inl (subst (λ (bs : List Bumping). HasUnraised (bumps_view bs) all e) c.deref-3.ensures.value why),
       )
     ])
 
 pub outputs_of-requires-clause-apart : goal.outputs_of-requires-clause-apart
 outputs_of-requires-clause-apart c =
-    subst (λ (bs : List Bumping). AreApart (bumps_seen bs)) (sym c.deref-2.ensures.value) c.requires.apart
+    subst (λ (bs : List Bumping). AreApart (bumps_view bs)) (sym c.deref-2.ensures.value) c.requires.apart
 
 pub outputs_of-requires-clause-read : goal.outputs_of-requires-clause-read
 outputs_of-requires-clause-read c = c.requires.read
@@ -88,8 +88,8 @@ outputs_of-requires-clause-shared c =
     let is = c.args.inputs.now in
     let n = option_map parts_of c.args.versions.now.next in
     let seen = seen_copied c.as_ref-next.result ∙ ap (option_map parts_of) c.as_ref-next.ensures.value in
-    subst (TellsShared is c.as_str.result.now) (sym seen)
-    (subst (λ (root : List ℕ). TellsShared is root n) (sym c.as_str.ensures.value) c.requires.shared)
+    subst (HasSharedVersion is c.as_str.result.now) (sym seen)
+    (subst (λ (root : List ℕ). HasSharedVersion is root n) (sym c.as_str.ensures.value) c.requires.shared)
 
 pub returns-in_err-outputs-clause-refused : goal.returns-in_err-outputs-clause-refused
 returns-in_err-outputs-clause-refused c =
@@ -99,9 +99,9 @@ returns-in_err-outputs-clause-refused c =
     rw (r.1, r.2) (elim c.in_err-outputs.ensures.refused [
       | inl none ↦ inl none
       | inr why ↦ inr (
-        inr (subst (λ (bs : List Bumping). All (HasLiteral (bumps_seen bs)) c.args.inputs.now)
+        inr (subst (λ (bs : List Bumping). All (HasLiteral (bumps_view bs)) c.args.inputs.now)
             c.deref-2.ensures.value c.in_ok-check_literals.ensures.literals),
-        inr (subst (λ (bs : List Bumping). HasBadInputBy (bumps_seen bs) c.args.inputs.now e)
+        inr (subst (λ (bs : List Bumping). HasBadInputBy (bumps_view bs) c.args.inputs.now e)
             c.deref-2.ensures.value why),
       )
     ])
@@ -111,25 +111,25 @@ returns-clause-outputs c =
     let is = c.args.inputs.now in
     let os = c.in_ok-outputs.outputs.items in
     let seen = seen_copied c.as_ref-next.result ∙ ap (option_map parts_of) c.as_ref-next.ensures.value in
-    set_for is os c.as_str.result.now (project_seen c.args.project.now).path
-    (shared_seen c.as_ref-next.result) (option_map parts_of c.args.versions.now.next)
-    (bumps_seen c.deref-2.result.now) (bumps_seen c.args.versions.now.bumps.items)
-    c.as_str.ensures.value seen (ap bumps_seen c.deref-2.ensures.value) c.in_ok-outputs.ensures.outputs
+    set_for is os c.as_str.result.now (project_view c.args.project.now).path
+    (shared_version_view c.as_ref-next.result) (option_map parts_of c.args.versions.now.next)
+    (bumps_view c.deref-2.result.now) (bumps_view c.args.versions.now.bumps.items)
+    c.as_str.ensures.value seen (ap bumps_view c.deref-2.ensures.value) c.in_ok-outputs.ensures.outputs
 
 pub returns-clause-in_order : goal.returns-clause-in_order
 returns-clause-in_order c = c.in_ok-outputs.ensures.in_order
 
 pub returns-clause-lines : goal.returns-clause-lines
 returns-clause-lines c =
-    let p = project_seen c.args.project.now in
+    let p = project_view c.args.project.now in
     let old = seen_copied c.as_ref-old.result ∙ ap (option_map parts_of) c.as_ref-old.ensures.value in
     let next = seen_copied c.as_ref-next.result ∙ ap (option_map parts_of) c.as_ref-next.ensures.value in
-    c.in_ok-lines.ensures.ok ∙ lines_for p (shared_seen c.as_ref-old.result)
-    (option_map parts_of c.args.versions.now.current) (shared_seen c.as_ref-next.result)
-    (option_map parts_of c.args.versions.now.next) (bumps_seen c.deref-3.result.now)
-    (bumps_seen c.args.versions.now.bumps.items) old next (ap bumps_seen c.deref-3.ensures.value)
+    c.in_ok-lines.ensures.ok ∙ lines_for p (shared_version_view c.as_ref-old.result)
+    (option_map parts_of c.args.versions.now.current) (shared_version_view c.as_ref-next.result)
+    (option_map parts_of c.args.versions.now.next) (bumps_view c.deref-3.result.now)
+    (bumps_view c.args.versions.now.bumps.items) old next (ap bumps_view c.deref-3.ensures.value)
 
 pub returns-clause-clear : goal.returns-clause-clear
 returns-clause-clear c =
-    subst (λ (bs : List Bumping). All (IsInputClearBy (bumps_seen bs)) c.args.inputs.now)
+    subst (λ (bs : List Bumping). All (IsInputClearBy (bumps_view bs)) c.args.inputs.now)
     c.deref-2.ensures.value c.in_ok-outputs.ensures.clear

@@ -5,30 +5,30 @@ use Rattle.std.proofs.lemmas.Result.{err_from_is_err_and}
 use Rattle.semver.specs.Identifiers.{parts_of}
 use Rattle.semver.specs.Parse.{Parts}
 use Rattle.edit_manifest.specs.Versions.{workspace_version}
-use Rattle.edit_tree.specs.Shown.{tree_of}
+use Rattle.edit_tree.specs.DocumentViews.{tree_of}
 use Rattle.edit_version.specs.Laws.{IsReadable}
 use Rattle.edit_set_version.specs.Bumps.{bump, next_of, target_of}
 use Rattle.edit_set_version.specs.Chosen.{Member, bumps_workspace, chosen, held_back, inheriting}
-use Rattle.edit_set_version.specs.Crates.{members_of, project_seen}
-use Rattle.edit_set_version.specs.PlanCauses.{IsHeldBack, excluded, version}
+use Rattle.edit_set_version.specs.Crates.{members_of, project_view}
+use Rattle.edit_set_version.specs.PlanCauses.{IsExcludeError, excluded, version}
 use Rattle.edit_set_version.specs.PlanRefused.{IsBumpable}
-use Rattle.edit_set_version.specs.Selections.{asked_of}
+use Rattle.edit_set_version.specs.Selections.{selection_view}
 use Rattle.edit_set_version.specs.SetVersioned.{bump_of, workspace_current}
-use Rattle.edit_set_version.specs.Written.{shared_seen}
+use Rattle.edit_set_version.specs.Written.{shared_version_view}
 use Rattle.edit_set_version.specs.declared.crates.Crate.{Crate}
 use Rattle.edit_set_version.proofs.PlanLemmas.{all_currents, all_shared, current_among, member_current, seen_copied}
 use Rattle.edit_set_version.proofs.planned.versions_of.Goals as goal
 
 pub returns-in_err-next-clause-refused : goal.returns-in_err-next-clause-refused
 returns-in_err-next-clause-refused c =
-    let a = asked_of c.args.selection.now in
-    let p = project_seen c.args.project.now in
+    let a = selection_view c.args.selection.now in
+    let p = project_view c.args.project.now in
     let tree = tree_of c.args.project.now.root.manifest.now.document in
     let is : option_map parts_of c.in_ok-current.current ≡ workspace_current a p
     = c.in_ok-current.ensures.ok
     ∙ ap (λ b. if b then workspace_version tree else None) (c.in_ok-choice.ensures.workspace
     ∙ ap (λ cs. bumps_workspace a (members_of cs)) c.deref.ensures.value) in
-    let seen : shared_seen c.as_ref.result ≡ workspace_current a p
+    let seen : shared_version_view c.as_ref.result ≡ workspace_current a p
     = seen_copied c.as_ref.result ∙ ap (option_map parts_of) c.as_ref.ensures.value ∙ is in
     let why = c.in_err-next.ensures.refused in
     let r = err_from_is_err_and c.from_residual-in_err-next.result c.from_residual-in_err-next.ensures.1 in
@@ -42,8 +42,8 @@ returns-in_err-next-clause-refused c =
 
 pub returns-in_err-bumps-clause-refused : goal.returns-in_err-bumps-clause-refused
 returns-in_err-bumps-clause-refused c =
-    let a = asked_of c.args.selection.now in
-    let p = project_seen c.args.project.now in
+    let a = selection_view c.args.selection.now in
+    let p = project_view c.args.project.now in
     let these : members_of c.deref-2.result.now ≡ chosen a p.members
     = ap members_of c.deref-2.ensures.value ∙ c.in_ok-choice.ensures.chosen
     ∙ ap (λ cs. chosen a (members_of cs)) c.deref.ensures.value in
@@ -64,8 +64,8 @@ returns-in_err-bumps-clause-refused c =
 pub returns-clause-bumpable : goal.returns-clause-bumpable
 returns-clause-bumpable c =
     let t = target_of c.args.target.now in
-    let a = asked_of c.args.selection.now in
-    let p = project_seen c.args.project.now in
+    let a = selection_view c.args.selection.now in
+    let p = project_view c.args.project.now in
     let tree = tree_of c.args.project.now.root.manifest.now.document in
     let these : members_of c.deref-2.result.now ≡ chosen a p.members
     = ap members_of c.deref-2.ensures.value ∙ c.in_ok-choice.ensures.chosen
@@ -74,7 +74,7 @@ returns-clause-bumpable c =
     = c.in_ok-current.ensures.ok
     ∙ ap (λ b. if b then workspace_version tree else None) (c.in_ok-choice.ensures.workspace
     ∙ ap (λ cs. bumps_workspace a (members_of cs)) c.deref.ensures.value) in
-    let seen : shared_seen c.as_ref.result ≡ workspace_current a p
+    let seen : shared_version_view c.as_ref.result ≡ workspace_current a p
     = seen_copied c.as_ref.result ∙ ap (option_map parts_of) c.as_ref.ensures.value ∙ is in
     all_currents (λ (v : Parts). IsBumpable (bump t a.metadata v)) a p
     (all_shared (λ (v : Parts). IsBumpable (bump t a.metadata v)) c.as_ref.result (workspace_current a p) seen
@@ -84,8 +84,8 @@ returns-clause-bumpable c =
 
 pub returns-clause-versions : goal.returns-clause-versions
 returns-clause-versions c = λ target all.
-    let a = asked_of c.args.selection.now in
-    let p = project_seen c.args.project.now in
+    let a = selection_view c.args.selection.now in
+    let p = project_view c.args.project.now in
     let these : members_of c.deref-2.result.now ≡ chosen a p.members
     = ap members_of c.deref-2.ensures.value ∙ c.in_ok-choice.ensures.chosen
     ∙ ap (λ cs. chosen a (members_of cs)) c.deref.ensures.value in
@@ -94,12 +94,12 @@ returns-clause-versions c = λ target all.
 
 pub returns-in_err-choice-clause-refused : goal.returns-in_err-choice-clause-refused
 returns-in_err-choice-clause-refused c =
-    let a = asked_of c.args.selection.now in
+    let a = selection_view c.args.selection.now in
     let e = c.in_err-choice.field-0.0 in
     let r = err_from_is_err_and c.from_residual.result c.from_residual.ensures.1 in
     rw (r.1, r.2) (elim c.in_err-choice.ensures.refused [
       | inl none ↦ inl none
-      | inr why ↦ inr (excluded (subst (λ (cs : List Crate). IsHeldBack (held_back a (members_of cs))
+      | inr why ↦ inr (excluded (subst (λ (cs : List Crate). IsExcludeError (held_back a (members_of cs))
           (inheriting a (members_of cs)) e) c.deref.ensures.value why))
     ])
 
@@ -112,8 +112,8 @@ returns-in_err-current-clause-refused c =
 pub returns-clause-bumps : goal.returns-clause-bumps
 returns-clause-bumps c =
     let t = target_of c.args.target.now in
-    let a = asked_of c.args.selection.now in
-    let p = project_seen c.args.project.now in
+    let a = selection_view c.args.selection.now in
+    let p = project_view c.args.project.now in
     let these : members_of c.deref-2.result.now ≡ chosen a p.members
     = ap members_of c.deref-2.ensures.value ∙ c.in_ok-choice.ensures.chosen
     ∙ ap (λ cs. chosen a (members_of cs)) c.deref.ensures.value in
@@ -121,7 +121,7 @@ returns-clause-bumps c =
 
 pub returns-clause-current : goal.returns-clause-current
 returns-clause-current c =
-    let a = asked_of c.args.selection.now in
+    let a = selection_view c.args.selection.now in
     let tree = tree_of c.args.project.now.root.manifest.now.document in
     c.in_ok-current.ensures.ok
     ∙ ap (λ b. if b then workspace_version tree else None) (c.in_ok-choice.ensures.workspace
@@ -130,18 +130,18 @@ returns-clause-current c =
 pub returns-clause-next : goal.returns-clause-next
 returns-clause-next c =
     let t = target_of c.args.target.now in
-    let a = asked_of c.args.selection.now in
-    let p = project_seen c.args.project.now in
+    let a = selection_view c.args.selection.now in
+    let p = project_view c.args.project.now in
     let tree = tree_of c.args.project.now.root.manifest.now.document in
     let is : option_map parts_of c.in_ok-current.current ≡ workspace_current a p
     = c.in_ok-current.ensures.ok
     ∙ ap (λ b. if b then workspace_version tree else None) (c.in_ok-choice.ensures.workspace
     ∙ ap (λ cs. bumps_workspace a (members_of cs)) c.deref.ensures.value) in
-    let seen : shared_seen c.as_ref.result ≡ workspace_current a p
+    let seen : shared_version_view c.as_ref.result ≡ workspace_current a p
     = seen_copied c.as_ref.result ∙ ap (option_map parts_of) c.as_ref.ensures.value ∙ is in
     c.in_ok-next.ensures.ok ∙ ap (option_and_then (λ (v : Parts). next_of (bump t a.metadata v))) seen
 
 pub returns-clause-excluded : goal.returns-clause-excluded
 returns-clause-excluded c =
-    let a = asked_of c.args.selection.now in
+    let a = selection_view c.args.selection.now in
     ap (λ cs. held_back a (members_of cs)) (sym c.deref.ensures.value) ∙ c.in_ok-choice.ensures.excluded

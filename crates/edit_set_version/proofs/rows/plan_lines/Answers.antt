@@ -1,6 +1,6 @@
 use Rattle.std.proofs.Common.{◌∙◌, ◌++◌, ap, ap₂}
 use Rattle.std.specs.List.{flat_map}
-use Rattle.edit_set_version.specs.Crates.{bumps_seen, project_seen}
+use Rattle.edit_set_version.specs.Crates.{bumps_view, project_view}
 use Rattle.edit_set_version.proofs.LinesTogether.{lines_in_a_row}
 use Rattle.edit_set_version.proofs.rows.plan_lines.Goals as goal
 
@@ -9,4 +9,4 @@ returns-clause-ok c =
     c.in_ok-lines.ensures.ok
     ∙ ap₂ (λ a b. a ++ b) c.in_ok-first.ensures.ok
     (ap (flat_map (λ l. l)) c.in_ok-lists.ensures.ok
-    ∙ lines_in_a_row (project_seen c.args.project.now) (bumps_seen c.args.bumps.now) c.requires.apart)
+    ∙ lines_in_a_row (project_view c.args.project.now) (bumps_view c.args.bumps.now) c.requires.apart)

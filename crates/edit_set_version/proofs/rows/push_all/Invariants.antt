@@ -1,9 +1,9 @@
 use Rattle.std.proofs.Common.{◌≡◌, ◌++◌, map}
-use Rattle.edit_set_version.specs.ToldLines.{line_told}
+use Rattle.edit_set_version.specs.ToldLines.{report_line_view}
 use Rattle.edit_set_version.proofs.rows.push_all.Given as goal
 
 abbrev pub invariant-list : goal.invariant-list
 invariant-list l = record {
-  told : map line_told l.lines.items ≡ map line_told l.initial.lines.items ++ map line_told l.yielded;
+  told : map report_line_view l.lines.items ≡ map report_line_view l.initial.lines.items ++ map report_line_view l.yielded;
   rest : l.yielded ++ l.line-iterator.rest.items ≡ l.fn.list.items;
 }

@@ -1,6 +1,6 @@
 use Rattle.std.proofs.Common.{◌∙◌, ap, inr}
 use Rattle.std.proofs.lemmas.Result.{err_from_is_err_and}
-use Rattle.edit_set_version.specs.Crates.{bumps_seen, project_seen}
+use Rattle.edit_set_version.specs.Crates.{bumps_view, project_view}
 use Rattle.edit_set_version.specs.PlanLines.{manifests}
 use Rattle.edit_set_version.specs.ToldLines.{with_manifests}
 use Rattle.edit_set_version.proofs.walk.lists_of.Goals as goal
@@ -9,11 +9,11 @@ pub returns-in_err-push_project-clause-refused : goal.returns-in_err-push_projec
 returns-in_err-push_project-clause-refused c =
     let p = err_from_is_err_and c.from_residual-in_err-push_project.result
     c.from_residual-in_err-push_project.ensures.1 in
-    rw (p.1, p.2) (inr (c.in_err-push_project.ensures.refused (bumps_seen c.args.bumps.now)
+    rw (p.1, p.2) (inr (c.in_err-push_project.ensures.refused (bumps_view c.args.bumps.now)
     c.requires.numbers))
 
 pub returns-clause-ok : goal.returns-clause-ok
 returns-clause-ok c =
-    let bs = bumps_seen c.args.bumps.now in
+    let bs = bumps_view c.args.bumps.now in
     c.in_ok-push_project.ensures.ok bs c.requires.numbers
-    ∙ ap (with_manifests bs (manifests (project_seen c.args.project.now)) 0) c.in_ok-lists.ensures.ok
+    ∙ ap (with_manifests bs (manifests (project_view c.args.project.now)) 0) c.in_ok-lists.ensures.ok

@@ -2,7 +2,7 @@ use Rattle.std.proofs.Common.{arith, refl, subst, zero}
 use Rattle.std.proofs.lemmas.Result.{err_from_is_err_and}
 use Rattle.edit_set_version.specs.Dependents.{IsUnraised, memory}
 use Rattle.edit_metadata.specs.Inputs.{path_of}
-use Rattle.edit_tree.specs.Shown.{tree_of}
+use Rattle.edit_tree.specs.DocumentViews.{tree_of}
 use Rattle.edit_set_version.proofs.walk.push_manifest.Goals as goal
 
 pub returns-in_err-dependents-clause-refused : goal.returns-in_err-dependents-clause-refused

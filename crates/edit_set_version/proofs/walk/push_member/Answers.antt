@@ -4,7 +4,7 @@ use Rattle.std.proofs.lemmas.Result.{err_from_is_err_and}
 use Rattle.edit_document.proofs.EntryPartViews.{same_texts}
 use Rattle.edit_tree.specs.Assertions.{same_bytes}
 use Rattle.edit_set_version.specs.Crates.{member_of}
-use Rattle.edit_set_version.specs.ToldLines.{HasUnraised, lists_told, with_manifests}
+use Rattle.edit_set_version.specs.ToldLines.{HasUnraised, line_lists_view, with_manifests}
 use Rattle.edit_set_version.proofs.ManifestLines.{no_manifests, one_named, other_one, other_same}
 use Rattle.edit_set_version.proofs.walk.push_member.Goals as goal
 
@@ -12,7 +12,7 @@ pub returns-then-eq-clause-ok : goal.returns-then-eq-clause-ok
 returns-then-eq-clause-ok c = λ bs tells.
     let m = member_of c.args.found in
     let root = c.args.root.now in
-    let was = lists_told c.args.lists.now.items in
+    let was = line_lists_view c.args.lists.now.items in
     let same : same_bytes m.path root ≡ true
     = sym (same_texts m.path root) ∙ ap (λ p. bytes_eq p root) (sym c.as_str.ensures.value)
     ∙ (sym c.eq.ensures ∙ c.if-eq.true) in
@@ -34,7 +34,7 @@ pub returns-clause-ok : goal.returns-clause-ok
 returns-clause-ok c = λ bs tells.
     let m = member_of c.args.found in
     let root = c.args.root.now in
-    let was = lists_told c.args.lists.now.items in
+    let was = line_lists_view c.args.lists.now.items in
     let other : same_bytes m.path root ≡ false
     = sym (same_texts m.path root) ∙ ap (λ p. bytes_eq p root) (sym c.as_str.ensures.value)
     ∙ (sym c.eq.ensures ∙ c.if-eq.false) in

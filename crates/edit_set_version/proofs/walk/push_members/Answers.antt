@@ -1,12 +1,12 @@
 use Rattle.std.proofs.Common.{◌∙◌, ◌∷◌, [], ap, sym, take}
 use Rattle.std.proofs.lemmas.Result.{err_from_is_err_and}
 use Rattle.edit_set_version.specs.Crates.{member_of, members_of}
-use Rattle.edit_set_version.specs.ToldLines.{lists_told, other_manifests, with_manifests}
+use Rattle.edit_set_version.specs.ToldLines.{line_lists_view, other_manifests, with_manifests}
 use Rattle.edit_set_version.proofs.ManifestLines.{manifests_in_parts, no_manifests, others_more, unraised_among}
 use Rattle.edit_set_version.proofs.walk.push_members.Goals as goal
 
 pub members-init : goal.members-init
-members-init c = λ bs tells. sym (no_manifests bs 0 (lists_told c.args.lists.now.items))
+members-init c = λ bs tells. sym (no_manifests bs 0 (line_lists_view c.args.lists.now.items))
 
 pub returns-in_err-push_member-clause-refused : goal.returns-in_err-push_member-clause-refused
 returns-in_err-push_member-clause-refused c =
@@ -21,7 +21,7 @@ members-preserved c = λ bs tells.
     let cs = c.args.crates.now in
     let i = c.members.found-index in
     let x = c.found-item.result in
-    let was = lists_told c.args.lists.now.items in
+    let was = line_lists_view c.args.lists.now.items in
     let own = other_manifests root (member_of x ∷ []) in
     c.in_ok-push_member.ensures.ok bs tells
     ∙ ap (with_manifests bs own 0) (c.members.invariant bs tells)

@@ -3,8 +3,8 @@ use Rattle.std.specs.Prelude.{codes}
 use Rattle.std.proofs.lemmas.Result.{err_from_is_err_and}
 use Rattle.edit_set_version.specs.Crates.{members_of}
 use Rattle.edit_set_version.specs.PlanLines.{Named}
-use Rattle.edit_set_version.specs.ToldLines.{HasUnraised, lists_told, other_manifests, with_manifests}
-use Rattle.edit_tree.specs.Shown.{tree_of}
+use Rattle.edit_set_version.specs.ToldLines.{HasUnraised, line_lists_view, other_manifests, with_manifests}
+use Rattle.edit_tree.specs.DocumentViews.{tree_of}
 use Rattle.edit_set_version.proofs.ManifestLines.{manifests_in_parts, unraised_first, unraised_last}
 use Rattle.edit_set_version.proofs.walk.push_project.Goals as goal
 
@@ -45,8 +45,8 @@ pub returns-clause-ok : goal.returns-clause-ok
 returns-clause-ok c = λ bs tells.
     let project = c.args.project.now in
     let path = string_bytes project.root.input.now.path in
-    let was = lists_told c.args.lists.now.items in
-    let mid = lists_told c.push_manifest.new.lists.items in
+    let was = line_lists_view c.args.lists.now.items in
+    let mid = line_lists_view c.push_manifest.new.lists.items in
     let others = other_manifests path (members_of project.members.items) in
     let first : Named = record {
       name = codes "workspace";

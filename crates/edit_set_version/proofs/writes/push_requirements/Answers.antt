@@ -2,8 +2,8 @@ use Rattle.std.proofs.Common.{◌≡◌, ◌∙◌, ◌++◌, ap, map, rules, su
 use Rattle.std.specs.Prelude.{option_to_list}
 use Rattle.std.specs.List.{filter_map}
 use Rattle.std.proofs.Math.Seq.{take-length}
-use Rattle.edit_document.specs.Ranges.{edits_seen}
-use Rattle.edit_set_version.specs.Dependents.{HasRisen, dependent_of}
+use Rattle.edit_document.specs.Ranges.{edit_views}
+use Rattle.edit_set_version.specs.Dependents.{HasRaisedText, dependent_of}
 use Rattle.edit_set_version.specs.SetVersioned.{requirement_edit}
 use Rattle.edit_set_version.proofs.ChoiceLemmas.{some_more}
 use Rattle.edit_set_version.proofs.writes.push_requirements.Goals as goal
@@ -13,9 +13,9 @@ dependents-preserved c = λ all.
     let fs = c.args.dependents.now in
     let i = c.dependents.dependent-index in
     let f = c.dependent-item.result in
-    let was = edits_seen c.args.edits.now.items in
+    let was = edit_views c.args.edits.now.items in
     let old = filter_map requirement_edit (map dependent_of (take i fs)) in
-    c.in_ok-push_requirement.ensures.ok (subst HasRisen (sym c.dependent-item.is)
+    c.in_ok-push_requirement.ensures.ok (subst HasRaisedText (sym c.dependent-item.is)
     (all i f c.dependents-test.true))
     ∙ ap (λ es. es ++ option_to_list (requirement_edit (dependent_of f))) (c.dependents.invariant all)
     ∙ append_assoc was old (option_to_list (requirement_edit (dependent_of f)))
@@ -27,4 +27,4 @@ returns-clause-ok c = λ risen.
     let all : take c.dependents.dependent-index c.args.dependents.now ≡ c.args.dependents.now
     = search (rules, take-length c.args.dependents.now) in
     c.dependents.invariant risen
-    ∙ ap (λ fs. edits_seen c.args.edits.now.items ++ filter_map requirement_edit (map dependent_of fs)) all
+    ∙ ap (λ fs. edit_views c.args.edits.now.items ++ filter_map requirement_edit (map dependent_of fs)) all

@@ -1,10 +1,11 @@
-use Rattle.std.proofs.Common.{◌≡◌, ◌++◌, map, option_map}
-use Rattle.toml.specs.View.{table_view, members_view}
+use Rattle.std.proofs.Common.{◌≡◌, ◌++◌, drop, map, option_map}
+use Rattle.edit_base.specs.Paths.{texts}
+use Rattle.edit_document.specs.ItemViews.{place_of}
 use Rattle.edit_sources.specs.Configuration.{entries_of, index_of}
-use Rattle.edit_sources.specs.Configured.{registry_entry}
+use Rattle.edit_sources.specs.Configured.{item_tree, registry_entry}
 use Rattle.edit_sources.proofs.config.registry_entries.Given as goal
 
-abbrev pub invariant-loop-key : goal.invariant-loop-key
-invariant-loop-key l = entries_of index_of (table_view l.table)
+abbrev pub invariant-keys : goal.invariant-keys
+invariant-keys l = entries_of (index_of (item_tree l.table)) (place_of l.table) (texts l.key-items)
     ≡ option_map (λ rest. map registry_entry l.registries.items ++ rest)
-    (entries_of index_of (members_view l.key-iterator))
+    (entries_of (index_of (item_tree l.table)) (place_of l.table) (texts (drop l.key-index l.key-items)))

@@ -5,12 +5,12 @@ use Rattle.std.proofs.lemmas.List.{map-id}
 use Rattle.edit_sources.specs.FileIndex.{AreNamed, IsAdded}
 use Rattle.edit_sources.proofs.RunLemmas.{HasGrouped, continued, with_name, grouped-more, grouped-anew, grouped-all}
 use Rattle.edit_sources.proofs.file_index.grouped.Goals as goal
-use Rattle.edit_sources.proofs.file_index.grouped.Goals.{then-not-continues+in_ok-add_run+in_ok-reserve_exact, else-not-continues}
+use Rattle.edit_sources.proofs.file_index.grouped.Goals.{then-not-is_same_crate+in_ok-add_run+in_ok-reserve_exact, else-not-is_same_crate}
 
 pub loop-entry-preserved : goal.loop-entry-preserved
-loop-entry-preserved c = elim c.if-not-continues.branch [
-  | then-not-continues+in_ok-add_run+in_ok-reserve_exact w ↦
-      let begun : c.if-not-continues.run.items ≡ [] = ap (λ r. r.items) w.run-is ∙
+loop-entry-preserved c = elim c.if-not-is_same_crate.branch [
+  | then-not-is_same_crate+in_ok-add_run+in_ok-reserve_exact w ↦
+      let begun : c.if-not-is_same_crate.run.items ≡ [] = ap (λ r. r.items) w.run-is ∙
       w.in_ok-reserve_exact.ensures.items ∙ ap (λ r. r.items) w.replace-ended.ensures.after ∙
       w.new.ensures.items in
       let items : c.push.new.self.items ≡ c.in-Some.entry ∷ [] = c.in_ok-push.ensures.items ∙
@@ -26,7 +26,7 @@ loop-entry-preserved c = elim c.if-not-continues.branch [
       (subst (λ r. AreNamed c.loop-entry.invariant.1.0 r.items) (sym w.replace-ended.ensures.value)
       c.loop-entry.invariant.1.1)))
       c.in-Some.entry))
-  | else-not-continues w ↦
+  | else-not-is_same_crate w ↦
       let items : c.push.new.self.items ≡ c.loop-entry.run.items ++ c.in-Some.entry ∷ [] =
       c.in_ok-push.ensures.items ∙ ap (λ r. r.items ++ c.in-Some.entry ∷ []) w.run-is in
       subst (λ g. HasGrouped g c.push.new.self.items (c.loop-entry.yielded ++ c.in-Some.entry ∷ []))
@@ -35,7 +35,7 @@ loop-entry-preserved c = elim c.if-not-continues.branch [
       (sym items)
       (grouped-more c.loop-entry.groups c.loop-entry.run.items c.loop-entry.yielded c.loop-entry.invariant
       c.in-Some.entry
-      (λ name named. continued c.deref.result.now c.in-Some.entry (sym w.if-not-continues.ensures) name
+      (λ name named. continued c.deref.result.now c.in-Some.entry (sym w.if-not-is_same_crate.ensures) name
       (subst (AreNamed name) (sym c.deref.ensures.value) named))))
 ]
 

@@ -1,8 +1,8 @@
 use Rattle.std.proofs.Common.{rules, ◌≡◌, ◌≤◌, ◌+◌, length, [], ◌∷◌, ◌++◌, true, false, Some, map, ap, sym, ◌∙◌, subst, inl, inr, ⊎_elim, arith}
 use Rattle.std.proofs.lemmas.List.{map-append}
 use Rattle.edit_version.specs.IndexEntry.{entry_of}
-use Rattle.edit_sources.specs.IndexLines.{LinesSay, is_blank, lines_left}
-use Rattle.edit_sources.specs.IndexLines.LinesSay.{blank, entry}
+use Rattle.edit_sources.specs.IndexLines.{HaveEntriesInOrder, is_blank, lines_left}
+use Rattle.edit_sources.specs.IndexLines.HaveEntriesInOrder.{blank, entry}
 use Rattle.edit_sources.proofs.LineLemmas.{HasRead, read-none, read-parts, read-more, read-all}
 use Rattle.edit_sources.proofs.index_lines.read_lines.Goals as goal
 
@@ -39,7 +39,7 @@ lines-preserved c =
     let says = entry _ _ _ _ read.say is c.in-Ok.ensures in
     read-more c.args.bytes.now c.lines.number c.split_line.result.0.now c.in-Some.text c.split_line.result.1
     (map entry_of c.lines.entries.items) read c.split_line.ensures.lines _ c.split_line.ensures.shorter
-    (subst (λ es. LinesSay (read.lines ++ c.split_line.result.0.now ∷ []) es) (sym all) says)
+    (subst (λ es. HaveEntriesInOrder (read.lines ++ c.split_line.result.0.now ∷ []) es) (sym all) says)
 
 pub returns-in-Err-clause-refused : goal.returns-in-Err-clause-refused
 returns-in-Err-clause-refused c =

@@ -2,6 +2,7 @@ use Rattle.std.proofs.Common.{inr, string_bytes, subst, sym}
 use Rattle.edit_base.specs.declared.errors.Error.{Error}
 use Rattle.edit_metadata.specs.Workspaces.{IsNoWorkspace}
 use Rattle.edit_steps.proofs.WorkspaceLemmas.{unsaid_at}
+use Rattle.edit_steps.proofs.ErrorLemmas.{unsaid_error}
 use Rattle.edit_steps.proofs.workspaces.read_metadata.Goals as goal
 
 pub returns-clause-refused : goal.returns-clause-refused
@@ -13,3 +14,8 @@ returns-clause-refused g c =
     (subst (λ (e : Error). IsNoWorkspace c.in-Ok-Some.bytes.items e) (sym c.at_metadata.ensures)
     (subst (λ bytes. IsNoWorkspace bytes c.in-Err-read.error) c.deref.ensures.value
     c.in-Err-read.ensures.refused)))
+
+pub returns-clause-only : goal.returns-clause-only
+returns-clause-only g c =
+    unsaid_error (g.S.Store.view c.args.files.now) (g.S.Store.view c.read_stream.new.self) c.deref.result.now
+    c.in-Err-read.error _ c.at_metadata.ensures c.in-Err-read.ensures.refused

@@ -4,13 +4,13 @@ use Rattle.std.proofs.lemmas.Iterator.{YieldsList-from_chars}
 use Rattle.std.proofs.lemmas.Iterator.Consumers.{YieldsList-end}
 use Rattle.std.proofs.lemmas.List.{flat_map_more, map-id}
 use Rattle.std.specs.Io.KnownBytes.{Appends}
-use Rattle.edit_terminal.specs.Shown.{shown, shown_char}
+use Rattle.edit_terminal.specs.Shown.{shown, terminal_char}
 use Rattle.edit_terminal.proofs.characters.write_shown.Goals as goal
 
 pub loop-c-preserved : goal.loop-c-preserved
 loop-c-preserved g c =
     subst (Appends (g.W.Write.contents c.args.to.now) (g.W.Write.contents c.write_char.new.to))
-    (flat_map_more shown_char [] c.loop-c.yielded c.in-Some.c)
+    (flat_map_more terminal_char [] c.loop-c.yielded c.in-Some.c)
     (Appends-trans (g.W.Write.contents c.args.to.now) (g.W.Write.contents c.loop-c.to)
     (g.W.Write.contents c.write_char.new.to) _ _ c.loop-c.invariant c.in_ok-write_char.ensures)
 

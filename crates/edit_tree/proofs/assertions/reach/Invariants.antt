@@ -1,6 +1,6 @@
 use Rattle.std.proofs.Common.{List, drop}
 use Rattle.std.specs.Prelude.{map}
-use Rattle.edit_tree.specs.Nodes.{Spot, bytes_of, Holds}
+use Rattle.edit_tree.specs.Nodes.{ModelNode, bytes_of, RepresentsNodes}
 use Rattle.edit_tree.specs.Walk.{front_shape, reached}
 use Rattle.edit_tree.proofs.KeyFronts.{Reaches}
 use Rattle.edit_tree.proofs.assertions.reach.Given as goal
@@ -8,7 +8,7 @@ use Rattle.edit_tree.proofs.assertions.reach.Given as goal
 -- the parts that are left lead on from the table
 abbrev pub invariant-fronts : goal.invariant-fronts
 invariant-fronts l =
-    (spots : List Spot) → Holds l.text l.fn.nodes.items spots
+    (spots : List ModelNode) → RepresentsNodes l.text l.fn.nodes.items spots
     → Reaches l.text l.nodes.items
     (reached spots l.fn.number (map (bytes_of l.text) l.fronts) (front_shape l.is_inline) l.taken) l.table
     (map (bytes_of l.text) (drop l.front-index l.fronts)) (front_shape l.is_inline) l.taken

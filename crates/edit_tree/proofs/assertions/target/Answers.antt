@@ -1,5 +1,5 @@
 use Rattle.std.proofs.Common.{sym, ap, ◌∙◌}
-use Rattle.edit_tree.specs.declared.nodes.Taken.{Taken}
+use Rattle.edit_tree.specs.declared.nodes.DefinedBy.{DefinedBy}
 use Rattle.edit_tree.specs.Walk.{target_of}
 use Rattle.edit_tree.proofs.SpotTargets.{target_other}
 use Rattle.edit_tree.proofs.assertions.target.Goals as goal
@@ -10,4 +10,4 @@ returns-in_default c text spots holds =
 
 pub returns-in-Super : goal.returns-in-Super
 returns-in-Super c text spots holds = c.last_element.ensures text spots holds ∙
-    ap (λ (t : Taken). target_of spots c.args.number t) (sym c.in-Super.is)
+    ap (λ (t : DefinedBy). target_of spots c.args.number t) (sym c.in-Super.is)

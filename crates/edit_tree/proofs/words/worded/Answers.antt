@@ -1,8 +1,8 @@
 use Rattle.std.proofs.Common.{List, ℕ, sym, ap, subst, ◌∙◌}
 use Rattle.edit_syntax.specs.declared.read.marks.MarkKind.{MarkKind}
-use Rattle.edit_syntax.specs.Decoding.{Says, WordSays}
+use Rattle.edit_syntax.specs.Decoding.{HasDecodedValue, HasPlainValue}
 use Rattle.edit_tree.specs.Tree.{string, whole, fractional, moment}
-use Rattle.edit_tree.specs.Nodes.{scalar, shape_said}
+use Rattle.edit_tree.specs.Nodes.{scalar, scalar_shape}
 use Rattle.edit_tree.proofs.ShapedStrings.{string_shape}
 use Rattle.edit_tree.proofs.words.worded.Goals as goal
 
@@ -16,22 +16,22 @@ pub returns-in-Integer-clause-shows : goal.returns-in-Integer-clause-shows
 returns-in-Integer-clause-shows c name (before, content, rest, spelled, from, to, says) =
     let seen = c.content_span.ensures c.args.text.now before content rest name c.utf8.text spelled from to
     says in
-    let word : WordSays content name = subst (λ (k : MarkKind). Says k content name) c.in-Integer.is says in
+    let word : HasPlainValue content name = subst (λ (k : MarkKind). HasDecodedValue k content name) c.in-Integer.is says in
     ap (λ (b : List ℕ). scalar (whole b)) (seen ∙ sym word.2) ∙
-    ap (λ (k : MarkKind). shape_said k name) (sym c.in-Integer.is)
+    ap (λ (k : MarkKind). scalar_shape k name) (sym c.in-Integer.is)
 
 pub returns-in-Float-clause-shows : goal.returns-in-Float-clause-shows
 returns-in-Float-clause-shows c name (before, content, rest, spelled, from, to, says) =
     let seen = c.content_span-in-Float.ensures c.args.text.now before content rest name c.utf8.text spelled
     from to says in
-    let word : WordSays content name = subst (λ (k : MarkKind). Says k content name) c.in-Float.is says in
+    let word : HasPlainValue content name = subst (λ (k : MarkKind). HasDecodedValue k content name) c.in-Float.is says in
     ap (λ (b : List ℕ). scalar (fractional b)) (seen ∙ sym word.2) ∙
-    ap (λ (k : MarkKind). shape_said k name) (sym c.in-Float.is)
+    ap (λ (k : MarkKind). scalar_shape k name) (sym c.in-Float.is)
 
 pub returns-in-DateTime-clause-shows : goal.returns-in-DateTime-clause-shows
 returns-in-DateTime-clause-shows c name (before, content, rest, spelled, from, to, says) =
     let seen = c.content_span-in-DateTime.ensures c.args.text.now before content rest name c.utf8.text spelled
     from to says in
-    let word : WordSays content name = subst (λ (k : MarkKind). Says k content name) c.in-DateTime.is says in
+    let word : HasPlainValue content name = subst (λ (k : MarkKind). HasDecodedValue k content name) c.in-DateTime.is says in
     ap (λ (b : List ℕ). scalar (moment b)) (seen ∙ sym word.2) ∙
-    ap (λ (k : MarkKind). shape_said k name) (sym c.in-DateTime.is)
+    ap (λ (k : MarkKind). scalar_shape k name) (sym c.in-DateTime.is)

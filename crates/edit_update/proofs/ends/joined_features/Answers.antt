@@ -7,6 +7,6 @@ use Rattle.edit_update.proofs.ends.joined_features.Goals as goal
 pub returns-clause-ok : goal.returns-clause-ok
 returns-clause-ok c =
     let copy = copied_texts c.args.new.now c.in_ok-clone.field-0 c.in_ok-clone.ensures.cases.0 in
-    ap a_list (c.in_ok-each_once.ensures
+    ap a_list (c.in_ok-remove_duplicates.ensures
     ∙ ap each_once (ap (map string_bytes) c.deref.ensures.value ∙ c.in_ok-all.ensures
     ∙ (λ i. c.in_ok-old.ensures.ok i ++ copy i)))

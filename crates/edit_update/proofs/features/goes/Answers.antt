@@ -2,7 +2,7 @@ use Rattle.std.proofs.Common.{false, ◌≡◌, rules}
 use Rattle.std.proofs.lemmas.Str.Pattern.{starts_text}
 use Rattle.std.specs.Str.{bytes_eq}
 use Rattle.edit_document.specs.ItemViews.{view_of}
-use Rattle.edit_tree.specs.Shown.{tree_of}
+use Rattle.edit_tree.specs.DocumentViews.{tree_of}
 use Rattle.edit_update.proofs.StaleElements.{goes_front}
 use Rattle.edit_update.proofs.features.goes.Goals as goal
 

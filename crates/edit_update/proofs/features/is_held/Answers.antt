@@ -1,7 +1,7 @@
 use Rattle.std.proofs.Common.{drop, map, ap, sym, ◌+◌, ◌∙◌}
 use Rattle.std.specs.List.{list_any}
-use Rattle.edit_document.specs.Items.{place_seen}
-use Rattle.edit_tree.specs.Shown.{tree_of}
+use Rattle.edit_document.specs.Items.{place_view}
+use Rattle.edit_tree.specs.DocumentViews.{tree_of}
 use Rattle.edit_update.specs.Features.{holds}
 use Rattle.edit_update.proofs.ItemSteps.{left_map, none_left}
 use Rattle.edit_update.proofs.StaleElements.{any_here, any_next}
@@ -10,25 +10,25 @@ use Rattle.edit_update.proofs.features.is_held.Goals as goal
 pub tables-preserved : goal.tables-preserved
 tables-preserved c =
     let test = holds (tree_of c.args.document.now) c.args.name.now in
-    let rest = map (λ p. place_seen p.items) (drop (c.tables.table-index + 1) c.args.tables.now) in
-    c.tables.invariant ∙ any_next test _ (place_seen c.table-item.result.items) rest
-    (left_map (λ p. place_seen p.items) c.args.tables.now c.tables.table-index c.table-item.result
+    let rest = map (λ p. place_view p.items) (drop (c.tables.table-index + 1) c.args.tables.now) in
+    c.tables.invariant ∙ any_next test _ (place_view c.table-item.result.items) rest
+    (left_map (λ p. place_view p.items) c.args.tables.now c.tables.table-index c.table-item.result
     c.tables-test.true c.table-item.is)
-    (ap (λ p. test (place_seen p)) (sym c.deref.ensures.value) ∙ sym c.holds.ensures ∙ c.if-holds.false)
+    (ap (λ p. test (place_view p)) (sym c.deref.ensures.value) ∙ sym c.holds.ensures ∙ c.if-holds.false)
 
 pub returns-then-holds : goal.returns-then-holds
 returns-then-holds c =
     let test = holds (tree_of c.args.document.now) c.args.name.now in
-    let rest = map (λ p. place_seen p.items) (drop (c.tables.table-index + 1) c.args.tables.now) in
+    let rest = map (λ p. place_view p.items) (drop (c.tables.table-index + 1) c.args.tables.now) in
     sym (ap (list_any test) (sym c.requires.tables) ∙ c.tables.invariant
-    ∙ any_here test _ (place_seen c.table-item.result.items) rest
-    (left_map (λ p. place_seen p.items) c.args.tables.now c.tables.table-index c.table-item.result
+    ∙ any_here test _ (place_view c.table-item.result.items) rest
+    (left_map (λ p. place_view p.items) c.args.tables.now c.tables.table-index c.table-item.result
     c.tables-test.true c.table-item.is)
-    (ap (λ p. test (place_seen p)) (sym c.deref.ensures.value) ∙ sym c.holds.ensures ∙ c.if-holds.true))
+    (ap (λ p. test (place_view p)) (sym c.deref.ensures.value) ∙ sym c.holds.ensures ∙ c.if-holds.true))
 
 pub returns : goal.returns
 returns c =
     let test = holds (tree_of c.args.document.now) c.args.name.now in
     sym (ap (list_any test) (sym c.requires.tables) ∙ c.tables.invariant
-    ∙ ap (list_any test) (none_left (λ p. place_seen p.items) c.args.tables.now c.tables.table-index
+    ∙ ap (list_any test) (none_left (λ p. place_view p.items) c.args.tables.now c.tables.table-index
     c.tables-test.false))

@@ -1,15 +1,15 @@
 use Rattle.std.proofs.Common.{◌≡◌, suc, ◌-◌, ◌∙◌, sym, subst, arith}
 use Rattle.edit_tree.specs.Assertions.{at, index}
 use Rattle.edit_document.specs.ItemViews.{Finds, document_of, place_of}
-use Rattle.edit_document.specs.Items.{place_seen}
-use Rattle.edit_tree.specs.Shown.{tree_of}
+use Rattle.edit_document.specs.Items.{place_view}
+use Rattle.edit_tree.specs.DocumentViews.{tree_of}
 use Rattle.edit_update.proofs.StaleElements.{told_goes, told_stays}
 use Rattle.edit_update.proofs.features.push_stale.Goals as goal
 
 pub elements-preserved : goal.elements-preserved
 elements-preserved c =
     let d = c.args.document.now in
-    let array = place_seen c.args.array.now in
+    let array = place_view c.args.array.now in
     let m = c.elements.left - 1 in
     let more : c.elements.left ≡ suc (c.elements.left - 1) = omega (arith, c.elements-test.true) in
     let doc : document_of c.in-Some-as_array.elements ≡ d =
@@ -27,7 +27,7 @@ elements-preserved c =
 pub elements-preserved-in-Continue-branch-2 : goal.elements-preserved-in-Continue-branch-2
 elements-preserved-in-Continue-branch-2 c =
     let d = c.args.document.now in
-    let array = place_seen c.args.array.now in
+    let array = place_view c.args.array.now in
     let m = c.elements.left - 1 in
     let more : c.elements.left ≡ suc (c.elements.left - 1) = omega (arith, c.elements-test.true) in
     let doc : document_of c.in-Some-as_array.elements ≡ d =

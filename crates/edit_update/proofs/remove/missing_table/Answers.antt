@@ -1,7 +1,7 @@
 use Rattle.std.proofs.Common.{◌∷◌, drop, map, Some, ap, sym, ◌+◌, ◌∙◌}
 use Rattle.std.specs.Prelude.{string_bytes}
 use Rattle.edit_tree.specs.Assertions.{at, key}
-use Rattle.edit_tree.specs.Shown.{tree_of}
+use Rattle.edit_tree.specs.DocumentViews.{tree_of}
 use Rattle.edit_update.proofs.ItemSteps.{left_map}
 use Rattle.edit_update.proofs.MissingTables.{missing_next, missing_here}
 use Rattle.edit_update.proofs.remove.missing_table.Goals as goal

@@ -2,7 +2,7 @@ use Rattle.std.proofs.Common.{◌≡◌, [], drop, map}
 use Rattle.std.specs.Prelude.{string_bytes}
 use Rattle.edit_tree.specs.Assertions.{Place as PlaceSeen}
 use Rattle.edit_document.specs.ItemViews.{Finds}
-use Rattle.edit_tree.specs.Shown.{tree_of}
+use Rattle.edit_tree.specs.DocumentViews.{tree_of}
 use Rattle.edit_update.specs.RemovedEntries.{missing_below}
 use Rattle.edit_update.proofs.remove.missing_table.Given as goal
 

@@ -7,10 +7,10 @@ use Rattle.std.proofs.lemmas.List.{map-append}
 use Rattle.edit_cache.specs.IndexCache.{index_of}
 use Rattle.edit_upgrade.specs.Lines.{line_of}
 use Rattle.edit_upgrade.specs.Lists.{warning_view}
-use Rattle.edit_upgrade.specs.Looks.{kept_by}
+use Rattle.edit_upgrade.specs.Looks.{cached_by}
 use Rattle.edit_upgrade.specs.Missing.{AddsNames}
 use Rattle.edit_upgrade.specs.PlannedView.{IsWalked}
-use Rattle.edit_upgrade.specs.declared.walk.Books.{Books}
+use Rattle.edit_upgrade.specs.declared.walk.LookupLog.{LookupLog}
 use Rattle.edit_upgrade.proofs.draft.add_input.Goals as goal
 
 pub returns-clause-adds : goal.returns-clause-adds
@@ -21,10 +21,10 @@ returns-clause-adds g c =
       lines = map line_of planned.rows.items;
       outputs = own.0;
       told = map warning_view planned.warnings.items;
-      walked = subst (λ (books : Books). IsWalked c.args.number c.args.asked.options.now c.args.input.now
+      walked = subst (λ (books : LookupLog). IsWalked c.args.number c.args.asked.options.now c.args.input.now
           c.args.configs.now
-          (g.I.Index.view (index_of c.args.index.now)).gives (kept_by c.args.index.now)
-          (kept_by c.plan_input.new.index)
+          (g.I.Index.view (index_of c.args.index.now)).gives (cached_by c.args.index.now)
+          (cached_by c.plan_input.new.index)
           c.args.draft.now.books books (map line_of planned.rows.items))
           (sym c.in_ok-add_planned.ensures.books)
           c.in_ok-planned.ensures.walked;

@@ -1,9 +1,9 @@
 use Rattle.std.proofs.Common.{◌≡◌, ◌∙◌, Bor, List, ℕ, Option, Some, None, ap, inl, inr, subst, sym}
 use Rattle.std.specs.Prelude.{IfSome, IsSome, IsUtf8, is_some, option_copied}
 use Rattle.edit_manifest.specs.Loaded.{IsBadManifest}
-use Rattle.edit_tree.specs.Shown.{Shown}
+use Rattle.edit_tree.specs.DocumentViews.{DocumentViews}
 use Rattle.edit_cache.specs.IndexCache.{index_of}
-use Rattle.edit_upgrade.specs.Looks.{kept_by}
+use Rattle.edit_upgrade.specs.Looks.{cached_by}
 use Rattle.edit_upgrade.specs.Upgraded.{IsNeededBy}
 use Rattle.edit_upgrade.proofs.LookUpLemmas.{leaves-same}
 use Rattle.edit_upgrade.proofs.PlannedLemmas.{refusal-has}
@@ -61,11 +61,11 @@ pub returns-in_err-manifest-in-None-clause-left : goal.returns-in_err-manifest-i
 returns-in_err-manifest-in-None-clause-left g c =
     leaves-same (IsNeededBy c.args.configs.now c.args.input.now.bytes.items)
     (g.I.Index.view (index_of c.args.index.now)).gives
-    (g.I.Index.view (index_of c.args.index.now)).faults (kept_by c.args.index.now)
+    (g.I.Index.view (index_of c.args.index.now)).faults (cached_by c.args.index.now)
 
 pub add_input-requires-clause-document : goal.add_input-requires-clause-document
 add_input-requires-clause-document g c =
-    subst (λ (o : Option (Bor Shown)). IfSome (option_copied o)
+    subst (λ (o : Option (Bor DocumentViews)). IfSome (option_copied o)
     (λ d. d.bytes ≡ c.args.input.now.bytes.items)) c.in-Some.is c.requires.document
 
 pub add_input-requires-in-None-clause-document : goal.add_input-requires-in-None-clause-document

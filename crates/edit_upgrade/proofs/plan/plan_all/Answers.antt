@@ -7,7 +7,7 @@ use Rattle.edit_upgrade.specs.Caches.{cache_view}
 use Rattle.edit_upgrade.specs.ConfigLists.{lists_in}
 use Rattle.edit_upgrade.specs.Words.{words_of}
 use Rattle.edit_upgrade.proofs.CauseLemmas.{finish-refused, rows-some}
-use Rattle.edit_upgrade.proofs.DraftedInputs.{finished-draft, plan-of}
+use Rattle.edit_upgrade.proofs.DraftedInputs.{finish_plan-draft, plan-of}
 use Rattle.edit_upgrade.proofs.MissingLemmas.{missing-are}
 use Rattle.edit_upgrade.proofs.PlannedLemmas.{refusal-has}
 use Rattle.edit_upgrade.proofs.WordCauseLemmas.{memory-at}
@@ -17,11 +17,11 @@ pub returns-clause-plan : goal.returns-clause-plan
 returns-clause-plan g c =
     let o = c.args.options.now in
     let old = cache_view g.I.Index.view c.args.index.now in
-    let new = cache_view g.I.Index.view c.drafted.new.index in
+    let new = cache_view g.I.Index.view c.plan_each_input.new.index in
     plan-of o c.args.inputs.now (lists_in c.args.configs) old new c.in_ok-plan.plan
-    (finished-draft o c.args.inputs.now (lists_in c.args.configs) old new c.in_ok-draft.draft
+    (finish_plan-draft o c.args.inputs.now (lists_in c.args.configs) old new c.in_ok-draft.draft
     c.in_ok-plan.plan
-    c.in_ok-draft.ensures.drafted c.in_ok-plan.ensures.rows c.in_ok-plan.ensures.outputs)
+    c.in_ok-draft.ensures.plan_each_input c.in_ok-plan.ensures.rows c.in_ok-plan.ensures.outputs)
     c.requires.configurations c.in_ok-plan.ensures.lists
     (missing-are o c.args.inputs.now (contains_text c.in_ok-draft.draft.known)
     (map string_bytes c.in_ok-picks.picks.words.names.items)
@@ -45,8 +45,8 @@ returns-in_err-plan-clause-read g c =
     (λ none. inr (
       c.in_ok-picks.ensures.ok.words.each,
       finish-refused c.args.inputs.now (lists_in c.args.configs) (cache_view g.I.Index.view c.args.index.now)
-          (cache_view g.I.Index.view c.drafted.new.index) c.in_err-plan.field-0.0
-          c.in_ok-draft.ensures.drafted.planned c.requires.configurations
+          (cache_view g.I.Index.view c.plan_each_input.new.index) c.in_err-plan.field-0.0
+          c.in_ok-draft.ensures.plan_each_input.planned c.requires.configurations
           (rows-some c.in_ok-draft.draft.rows.items c.in_err-plan.ensures.refused.1)
           (c.in_ok-draft.ensures.utf8 none) c.in_err-plan.ensures.refused.0,
     ))

@@ -7,7 +7,7 @@ use Rattle.url.specs.Parts.{serialize}
 use Rattle.edit_upgrade.specs.Found.{seen_of}
 use Rattle.edit_upgrade.specs.Lines.{line_of}
 use Rattle.edit_upgrade.specs.Looked.{IsStep, Leaves}
-use Rattle.edit_upgrade.specs.Looks.{Kept, kept_by}
+use Rattle.edit_upgrade.specs.Looks.{CachedAnswers, cached_by}
 use Rattle.edit_upgrade.specs.PairSets.{holds_pair}
 use Rattle.edit_upgrade.specs.Upgraded.{IsNeededFor}
 use Rattle.edit_upgrade.proofs.PlannedLemmas.{refusal-has}
@@ -19,37 +19,37 @@ returns-in_err-see-clause-refused g c =
     refusal-has c.from_residual.result c.in_err-see.field-0.0 _ c.from_residual.ensures.1
     (no-registry c.args.job.configs.now (seen_of c.args.entry.now) (given c.args.registry)
     (g.I.Index.view (index_of c.args.index.now)).gives
-    (kept_by c.args.index.now) (g.I.Index.view (index_of c.args.index.now)).faults
+    (cached_by c.args.index.now) (g.I.Index.view (index_of c.args.index.now)).faults
     (g.I.Index.view (index_of c.args.index.now)).faults c.in_err-see.field-0.0
     c.requires.source (⊎_elim (λ m. inl m)
     (λ r. inr (r c.args.job.configs.now c.requires.addresses)) c.in_err-see.ensures.refused))
 
-pub returns-in_err-look_once-clause-left : goal.returns-in_err-look_once-clause-left
-returns-in_err-look_once-clause-left g c =
+pub returns-in_err-lookup_once-clause-left : goal.returns-in_err-lookup_once-clause-left
+returns-in_err-lookup_once-clause-left g c =
     registry-left c.args.job.configs.now (seen_of c.args.entry.now)
     (given c.args.registry) c.in-Some.url.now c.as_str-name.result.now
-    (g.I.Index.view (index_of c.args.index.now)).gives (g.I.Index.view (index_of c.look_once.new.index)).gives
+    (g.I.Index.view (index_of c.args.index.now)).gives (g.I.Index.view (index_of c.lookup_once.new.index)).gives
     (g.I.Index.view (index_of c.args.index.now)).faults
-    (g.I.Index.view (index_of c.look_once.new.index)).faults
-    (kept_by c.args.index.now) (kept_by c.look_once.new.index) c.requires.source
+    (g.I.Index.view (index_of c.lookup_once.new.index)).faults
+    (cached_by c.args.index.now) (cached_by c.lookup_once.new.index) c.requires.source
     ((c.in_ok-see.ensures.are c.args.job.configs.now c.requires.addresses).has
     (given c.args.registry) c.in-Some.url.now
     (sym c.url.ensures ∙ ap option_copied c.in-Some.is))
-    c.as_str-name.ensures.value c.in_err-look_once.ensures.left
+    c.as_str-name.ensures.value c.in_err-lookup_once.ensures.left
 
-pub returns-in_err-look_once-clause-refused : goal.returns-in_err-look_once-clause-refused
-returns-in_err-look_once-clause-refused g c =
-    refusal-has c.from_residual-in_err-look_once.result c.in_err-look_once.field-0.0 _
-    c.from_residual-in_err-look_once.ensures.1
+pub returns-in_err-lookup_once-clause-refused : goal.returns-in_err-lookup_once-clause-refused
+returns-in_err-lookup_once-clause-refused g c =
+    refusal-has c.from_residual-in_err-lookup_once.result c.in_err-lookup_once.field-0.0 _
+    c.from_residual-in_err-lookup_once.ensures.1
     (no-look c.args.job.configs.now (seen_of c.args.entry.now)
     (given c.args.registry) c.in-Some.url.now c.as_str-name.result.now
-    (g.I.Index.view (index_of c.args.index.now)).gives (kept_by c.args.index.now)
+    (g.I.Index.view (index_of c.args.index.now)).gives (cached_by c.args.index.now)
     (g.I.Index.view (index_of c.args.index.now)).faults
-    (g.I.Index.view (index_of c.look_once.new.index)).faults c.in_err-look_once.field-0.0 c.requires.source
+    (g.I.Index.view (index_of c.lookup_once.new.index)).faults c.in_err-lookup_once.field-0.0 c.requires.source
     ((c.in_ok-see.ensures.are c.args.job.configs.now c.requires.addresses).has
     (given c.args.registry) c.in-Some.url.now
     (sym c.url.ensures ∙ ap option_copied c.in-Some.is))
-    c.as_str-name.ensures.value c.in_err-look_once.ensures.refused)
+    c.as_str-name.ensures.value c.in_err-lookup_once.ensures.refused)
 
 pub returns-in_err-row-clause-left : goal.returns-in_err-row-clause-left
 returns-in_err-row-clause-left g c =
@@ -61,17 +61,17 @@ returns-in_err-row-clause-left g c =
     (given c.args.registry) c.in-Some.url.now
     (sym c.url.ensures ∙ ap option_copied c.in-Some.is) in
     let left = registry-left configs e (given c.args.registry) c.in-Some.url.now c.as_str-name.result.now
-    first (g.I.Index.view (index_of c.look_once.new.index)).gives before
-    (g.I.Index.view (index_of c.look_once.new.index)).faults
-    (kept_by c.args.index.now)
-    (kept_by c.look_once.new.index) c.requires.source has c.as_str-name.ensures.value
-    c.in_ok-look_once.ensures.left in
-    subst (λ (k : Kept). Leaves (IsNeededFor configs e) first
-    (g.I.Index.view (index_of c.kept_row.new.index)).gives before
-    (g.I.Index.view (index_of c.kept_row.new.index)).faults (kept_by c.args.index.now) k)
+    first (g.I.Index.view (index_of c.lookup_once.new.index)).gives before
+    (g.I.Index.view (index_of c.lookup_once.new.index)).faults
+    (cached_by c.args.index.now)
+    (cached_by c.lookup_once.new.index) c.requires.source has c.as_str-name.ensures.value
+    c.in_ok-lookup_once.ensures.left in
+    subst (λ (k : CachedAnswers). Leaves (IsNeededFor configs e) first
+    (g.I.Index.view (index_of c.cached_row.new.index)).gives before
+    (g.I.Index.view (index_of c.cached_row.new.index)).faults (cached_by c.args.index.now) k)
     (sym c.in_err-row.ensures.kept)
     (subst (λ i. Leaves (IsNeededFor configs e) first (g.I.Index.view i).gives before
-    (g.I.Index.view i).faults (kept_by c.args.index.now) (kept_by c.look_once.new.index))
+    (g.I.Index.view i).faults (cached_by c.args.index.now) (cached_by c.lookup_once.new.index))
     (sym c.in_err-row.ensures.index) left)
 
 pub returns-clause-step : goal.returns-clause-step
@@ -80,22 +80,22 @@ returns-clause-step g c =
     let address = c.in-Some.url.now in
     let name = c.as_str-name.result.now in
     let first = (g.I.Index.view (index_of c.args.index.now)).gives in
-    let old = kept_by c.args.index.now in
+    let old = cached_by c.args.index.now in
     registry-step c.args.job.configs.now e (given c.args.registry) address name first old
-    (kept_by c.kept_row.new.index) c.args.books.now.looks.items c.look_once.new.looks.items
-    (holds_pair c.args.books.now.pairs) (holds_pair c.look_once.new.pairs) c.requires.source
+    (cached_by c.cached_row.new.index) c.args.books.now.looks.items c.lookup_once.new.looks.items
+    (holds_pair c.args.books.now.pairs) (holds_pair c.lookup_once.new.pairs) c.requires.source
     ((c.in_ok-see.ensures.are c.args.job.configs.now c.requires.addresses).has
     (given c.args.registry) address
     (sym c.url.ensures ∙ ap option_copied c.in-Some.is)) c.as_str-name.ensures.value
-    (subst (λ (k : Kept). IsStep (serialize address) name first old k
-    c.args.books.now.looks.items c.look_once.new.looks.items
-    (holds_pair c.args.books.now.pairs) (holds_pair c.look_once.new.pairs))
-    (sym c.in_ok-row.ensures.kept) c.in_ok-look_once.ensures.step)
+    (subst (λ (k : CachedAnswers). IsStep (serialize address) name first old k
+    c.args.books.now.looks.items c.lookup_once.new.looks.items
+    (holds_pair c.args.books.now.pairs) (holds_pair c.lookup_once.new.pairs))
+    (sym c.in_ok-row.ensures.kept) c.in_ok-lookup_once.ensures.step)
 
 pub returns-clause-row : goal.returns-clause-row
 returns-clause-row g c =
     registry-decided c.args.job.number c.args.job.asked.options.now
-    (option_map numbers_of c.args.job.rust_version) c.args.job.configs.now (kept_by c.kept_row.new.index)
+    (option_map numbers_of c.args.job.rust_version) c.args.job.configs.now (cached_by c.cached_row.new.index)
     (seen_of c.args.entry.now) (given c.args.registry) c.in-Some.url.now
     (line_of c.in_ok-row.row) c.requires.source
     ((c.in_ok-see.ensures.are c.args.job.configs.now c.requires.addresses).has
@@ -112,15 +112,15 @@ returns-clause-left g c =
     (given c.args.registry) c.in-Some.url.now
     (sym c.url.ensures ∙ ap option_copied c.in-Some.is) in
     let left = registry-left configs e (given c.args.registry) c.in-Some.url.now c.as_str-name.result.now
-    first (g.I.Index.view (index_of c.look_once.new.index)).gives before
-    (g.I.Index.view (index_of c.look_once.new.index)).faults
-    (kept_by c.args.index.now)
-    (kept_by c.look_once.new.index) c.requires.source has c.as_str-name.ensures.value
-    c.in_ok-look_once.ensures.left in
-    subst (λ (k : Kept). Leaves (IsNeededFor configs e) first
-    (g.I.Index.view (index_of c.kept_row.new.index)).gives before
-    (g.I.Index.view (index_of c.kept_row.new.index)).faults (kept_by c.args.index.now) k)
+    first (g.I.Index.view (index_of c.lookup_once.new.index)).gives before
+    (g.I.Index.view (index_of c.lookup_once.new.index)).faults
+    (cached_by c.args.index.now)
+    (cached_by c.lookup_once.new.index) c.requires.source has c.as_str-name.ensures.value
+    c.in_ok-lookup_once.ensures.left in
+    subst (λ (k : CachedAnswers). Leaves (IsNeededFor configs e) first
+    (g.I.Index.view (index_of c.cached_row.new.index)).gives before
+    (g.I.Index.view (index_of c.cached_row.new.index)).faults (cached_by c.args.index.now) k)
     (sym c.in_ok-row.ensures.kept)
     (subst (λ i. Leaves (IsNeededFor configs e) first (g.I.Index.view i).gives before
-    (g.I.Index.view i).faults (kept_by c.args.index.now) (kept_by c.look_once.new.index))
+    (g.I.Index.view i).faults (cached_by c.args.index.now) (cached_by c.lookup_once.new.index))
     (sym c.in_ok-row.ensures.index) left)

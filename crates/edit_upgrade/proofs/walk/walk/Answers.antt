@@ -11,9 +11,9 @@ use Rattle.edit_upgrade.specs.Found.{seen_of}
 use Rattle.edit_upgrade.specs.Lines.{line_of}
 use Rattle.edit_upgrade.specs.Causes.{IsPassed}
 use Rattle.edit_upgrade.specs.Looked.{AreSteps, further, start}
-use Rattle.edit_upgrade.specs.Looks.{kept_basis, kept_by}
+use Rattle.edit_upgrade.specs.Looks.{cached_basis, cached_by}
 use Rattle.edit_upgrade.specs.PairSets.{holds_pair}
-use Rattle.edit_upgrade.specs.Records.{Seen}
+use Rattle.edit_upgrade.specs.Records.{RowEntry}
 use Rattle.edit_upgrade.specs.Rows.{AreDecided, Line}
 use Rattle.edit_upgrade.specs.Upgraded.{IsNeededFor, IsNeededIn}
 use Rattle.edit_upgrade.proofs.LookUpLemmas.{leaves-more, leaves-same}
@@ -26,14 +26,14 @@ use Rattle.edit_upgrade.proofs.walk.walk.Goals as goal
 pub entries-init : goal.entries-init
 entries-init g c =
     let configs = c.args.job.configs.now in
-    let kept = kept_by c.args.index.now in
+    let kept = cached_by c.args.index.now in
     let rust = option_map numbers_of c.args.job.rust_version in
     record {
       addresses = c.in_ok-addresses.ensures.are;
       kept = c.requires.kept;
       steps = start kept c.args.books.now.looks.items (holds_pair c.args.books.now.pairs);
       passed = All-nil (IsPassed configs kept);
-      rows = subst (λ (rows : List Row). AreDecided (kept_basis c.args.job.number c.args.job.asked.options.now
+      rows = subst (λ (rows : List Row). AreDecided (cached_basis c.args.job.number c.args.job.asked.options.now
           rust configs kept) [] (map line_of rows))
           (sym c.in_ok-rows.ensures.items) tt;
       left = leaves-same (IsNeededIn configs (map seen_of c.args.entries.now))
@@ -44,7 +44,7 @@ entries-init g c =
 pub returns-clause-passed : goal.returns-clause-passed
 returns-clause-passed g c =
     let whole = take_all c.entries.entry-index c.args.entries.now (omega (arith, c.entries-test.false)) in
-    subst (λ (es : List Entry). All (IsPassed c.args.job.configs.now (kept_by c.entries.index))
+    subst (λ (es : List Entry). All (IsPassed c.args.job.configs.now (cached_by c.entries.index))
     (map seen_of es)) whole c.entries.invariant.passed
 
 pub returns-in_err-row-clause-left : goal.returns-in_err-row-clause-left
@@ -56,7 +56,7 @@ returns-in_err-row-clause-left g c =
     (g.I.Index.view (index_of c.entry_row.new.index)).gives
     (g.I.Index.view (index_of c.args.index.now)).faults (g.I.Index.view (index_of c.entries.index)).faults
     (g.I.Index.view (index_of c.entry_row.new.index)).faults
-    (kept_by c.args.index.now) (kept_by c.entries.index) (kept_by c.entry_row.new.index)
+    (cached_by c.args.index.now) (cached_by c.entries.index) (cached_by c.entry_row.new.index)
     (for-among c.args.job.configs.now es e (contains-item seen_of c.args.entries.now c.entries.entry-index
     c.entry-item.result c.entries-test.true c.entry-item.is))
     c.entries.invariant.left c.in_err-row.ensures.left
@@ -70,7 +70,7 @@ returns-in_err-push-clause-left g c =
     (g.I.Index.view (index_of c.entry_row.new.index)).gives
     (g.I.Index.view (index_of c.args.index.now)).faults (g.I.Index.view (index_of c.entries.index)).faults
     (g.I.Index.view (index_of c.entry_row.new.index)).faults
-    (kept_by c.args.index.now) (kept_by c.entries.index) (kept_by c.entry_row.new.index)
+    (cached_by c.args.index.now) (cached_by c.entries.index) (cached_by c.entry_row.new.index)
     (for-among c.args.job.configs.now es e (contains-item seen_of c.args.entries.now c.entries.entry-index
     c.entry-item.result c.entries-test.true c.entry-item.is))
     c.entries.invariant.left c.in_ok-row.ensures.left
@@ -81,7 +81,7 @@ returns-in_err-row-clause-refused g c =
     c.from_residual-in_err-row.ensures.1
     (walk-refused c.args.job.configs.now (g.I.Index.view (index_of c.args.index.now)).gives
     (g.I.Index.view (index_of c.entries.index)).gives
-    (kept_by c.args.index.now) (kept_by c.entries.index) (kept_by c.entry_row.new.index)
+    (cached_by c.args.index.now) (cached_by c.entries.index) (cached_by c.entry_row.new.index)
     (g.I.Index.view (index_of c.args.index.now)).faults (g.I.Index.view (index_of c.entries.index)).faults
     (g.I.Index.view (index_of c.entry_row.new.index)).faults
     (map seen_of c.args.entries.now) (map seen_of (take c.entries.entry-index c.args.entries.now))
@@ -106,9 +106,9 @@ entries-preserved g c =
     (c.in_ok-row.row ∷ []) in
     let first = (g.I.Index.view (index_of c.args.index.now)).gives in
     let last = (g.I.Index.view (index_of c.entries.index)).gives in
-    let old = kept_by c.args.index.now in
-    let now = kept_by c.entries.index in
-    let next = kept_by c.entry_row.new.index in
+    let old = cached_by c.args.index.now in
+    let now = cached_by c.entries.index in
+    let next = cached_by c.entry_row.new.index in
     let before = c.args.books.now.looks.items in
     let looks = c.entries.books.looks.items in
     let then_looks = c.entry_row.new.books.looks.items in
@@ -125,18 +125,18 @@ entries-preserved g c =
     (map line_of c.entries.rows.items) e
     (line_of c.in_ok-row.row) c.entries.invariant.passed stays c.entries.invariant.rows
     c.in_ok-row.ensures.row in
-    let basis = kept_basis c.args.job.number c.args.job.asked.options.now rust configs next in
+    let basis = cached_basis c.args.job.number c.args.job.asked.options.now rust configs next in
     record {
       addresses = c.in_ok-row.ensures.addresses;
       kept = kept.0;
-      steps = subst (λ (es : List Seen). AreSteps configs first es old next before then_looks first_pairs
+      steps = subst (λ (es : List RowEntry). AreSteps configs first es old next before then_looks first_pairs
           then_pairs) (sym more)
           (further front e old now next before looks then_looks first_pairs pairs then_pairs
           c.entries.invariant.steps same);
-      passed = subst (λ (es : List Seen). All (IsPassed configs next) es) (sym more)
+      passed = subst (λ (es : List RowEntry). All (IsPassed configs next) es) (sym more)
           (All-push (IsPassed configs next) front e (passed-stays configs now next front stays
           c.entries.invariant.passed) kept.1);
-      rows = subst (λ (es : List Seen). AreDecided basis es (map line_of c.push.new.self.items)) (sym more)
+      rows = subst (λ (es : List RowEntry). AreDecided basis es (map line_of c.push.new.self.items)) (sym more)
           (subst (λ (ls : List Line). AreDecided basis (front ++ e ∷ []) ls) (sym lines) rows);
       left = leaves-more (IsNeededIn configs all) (IsNeededFor configs e) first last
           (g.I.Index.view (index_of c.entry_row.new.index)).gives
@@ -154,7 +154,7 @@ returns-clause-steps g c =
     let whole = take_all c.entries.entry-index c.args.entries.now (omega (arith, c.entries-test.false)) in
     subst (λ (es : List Entry). AreSteps c.args.job.configs.now
     (g.I.Index.view (index_of c.args.index.now)).gives (map seen_of es)
-    (kept_by c.args.index.now) (kept_by c.entries.index)
+    (cached_by c.args.index.now) (cached_by c.entries.index)
     c.args.books.now.looks.items c.entries.books.looks.items
     (holds_pair c.args.books.now.pairs) (holds_pair c.entries.books.pairs)) whole c.entries.invariant.steps
 
@@ -162,18 +162,18 @@ pub returns-clause-rows : goal.returns-clause-rows
 returns-clause-rows g c =
     let whole = take_all c.entries.entry-index c.args.entries.now (omega (arith, c.entries-test.false)) in
     subst (λ (es : List Entry). AreDecided
-    (kept_basis c.args.job.number c.args.job.asked.options.now
-    (option_map numbers_of c.args.job.rust_version) c.args.job.configs.now (kept_by c.entries.index))
+    (cached_basis c.args.job.number c.args.job.asked.options.now
+    (option_map numbers_of c.args.job.rust_version) c.args.job.configs.now (cached_by c.entries.index))
     (map seen_of es) (map line_of c.entries.rows.items)) whole c.entries.invariant.rows
 
 pub returns-in_err-addresses-clause-left : goal.returns-in_err-addresses-clause-left
 returns-in_err-addresses-clause-left g c =
     leaves-same (IsNeededIn c.args.job.configs.now (map seen_of c.args.entries.now))
     (g.I.Index.view (index_of c.args.index.now)).gives
-    (g.I.Index.view (index_of c.args.index.now)).faults (kept_by c.args.index.now)
+    (g.I.Index.view (index_of c.args.index.now)).faults (cached_by c.args.index.now)
 
 pub returns-in_err-rows-clause-left : goal.returns-in_err-rows-clause-left
 returns-in_err-rows-clause-left g c =
     leaves-same (IsNeededIn c.args.job.configs.now (map seen_of c.args.entries.now))
     (g.I.Index.view (index_of c.args.index.now)).gives
-    (g.I.Index.view (index_of c.args.index.now)).faults (kept_by c.args.index.now)
+    (g.I.Index.view (index_of c.args.index.now)).faults (cached_by c.args.index.now)

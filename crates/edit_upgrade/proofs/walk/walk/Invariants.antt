@@ -6,8 +6,8 @@ use Rattle.edit_upgrade.specs.Addresses.{AreAddresses}
 use Rattle.edit_upgrade.specs.Found.{seen_of}
 use Rattle.edit_upgrade.specs.Lines.{line_of}
 use Rattle.edit_upgrade.specs.Causes.{IsPassed}
-use Rattle.edit_upgrade.specs.Looked.{AreKept, AreSteps, Leaves}
-use Rattle.edit_upgrade.specs.Looks.{kept_basis, kept_by}
+use Rattle.edit_upgrade.specs.Looked.{AreAllCached, AreSteps, Leaves}
+use Rattle.edit_upgrade.specs.Looks.{cached_basis, cached_by}
 use Rattle.edit_upgrade.specs.PairSets.{holds_pair}
 use Rattle.edit_upgrade.specs.Rows.{AreDecided}
 use Rattle.edit_upgrade.specs.Upgraded.{IsNeededIn}
@@ -16,18 +16,18 @@ use Rattle.edit_upgrade.proofs.walk.walk.Given as goal
 abbrev pub invariant-entries : goal.invariant-entries
 invariant-entries g l = record {
   addresses : AreAddresses l.job.configs.now l.addresses;
-  kept : AreKept (holds_pair l.books.pairs) (kept_by l.index);
+  kept : AreAllCached (holds_pair l.books.pairs) (cached_by l.index);
   steps : AreSteps l.job.configs.now (g.I.Index.view (index_of l.fn.index)).gives
       (map seen_of (take l.entry-index l.entries))
-      (kept_by l.fn.index) (kept_by l.index) l.fn.books.looks.items l.books.looks.items
+      (cached_by l.fn.index) (cached_by l.index) l.fn.books.looks.items l.books.looks.items
       (holds_pair l.fn.books.pairs) (holds_pair l.books.pairs);
-  passed : All (IsPassed l.job.configs.now (kept_by l.index)) (map seen_of (take l.entry-index l.entries));
-  rows : AreDecided (kept_basis l.job.number l.job.asked.options.now
+  passed : All (IsPassed l.job.configs.now (cached_by l.index)) (map seen_of (take l.entry-index l.entries));
+  rows : AreDecided (cached_basis l.job.number l.job.asked.options.now
       (option_map numbers_of l.job.rust_version)
-      l.job.configs.now (kept_by l.index))
+      l.job.configs.now (cached_by l.index))
       (map seen_of (take l.entry-index l.entries)) (map line_of l.rows.items);
   left : Leaves (IsNeededIn l.job.configs.now (map seen_of l.entries))
       (g.I.Index.view (index_of l.fn.index)).gives (g.I.Index.view (index_of l.index)).gives
       (g.I.Index.view (index_of l.fn.index)).faults (g.I.Index.view (index_of l.index)).faults
-      (kept_by l.fn.index) (kept_by l.index);
+      (cached_by l.fn.index) (cached_by l.index);
 }

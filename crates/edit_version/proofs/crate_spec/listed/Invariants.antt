@@ -1,5 +1,5 @@
 use Rattle.std.proofs.Common.{◌≡◌, ◌++◌, string_bytes, take}
-use Rattle.edit_version.specs.CrateWords.{after_comma}
+use Rattle.edit_version.specs.CrateSpecs.{after_comma}
 use Rattle.edit_version.proofs.crate_spec.listed.Given as goal
 
 abbrev pub invariant-rest : goal.invariant-rest

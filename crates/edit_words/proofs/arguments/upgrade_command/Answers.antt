@@ -8,11 +8,11 @@ pub returns : goal.returns
 returns c =
     let start : app_of c.about.result ≡ new_app c.args.name.now = search rules in
     let local : (out-Command c.about.result).has_globals ≡ false = search rules in
-    words_added _ _ _ _ _ c.with_words.ensures c.selections.ensures
-    (words_added _ _ _ _ _ c.with_words-command-5.ensures c.choices.ensures
-    (words_added _ _ _ _ _ c.with_words-command-4.ensures c.reports.ensures
-    (words_added _ _ _ _ _ c.with_words-command-3.ensures c.switches.ensures
-    (words_added _ _ _ _ _ c.with_words-command-2.ensures c.configurations.ensures
+    words_added _ _ _ _ _ c.with_args.ensures c.selections.ensures
+    (words_added _ _ _ _ _ c.with_args-command-5.ensures c.choices.ensures
+    (words_added _ _ _ _ _ c.with_args-command-4.ensures c.reports.ensures
+    (words_added _ _ _ _ _ c.with_args-command-3.ensures c.switches.ensures
+    (words_added _ _ _ _ _ c.with_args-command-2.ensures c.configurations.ensures
     (words_added (Ok c.about.result) _ _ _ (new_app c.args.name.now)
-    c.with_words-command.ensures c.files.ensures
+    c.with_args-command.ensures c.files.ensures
     (start, local))))))

@@ -7,7 +7,7 @@ use Rattle.edit_version.specs.Requirement.{comparators_of}
 use Rattle.edit_version.specs.RustVersions.{numbers_of}
 use Rattle.edit_cache.specs.Ranks.{passes, rank_of}
 use Rattle.edit_cache.proofs.FirstLemmas.{find-map, greatest_first, none_first}
-use Rattle.edit_cache.proofs.ToldRanks.{tells-version, version-text}
+use Rattle.edit_cache.proofs.RankedEntryLemmas.{tells-version, version-text}
 use Rattle.edit_cache.proofs.ranking.Ranked.best.Goals as goal
 
 pub returns-in_ok-dependency_of-in-Some-clause-found : goal.returns-in_ok-dependency_of-in-Some-clause-found

@@ -1,8 +1,8 @@
 use Rattle.std.proofs.Common.{ap, ◌∙◌}
-use Rattle.edit_tree.specs.Shown.{Shown}
-use Rattle.edit_document.specs.DocumentLayout.{shown_by}
+use Rattle.edit_tree.specs.DocumentViews.{DocumentViews}
+use Rattle.edit_document.specs.DocumentLayout.{document_view_by}
 use Rattle.edit_document.proofs.document.Document.as_str.Goals as goal
 
 pub returns : goal.returns
-unfolding shown_by
-returns c = c.as_str.ensures.value ∙ ap (λ (s : Shown). s.bytes) c.self.view_is
+unfolding document_view_by
+returns c = c.as_str.ensures.value ∙ ap (λ (s : DocumentViews). s.bytes) c.self.view_is

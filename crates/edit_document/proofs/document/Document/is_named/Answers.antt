@@ -1,7 +1,7 @@
 use Rattle.std.specs.Str.{IsUtf8}
 use Rattle.std.proofs.Common.{sym, ap, subst, ◌∙◌}
-use Rattle.edit_document.specs.Lost.{is_named}
-use Rattle.edit_tree.specs.Taking.{is_own}
+use Rattle.edit_document.specs.ItemRemoval.{is_named}
+use Rattle.edit_tree.specs.Redefinition.{is_own}
 use Rattle.edit_document.proofs.KeptNodes.{taken_named}
 use Rattle.edit_document.proofs.NodeAnswers.{stood}
 use Rattle.edit_document.proofs.Views.{opened, within, found}

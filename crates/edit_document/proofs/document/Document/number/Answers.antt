@@ -2,36 +2,36 @@ use Rattle.std.proofs.Common.{◌≡◌, ℕ, List, Option, None, ap, sym, ◌�
 use Rattle.std.proofs.lemmas.List.{take_all}
 use Rattle.edit_document.specs.declared.place.Step.{Step as WrittenStep}
 use Rattle.edit_tree.specs.Assertions.{key, at}
-use Rattle.edit_tree.specs.Shown.{tree_of}
-use Rattle.edit_document.specs.Items.{place_numbered, place_seen, step_seen, Numbers}
+use Rattle.edit_tree.specs.DocumentViews.{tree_of}
+use Rattle.edit_document.specs.Items.{node_place, place_view, step_view, Numbers}
 use Rattle.edit_document.proofs.MemberViews.{walk_none}
 use Rattle.edit_document.proofs.document.Document.number.Goals as goal
 
 pub returns-in_err-number-in-Index : goal.returns-in_err-number-in-Index
 returns-in_err-number-in-Index c =
-    let p = place_numbered c.args.self.now c.steps.number in
-    let none : tree_of c.args.self.now (at p (step_seen c.step-item.result)) ≡ None =
-    ap (λ (s : WrittenStep). tree_of c.args.self.now (at p (step_seen s))) c.in-Index.is ∙
+    let p = node_place c.args.self.now c.steps.number in
+    let none : tree_of c.args.self.now (at p (step_view c.step-item.result)) ≡ None =
+    ap (λ (s : WrittenStep). tree_of c.args.self.now (at p (step_view s))) c.in-Index.is ∙
     c.in_err-number-in-Index.ensures {u = tt} in
-    let whole = walk_none c.args.self.now c.is_tree.ensures.below c.args.place.now c.steps.step-index
+    let whole = walk_none c.args.self.now c.lemma_tree.ensures.below c.args.place.now c.steps.step-index
     c.step-item.result c.steps-test.true c.step-item.is p c.steps.invariant.1 none in
-    subst (λ (r : Option ℕ). Numbers c.args.self.now (place_seen c.args.place.now) r)
+    subst (λ (r : Option ℕ). Numbers c.args.self.now (place_view c.args.place.now) r)
     (sym c.from_residual-in_err-number-in-Index.ensures) whole
 
 pub returns-in_err-number-in-Key : goal.returns-in_err-number-in-Key
 returns-in_err-number-in-Key c =
-    let p = place_numbered c.args.self.now c.steps.number in
-    let none : tree_of c.args.self.now (at p (step_seen c.step-item.result)) ≡ None =
-    ap (λ (s : WrittenStep). tree_of c.args.self.now (at p (step_seen s))) c.in-Key.is
+    let p = node_place c.args.self.now c.steps.number in
+    let none : tree_of c.args.self.now (at p (step_view c.step-item.result)) ≡ None =
+    ap (λ (s : WrittenStep). tree_of c.args.self.now (at p (step_view s))) c.in-Key.is
     ∙ ap (λ (n : List ℕ). tree_of c.args.self.now (at p (key n))) (sym c.as_str.ensures.value) ∙
     c.in_err-number-in-Key.ensures {u = tt} in
-    let whole = walk_none c.args.self.now c.is_tree.ensures.below c.args.place.now c.steps.step-index
+    let whole = walk_none c.args.self.now c.lemma_tree.ensures.below c.args.place.now c.steps.step-index
     c.step-item.result c.steps-test.true c.step-item.is p c.steps.invariant.1 none in
-    subst (λ (r : Option ℕ). Numbers c.args.self.now (place_seen c.args.place.now) r)
+    subst (λ (r : Option ℕ). Numbers c.args.self.now (place_view c.args.place.now) r)
     (sym c.from_residual.ensures) whole
 
 pub returns : goal.returns
 returns c =
-    let here : place_numbered c.args.self.now c.steps.number ≡ place_seen c.args.place.now =
-    c.steps.invariant.1 ∙ ap place_seen (take_all c.steps.step-index c.args.place.now c.steps-test.false) in
+    let here : node_place c.args.self.now c.steps.number ≡ place_view c.args.place.now =
+    c.steps.invariant.1 ∙ ap place_view (take_all c.steps.step-index c.args.place.now c.steps-test.false) in
     (ap (tree_of c.args.self.now) (sym here) ∙ c.stands.ensures, here, c.steps.invariant.0)

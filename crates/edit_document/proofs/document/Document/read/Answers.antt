@@ -2,8 +2,8 @@ use Rattle.std.proofs.Common.{ℕ, ◌≤◌, List, refl, sym, subst, length}
 use Rattle.edit_tree.specs.Pieces.{pieces_of, IsRange}
 use Rattle.std.proofs.lemmas.Result.{err_from_is_err_and}
 use Rattle.edit_syntax.specs.Grammar.{Spells}
-use Rattle.edit_tree.specs.Shown.{ShowsTree}
-use Rattle.edit_document.specs.DocumentLayout.{shown_by}
+use Rattle.edit_tree.specs.DocumentViews.{ShowsTree}
+use Rattle.edit_document.specs.DocumentLayout.{document_view_by}
 use Rattle.edit_document.proofs.Documents.{Walked, read_done, read_is, shows_any, shows_form, refused_memory, answer_memory}
 use Rattle.edit_tree.proofs.Shallow.{shallow}
 use Rattle.edit_tree.proofs.PieceLaws.{whole_range, whole_count}
@@ -40,7 +40,7 @@ invariant_of-result c =
     (sym (c.in_ok-text.ensures {u = tt}).ok) d.1)
 
 pub returns-clause-bytes : goal.returns-clause-bytes
-unfolding shown_by
+unfolding document_view_by
 returns-clause-bytes c = (c.in_ok-text.ensures {u = tt}).ok
 
 pub returns-clause-found : goal.returns-clause-found
@@ -51,7 +51,7 @@ returns-clause-found c =
     in (
       d.0,
       d.1.manifest,
-      subst (λ (b : List ℕ). ShowsTree (shown_by b (0, length c.args.text.now)) d.0)
+      subst (λ (b : List ℕ). ShowsTree (document_view_by b (0, length c.args.text.now)) d.0)
           (sym (c.in_ok-text.ensures {u = tt}).ok)
           (shows_form c.args.text.now (0, length c.args.text.now) d.0 c.in_ok-nodes.nodes.items d.1),
     )
@@ -61,12 +61,12 @@ returns-clause-only c form m =
     let d = read_done c.args.text.now c.as_bytes.result.now c.in_ok-marks.marks.items c.as_slice.result.now
     c.in_ok-nodes.nodes.items c.utf8.text c.as_bytes.ensures.value
     (c.in_ok-marks.ensures {u = tt}).found c.as_slice.ensures.value (c.in_ok-nodes.ensures {u = tt}).nodes in
-    subst (λ (b : List ℕ). ShowsTree (shown_by b (0, length c.args.text.now)) form)
+    subst (λ (b : List ℕ). ShowsTree (document_view_by b (0, length c.args.text.now)) form)
     (sym (c.in_ok-text.ensures {u = tt}).ok)
     (shows_any c.args.text.now (0, length c.args.text.now) d.0 form c.in_ok-nodes.nodes.items d.1 m)
 
 pub returns-clause-pieces : goal.returns-clause-pieces
-unfolding shown_by
+unfolding document_view_by
 returns-clause-pieces c =
     subst (λ (b : List ℕ). length (pieces_of b (0, length c.args.text.now)) ≤ 1)
     (sym (c.in_ok-text.ensures {u = tt}).ok) (whole_count c.args.text.now)

@@ -1,6 +1,6 @@
 use Rattle.std.proofs.Common.{ℕ, List, refl, ap, ◌∙◌}
 use Rattle.edit_tree.specs.declared.nodes.Content.TheVariants as content
-use Rattle.edit_document.specs.declared.document.Seen.TheVariants as seen
+use Rattle.edit_document.specs.declared.document.Datum.TheVariants as seen
 use Rattle.edit_tree.specs.Nodes.{bytes_of}
 use Rattle.edit_document.proofs.ShownForms.{shown_bytes}
 use Rattle.edit_document.proofs.Views.{opened, within, found}
@@ -17,8 +17,8 @@ returns-in-Text c =
     (opened c.self.inside c.args.self.now c.self.invariant c.self.view_is) c.requires c.index-node.ensures in
     shows c.args.self.now c.self.inside.nodes.items
     (opened c.self.inside c.args.self.now c.self.invariant c.self.view_is).spots c.args.number
-    c.index-node.result.now (content.Text c.in-Text.words) (seen.Text c.words_in.result) f c.in-Text.is
-    (c.words_in.ensures ∙ ap (λ (b : List ℕ). bytes_of b c.in-Text.words)
+    c.index-node.result.now (content.Text c.in-Text.words) (seen.Text c.decoded_str.result) f c.in-Text.is
+    (c.decoded_str.ensures ∙ ap (λ (b : List ℕ). bytes_of b c.in-Text.words)
     (c.as_str.ensures.value ∙ shown_bytes c.self.inside c.args.self.now c.self.view_is))
 
 pub returns-in-Truth : goal.returns-in-Truth

@@ -1,13 +1,13 @@
 use Rattle.std.proofs.Common.{◌≡◌, ℕ, List, None, cond, ap, sym, subst, ◌∙◌, rules}
 use Rattle.edit_base.specs.Errors.{IsMemory}
-use Rattle.edit_document.specs.Items.{place_seen}
+use Rattle.edit_document.specs.Items.{place_view}
 use Rattle.edit_document.specs.Ranges.{one_edit}
-use Rattle.edit_tree.specs.Replaces.{replaced, emptied, is_below_any}
-use Rattle.edit_tree.specs.Shown.{tree_of}
+use Rattle.edit_tree.specs.Replaces.{replaced, tree_without_below, is_below_any}
+use Rattle.edit_tree.specs.DocumentViews.{tree_of}
 use Rattle.edit_tree.specs.Tree.{View, view_at}
 use Rattle.std.specs.Prelude.{string_bytes}
 use Rattle.edit_tree.specs.Assertions.{IsDocument, Place}
-use Rattle.edit_tree.specs.Shown.{node_at}
+use Rattle.edit_tree.specs.DocumentViews.{node_at}
 use Rattle.edit_tree.specs.Literals.{literal_bytes}
 use Rattle.edit_tree.specs.Pieces.{pieces_of, IsAmong}
 use Rattle.edit_tree.proofs.PieceLaws.{literal_among, literal_some, most_pieces}
@@ -16,7 +16,7 @@ use Rattle.edit_document.proofs.document.Document.set_literal.Goals as goal
 
 pub returns-in_err-new-clause-refused : goal.returns-in_err-new-clause-refused
 returns-in_err-new-clause-refused c =
-    let edit = one_edit (place_seen c.args.place.now) c.args.text.now in
+    let edit = one_edit (place_view c.args.place.now) c.args.text.now in
     let r = (c.in_ok-new_text.ensures {u = tt}).replaces in
     let manifest = subst (λ (b : List ℕ). IsDocument b (replaced edit r.form))
     (sym c.as_str.ensures.value) r.is in
@@ -26,20 +26,20 @@ returns-in_err-new-clause-refused c =
 
 pub returns-clause-tree : goal.returns-clause-tree
 returns-clause-tree c at =
-    let edit = one_edit (place_seen c.args.place.now) c.args.text.now in
+    let edit = one_edit (place_view c.args.place.now) c.args.text.now in
     let r = (c.in_ok-new_text.ensures {u = tt}).replaces in
     let manifest = subst (λ (b : List ℕ). IsDocument b (replaced edit r.form))
     (sym c.as_str.ensures.value) r.is in
-    ap (λ (ns : List (Place × View)). node_at ns at) c.with_written.ensures.nodes
+    ap (λ (ns : List (Place × View)). node_at ns at) c.with_last_edit.ensures.nodes
     ∙ (c.in_ok-new.ensures {u = tt}).only (replaced edit r.form) manifest at ∙ r.tree at
-    ∙ written_same edit (emptied edit (view_at r.form)) (emptied edit (tree_of c.args.self.now)) at
-    (ap (λ v. cond (is_below_any edit at) None v) (sym (c.has_form.ensures.shows r.form r.was at)))
+    ∙ written_same edit (tree_without_below edit (view_at r.form)) (tree_without_below edit (tree_of c.args.self.now)) at
+    (ap (λ v. cond (is_below_any edit at) None v) (sym (c.lemma_form.ensures.shows r.form r.was at)))
 
 pub returns-clause-piece : goal.returns-clause-piece
 returns-clause-piece c =
     let new = string_bytes c.in_ok-new_text.new_text in
-    let told : c.with_written.result.pieces ≡ pieces_of new c.in_ok-new_text.written =
-    c.with_written.ensures.pieces
+    let told : c.with_last_edit.result.pieces ≡ pieces_of new c.in_ok-new_text.written =
+    c.with_last_edit.ensures.pieces
     ∙ ap (λ (b : List ℕ). pieces_of b c.in_ok-new_text.written) ((c.in_ok-new.ensures {u = tt}).bytes ∙
     c.as_str.ensures.value) in
     subst (IsAmong (literal_bytes c.args.text.now)) (sym told)
@@ -49,9 +49,9 @@ returns-clause-piece c =
 pub returns-clause-pieces : goal.returns-clause-pieces
 returns-clause-pieces c =
     let new = string_bytes c.in_ok-new_text.new_text in
-    let kept = c.has_pieces.ensures in
-    let told : c.with_written.result.pieces ≡ pieces_of new c.in_ok-new_text.written =
-    c.with_written.ensures.pieces
+    let kept = c.lemma_pieces.ensures in
+    let told : c.with_last_edit.result.pieces ≡ pieces_of new c.in_ok-new_text.written =
+    c.with_last_edit.ensures.pieces
     ∙ ap (λ (b : List ℕ). pieces_of b c.in_ok-new_text.written) ((c.in_ok-new.ensures {u = tt}).bytes ∙
     c.as_str.ensures.value) in
     let most = most_pieces c.args.self.now.bytes (literal_bytes c.args.text.now) new c.in_ok-new_text.written

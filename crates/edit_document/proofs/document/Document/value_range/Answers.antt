@@ -1,5 +1,5 @@
 use Rattle.std.proofs.Common.{ℕ, Option, ap₂, sym, ◌∙◌, subst}
-use Rattle.edit_document.specs.Items.{place_seen}
+use Rattle.edit_document.specs.Items.{place_view}
 use Rattle.edit_document.specs.Ranges.{HasRange}
 use Rattle.edit_tree.specs.Written.{IsWrittenAt}
 use Rattle.edit_document.proofs.Views.{opened, within}
@@ -14,27 +14,27 @@ index-requires c =
 
 pub returns-in_err-number : goal.returns-in_err-number
 returns-in_err-number c form manifest =
-    subst (λ (r : Option (ℕ × ℕ)). HasRange form (place_seen c.args.place.now) r)
+    subst (λ (r : Option (ℕ × ℕ)). HasRange form (place_view c.args.place.now) r)
     (sym c.from_residual.ensures)
     (none_value c.self.inside c.args.self.now form
-    (place_seen c.args.place.now) c.self.invariant c.self.view_is manifest (c.in_err-number.ensures {u = tt}))
+    (place_view c.args.place.now) c.self.invariant c.self.view_is manifest (c.in_err-number.ensures {u = tt}))
 
 pub returns-in_err-span : goal.returns-in_err-span
 returns-in_err-span c form manifest =
     let told = c.in_ok-number.ensures {u = tt} in
-    subst (λ (r : Option (ℕ × ℕ)). HasRange form (place_seen c.args.place.now) r)
+    subst (λ (r : Option (ℕ × ℕ)). HasRange form (place_view c.args.place.now) r)
     (sym c.from_residual-in_err-span.ensures)
     (spanless_value c.self.inside c.args.self.now form
-    (place_seen c.args.place.now) c.in_ok-number.number c.index.result.now c.self.invariant c.self.view_is
+    (place_view c.args.place.now) c.in_ok-number.number c.index.result.now c.self.invariant c.self.view_is
     manifest told.1 told.2 c.index.ensures (c.in_err-span.was {u = tt}))
 
 pub returns : goal.returns
 returns c form manifest =
     let told = c.in_ok-number.ensures {u = tt} in
-    subst (λ (p : ℕ × ℕ). IsWrittenAt form (place_seen c.args.place.now) p.0 p.1)
+    subst (λ (p : ℕ × ℕ). IsWrittenAt form (place_view c.args.place.now) p.0 p.1)
     (ap₂ (λ (m : ℕ) (n : ℕ). pair m n) (sym c.saturating_sub.ensures) (sym c.saturating_sub-2.ensures))
     (spanned_value c.self.inside c.args.self.now form
-    (place_seen c.args.place.now) c.in_ok-number.number c.index.result.now c.in_ok-span.span c.len-len.result
+    (place_view c.args.place.now) c.in_ok-number.number c.index.result.now c.in_ok-span.span c.len-len.result
     c.self.invariant c.self.view_is manifest told.1 told.2 c.index.ensures
     (c.in_ok-span.was {u = tt}) (c.len-len.ensures ∙ c.self.inside.text.bytes.ok.0))
   where

@@ -18,7 +18,7 @@ returns-in-Text c =
     let f = found c.args.self.now c.self.inside.nodes.items c.args.number node opens c.requires
     c.index-node.ensures in
     let here = c.as_str.ensures.value ∙ shown_bytes c.self.inside c.args.self.now c.self.view_is in
-    ap Some (c.words_in.ensures ∙ ap (λ (b : List ℕ). bytes_of b c.in-Text.words) here)
+    ap Some (c.decoded_str.ensures ∙ ap (λ (b : List ℕ). bytes_of b c.in-Text.words) here)
     ∙ word_shown c.args.self.now c.self.inside.nodes.items opens.spots c.args.number node _ f c.in-Text.is
 
 pub returns-in-Integer : goal.returns-in-Integer

@@ -3,7 +3,7 @@ use Rattle.std.specs.Str.{IsUtf8}
 use Rattle.toml.specs.View.{table_view}
 use Rattle.toml.specs.Parse.{parse_document}
 use Rattle.edit_fetch.specs.Settings.IsNoDocument.{not_utf8, not_toml}
-use Rattle.edit_fetch.specs.Settings.SaysValues.{document, nothing}
+use Rattle.edit_fetch.specs.Settings.HasValues.{document, nothing}
 use Rattle.edit_fetch.proofs.settings.file.values_of_bytes.Goals as goal
 
 pub returns-in_default-clause-says : goal.returns-in_default-clause-says

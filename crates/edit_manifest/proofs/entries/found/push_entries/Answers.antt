@@ -2,7 +2,7 @@ use Rattle.std.proofs.Common.{arith, sym, subst}
 use Rattle.std.specs.Prelude.{All}
 use Rattle.std.proofs.lemmas.Grind.{common_steps}
 use Rattle.std.proofs.lemmas.List.Elements.{All-push}
-use Rattle.edit_tree.specs.Shown.{tree_of}
+use Rattle.edit_tree.specs.DocumentViews.{tree_of}
 use Rattle.edit_manifest.specs.EntryViews.{HasReason}
 use Rattle.edit_manifest.proofs.entries.found.push_entries.Goals as goal
 

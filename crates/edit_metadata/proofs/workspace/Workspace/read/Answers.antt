@@ -1,4 +1,4 @@
-use Rattle.edit_metadata.proofs.Sayings.{versions-readable}
+use Rattle.edit_metadata.proofs.UniqueWorkspaces.{versions-readable}
 use Rattle.edit_metadata.specs.Metadata.{is_listed}
 use Rattle.edit_metadata.proofs.workspace.Workspace.read.Goals as goal
 

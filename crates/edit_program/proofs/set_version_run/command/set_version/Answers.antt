@@ -1,9 +1,9 @@
 use Rattle.std.proofs.Common.{inr, subst, sym}
 use Rattle.std.specs.Io.KnownBytes.{Appends}
-use Rattle.edit_metadata.specs.Workspaces.{workspace_said}
+use Rattle.edit_metadata.specs.Workspaces.{workspace_view}
 use Rattle.edit_report.specs.Applied.{AreWritten, HasStopped, HaveDistinctPaths}
-use Rattle.edit_set_version.specs.Planned.{told_lines}
-use Rattle.edit_steps.proofs.Refusals.{on_refusal, refusal_has, refusal_made}
+use Rattle.edit_set_version.specs.Planned.{plan_lines_view}
+use Rattle.edit_steps.proofs.ErrorFields.{on_refusal, refusal_has, refusal_made}
 use Rattle.edit_steps.proofs.Written.{stopped_after, written_after}
 use Rattle.edit_program.specs.Printed.{shown}
 use Rattle.edit_program.specs.SetVersions.{AreDelivered, HasStoppedAt}
@@ -20,7 +20,7 @@ returns-in_err-plan-clause-why g c =
     c.from_residual-in_err-plan.ensures.1
     (plan_cause c.args.words.now c.args.current.now (g.S.Store.view c.args.files.now)
     (g.S.Store.view c.read_workspace.new.files)
-    (workspace_said c.in_ok-read.read.workspace) c.in_ok-read.read.inputs.items c.in_err-plan.field-0.0.error
+    (workspace_view c.in_ok-read.read.workspace) c.in_ok-read.read.inputs.items c.in_err-plan.field-0.0.error
     c.in_ok-read.ensures.reads.files c.in_ok-read.ensures.workspace c.in_err-plan.ensures.refused)
 
 pub write_outputs-requires : goal.write_outputs-requires
@@ -47,13 +47,13 @@ returns-clause-done g c =
     (Appends (g.O.Write.contents c.args.out.now) (g.O.Write.contents c.print_plan.new.out))
     (Appends (g.E.Write.contents c.args.err.now) (g.E.Write.contents c.warn_if-2.new.err))
     words c.args.current.now old new
-    (workspace_said c.in_ok-read.read.workspace) c.in_ok-read.read.inputs.items plan
+    (workspace_view c.in_ok-read.read.workspace) c.in_ok-read.read.inputs.items plan
     c.in_ok-read.ensures.workspace c.in_ok-plan.ensures.planned
     (subst (λ root. Appends (g.O.Write.contents c.args.out.now) (g.O.Write.contents c.print_plan.new.out)
     (shown words root c.in_ok-read.read.inputs.items plan)) c.as_str.ensures.value
     (subst (λ is. Appends (g.O.Write.contents c.args.out.now) (g.O.Write.contents c.print_plan.new.out)
     (shown words c.as_str.result.now is plan)) c.as_slice.ensures.value c.in_ok-print_plan.ensures.shown))
-    (printed_all words (told_lines plan) _ (g.E.Write.contents c.warn_if.new.err)
+    (printed_all words (plan_lines_view plan) _ (g.E.Write.contents c.warn_if.new.err)
     (g.E.Write.contents c.print_plan.new.err) _ c.in_ok-warn_if.ensures.text
     c.in_ok-print_plan.ensures.told c.in_ok-warn_if-2.ensures.text) (
       subst (λ os. AreWritten os old new) c.written.ensures
@@ -73,13 +73,13 @@ returns-in_err-write_outputs-clause-refused g c =
     (Appends (g.O.Write.contents c.args.out.now) (g.O.Write.contents c.print_plan.new.out))
     (Appends (g.E.Write.contents c.args.err.now) (g.E.Write.contents c.warn_if-2.new.err))
     words c.args.current.now old new
-    (workspace_said c.in_ok-read.read.workspace) c.in_ok-read.read.inputs.items plan
+    (workspace_view c.in_ok-read.read.workspace) c.in_ok-read.read.inputs.items plan
     c.in_ok-read.ensures.workspace c.in_ok-plan.ensures.planned
     (subst (λ root. Appends (g.O.Write.contents c.args.out.now) (g.O.Write.contents c.print_plan.new.out)
     (shown words root c.in_ok-read.read.inputs.items plan)) c.as_str.ensures.value
     (subst (λ is. Appends (g.O.Write.contents c.args.out.now) (g.O.Write.contents c.print_plan.new.out)
     (shown words c.as_str.result.now is plan)) c.as_slice.ensures.value c.in_ok-print_plan.ensures.shown))
-    (printed_all words (told_lines plan) _ (g.E.Write.contents c.warn_if.new.err)
+    (printed_all words (plan_lines_view plan) _ (g.E.Write.contents c.warn_if.new.err)
     (g.E.Write.contents c.print_plan.new.err) _ c.in_ok-warn_if.ensures.text
     c.in_ok-print_plan.ensures.told c.in_ok-warn_if-2.ensures.text)
     (subst (λ os. HasStopped os old new) c.written.ensures

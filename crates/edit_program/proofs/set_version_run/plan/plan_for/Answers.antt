@@ -2,11 +2,11 @@ use Rattle.std.proofs.Common.{◌∙◌, ap, subst, sym}
 use Rattle.std.proofs.lemmas.List.Elements.{All-map}
 use Rattle.edit_base.specs.Errors.{number_of}
 use Rattle.edit_metadata.specs.Inputs.{AreInputs}
-use Rattle.edit_metadata.specs.Metadata.{PackageSaid}
-use Rattle.edit_metadata.specs.Workspaces.{package_said, workspace_said}
+use Rattle.edit_metadata.specs.Metadata.{PackageModel}
+use Rattle.edit_metadata.specs.Workspaces.{package_view, workspace_view}
 use Rattle.edit_set_version.specs.Bumps.{target_of}
 use Rattle.edit_set_version.specs.PlanRefused.{IsCauseOf}
-use Rattle.edit_set_version.specs.Selections.{asked_of}
+use Rattle.edit_set_version.specs.Selections.{selection_view}
 use Rattle.edit_version.specs.Laws.{IsReadable}
 use Rattle.edit_program.specs.Plans.{IsVersionPlan}
 use Rattle.edit_program.specs.SetVersions.{no_rust}
@@ -16,17 +16,17 @@ use Rattle.edit_program.proofs.set_version_run.plan.plan_for.Goals as goal
 pub plan_set_version-requires-clause-inputs : goal.plan_set_version-requires-clause-inputs
 plan_set_version-requires-clause-inputs c = (
   no_rust,
-  subst (λ is. AreInputs no_rust (workspace_said c.args.read.now.workspace) is)
+  subst (λ is. AreInputs no_rust (workspace_view c.args.read.now.workspace) is)
       (sym c.as_slice.ensures.value) c.requires.inputs,
 )
 
 pub returns-in-Ok-clause-planned : goal.returns-in-Ok-clause-planned
 returns-in-Ok-clause-planned c =
     let t = target_of c.args.words.now.target in
-    let a = asked_of c.args.words.now.selection in
-    let w = workspace_said c.args.read.now.workspace in
+    let a = selection_view c.args.words.now.selection in
+    let w = workspace_view c.args.read.now.workspace in
     let there : IsVersionPlan t a w c.as_slice.result.now c.in-Ok.plan = record {
-      readable = All-map (λ (q : PackageSaid). IsReadable q.version) package_said
+      readable = All-map (λ (q : PackageModel). IsReadable q.version) package_view
           c.args.read.now.workspace.packages.items c.requires.readable;
       is = c.in-Ok.ensures.planned;
     } in
@@ -35,15 +35,15 @@ returns-in-Ok-clause-planned c =
 pub returns-in-Err-clause-refused : goal.returns-in-Err-clause-refused
 returns-in-Err-clause-refused c =
     let t = target_of c.args.words.now.target in
-    let a = asked_of c.args.words.now.selection in
-    let w = workspace_said c.args.read.now.workspace in
+    let a = selection_view c.args.words.now.selection in
+    let w = workspace_view c.args.read.now.workspace in
     subst (λ is. IsCauseOf t a w is c.explain_set_version.result.error) c.as_slice.ensures.value
     (subst (λ e. IsCauseOf t a w c.as_slice.result.now e) (sym c.explain_set_version.ensures) c.in-Err.ensures.refused)
 
 pub returns-in-Err-clause-counted : goal.returns-in-Err-clause-counted
 returns-in-Err-clause-counted c device =
     let t = target_of c.args.words.now.target in
-    let a = asked_of c.args.words.now.selection in
-    let w = workspace_said c.args.read.now.workspace in
+    let a = selection_view c.args.words.now.selection in
+    let w = workspace_view c.args.read.now.workspace in
     versions_count t a w c.as_slice.result.now c.in-Err.error c.in-Err.ensures.refused
     (sym (ap number_of c.explain_set_version.ensures) ∙ device)

@@ -5,7 +5,7 @@ use Rattle.std.specs.Prelude.{◌⊎◌, IfErr, IfOk, string_bytes}
 use Rattle.edit_base.specs.Errors.{IsMemory, number_of}
 use Rattle.edit_steps.specs.Shared.{lists_for}
 use Rattle.edit_base.specs.declared.errors.Error.{Error}
-use Rattle.edit_program.specs.LookLines.{HasBadLook, look_line}
+use Rattle.edit_program.specs.LookLines.{HasBadLookup, look_as_line}
 use Rattle.edit_upgrade.proofs.PlannedLemmas.{refusal-has}
 use Rattle.edit_program.proofs.LookLemmas.{lines_refused, looks_needed}
 use Rattle.edit_program.proofs.CountLemmas.{memory_counts}
@@ -23,7 +23,7 @@ returns-clause-lines c =
       in_order = c.in_ok-plan.ensures.planned.is.looks_in_order;
       is = is;
     })
-    (subst (λ looks. IfOk c.looks_text.result (λ s. string_bytes s ≡ flat_map look_line looks))
+    (subst (λ looks. IfOk c.looks_text.result (λ s. string_bytes s ≡ flat_map look_as_line looks))
     c.deref.ensures.value c.looks_text.ensures.text)
 
 pub returns-clause-refused : goal.returns-clause-refused
@@ -31,7 +31,7 @@ returns-clause-refused c =
     IfErr-weaker c.looks_text.result _ _
     (λ e h. inl (lines_refused c.args.options.now c.args.target.now.inputs.items
     (lists_for c.args.configs.now) c.in_ok-plan.plan e c.in_ok-plan.ensures.planned h))
-    (subst (λ looks. IfErr c.looks_text.result (λ e. IsMemory e ⊎ HasBadLook looks (number_of e)))
+    (subst (λ looks. IfErr c.looks_text.result (λ e. IsMemory e ⊎ HasBadLookup looks (number_of e)))
     c.deref.ensures.value c.looks_text.ensures.refused)
 
 pub returns-clause-counted : goal.returns-clause-counted
@@ -39,7 +39,7 @@ returns-clause-counted c =
     IfErr-weaker c.looks_text.result _ _
     (λ e h. memory_counts e (lines_refused c.args.options.now c.args.target.now.inputs.items
     (lists_for c.args.configs.now) c.in_ok-plan.plan e c.in_ok-plan.ensures.planned h))
-    (subst (λ looks. IfErr c.looks_text.result (λ e. IsMemory e ⊎ HasBadLook looks (number_of e)))
+    (subst (λ looks. IfErr c.looks_text.result (λ e. IsMemory e ⊎ HasBadLookup looks (number_of e)))
     c.deref.ensures.value c.looks_text.ensures.refused)
 
 pub returns-in_err-plan-clause-counted : goal.returns-in_err-plan-clause-counted

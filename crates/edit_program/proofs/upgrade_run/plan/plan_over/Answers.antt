@@ -5,7 +5,7 @@ use Rattle.std.specs.Prelude.{◌⊎◌, IfErr, IfOk}
 use Rattle.edit_base.specs.Errors.{IsMemory}
 use Rattle.edit_metadata.specs.declared.input.Input.{Input}
 use Rattle.edit_sources.specs.declared.config.Config.{Config}
-use Rattle.edit_tree.specs.Shown.{Shown}
+use Rattle.edit_tree.specs.DocumentViews.{DocumentViews}
 use Rattle.edit_steps.specs.Shared.{lists_for}
 use Rattle.edit_steps.specs.Sources.{AreDocuments}
 use Rattle.edit_upgrade.specs.ConfigLists.{AreIndices, chosen_lists}
@@ -15,10 +15,10 @@ use Rattle.edit_program.proofs.PlanLemmas.{both_causes, planned, shared_refused}
 use Rattle.edit_program.proofs.upgrade_run.plan.plan_over.Goals as goal
 
 -- documents of inputs, as the slices of both have them
-documents_of : (all : List Shown) (inputs : List Input) (docs : List Shown) (is : List Input) → docs ≡ all
+documents_of : (all : List DocumentViews) (inputs : List Input) (docs : List DocumentViews) (is : List Input) → docs ≡ all
     → is ≡ inputs → AreDocuments all inputs → AreDocuments docs is
 documents_of all inputs docs is one two h =
-    subst (AreDocuments docs) (sym two) (subst (λ (ds : List Shown). AreDocuments ds inputs) (sym one) h)
+    subst (AreDocuments docs) (sym two) (subst (λ (ds : List DocumentViews). AreDocuments ds inputs) (sym one) h)
 
 pub plan_shared-requires-clause-documents : goal.plan_shared-requires-clause-documents
 plan_shared-requires-clause-documents g c =

@@ -1,10 +1,10 @@
 use Rattle.std.proofs.Common.{◌≡◌, inl, subst, true}
 use Rattle.std.specs.Prelude.{◌⊎◌}
 use Rattle.edit_sources.specs.Configured.{given}
-use Rattle.edit_steps.proofs.Refusals.{refusal_has}
+use Rattle.edit_steps.proofs.ErrorFields.{refusal_has}
 use Rattle.edit_steps.specs.Causes.{IsReadCause}
 use Rattle.edit_program.specs.LockRead.{HasNoLock}
-use Rattle.edit_program.specs.Planned.{asking}
+use Rattle.edit_program.specs.Planned.{to_request}
 use Rattle.edit_steps.specs.Faults.{CountsFault}
 use Rattle.edit_program.proofs.CountLemmas.{fault_before}
 use Rattle.edit_program.proofs.LockLemmas.{cause_after, lock_refused}
@@ -18,10 +18,10 @@ returns-in_err-lock-clause-refused g c =
     let old = g.S.Store.view c.args.files.now in
     let new = g.S.Store.view c.read_lock.new.files in
     let e = c.in_err-lock.field-0.0 in
-    refusal_has c.from_residual.result e (λ error. IsReadCause current home (asking words) old new error
+    refusal_has c.from_residual.result e (λ error. IsReadCause current home (to_request words) old new error
     ⊎ (old.tells ≡ true → HasNoLock old.file_at current (given words.lock_file) error))
     c.from_residual.ensures.1
-    (lock_refused old new current home (given words.lock_file) (asking words) e.error c.in_err-lock.ensures.refused)
+    (lock_refused old new current home (given words.lock_file) (to_request words) e.error c.in_err-lock.ensures.refused)
 
 pub returns-in_err-sources-clause-refused : goal.returns-in_err-sources-clause-refused
 returns-in_err-sources-clause-refused g c =
@@ -33,10 +33,10 @@ returns-in_err-sources-clause-refused g c =
     let new = g.S.Store.view c.read_sources.new.files in
     let e = c.in_err-sources.field-0.0 in
     refusal_has c.from_residual-in_err-sources.result e
-    (λ error. IsReadCause current home (asking words) old new error
+    (λ error. IsReadCause current home (to_request words) old new error
     ⊎ (old.tells ≡ true → HasNoLock old.file_at current (given words.lock_file) error))
     c.from_residual-in_err-sources.ensures.1
-    (inl (cause_after old mid new current home (asking words) e.error c.in_ok-lock.ensures.store
+    (inl (cause_after old mid new current home (to_request words) e.error c.in_ok-lock.ensures.store
     (subst (λ a. IsReadCause current home a mid new e.error) c.asked.ensures c.in_err-sources.ensures.refused)))
 
 pub returns-in_err-sources-clause-counted : goal.returns-in_err-sources-clause-counted

@@ -2,7 +2,7 @@ use Rattle.std.proofs.Common.{◌≡◌, subst, sym, true}
 use Rattle.std.specs.Prelude.{◌⊎◌}
 use Rattle.edit_base.specs.declared.errors.DeviceCall.TheVariants as call
 use Rattle.edit_sources.specs.Configured.{given}
-use Rattle.edit_store.specs.Store.{RefusesCall}
+use Rattle.edit_store.specs.Store.{IsCallError}
 use Rattle.edit_program.specs.LockRead.{HasNoLock}
 use Rattle.edit_program.proofs.upgrade_run.reading.read_lock.Goals as goal
 
@@ -11,6 +11,6 @@ returns-in-Err-clause-refused g c =
     let old = g.S.Store.view c.args.files.now in
     let new = g.S.Store.view c.read_lock_at.new.files in
     let e = c.in-Err.refusal.error in
-    subst (λ named. RefusesCall call.Read old new e
+    subst (λ named. IsCallError call.Read old new e
     ⊎ (old.tells ≡ true → HasNoLock old.file_at c.args.current.now (given named) e)) (sym c.in-Some.is)
     c.in-Err.ensures.refused

@@ -3,7 +3,7 @@ use Rattle.std.specs.Prelude.{◌⊎◌}
 use Rattle.std.specs.Io.KnownBytes.{Appends}
 use Rattle.edit_base.specs.Errors.{number_of}
 use Rattle.edit_sources.specs.Configured.{given}
-use Rattle.edit_steps.proofs.Refusals.{refusal_has}
+use Rattle.edit_steps.proofs.ErrorFields.{refusal_has}
 use Rattle.edit_report.specs.Applied.{HaveDistinctPaths}
 use Rattle.edit_store.specs.Store.{SameFiles}
 use Rattle.edit_program.specs.Delivered.{IsCutShort}
@@ -13,7 +13,7 @@ use Rattle.edit_program.specs.Said.{AreWarningsInOrder}
 use Rattle.edit_program.specs.Tables.{AreInOrder}
 use Rattle.edit_program.specs.TellingCauses.{IsDeliveryCause}
 use Rattle.edit_program.specs.UpgradeCauses.{IsUpgradeCause}
-use Rattle.edit_lock.specs.Views.{packages_seen}
+use Rattle.edit_lock.specs.Views.{lock_view}
 use Rattle.edit_program.specs.LockRead.{IsLockRead}
 use Rattle.edit_program.specs.Upgrading.{IsPathOf, IsRead}
 use Rattle.edit_program.proofs.CountLemmas.{delivery_counts, fault_before}
@@ -93,8 +93,8 @@ returns-in-Ok-deliver-clause-done g c =
     let old = g.S.Store.view c.args.files.now in
     let mid = g.S.Store.view c.read.new.files in
     let new = g.S.Store.view c.deliver.new.files in
-    let Shows = Appends (g.O.Write.contents c.args.out.now) (g.O.Write.contents c.deliver.new.out) in
-    let Says = Appends (g.E.Write.contents c.args.err.now) (g.E.Write.contents c.deliver.new.err) in
+    let HasFields = Appends (g.O.Write.contents c.args.out.now) (g.O.Write.contents c.deliver.new.out) in
+    let HasDecodedValue = Appends (g.E.Write.contents c.args.err.now) (g.E.Write.contents c.deliver.new.err) in
     let s = c.in_ok-readings.readings.sources in
     let plan = c.in-Ok.plan in
     let path = given c.as_deref-path.result in
@@ -103,14 +103,14 @@ returns-in-Ok-deliver-clause-done g c =
     let planned = c.in-Ok.ensures.planned in
     let at = subst (IsPathOf current (given words.update_calls)) (sym c.as_deref-path.ensures.value)
     c.in_ok-named.ensures.path in
-    let lock = option_map (λ l. packages_seen l.now) c.as_ref-lock.result in
+    let lock = option_map (λ l. lock_view l.now) c.as_ref-lock.result in
     let locked : old.tells ≡ true → IsLockRead old.file_at current (given words.lock_file) lock =
     λ t. subst (IsLockRead old.file_at current (given words.lock_file))
     (sym (same_lock c.as_ref-lock.result c.in_ok-readings.readings.lock c.as_ref-lock.ensures.value))
     (c.in_ok-readings.ensures.locked t) in
-    upgraded c.has_outputs.result Shows Says words current home local old mid new s plan path lock
+    upgraded c.has_outputs.result HasFields HasDecodedValue words current home local old mid new s plan path lock
     c.in_ok-readings.ensures.store read planned at locked
-    (answered c.has_outputs.result Shows Says mid new _ _ c.delivery_task-task.ensures c.has_outputs.ensures
+    (answered c.has_outputs.result HasFields HasDecodedValue mid new _ _ c.delivery_task-task.ensures c.has_outputs.ensures
     c.in-Ok-deliver.ensures.done c.in-Ok-deliver.ensures.said)
 
 pub returns-clause-refused : goal.returns-clause-refused
@@ -122,7 +122,7 @@ returns-clause-refused g c =
     let old = g.S.Store.view c.args.files.now in
     let mid = g.S.Store.view c.read.new.files in
     let new = g.S.Store.view c.deliver.new.files in
-    let Shows = Appends (g.O.Write.contents c.args.out.now) (g.O.Write.contents c.deliver.new.out) in
+    let HasFields = Appends (g.O.Write.contents c.args.out.now) (g.O.Write.contents c.deliver.new.out) in
     let s = c.in_ok-readings.readings.sources in
     let plan = c.in-Ok.plan in
     let path = given c.as_deref-path.result in
@@ -131,14 +131,14 @@ returns-clause-refused g c =
     let planned = c.in-Ok.ensures.planned in
     let at = subst (IsPathOf current (given words.update_calls)) (sym c.as_deref-path.ensures.value)
     c.in_ok-named.ensures.path in
-    let lock = option_map (λ l. packages_seen l.now) c.as_ref-lock.result in
+    let lock = option_map (λ l. lock_view l.now) c.as_ref-lock.result in
     let locked : old.tells ≡ true → IsLockRead old.file_at current (given words.lock_file) lock =
     λ t. subst (IsLockRead old.file_at current (given words.lock_file))
     (sym (same_lock c.as_ref-lock.result c.in_ok-readings.readings.lock c.as_ref-lock.ensures.value))
     (c.in_ok-readings.ensures.locked t) in
-    broken Shows words current home local old mid new s plan path lock c.in_ok-readings.ensures.store
+    broken HasFields words current home local old mid new s plan path lock c.in_ok-readings.ensures.store
     read planned at locked
-    (subst (λ d. SameFiles mid.file_at new.file_at ⊎ IsCutShort Shows d mid new) c.delivery_task-task.ensures
+    (subst (λ d. SameFiles mid.file_at new.file_at ⊎ IsCutShort HasFields d mid new) c.delivery_task-task.ensures
     c.in-Err-deliver.ensures.stopped)
 
 pub returns-clause-why : goal.returns-clause-why
@@ -150,7 +150,7 @@ returns-clause-why g c =
     let old = g.S.Store.view c.args.files.now in
     let mid = g.S.Store.view c.read.new.files in
     let new = g.S.Store.view c.deliver.new.files in
-    let Shows = Appends (g.O.Write.contents c.args.out.now) (g.O.Write.contents c.deliver.new.out) in
+    let HasFields = Appends (g.O.Write.contents c.args.out.now) (g.O.Write.contents c.deliver.new.out) in
     let s = c.in_ok-readings.readings.sources in
     let plan = c.in-Ok.plan in
     let path = given c.as_deref-path.result in
@@ -159,15 +159,15 @@ returns-clause-why g c =
     let planned = c.in-Ok.ensures.planned in
     let at = subst (IsPathOf current (given words.update_calls)) (sym c.as_deref-path.ensures.value)
     c.in_ok-named.ensures.path in
-    let lock = option_map (λ l. packages_seen l.now) c.as_ref-lock.result in
+    let lock = option_map (λ l. lock_view l.now) c.as_ref-lock.result in
     let locked : old.tells ≡ true → IsLockRead old.file_at current (given words.lock_file) lock =
     λ t. subst (IsLockRead old.file_at current (given words.lock_file))
     (sym (same_lock c.as_ref-lock.result c.in_ok-readings.readings.lock c.as_ref-lock.ensures.value))
     (c.in_ok-readings.ensures.locked t) in
-    subst (λ e. IsUpgradeCause Shows words (run_at current home local old new) e) (sym c.explain_delivery.ensures)
-    (stop_cause Shows words current home local old mid new s plan path lock c.in-Err-deliver.error.error
+    subst (λ e. IsUpgradeCause HasFields words (run_at current home local old new) e) (sym c.explain_delivery.ensures)
+    (stop_cause HasFields words current home local old mid new s plan path lock c.in-Err-deliver.error.error
     c.in_ok-readings.ensures.store read planned at locked
-    (subst (λ d. IsDeliveryCause Shows d mid new c.in-Err-deliver.error.error) c.delivery_task-task.ensures
+    (subst (λ d. IsDeliveryCause HasFields d mid new c.in-Err-deliver.error.error) c.delivery_task-task.ensures
     c.in-Err-deliver.ensures.cause))
 
 pub returns-in-Err-clause-counted : goal.returns-in-Err-clause-counted
@@ -179,10 +179,10 @@ returns-clause-counted g c device =
     let old = g.S.Store.view c.args.files.now in
     let mid = g.S.Store.view c.read.new.files in
     let new = g.S.Store.view c.deliver.new.files in
-    let Shows = Appends (g.O.Write.contents c.args.out.now) (g.O.Write.contents c.deliver.new.out) in
+    let HasFields = Appends (g.O.Write.contents c.args.out.now) (g.O.Write.contents c.deliver.new.out) in
     let e = c.in-Err-deliver.error.error in
     inl (fault_before old mid new e c.in_ok-readings.ensures.store.later
-    (delivery_counts Shows _ mid new e c.in-Err-deliver.ensures.cause)
+    (delivery_counts HasFields _ mid new e c.in-Err-deliver.ensures.cause)
     (sym (ap number_of c.explain_delivery.ensures) ∙ device))
 
 pub returns-in_err-readings-clause-counted : goal.returns-in_err-readings-clause-counted

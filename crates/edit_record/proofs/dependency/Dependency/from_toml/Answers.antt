@@ -3,19 +3,19 @@ use Rattle.std.specs.Prelude.{IfOk}
 use Rattle.edit_document.specs.ItemViews.{view_of}
 use Rattle.edit_record.specs.EntryRecords.{EntryRecord, Refusal}
 use Rattle.edit_record.specs.ReadEntries.{entry_record}
-use Rattle.edit_record.specs.RecordViews.{record_view, shown_at}
+use Rattle.edit_record.specs.RecordViews.{record_view, item_tree}
 use Rattle.edit_record.proofs.EntryLemmas.{no_entry, table_entry}
 use Rattle.edit_record.proofs.dependency.Dependency.from_toml.Goals as goal
 
 pub returns-in_ok-from_str-in-None-clause-refused : goal.returns-in_ok-from_str-in-None-clause-refused
 returns-in_ok-from_str-in-None-clause-refused c =
     rw c.stands.ensures
-    (no_entry (shown_at c.args.item) c.args.crate_root.now c.args.key.now (view_of c.args.item) _
+    (no_entry (item_tree c.args.item) c.args.crate_root.now c.args.key.now (view_of c.args.item) _
     c.in-None.ensures (sym c.if-is_table_like.ensures) c.in_ok-from_str-in-None.ensures.ok)
 
 pub returns-then-is_table_like-clause-record : goal.returns-then-is_table_like-clause-record
 returns-then-is_table_like-clause-record c =
-    let item = shown_at c.args.item in
+    let item = item_tree c.args.item in
     let root = c.args.crate_root.now in
     let dep = c.args.key.now in
     let same = ap (entry_record item root dep) c.stands.ensures

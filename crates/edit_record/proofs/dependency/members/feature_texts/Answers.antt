@@ -1,10 +1,10 @@
 use Rattle.edit_document.specs.ItemViews.{view_of}
-use Rattle.edit_record.specs.RecordViews.{shown_at}
+use Rattle.edit_record.specs.RecordViews.{item_tree}
 use Rattle.edit_record.proofs.EntryLemmas.{no_array}
 use Rattle.edit_record.proofs.dependency.members.feature_texts.Goals as goal
 
 pub returns-in_ok-wrong_type-in-None-clause-refused :
     goal.returns-in_ok-wrong_type-in-None-clause-refused
 returns-in_ok-wrong_type-in-None-clause-refused c =
-    no_array (shown_at c.args.item) c.args.dep.now (view_of c.args.item) _
+    no_array (item_tree c.args.item) c.args.dep.now (view_of c.args.item) _
     c.in-None.ensures c.in_ok-wrong_type-in-None.ensures

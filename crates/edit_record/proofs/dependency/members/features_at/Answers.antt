@@ -3,7 +3,7 @@ use Rattle.std.proofs.lemmas.Result.{err_from_is_err_and}
 use Rattle.edit_tree.specs.Assertions.{key}
 use Rattle.edit_document.specs.ItemViews.{document_of, place_of, view_of}
 use Rattle.edit_record.specs.ReadEntries.{Tree, feature_texts, ok_map}
-use Rattle.edit_record.specs.RecordViews.{IsRefused, texts_view}
+use Rattle.edit_record.specs.RecordViews.{IsErrorOfResult, texts_view}
 use Rattle.edit_record.proofs.EntryLemmas.{member_tree, refusal_stays}
 use Rattle.edit_record.proofs.dependency.members.features_at.Goals as goal
 
@@ -14,7 +14,7 @@ returns-in_err-feature_texts-in-Some-clause-refused c =
     let there = c.in-Some.ensures in
     let same = member_tree c.in-Some.item (document_of c.args.table) (place_of c.args.table)
     (key (codes "features")) there.0 there.1 in
-    let P : Tree → Type 0 = λ t. IsRefused (feature_texts t c.args.dep.now (view_of c.in-Some.item))
+    let P : Tree → Type 0 = λ t. IsErrorOfResult (feature_texts t c.args.dep.now (view_of c.in-Some.item))
     c.in_err-feature_texts-in-Some.field-0.0 in
     rw (p.1, p.2, there.2)
     (refusal_stays _ _ _ (subst P same c.in_err-feature_texts-in-Some.ensures.refused))

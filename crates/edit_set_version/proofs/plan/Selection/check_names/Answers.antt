@@ -1,17 +1,17 @@
 use Rattle.std.proofs.Common.{◌≡◌, ◌≢◌, [], ap, inr, map, refl, string_bytes, sym, ◌∙◌}
-use Rattle.edit_metadata.specs.Workspaces.{packages_said}
+use Rattle.edit_metadata.specs.Workspaces.{packages_view}
 use Rattle.edit_set_version.specs.Chosen.{missing}
 use Rattle.edit_set_version.specs.Missing.{absent, names_of}
-use Rattle.edit_set_version.specs.Selections.{asked_of}
+use Rattle.edit_set_version.specs.Selections.{selection_view}
 use Rattle.edit_set_version.proofs.NameLemmas.{told_none, told_some, unmapped}
 use Rattle.edit_set_version.proofs.plan.Selection.check_names.Goals as goal
 
 pub returns-then-is_empty-clause-found : goal.returns-then-is_empty-clause-found
 returns-then-is_empty-clause-found c =
-    let there = names_of (packages_said c.args.workspace.now.packages.items) in
-    let told : map string_bytes c.in_ok-names.names.items ≡ missing (asked_of c.args.self.now) there
-    = c.in_ok-names.ensures.ok (names_of (packages_said c.deref.result.now)) c.in_ok-known.ensures.ok
-    ∙ ap (λ ps. absent (names_of (packages_said ps)) (map string_bytes c.deref-2.result.now))
+    let there = names_of (packages_view c.args.workspace.now.packages.items) in
+    let told : map string_bytes c.in_ok-names.names.items ≡ missing (selection_view c.args.self.now) there
+    = c.in_ok-names.ensures.ok (names_of (packages_view c.deref.result.now)) c.in_ok-known.ensures.ok
+    ∙ ap (λ ps. absent (names_of (packages_view ps)) (map string_bytes c.deref-2.result.now))
     c.deref.ensures.value
     ∙ ap (λ ns. absent there (map string_bytes ns)) c.deref-2.ensures.value in
     let none : c.in_ok-names.names.items ≡ [] =
@@ -21,10 +21,10 @@ returns-then-is_empty-clause-found c =
 
 pub returns-clause-refused : goal.returns-clause-refused
 returns-clause-refused c =
-    let there = names_of (packages_said c.args.workspace.now.packages.items) in
-    let told : map string_bytes c.in_ok-names.names.items ≡ missing (asked_of c.args.self.now) there
-    = c.in_ok-names.ensures.ok (names_of (packages_said c.deref.result.now)) c.in_ok-known.ensures.ok
-    ∙ ap (λ ps. absent (names_of (packages_said ps)) (map string_bytes c.deref-2.result.now))
+    let there = names_of (packages_view c.args.workspace.now.packages.items) in
+    let told : map string_bytes c.in_ok-names.names.items ≡ missing (selection_view c.args.self.now) there
+    = c.in_ok-names.ensures.ok (names_of (packages_view c.deref.result.now)) c.in_ok-known.ensures.ok
+    ∙ ap (λ ps. absent (names_of (packages_view ps)) (map string_bytes c.deref-2.result.now))
     c.deref.ensures.value
     ∙ ap (λ ns. absent there (map string_bytes ns)) c.deref-2.ensures.value in
     let some : c.in_ok-names.names.items ≢ [] =

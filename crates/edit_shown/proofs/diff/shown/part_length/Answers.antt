@@ -1,6 +1,6 @@
 use Rattle.std.proofs.Common.{◌≡◌, arith, false, rules, true}
 use Rattle.edit_shown.proofs.MarkLemmas.{shown_end, shown_more, shown_none}
-use Rattle.edit_shown.specs.Shown.{is_shown}
+use Rattle.edit_shown.specs.ShownLines.{is_shown}
 use Rattle.edit_shown.proofs.diff.shown.part_length.Goals as goal
 
 pub returns-then-not-is_shown-clause-same : goal.returns-then-not-is_shown-clause-same

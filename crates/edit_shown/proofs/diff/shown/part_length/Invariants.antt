@@ -1,5 +1,5 @@
 use Rattle.std.proofs.Common.{◌≡◌, ◌+◌, ◌-◌, drop}
-use Rattle.edit_shown.specs.Shown.{leading, shown_lines}
+use Rattle.edit_shown.specs.ShownLines.{leading, shown_lines}
 use Rattle.edit_shown.proofs.diff.shown.part_length.Given as goal
 
 -- all are shown so far

@@ -1,5 +1,5 @@
 use Rattle.std.proofs.Common.{◌≡◌, refl, ℕ, List, true, Some, option_map, Vec, Global, ◌∙◌, subst, inl, inr, ⊎_elim, sym, ap}
-use Rattle.edit_sources.specs.Configuration.{SaysNothing}
+use Rattle.edit_sources.specs.Configuration.{IsMalformedConfig}
 use Rattle.edit_sources.specs.ConfigurationFiles.{standing}
 use Rattle.edit_sources.proofs.config.files.read_file.Goals as goal
 
@@ -15,5 +15,5 @@ returns-clause-refused g c =
       file = file;
       at = refl;
       stands = stands;
-      unread = record { named = refused.0; nothing = subst SaysNothing c.deref.ensures.value refused.1 };
+      unread = record { named = refused.0; nothing = subst IsMalformedConfig c.deref.ensures.value refused.1 };
     }))) c.in-Err-read.ensures.refused

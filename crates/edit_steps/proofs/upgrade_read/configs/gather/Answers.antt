@@ -1,6 +1,9 @@
 use Rattle.edit_sources.specs.Configured.{given}
 use Rattle.edit_steps.proofs.NamedLemmas.{gathered, seen_of}
 use Rattle.edit_steps.specs.Named.{pair_of, seen}
+use Rattle.std.proofs.Common.{refl}
+use Rattle.edit_sources.specs.CachedConfigs.{AreCached}
+use Rattle.edit_steps.proofs.FirstLemmas.{error_has, last_ungathered, own_ungathered}
 use Rattle.edit_steps.proofs.upgrade_read.configs.gather.Goals as goal
 
 pub returns-clause-read : goal.returns-clause-read
@@ -12,3 +15,20 @@ returns-clause-read g c = λ kept t.
     (seen_of c.as_ref-2.result c.args.named.now.last c.as_ref-2.ensures.value)
     c.in_ok-configs.ensures.said (c.in-Ok.ensures.read kept t) c.in_ok-last.ensures.said
     c.in_ok-append.ensures.items c.in_ok-append-2.ensures.items
+
+pub returns-in-Err-clause-first : goal.returns-in-Err-clause-first
+returns-in-Err-clause-first g c =
+    let old = g.S.Store.view c.args.files.now in
+    own_ungathered _ (AreCached old c.args.cache.now) old (given c.args.cargo_home) (pair_of c.args.named.now)
+    c.args.manifest.now c.as_ref.result c.args.named.now.first c.in_ok-configs.configs.items c.in-Err.error
+    c.as_ref.ensures.value refl c.in_ok-configs.ensures.said c.in-Err.ensures.refused
+
+pub returns-in_err-last-clause-first : goal.returns-in_err-last-clause-first
+returns-in_err-last-clause-first g c =
+    let old = g.S.Store.view c.args.files.now in
+    let e = c.in_err-last.field-0.0 in
+    error_has c.from_residual-in_err-last.result e _ c.from_residual-in_err-last.ensures.1
+    (last_ungathered _ (AreCached old c.args.cache.now) old (given c.args.cargo_home) (pair_of c.args.named.now)
+    c.args.manifest.now c.as_ref.result c.as_ref-2.result c.args.named.now.first c.args.named.now.last
+    c.in_ok-configs.configs.items c.in-Ok.own.items e c.as_ref.ensures.value refl c.as_ref-2.ensures.value
+    refl c.in_ok-configs.ensures.said c.in-Ok.ensures.read c.in_err-last.ensures.refused)

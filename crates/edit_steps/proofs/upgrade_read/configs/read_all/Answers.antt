@@ -9,6 +9,9 @@ use Rattle.edit_steps.specs.Named.{AreConfigured, AreGathered, pair_of}
 use Rattle.edit_steps.proofs.ReadLemmas.{among, before, configured_more, unconfigured}
 use Rattle.edit_steps.proofs.SharedLemmas.{IsListed, IsOfSome, listed}
 use Rattle.edit_steps.specs.Shared.{lists_for}
+use Rattle.edit_steps.proofs.ErrorLemmas.{config_error, config_counted}
+use Rattle.edit_sources.specs.CachedConfigs.{AreCached}
+use Rattle.edit_steps.proofs.FirstLemmas.{stops_at_input}
 use Rattle.edit_steps.proofs.upgrade_read.configs.read_all.Goals as goal
 
 pub returns-in-Err-clause-refused : goal.returns-in-Err-clause-refused
@@ -18,6 +21,14 @@ returns-in-Err-clause-refused g c = unconfigured (g.S.Store.view c.args.files.no
     c.inputs.invariant.store c.as_str.ensures.value
     (among c.args.inputs.now c.inputs.input-index c.input-item.result c.inputs-test.true c.input-item.is)
     c.in-Err.ensures.refused
+
+pub returns-in-Err-clause-first : goal.returns-in-Err-clause-first
+returns-in-Err-clause-first g c = stops_at_input (g.S.Store.view c.args.files.now)
+    (g.S.Store.view c.inputs.files) (g.S.Store.view c.gather.new.files)
+    (AreCached (g.S.Store.view c.inputs.files) c.inputs.cache) (given c.args.cargo_home)
+    (pair_of c.args.named.now) c.args.inputs.now c.inputs.input-index c.input-item.result c.as_str.result.now
+    (lists_for c.inputs.shared) c.in-Err.error c.inputs.invariant.store c.inputs.invariant.kept
+    c.inputs-test.true c.input-item.is c.as_str.ensures.value c.inputs.invariant.read c.in-Err.ensures.first
 
 pub inputs-init : goal.inputs-init
 inputs-init g c =
@@ -66,3 +77,14 @@ inputs-preserved g c =
           (one t).gathered;
       others = λ t. (one t).others;
     }
+
+pub returns-in-Err-clause-only : goal.returns-in-Err-clause-only
+returns-in-Err-clause-only g c = config_error (g.S.Store.view c.args.files.now)
+    (g.S.Store.view c.inputs.files) (g.S.Store.view c.gather.new.files) (given c.args.cargo_home)
+    (pair_of c.args.named.now).first (pair_of c.args.named.now).last c.as_str.result.now c.in-Err.error
+    c.inputs.invariant.store c.in-Err.ensures.refused
+
+pub returns-in-Err-clause-counted : goal.returns-in-Err-clause-counted
+returns-in-Err-clause-counted g c =
+    config_counted (g.S.Store.view c.args.files.now) (g.S.Store.view c.gather.new.files) c.in-Err.error
+    (returns-in-Err-clause-only g c)

@@ -1,7 +1,7 @@
 use Rattle.std.proofs.Common.{◌≡◌, length, take, true}
 use Rattle.std.specs.Prelude.{All}
 use Rattle.edit_sources.specs.Configured.{given}
-use Rattle.edit_sources.specs.KeptConfigs.{AreKept}
+use Rattle.edit_sources.specs.CachedConfigs.{AreCached}
 use Rattle.edit_store.specs.Store.{OnlyReads}
 use Rattle.edit_steps.proofs.SharedLemmas.{IsOfSome}
 use Rattle.edit_steps.specs.Named.{AreConfigured, pair_of}
@@ -11,7 +11,7 @@ use Rattle.edit_steps.proofs.upgrade_read.configs.read_all.Given as goal
 abbrev pub invariant-inputs : goal.invariant-inputs
 invariant-inputs g l = record {
   store : OnlyReads (g.S.Store.view l.initial.files) (g.S.Store.view l.files);
-  kept : AreKept (g.S.Store.view l.files) l.cache;
+  kept : AreCached (g.S.Store.view l.files) l.cache;
   each : length l.shared.which.items ≡ length (take l.input-index l.inputs);
   lists : HasLists l.shared;
   read : (g.S.Store.view l.initial.files).tells ≡ true

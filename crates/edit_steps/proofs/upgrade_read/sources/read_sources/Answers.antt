@@ -1,22 +1,25 @@
-use Rattle.std.proofs.Common.{◌≡◌, ◌⊎◌, subst, true}
+use Rattle.std.proofs.Common.{◌≡◌, ◌⊎◌, subst, true, inl, inr}
 use Rattle.edit_base.specs.declared.errors.DeviceCall.TheVariants as call
 use Rattle.edit_sources.specs.Configured.{given}
-use Rattle.edit_steps.proofs.Refusals.{refusal_has}
-use Rattle.edit_store.specs.Store.{OnlyReads, RefusesCall}
-use Rattle.edit_steps.specs.Asking.{asking_of}
-use Rattle.edit_steps.specs.Causes.{IsUnconfigured}
+use Rattle.edit_steps.proofs.ErrorFields.{refusal_has}
+use Rattle.edit_store.specs.Store.{OnlyReads, IsCallError}
+use Rattle.edit_steps.specs.RequestView.{request_view}
+use Rattle.edit_steps.specs.Causes.{IsUnconfigured, IsFailure}
 use Rattle.edit_metadata.proofs.InputLemmas.{reads-on}
 use Rattle.edit_steps.proofs.ReadLemmas.{before}
 use Rattle.edit_steps.specs.Named.{AreConfigured, ArePairRead, pair_of}
 use Rattle.edit_steps.specs.Shared.{lists_for}
 use Rattle.edit_steps.specs.Sources.{IsIndexRead}
 use Rattle.edit_steps.proofs.ReadLemmas.{config_cause, index_cause, named_cause, target_cause}
+use Rattle.edit_steps.proofs.ErrorLemmas.{part_error, wider, counted_on}
+use Rattle.edit_steps.specs.Errors.{IsConfigError, IsIndexError, IsPairError, IsSourceError, IsTargetError}
+use Rattle.edit_steps.specs.Faults.{CountsFault}
 use Rattle.edit_steps.proofs.upgrade_read.sources.read_sources.Goals as goal
 
 pub returns-in_err-target-clause-refused : goal.returns-in_err-target-clause-refused
 returns-in_err-target-clause-refused g c =
     refusal_has c.from_residual.result c.in_err-target.field-0.0 _ c.from_residual.ensures.1
-    (target_cause c.args.current.now (given c.args.cargo_home) (asking_of c.args.asked.now)
+    (target_cause c.args.current.now (given c.args.cargo_home) (request_view c.args.asked.now)
     (g.S.Store.view c.args.files.now) (g.S.Store.view c.read_target.new.files)
     c.in_err-target.field-0.0.error c.in_err-target.ensures.refused)
 
@@ -24,7 +27,7 @@ pub returns-in_err-named-clause-refused : goal.returns-in_err-named-clause-refus
 returns-in_err-named-clause-refused g c =
     refusal_has c.from_residual-in_err-named.result c.in_err-named.field-0.0 _
     c.from_residual-in_err-named.ensures.1
-    (named_cause c.args.current.now (given c.args.cargo_home) (asking_of c.args.asked.now)
+    (named_cause c.args.current.now (given c.args.cargo_home) (request_view c.args.asked.now)
     (g.S.Store.view c.args.files.now) (g.S.Store.view c.read_target.new.files)
     (g.S.Store.view c.read_named.new.files) c.in_ok-target.target.workspace
     c.in_ok-target.target.inputs.items c.in_err-named.field-0.0.error c.in_ok-target.ensures.store
@@ -34,13 +37,13 @@ pub returns-in_err-configs-clause-refused : goal.returns-in_err-configs-clause-r
 returns-in_err-configs-clause-refused g c =
     refusal_has c.from_residual-in_err-configs.result c.in_err-configs.field-0.0 _
     c.from_residual-in_err-configs.ensures.1
-    (config_cause c.args.current.now (given c.args.cargo_home) (asking_of c.args.asked.now)
+    (config_cause c.args.current.now (given c.args.cargo_home) (request_view c.args.asked.now)
     (g.S.Store.view c.args.files.now) (g.S.Store.view c.read_target.new.files)
     (g.S.Store.view c.read_named.new.files) (g.S.Store.view c.read_configurations.new.files)
     c.in_ok-target.target.workspace c.in_ok-target.target.inputs.items (pair_of c.in_ok-named.named)
     c.in_err-configs.field-0.0.error c.in_ok-target.ensures.store c.in_ok-named.ensures.store
     c.in_ok-target.ensures.read c.in_ok-named.ensures.read
-    (subst (λ is. RefusesCall call.Read (g.S.Store.view c.read_named.new.files)
+    (subst (λ is. IsCallError call.Read (g.S.Store.view c.read_named.new.files)
     (g.S.Store.view c.read_configurations.new.files) c.in_err-configs.field-0.0.error
     ⊎ ((g.S.Store.view c.read_named.new.files).tells ≡ true
     → IsUnconfigured (g.S.Store.view c.read_named.new.files).file_at (given c.args.cargo_home)
@@ -51,7 +54,7 @@ pub returns-in_err-index-clause-refused : goal.returns-in_err-index-clause-refus
 returns-in_err-index-clause-refused g c =
     refusal_has c.from_residual-in_err-index.result c.in_err-index.field-0.0 _
     c.from_residual-in_err-index.ensures.1
-    (index_cause c.args.current.now (given c.args.cargo_home) (asking_of c.args.asked.now)
+    (index_cause c.args.current.now (given c.args.cargo_home) (request_view c.args.asked.now)
     (g.S.Store.view c.args.files.now) (g.S.Store.view c.read_target.new.files)
     (g.S.Store.view c.read_named.new.files) (g.S.Store.view c.read_configurations.new.files)
     (g.S.Store.view c.read_index.new.files) c.in_ok-target.target.workspace
@@ -70,7 +73,7 @@ returns-clause-read g c = λ t.
     let all = g.S.Store.view c.read_configurations.new.files in
     let current = c.args.current.now in
     let home = given c.args.cargo_home in
-    let asking = asking_of c.args.asked.now in
+    let asking = request_view c.args.asked.now in
     let pair = pair_of c.in_ok-named.named in
     let configs = lists_for c.in_ok-configs.configs in
     let upto : OnlyReads old named
@@ -86,3 +89,73 @@ returns-clause-read g c = λ t.
       indexed = before (λ files. IsIndexRead files current asking c.in_ok-index.index) old all
           (reads-on old named all upto c.in_ok-configs.ensures.store) c.in_ok-index.ensures.read t;
     }
+
+pub returns-in_err-target-clause-only : goal.returns-in_err-target-clause-only
+returns-in_err-target-clause-only g c =
+    let asking = request_view c.args.asked.now in
+    let e = c.in_err-target.field-0.0.error in
+    refusal_has c.from_residual.result c.in_err-target.field-0.0 _ c.from_residual.ensures.1
+    (wider (IsFailure (g.S.Store.view c.args.files.now) (g.S.Store.view c.read_target.new.files) e)
+    (IsTargetError c.args.current.now asking.metadata asking.manifest e)
+    (IsSourceError c.args.current.now asking e) (λ error. inl error) c.in_err-target.ensures.only)
+
+pub returns-in_err-named-clause-only : goal.returns-in_err-named-clause-only
+returns-in_err-named-clause-only g c =
+    let asking = request_view c.args.asked.now in
+    let e = c.in_err-named.field-0.0.error in
+    refusal_has c.from_residual-in_err-named.result c.in_err-named.field-0.0 _
+    c.from_residual-in_err-named.ensures.1
+    (part_error (g.S.Store.view c.args.files.now) (g.S.Store.view c.read_target.new.files)
+    (g.S.Store.view c.read_named.new.files) c.args.current.now asking e (IsPairError asking e)
+    c.in_ok-target.ensures.store (λ error. inr (inl error)) c.in_err-named.ensures.only)
+
+pub returns-in_err-configs-clause-only : goal.returns-in_err-configs-clause-only
+returns-in_err-configs-clause-only g c =
+    let old = g.S.Store.view c.args.files.now in
+    let mid = g.S.Store.view c.read_named.new.files in
+    let e = c.in_err-configs.field-0.0.error in
+    refusal_has c.from_residual-in_err-configs.result c.in_err-configs.field-0.0 _
+    c.from_residual-in_err-configs.ensures.1
+    (part_error old mid (g.S.Store.view c.read_configurations.new.files) c.args.current.now
+    (request_view c.args.asked.now) e (IsConfigError e)
+    (reads-on old (g.S.Store.view c.read_target.new.files) mid c.in_ok-target.ensures.store
+    c.in_ok-named.ensures.store) (λ error. inr (inr (inl error))) c.in_err-configs.ensures.only)
+
+pub returns-in_err-index-clause-only : goal.returns-in_err-index-clause-only
+returns-in_err-index-clause-only g c =
+    let old = g.S.Store.view c.args.files.now in
+    let mid = g.S.Store.view c.read_named.new.files in
+    let now = g.S.Store.view c.read_configurations.new.files in
+    let asking = request_view c.args.asked.now in
+    let e = c.in_err-index.field-0.0.error in
+    let upto : OnlyReads old mid = reads-on old (g.S.Store.view c.read_target.new.files) mid
+    c.in_ok-target.ensures.store c.in_ok-named.ensures.store in
+    refusal_has c.from_residual-in_err-index.result c.in_err-index.field-0.0 _
+    c.from_residual-in_err-index.ensures.1
+    (part_error old now (g.S.Store.view c.read_index.new.files) c.args.current.now asking e
+    (IsIndexError asking.index e) (reads-on old mid now upto c.in_ok-configs.ensures.store)
+    (λ error. inr (inr (inr error))) c.in_err-index.ensures.only)
+
+pub returns-in_err-configs-clause-counted : goal.returns-in_err-configs-clause-counted
+returns-in_err-configs-clause-counted g c =
+    let old = g.S.Store.view c.args.files.now in
+    let mid = g.S.Store.view c.read_named.new.files in
+    let new = g.S.Store.view c.read_configurations.new.files in
+    refusal_has c.from_residual-in_err-configs.result c.in_err-configs.field-0.0 (λ e. CountsFault old new e)
+    c.from_residual-in_err-configs.ensures.1
+    (counted_on old mid new c.in_err-configs.field-0.0.error
+    (reads-on old (g.S.Store.view c.read_target.new.files) mid c.in_ok-target.ensures.store
+    c.in_ok-named.ensures.store) c.in_err-configs.ensures.counted)
+
+pub returns-in_err-index-clause-counted : goal.returns-in_err-index-clause-counted
+returns-in_err-index-clause-counted g c =
+    let old = g.S.Store.view c.args.files.now in
+    let mid = g.S.Store.view c.read_named.new.files in
+    let now = g.S.Store.view c.read_configurations.new.files in
+    let new = g.S.Store.view c.read_index.new.files in
+    let upto : OnlyReads old mid = reads-on old (g.S.Store.view c.read_target.new.files) mid
+    c.in_ok-target.ensures.store c.in_ok-named.ensures.store in
+    refusal_has c.from_residual-in_err-index.result c.in_err-index.field-0.0 (λ e. CountsFault old new e)
+    c.from_residual-in_err-index.ensures.1
+    (counted_on old now new c.in_err-index.field-0.0.error (reads-on old mid now upto
+    c.in_ok-configs.ensures.store) c.in_err-index.ensures.counted)

@@ -1,7 +1,9 @@
 use Rattle.std.proofs.Common.{option_map}
-use Rattle.edit_steps.proofs.Refusals.{refusal_has}
+use Rattle.edit_steps.proofs.ErrorFields.{refusal_has}
 use Rattle.edit_version.specs.RustVersions.{numbers_of}
-use Rattle.edit_steps.proofs.TargetLemmas.{found_read, members_read, workspace_cause}
+use Rattle.edit_steps.proofs.TargetLemmas.{found_read, members_read, workspace_cause, manifest_cause}
+use Rattle.edit_steps.proofs.ErrorLemmas.{manifest_target, workspace_target}
+use Rattle.edit_sources.specs.Configured.{given}
 use Rattle.edit_steps.proofs.upgrade_read.target.read_target.Goals as goal
 
 pub returns-in_default-clause-read : goal.returns-in_default-clause-read
@@ -24,3 +26,25 @@ returns-clause-read g c =
     c.in-Some.named c.in_ok-read.read.workspace c.in_ok-read.read.inputs.items
     (option_map numbers_of c.given-given.result) c.is_ignored-ignored.result c.in-Some.is
     c.given-given.ensures c.is_ignored-ignored.ensures (c.in_ok-read.ensures.workspace t)
+
+pub returns-in_err-manifest-clause-only : goal.returns-in_err-manifest-clause-only
+returns-in_err-manifest-clause-only g c =
+    refusal_has c.from_residual.result c.in_err-manifest.field-0.0 _ c.from_residual.ensures.1
+    (manifest_target (g.S.Store.view c.args.files.now) (g.S.Store.view c.read_manifest.new.files)
+    c.args.current.now c.args.asked.now.metadata_json (given c.args.asked.now.manifest_path)
+    c.in_err-manifest.field-0.0.error c.in_default.is c.in_err-manifest.ensures.only)
+
+pub returns-in_err-read-clause-only : goal.returns-in_err-read-clause-only
+returns-in_err-read-clause-only g c =
+    refusal_has c.from_residual-in_err-read.result c.in_err-read.field-0.0 _
+    c.from_residual-in_err-read.ensures.1
+    (workspace_target (g.S.Store.view c.args.files.now) (g.S.Store.view c.read_workspace.new.files)
+    c.args.current.now c.args.asked.now.metadata_json c.in-Some.named (given c.args.asked.now.manifest_path)
+    c.in_err-read.field-0.0.error c.in-Some.is c.in_err-read.ensures.only)
+
+pub returns-in_err-manifest-clause-refused : goal.returns-in_err-manifest-clause-refused
+returns-in_err-manifest-clause-refused g c =
+    refusal_has c.from_residual.result c.in_err-manifest.field-0.0 _ c.from_residual.ensures.1
+    (manifest_cause (g.S.Store.view c.args.files.now) (g.S.Store.view c.read_manifest.new.files)
+    c.args.current.now c.args.asked.now c.in_err-manifest.field-0.0.error c.in_default.is
+    c.in_err-manifest.ensures.refused)

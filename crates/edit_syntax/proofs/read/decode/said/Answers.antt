@@ -1,14 +1,14 @@
 use Rattle.std.proofs.Common.{◌≡◌, ℕ, List, subst, ◌∙◌, ◌⊎◌, inl, inr}
 use Rattle.edit_syntax.specs.declared.read.marks.MarkKind.{MarkKind}
 use Rattle.edit_syntax.specs.declared.read.marks.MarkKind.TheVariants.{BasicPart, BasicString}
-use Rattle.edit_syntax.specs.Decoding.{Says, BasicSays}
+use Rattle.edit_syntax.specs.Decoding.{HasDecodedValue, HasBasicValue}
 use Rattle.edit_syntax.proofs.LineContents.{basic_line, raw_content}
 use Rattle.edit_syntax.proofs.read.decode.said.Goals as goal
 
 basic_says : (kind : MarkKind) (content said : List ℕ) → (kind ≡ BasicPart) ⊎ (kind ≡ BasicString)
-    → Says kind content said → BasicSays content said
-basic_says kind content said (inl e) h = subst (λ (k : MarkKind). Says k content said) e h
-basic_says kind content said (inr e) h = subst (λ (k : MarkKind). Says k content said) e h
+    → HasDecodedValue kind content said → HasBasicValue content said
+basic_says kind content said (inl e) h = subst (λ (k : MarkKind). HasDecodedValue k content said) e h
+basic_says kind content said (inr e) h = subst (λ (k : MarkKind). HasDecodedValue k content said) e h
 
 pub returns-in-BasicPart-clause-text : goal.returns-in-BasicPart-clause-text
 returns-in-BasicPart-clause-text c said says = c.decoded.ensures.text said
@@ -20,4 +20,4 @@ pub returns-in_ok-from_str-in-MultiLiteralString-clause-text :
 returns-in_ok-from_str-in-MultiLiteralString-clause-text c said says =
     (c.in_ok-from_str-in-MultiLiteralString.ensures {u = tt}).ok ∙ c.past_break-in-MultiLiteralString.ensures
     ∙ raw_content c.args.content.now said
-    (subst (λ (k : MarkKind). Says k c.args.content.now said) c.in-MultiLiteralString.is says)
+    (subst (λ (k : MarkKind). HasDecodedValue k c.args.content.now said) c.in-MultiLiteralString.is says)

@@ -1,7 +1,7 @@
 use Rattle.std.proofs.Common.{◌≡◌, ◌++◌, Some, true, eqb, eq-eqb, ap, ◌∙◌, drop, slice_index}
 use Rattle.edit_syntax.specs.Characters.{left_bracket, right_bracket}
 use Rattle.edit_syntax.specs.Strings.{Key}
-use Rattle.edit_syntax.specs.Marks.{key_marks}
+use Rattle.edit_syntax.specs.SyntaxTokens.{tokens_of_key}
 use Rattle.edit_syntax.specs.Reading.{first, past_blanks, past, key_at}
 use Rattle.edit_syntax.proofs.NotedLines.{element_noted}
 use Rattle.edit_syntax.proofs.read.lines.element_header.Goals as goal
@@ -14,7 +14,7 @@ returns c =
     let inner : c.past_run.result.now ≡ past_blanks (drop 2 s) = c.past_run.ensures ∙
     ap past_blanks c.skip.ensures in
     let k : (k : Key) × (key_at c.past_run.result.now ≡ Some (k, c.in_ok-after_key.after_key.now))
-    × (c.key.new.out.items ≡ c.args.out.now.items ++ key_marks k c.in_ok-after_key.after_key.now) =
+    × (c.key.new.out.items ≡ c.args.out.now.items ++ tokens_of_key k c.in_ok-after_key.after_key.now) =
     c.in_ok-after_key.ensures in
     element_noted c.args.out.now.items c.key.new.out.items c.note.new.out.items s
     c.in_ok-after_key.after_key.now c.in-Some.inner.now c.in-Some-past.rest.now k.0 opened again

@@ -3,7 +3,7 @@ use Rattle.std.proofs.lemmas.Bool.{eqb-true}
 use Rattle.std.proofs.lemmas.Result.{err_from_is_err_and}
 use Rattle.edit_syntax.specs.Grammar.{Line}
 use Rattle.edit_syntax.specs.Reading.{line_at, line_end_at, lines_at}
-use Rattle.edit_syntax.specs.Marks.{line_marks}
+use Rattle.edit_syntax.specs.SyntaxTokens.{tokens_of_line}
 use Rattle.edit_syntax.proofs.Loops.{one_less, rest_of}
 use Rattle.edit_syntax.proofs.NotedLines.{lines_done, lines_turn, lines_broken, lines_fail, lines_none, found, only, refused, exit_only}
 use Rattle.edit_syntax.proofs.read.lines.lines.Goals as goal
@@ -27,7 +27,7 @@ returns-then-is_empty-clause-found c =
     let k = one_less (length c.args.text.now + 1) c.lines._line c.lines-test.true in
     let r = c.in_ok-after_line.after_line.now in
     let p : (x : Line) × (line_at 80 c.lines.rest.now ≡ Some (x, r))
-    × (c.line.new.out.items ≡ c.lines.out.items ++ line_marks x r) = c.in_ok-after_line.ensures in
+    × (c.line.new.out.items ≡ c.lines.out.items ++ tokens_of_line x r) = c.in_ok-after_line.ensures in
     let over : length r ≡ 0 = eqb-true _ _ (sym c.is_empty.ensures ∙ c.if-is_empty.true) in
     let d = lines_done (lines_at 80 (length c.args.text.now + 1) c.args.text.now)
     (length c.args.text.now + 1 - (c.lines._line + 1)) c.lines.rest.now r p.0 c.lines.out.items
@@ -39,7 +39,7 @@ returns-then-is_empty-clause-only c =
     let k = one_less (length c.args.text.now + 1) c.lines._line c.lines-test.true in
     let r = c.in_ok-after_line.after_line.now in
     let p : (x : Line) × (line_at 80 c.lines.rest.now ≡ Some (x, r))
-    × (c.line.new.out.items ≡ c.lines.out.items ++ line_marks x r) = c.in_ok-after_line.ensures in
+    × (c.line.new.out.items ≡ c.lines.out.items ++ tokens_of_line x r) = c.in_ok-after_line.ensures in
     let over : length r ≡ 0 = eqb-true _ _ (sym c.is_empty.ensures ∙ c.if-is_empty.true) in
     let d = lines_done (lines_at 80 (length c.args.text.now + 1) c.args.text.now)
     (length c.args.text.now + 1 - (c.lines._line + 1)) c.lines.rest.now r p.0 c.lines.out.items
@@ -51,7 +51,7 @@ returns-in_default-clause-only c form has valid le =
     let k = one_less (length c.args.text.now + 1) c.lines._line c.lines-test.true in
     let r = c.in_ok-after_line.after_line.now in
     let p : (x : Line) × (line_at 80 c.lines.rest.now ≡ Some (x, r))
-    × (c.line.new.out.items ≡ c.lines.out.items ++ line_marks x r) = c.in_ok-after_line.ensures in
+    × (c.line.new.out.items ≡ c.lines.out.items ++ tokens_of_line x r) = c.in_ok-after_line.ensures in
     let more : eqb (length r) 0 ≡ false = sym c.is_empty.ensures ∙ c.if-is_empty.false in
     let none : None ≡ rest_of (line_end_at r) = c.in_default.ensures in
     absurd (refused c.args.text.now form
@@ -64,7 +64,7 @@ lines-preserved c =
     let k = one_less (length c.args.text.now + 1) c.lines._line c.lines-test.true in
     let r = c.in_ok-after_line.after_line.now in
     let p : (x : Line) × (line_at 80 c.lines.rest.now ≡ Some (x, r))
-    × (c.line.new.out.items ≡ c.lines.out.items ++ line_marks x r) = c.in_ok-after_line.ensures in
+    × (c.line.new.out.items ≡ c.lines.out.items ++ tokens_of_line x r) = c.in_ok-after_line.ensures in
     let more : eqb (length r) 0 ≡ false = sym c.is_empty.ensures ∙ c.if-is_empty.false in
     let some : Some c.in-Some.next.now ≡ rest_of (line_end_at r) = c.in-Some.ensures in
     lines_turn (lines_at 80 (length c.args.text.now + 1) c.args.text.now)

@@ -1,6 +1,6 @@
 use Rattle.std.proofs.Common.{◌≡◌, cond, drop}
 use Rattle.edit_syntax.specs.Numbers.{are_digits, are_more_digits}
-use Rattle.edit_syntax.specs.Noting.{class_test}
+use Rattle.edit_syntax.specs.AppendedTokens.{class_test}
 use Rattle.edit_syntax.proofs.read.numbers.are_digits.Given as goal
 
 -- what is left tells what all tells

@@ -1,6 +1,6 @@
 use Rattle.std.proofs.Common.{◌≡◌, ◌∷◌, ◌++◌, ap, sym, ◌∙◌}
 use Rattle.edit_syntax.specs.Characters.{equals}
-use Rattle.edit_syntax.specs.Marks.{key_marks}
+use Rattle.edit_syntax.specs.SyntaxTokens.{tokens_of_key}
 use Rattle.edit_syntax.specs.Reading.{key_at, past, past_blanks}
 use Rattle.edit_syntax.proofs.TokenLaws.{some_is}
 use Rattle.edit_syntax.proofs.StepLaws.{naming_again, naming_read, naming_value, sign_read, sign_there, refused_memory}
@@ -28,5 +28,5 @@ returns c k a b more h e =
     sign_read r k a b more h n.1 in
     let rest : c.in-Some.rest.now ≡ b ++ more = some_is _ _ sign in (
       c.past_blanks.ensures ∙ ap past_blanks rest ∙ naming_value k a b more h,
-      p.2 ∙ ap (λ x. out ++ key_marks x r) n.0 ∙ ap (λ t. out ++ key_marks k t) n.1,
+      p.2 ∙ ap (λ x. out ++ tokens_of_key x r) n.0 ∙ ap (λ t. out ++ tokens_of_key k t) n.1,
     )

@@ -4,8 +4,8 @@ use Rattle.std.proofs.lemmas.Result.{err_from_is_err_and}
 use Rattle.edit_syntax.specs.Characters.{comma, equals, left_bracket, right_bracket, left_brace, right_brace}
 use Rattle.edit_syntax.specs.Grammar.{Value, Elements, Members}
 use Rattle.edit_syntax.specs.Reading.{Pair, first, past_gap, past, key_at, pair_at, value_at, members_at, elements_at}
-use Rattle.edit_syntax.specs.Noting.{Notes, array_marks, pair_marks, inner_marks}
-use Rattle.edit_syntax.specs.Marks.{key_marks, value_marks}
+use Rattle.edit_syntax.specs.AppendedTokens.{AppendsTokens, tokens_of_array, tokens_of_pair, tokens_of_inline_table}
+use Rattle.edit_syntax.specs.SyntaxTokens.{tokens_of_key, tokens_of_value}
 use Rattle.edit_syntax.specs.Strings.{Key}
 use Rattle.edit_syntax.proofs.Loops.{one_less}
 use Rattle.edit_syntax.proofs.ValueLaws.{value_sound}
@@ -25,7 +25,7 @@ members-returns-then-first-eq125 t c =
     let closed : eqb (first c.members.rest.now) right_brace ≡ true = grind (arith, nat_tests) in
     let after : c.skip-after.result.now ≡ drop 1 c.members.rest.now = c.skip-after.ensures in
     subst (λ (r : List ℕ). (x : Members) × (members_at read c.args.count c.args.s.now ≡ Some (x, r))
-    × (c.note.new.out.items ≡ c.args.out.now.items ++ inner_marks x r)) (sym after)
+    × (c.note.new.out.items ≡ c.args.out.now.items ++ tokens_of_inline_table x r)) (sym after)
     (members_end read (members_at read c.args.count c.args.s.now)
     (c.args.count - (c.members._member + 1)) c.members.rest.now c.args.out.now.items c.members.out.items
     c.note.new.out.items closed (rw (← after) c.in_ok-note.ensures) (rw k at c.members.invariant))
@@ -50,7 +50,7 @@ members-returns-in_default t c other =
     let unclosed : eqb (first c.members.rest.now) right_brace ≡ false = grind (arith, nat_tests) in
     let r = c.in_ok-after_value.after_value.now in
     let p : (p : Pair) × (pair_at read c.members.rest.now ≡ Some (p, r))
-    × (c.pair.new.out.items ≡ c.members.out.items ++ pair_marks p r) = c.in_ok-after_value.ensures in
+    × (c.pair.new.out.items ≡ c.members.out.items ++ tokens_of_pair p r) = c.in_ok-after_value.ensures in
     let end : c.past_gap-end.result.now ≡ past_gap r = c.past_gap-end.ensures in
     let test : eqb (first c.past_gap-end.result.now) comma ≡ false = grind (arith, nat_tests) in
     let sign : eqb (first (past_gap r)) comma ≡ false = rw (← end) test in
@@ -66,7 +66,7 @@ members-returns-then-first-ne44 t c =
     let unclosed : eqb (first c.members.rest.now) right_brace ≡ false = grind (arith, nat_tests) in
     let r = c.in_ok-after_value.after_value.now in
     let p : (p : Pair) × (pair_at read c.members.rest.now ≡ Some (p, r))
-    × (c.pair.new.out.items ≡ c.members.out.items ++ pair_marks p r) = c.in_ok-after_value.ensures in
+    × (c.pair.new.out.items ≡ c.members.out.items ++ tokens_of_pair p r) = c.in_ok-after_value.ensures in
     let end : c.past_gap-end.result.now ≡ past_gap r = c.past_gap-end.ensures in
     let test : eqb (first c.past_gap-end.result.now) comma ≡ false = grind (arith, nat_tests) in
     let sign : eqb (first (past_gap r)) comma ≡ false = rw (← end) test in
@@ -83,7 +83,7 @@ members-members-preserved t c =
     let unclosed : eqb (first c.members.rest.now) right_brace ≡ false = grind (arith, nat_tests) in
     let r = c.in_ok-after_value.after_value.now in
     let p : (p : Pair) × (pair_at read c.members.rest.now ≡ Some (p, r))
-    × (c.pair.new.out.items ≡ c.members.out.items ++ pair_marks p r) = c.in_ok-after_value.ensures in
+    × (c.pair.new.out.items ≡ c.members.out.items ++ tokens_of_pair p r) = c.in_ok-after_value.ensures in
     let end : c.past_gap-end.result.now ≡ past_gap r = c.past_gap-end.ensures in
     let test : eqb (first c.past_gap-end.result.now) comma ≡ true = grind (arith, nat_tests) in
     let sign : eqb (first (past_gap r)) comma ≡ true = rw (← end) test in
@@ -109,7 +109,7 @@ pair-returns-in_err-after_key t c =
 pub pair-returns-in_default : goal.pair-returns-in_default
 pair-returns-in_default t c other =
     let p : (k : Key) × (key_at c.args.s.now ≡ Some (k, c.in_ok-after_key.after_key.now))
-    × (c.key.new.out.items ≡ c.args.out.now.items ++ key_marks k c.in_ok-after_key.after_key.now) =
+    × (c.key.new.out.items ≡ c.args.out.now.items ++ tokens_of_key k c.in_ok-after_key.after_key.now) =
     c.in_ok-after_key.ensures in
     pair_unsigned (value_at c.args.depth) c.args.s.now c.in_ok-after_key.after_key.now p.0 p.1
     (c.in_default.ensures ∙ ap (past equals) c.past_run-sign.ensures)
@@ -117,7 +117,7 @@ pair-returns-in_default t c other =
 pub pair-returns : goal.pair-returns
 pair-returns t c =
     let p : (k : Key) × (key_at c.args.s.now ≡ Some (k, c.in_ok-after_key.after_key.now))
-    × (c.key.new.out.items ≡ c.args.out.now.items ++ key_marks k c.in_ok-after_key.after_key.now) =
+    × (c.key.new.out.items ≡ c.args.out.now.items ++ tokens_of_key k c.in_ok-after_key.after_key.now) =
     c.in_ok-after_key.ensures in
     pair_noted c.args.depth (value_at c.args.depth)
     (value_sound c.args.depth) c.args.out.now c.key.new.out c.value.new.out c.args.s.now
@@ -137,7 +137,7 @@ elements-returns-then-first-eq93 t c =
     let closed : eqb (first c.elements.rest.now) right_bracket ≡ true = grind (arith, nat_tests) in
     let after : c.skip-after.result.now ≡ drop 1 c.elements.rest.now = c.skip-after.ensures in
     subst (λ (r : List ℕ). (x : Elements) × (elements_at read c.args.count c.args.s.now ≡ Some (x, r))
-    × (c.note.new.out.items ≡ c.args.out.now.items ++ array_marks x r)) (sym after)
+    × (c.note.new.out.items ≡ c.args.out.now.items ++ tokens_of_array x r)) (sym after)
     (elements_end read (elements_at read c.args.count c.args.s.now)
     (c.args.count - (c.elements._element + 1)) c.elements.rest.now c.args.out.now.items c.elements.out.items
     c.note.new.out.items closed (rw (← after) c.in_ok-note.ensures) (rw k at c.elements.invariant))
@@ -162,7 +162,7 @@ elements-returns-in_default t c other =
     let unclosed : eqb (first c.elements.rest.now) right_bracket ≡ false = grind (arith, nat_tests) in
     let r = c.in_ok-after_value.after_value.now in
     let v : (v : Value) × (read c.elements.rest.now ≡ Some (v, r))
-    × (c.value.new.out.items ≡ c.elements.out.items ++ value_marks v r) = c.in_ok-after_value.ensures in
+    × (c.value.new.out.items ≡ c.elements.out.items ++ tokens_of_value v r) = c.in_ok-after_value.ensures in
     let end : c.past_gap-end.result.now ≡ past_gap r = c.past_gap-end.ensures in
     let test : eqb (first c.past_gap-end.result.now) comma ≡ false = grind (arith, nat_tests) in
     let sign : eqb (first (past_gap r)) comma ≡ false = rw (← end) test in
@@ -179,7 +179,7 @@ elements-returns-then-first-ne44 t c =
     let unclosed : eqb (first c.elements.rest.now) right_bracket ≡ false = grind (arith, nat_tests) in
     let r = c.in_ok-after_value.after_value.now in
     let v : (v : Value) × (read c.elements.rest.now ≡ Some (v, r))
-    × (c.value.new.out.items ≡ c.elements.out.items ++ value_marks v r) = c.in_ok-after_value.ensures in
+    × (c.value.new.out.items ≡ c.elements.out.items ++ tokens_of_value v r) = c.in_ok-after_value.ensures in
     let end : c.past_gap-end.result.now ≡ past_gap r = c.past_gap-end.ensures in
     let test : eqb (first c.past_gap-end.result.now) comma ≡ false = grind (arith, nat_tests) in
     let sign : eqb (first (past_gap r)) comma ≡ false = rw (← end) test in
@@ -198,7 +198,7 @@ elements-elements-preserved t c =
     let unclosed : eqb (first c.elements.rest.now) right_bracket ≡ false = grind (arith, nat_tests) in
     let r = c.in_ok-after_value.after_value.now in
     let v : (v : Value) × (read c.elements.rest.now ≡ Some (v, r))
-    × (c.value.new.out.items ≡ c.elements.out.items ++ value_marks v r) = c.in_ok-after_value.ensures in
+    × (c.value.new.out.items ≡ c.elements.out.items ++ tokens_of_value v r) = c.in_ok-after_value.ensures in
     let end : c.past_gap-end.result.now ≡ past_gap r = c.past_gap-end.ensures in
     let test : eqb (first c.past_gap-end.result.now) comma ≡ true = grind (arith, nat_tests) in
     let sign : eqb (first (past_gap r)) comma ≡ true = rw (← end) test in
@@ -222,7 +222,7 @@ array-returns t c =
     let opened : eqb (first s) left_bracket ≡ true = eq-eqb (first s) left_bracket c.requires.opened in
     let inner : c.past_gap.result.now ≡ past_gap (drop 1 s) = c.past_gap.ensures ∙
     ap past_gap c.skip-behind.ensures in
-    subst (λ (d : ℕ). Notes value_marks c.args.out.now c.elements.new.out c.elements.result (value_at d s))
+    subst (λ (d : ℕ). AppendsTokens tokens_of_value c.args.out.now c.elements.new.out c.elements.result (value_at d s))
     (sym k)
     (array_noted c.args.depth c.args.out.now c.note.new.out c.elements.new.out s c.elements.result opened
     (rw (← c.skip-behind.ensures) c.in_ok-note.ensures) (rw (← inner) c.elements.ensures))
@@ -234,7 +234,7 @@ inline_table-returns t c =
     let opened : eqb (first s) left_brace ≡ true = eq-eqb (first s) left_brace c.requires.opened in
     let inner : c.past_gap.result.now ≡ past_gap (drop 1 s) = c.past_gap.ensures ∙
     ap past_gap c.skip-behind.ensures in
-    subst (λ (d : ℕ). Notes value_marks c.args.out.now c.members.new.out c.members.result (value_at d s))
+    subst (λ (d : ℕ). AppendsTokens tokens_of_value c.args.out.now c.members.new.out c.members.result (value_at d s))
     (sym k)
     (inline_noted c.args.depth c.args.out.now c.note.new.out c.members.new.out s c.members.result opened
     (rw (← c.skip-behind.ensures) c.in_ok-note.ensures) (rw (← inner) c.members.ensures))

@@ -2,7 +2,7 @@ use Rattle.std.proofs.Common.{◌≡◌, ◌+◌, ◌-◌, length, drop, ◌++�
 use Rattle.std.proofs.lemmas.Bool.Decides.{nat_tests}
 use Rattle.std.proofs.lemmas.Result.{err_from_is_err_and}
 use Rattle.edit_syntax.specs.Strings.{Part}
-use Rattle.edit_syntax.specs.Marks.{part_mark}
+use Rattle.edit_syntax.specs.SyntaxTokens.{token_of_part}
 use Rattle.edit_syntax.specs.Reading.{first, past_blanks, part_at, key_at}
 use Rattle.edit_syntax.proofs.Loops.{one_less}
 use Rattle.edit_syntax.proofs.NotedTokens.{key_begins, key_turn, key_done, key_none, key_unbegun, key_failed}
@@ -19,7 +19,7 @@ parts-init c =
     let k : length c.args.s.now - 0 ≡ length c.args.s.now = omega arith in
     let r = c.in_ok-rest.rest.now in
     let p : (p : Part) × (part_at c.args.s.now ≡ Some (p, r))
-    × (c.part.new.out.items ≡ c.args.out.now.items ++ (part_mark p r ∷ [])) = c.in_ok-rest.ensures in
+    × (c.part.new.out.items ≡ c.args.out.now.items ++ (token_of_part p r ∷ [])) = c.in_ok-rest.ensures in
     rw k (key_begins c.args.out.now.items c.part.new.out.items c.args.s.now r p.0 p.1 p.2)
 
 pub returns-then-first-ne46 : goal.returns-then-first-ne46
@@ -58,7 +58,7 @@ parts-preserved c =
     let next : c.past_run.result.now ≡ past_blanks (drop 1 (past_blanks text)) = c.past_run.ensures ∙
     ap past_blanks (c.skip.ensures ∙ ap (drop 1) dot) in
     let p : (p : Part) × (part_at c.past_run.result.now ≡ Some (p, r))
-    × (c.part-in-parts.new.out.items ≡ c.parts.out.items ++ (part_mark p r ∷ [])) = c.in_ok-rest-2.ensures in
+    × (c.part-in-parts.new.out.items ≡ c.parts.out.items ++ (token_of_part p r ∷ [])) = c.in_ok-rest-2.ensures in
     key_turn (key_at c.args.s.now) (length c.args.s.now - (c.parts._part + 1)) text r p.0 c.args.out.now.items
     c.parts.out.items c.part-in-parts.new.out.items sign (rw (← next) p.1) p.2 (rw k at c.parts.invariant)
 

@@ -26,7 +26,7 @@ returns-clause-indexed c kept none =
       | then-len-ge-FEW+in_ok-copy+in_ok-insert w ↦
           let test = w.if-len-ge-FEW.true in
           let many : 8 ≤ length (entries_in text list) = omega arith in
-          let copied = (w.in_ok-copy.ensures {u = tt}).ok ∙ w.words_in.ensures in
+          let copied = (w.in_ok-copy.ensures {u = tt}).ok ∙ w.decoded_str.ensures in
           others_kept (entries_in text list)
           (entries_in text c.push_exact.new.list.items) old.others c.if-len-ge-FEW.self.others name
           c.args.number (pushed (ap (λ (m : MemberList). m.list.items) w.self-is)) kept none

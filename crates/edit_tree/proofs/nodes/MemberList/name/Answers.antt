@@ -22,5 +22,5 @@ returns c =
     let name : slice_get (names_in (entries_in text list)) index ≡ Some (bytes_of text member.name) =
     slice_get-map (λ (e : List ℕ × ℕ). e.0) (entries_in text list) index ∙
     ap (option_map (λ (e : List ℕ × ℕ). e.0)) entry in
-    ap (λ (b : List ℕ). Some b) c.words_in.ensures ∙ sym name ∙
+    ap (λ (b : List ℕ). Some b) c.decoded_str.ensures ∙ sym name ∙
     ap (λ (ms : List Member). slice_get (names_in (entries_in text ms)) index) c.deref.ensures.value

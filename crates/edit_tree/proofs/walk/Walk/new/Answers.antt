@@ -1,9 +1,9 @@
 use Rattle.std.proofs.Common.{List, [], map, ◌∷◌, ◌++◌, ◌∙◌, None, refl, sym, ap, subst}
 use Rattle.edit_tree.specs.declared.nodes.Content.TheVariants as content
 use Rattle.edit_tree.specs.declared.nodes.Node.{Node}
-use Rattle.edit_tree.specs.declared.nodes.Taken.TheVariants as taken
-use Rattle.edit_tree.specs.Nodes.{Holds, bytes_of, section}
-use Rattle.edit_tree.specs.Walk.{spot_at, start}
+use Rattle.edit_tree.specs.declared.nodes.DefinedBy.TheVariants as taken
+use Rattle.edit_tree.specs.Nodes.{RepresentsNodes, bytes_of, section}
+use Rattle.edit_tree.specs.Walk.{model_node_at, start}
 use Rattle.edit_tree.proofs.SpotNodes.{holds_push}
 use Rattle.edit_tree.proofs.walk.Walk.new.Goals as goal
 
@@ -21,8 +21,8 @@ returns c =
     ∙ ap (λ (nodes : List Node). nodes ++ root ∷ []) (c.in_ok-nodes.ensures {u = tt}).items in
     record {
       root = λ text. record {
-        holds = subst (λ (nodes : List Node). Holds text nodes start.spots) (sym items)
-            (holds_push [] [] root (spot_at [] section taken.Header None)
+        holds = subst (λ (nodes : List Node). RepresentsNodes text nodes start.spots) (sym items)
+            (holds_push [] [] root (model_node_at [] section taken.Header None)
             (record { len = refl; each = λ n node spot is absurd_is. absurd cc }) record {
               shape = refl;
               taken = refl;

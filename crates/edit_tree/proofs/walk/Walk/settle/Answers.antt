@@ -2,7 +2,7 @@ use Rattle.std.proofs.Common.{ℕ, List, Some, None, ap, sym, ◌∙◌, subst, 
 use Rattle.std.specs.Prelude.{option_map, map}
 use Rattle.edit_tree.specs.Nodes.{bytes_of, shape_of}
 use Rattle.edit_tree.specs.Walk.{front_shape, is_dotted_within, reached}
-use Rattle.edit_tree.specs.WalkState.{Puts}
+use Rattle.edit_tree.specs.WalkState.{HasNodeAt}
 use Rattle.edit_tree.proofs.WalkSteps.{if_ok_map, settled_unnamed, reach_of, settled_unreached, settles}
 use Rattle.edit_tree.proofs.walk.Walk.settle.Goals as goal
 
@@ -19,10 +19,10 @@ returns-in_default-2 c = record {
   goes = λ st w.
       let text = c.args.text.now in
       let name = sym w.name ∙ ap (option_map (bytes_of text)) (sym c.take.ensures.value ∙ c.in-Some.is) in
-      let none : Puts text c.reach.new.nodes.items
+      let none : HasNodeAt text c.reach.new.nodes.items
       (reached st.spots c.args.number (map (bytes_of text) c.deref.result.now)
       (front_shape c.is_within-is_inline.result) c.args.front) None =
-      subst (Puts text c.reach.new.nodes.items
+      subst (HasNodeAt text c.reach.new.nodes.items
       (reached st.spots c.args.number (map (bytes_of text) c.deref.result.now)
       (front_shape c.is_within-is_inline.result) c.args.front)) c.in_default-2.is
       ((c.in_ok-table.ensures {u = tt}).made st.spots w.holds) in
@@ -39,10 +39,10 @@ returns c = record {
   goes = λ st w.
       let text = c.args.text.now in
       let name = sym w.name ∙ ap (option_map (bytes_of text)) (sym c.take.ensures.value ∙ c.in-Some.is) in
-      let some : Puts text c.reach.new.nodes.items
+      let some : HasNodeAt text c.reach.new.nodes.items
       (reached st.spots c.args.number (map (bytes_of text) c.deref.result.now)
       (front_shape c.is_within-is_inline.result) c.args.front) (Some c.in-Some-2.table) =
-      subst (Puts text c.reach.new.nodes.items
+      subst (HasNodeAt text c.reach.new.nodes.items
       (reached st.spots c.args.number (map (bytes_of text) c.deref.result.now)
       (front_shape c.is_within-is_inline.result) c.args.front)) c.in-Some-2.is
       ((c.in_ok-table.ensures {u = tt}).made st.spots w.holds) in

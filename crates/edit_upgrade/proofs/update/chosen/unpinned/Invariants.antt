@@ -1,10 +1,10 @@
 use Rattle.std.proofs.Common.{◌≡◌, map, string_bytes, take}
-use Rattle.edit_metadata.specs.Workspaces.{packages_said}
+use Rattle.edit_metadata.specs.Workspaces.{packages_view}
 use Rattle.edit_upgrade.specs.Groups.{nows}
-use Rattle.edit_upgrade.specs.PinViews.{pins_seen}
+use Rattle.edit_upgrade.specs.PinViews.{pins_view}
 use Rattle.edit_upgrade.specs.UpdateCalls.{unpinned}
 use Rattle.edit_upgrade.proofs.update.chosen.unpinned.Given as goal
 
 abbrev pub invariant-packages : goal.invariant-packages
-invariant-packages l = packages_said (nows l.found.items)
-    ≡ unpinned (pins_seen l.pins) (map string_bytes l.fn.names) (packages_said (take l.package-index l.packages))
+invariant-packages l = packages_view (nows l.found.items)
+    ≡ unpinned (pins_view l.pins) (map string_bytes l.fn.names) (packages_view (take l.package-index l.packages))

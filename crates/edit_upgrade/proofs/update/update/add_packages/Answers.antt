@@ -2,9 +2,9 @@ use Rattle.std.proofs.Common.{◌≡◌, ◌∷◌, ◌++◌, ◌<◌, ◌+◌, 
 use Rattle.std.specs.List.{flat_map}
 use Rattle.std.proofs.lemmas.Grind.{flat_map-append}
 use Rattle.std.proofs.lemmas.List.{map-append}
-use Rattle.edit_metadata.specs.Workspaces.{package_said}
-use Rattle.edit_upgrade.specs.UpdateCalls.{package_words}
-use Rattle.edit_upgrade.specs.Views.{words_seen}
+use Rattle.edit_metadata.specs.Workspaces.{package_view}
+use Rattle.edit_upgrade.specs.UpdateCalls.{package_args}
+use Rattle.edit_upgrade.specs.Views.{args_view}
 use Rattle.edit_upgrade.proofs.Steps.{names-more}
 use Rattle.edit_upgrade.proofs.update.update.add_packages.Goals as goal
 
@@ -26,7 +26,7 @@ spread-more {A} {B} {C} {E} f g h xs i x first old new low is n e =
 
 pub packages-preserved : goal.packages-preserved
 packages-preserved c =
-    spread-more package_said (λ p. p.now) package_words c.args.packages.now c.packages.package-index
-    c.package-item.result (words_seen c.args.words.now.items) (words_seen c.packages.words.items)
-    (words_seen c.add_package.new.words.items) c.packages-test.true c.package-item.is
+    spread-more package_view (λ p. p.now) package_args c.args.packages.now c.packages.package-index
+    c.package-item.result (args_view c.args.words.now.items) (args_view c.packages.words.items)
+    (args_view c.add_package.new.words.items) c.packages-test.true c.package-item.is
     c.in_ok-add_package.ensures c.packages.invariant

@@ -1,22 +1,22 @@
 use Rattle.std.proofs.Common.{◌≡◌, ◌∙◌, [], List, ap, cond, rules, string_bytes, sym, true}
 use Rattle.std.specs.Prelude.{Bool, codes}
 use Rattle.edit_base.specs.Paths.{joined}
-use Rattle.edit_metadata.specs.Workspaces.{packages_said}
+use Rattle.edit_metadata.specs.Workspaces.{packages_view}
 use Rattle.edit_metadata.specs.declared.workspace.Package.{Package}
-use Rattle.edit_upgrade.specs.Asked.{asked_by, is_due}
+use Rattle.edit_upgrade.specs.ParsedOptions.{call_options, is_due}
 use Rattle.edit_upgrade.specs.UpdateCalls.{calls_for}
 use Rattle.edit_upgrade.proofs.update.update.update_calls.Goals as goal
 
 pub returns-clause-calls : goal.returns-clause-calls
 returns-clause-calls c =
-    let asked = asked_by c.args.plan.now c.args.options.now in
+    let asked = call_options c.args.plan.now c.args.options.now in
     let due : is_due asked ≡ true = search rules in
     let manifest = c.as_str-2.ensures.value ∙ c.in_ok-manifest.ensures.text
     ∙ ap (λ root. joined root (codes "Cargo.toml")) c.as_str.ensures.value in
-    let packages = packages_said c.args.workspace.now.packages.items in
+    let packages = packages_view c.args.workspace.now.packages.items in
     let path = joined (string_bytes c.args.workspace.now.root) (codes "Cargo.toml") in
     c.in_ok-calls.ensures
-    ∙ ap (λ (ps : List Package). calls_for c.as_str-2.result.now asked (packages_said ps))
+    ∙ ap (λ (ps : List Package). calls_for c.as_str-2.result.now asked (packages_view ps))
     c.deref-2.ensures.value
     ∙ ap (λ m. calls_for m asked packages) manifest
     ∙ sym (ap (λ (b : Bool). cond b (calls_for path asked packages) []) due)

@@ -1,6 +1,6 @@
 use Rattle.std.proofs.Common.{inl, inr, ⊎_elim, ap, ◌∙◌, subst, arith, string_bytes}
 use Rattle.edit_sources.specs.ConfigurationFiles.{IsReadOf, file_in}
-use Rattle.edit_sources.proofs.FileLemmas.{file_in-same, failed_later, place_fails, files_more}
+use Rattle.edit_sources.proofs.FileLemmas.{file_in-same, failed_later, first_malformed, place_fails, files_more}
 use Rattle.edit_sources.proofs.config.cache.ConfigCache.configs_in.Goals as goal
 
 pub returns-in-Err-clause-kept : goal.returns-in-Err-clause-kept
@@ -15,6 +15,17 @@ returns-in-Err-clause-refused g c =
     (g.S.Store.view c.loop-place.store).file_at c.args.places.now c.loop-place.place-index c.place-item.result
     c.as_str.result.now c.in-Err.error c.loop-place-test.true c.place-item.is c.as_str.ensures.value
     store.tells store.files fails))
+    other)) c.in-Err.ensures.refused
+
+pub returns-in-Err-clause-first : goal.returns-in-Err-clause-first
+returns-in-Err-clause-first g c =
+    let store = c.loop-place.invariant.store in
+    ⊎_elim (λ memory. inl memory) (λ other. inr (⊎_elim
+    (λ failed. inl (failed_later _ _ _ _ store.later failed))
+    (λ fails. inr (λ kept t. first_malformed (g.S.Store.view c.args.store.now) (g.S.Store.view c.loop-place.store)
+    c.args.places.now c.loop-place.place-index c.place-item.result c.as_str.result.now c.loop-place.configs.items
+    c.in-Err.error c.loop-place-test.true c.place-item.is c.as_str.ensures.value store.tells store.files
+    (c.loop-place.invariant.read kept t) fails t))
     other)) c.in-Err.ensures.refused
 
 pub returns-in_err-add-clause-kept : goal.returns-in_err-add-clause-kept

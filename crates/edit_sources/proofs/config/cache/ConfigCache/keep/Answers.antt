@@ -1,7 +1,7 @@
 use Rattle.std.proofs.Common.{Some, string_bytes, subst, sym}
 use Rattle.std.proofs.lemmas.Map.Text.{btree_map_updates_text}
 use Rattle.edit_sources.specs.ConfigurationFiles.{IsReadOf, file_in}
-use Rattle.edit_sources.proofs.KeptLemmas.{kept_more}
+use Rattle.edit_sources.proofs.CachedConfigLemmas.{kept_more}
 use Rattle.edit_sources.proofs.config.cache.ConfigCache.keep.Goals as goal
 
 pub returns : goal.returns

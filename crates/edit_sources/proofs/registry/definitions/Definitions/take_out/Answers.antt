@@ -1,5 +1,5 @@
 use Rattle.std.proofs.Common.{refl, ap, sym, ◌∙◌, inr, option_map, rules}
-use Rattle.edit_sources.specs.SourceReplacement.{addressed}
+use Rattle.edit_sources.specs.SourceReplacement.{with_address}
 use Rattle.edit_sources.specs.Sources.{source_texts}
 use Rattle.edit_sources.proofs.KeyLemmas.{left_out}
 use Rattle.edit_sources.proofs.registry.definitions.Definitions.take_out.Goals as goal
@@ -7,8 +7,8 @@ use Rattle.edit_sources.proofs.registry.definitions.Definitions.take_out.Goals a
 pub returns-in-Some-clause-takes : goal.returns-in-Some-clause-takes
 returns-in-Some-clause-takes c = record {
   apart = search rules;
-  source = ap (λ o. addressed c.args.key.now (option_map source_texts o))
-      (sym c.remove.ensures.value ∙ c.in-Some.is) ∙ sym c.addressed.ensures;
+  source = ap (λ o. with_address c.args.key.now (option_map source_texts o))
+      (sym c.remove.ensures.value ∙ c.in-Some.is) ∙ sym c.with_address.ensures;
   left = left_out c.args.key.now c.args.self.now.left c.remove.new.self c.remove.ensures.updates;
   ends = refl;
 }

@@ -1,0 +1,13 @@
+use Rattle.std.proofs.Common.{take}
+use Rattle.edit_document.specs.Items.{place_view}
+use Rattle.edit_tree.specs.DocumentViews.{tree_of}
+use Rattle.edit_document.specs.Compared.{IsNumber}
+use Rattle.edit_document.specs.ItemRemoval.{SameButOrderBeside}
+use Rattle.edit_compare.proofs.equal_around_unordered.equal_around_unordered.Given as goal
+
+-- the same but for the order of members and but at the steps so far, which lead to the nodes
+abbrev pub invariant-steps : goal.invariant-steps
+invariant-steps l =
+    let p = place_view (take l.step-index l.place) in
+    SameButOrderBeside p (tree_of l.document) (tree_of l.other) × IsNumber l.document p l.number
+    × IsNumber l.other p l.there

@@ -1,0 +1,13 @@
+-- The paths of index entries and their validators in the cache.
+use Rattle.std.specs.Prelude.{ℕ, List, ◌∷◌, ◌++◌, codes}
+use Rattle.edit_sources.specs.Folders.{registry_folder}
+use Rattle.edit_lookups.specs.Lookups.{LookupText}
+use Rattle.edit_lookups.specs.UserinfoAddresses.{shown_address}
+
+-- the path of an entry: in the folder of its registry's address without userinfo
+abbrev pub cached_path : List ℕ → LookupText → List ℕ
+cached_path cache l = cache ++ 47 ∷ (registry_folder (shown_address l.address) ++ 47 ∷ l.path)
+
+-- the path of an entry's validator
+abbrev pub validator_path : List ℕ → List ℕ
+validator_path entry = entry ++ codes ".etag"

@@ -1,0 +1,19 @@
+use Rattle.std.proofs.Common.{◌∙◌, [], ap₂, codes, refl, sym}
+use Rattle.std.proofs.lemmas.Result.{IfErr-weaker, IfOk-weaker}
+use Rattle.edit_program.specs.Presented.{format_of_options}
+use Rattle.edit_program.proofs.AskedLemmas.{value_is}
+use Rattle.edit_program.proofs.output_format.presentation.Goals as goal
+
+pub returns-clause-ok : goal.returns-clause-ok
+returns-clause-ok c =
+    let format = value_is c.args.matches.now (codes "message-format") [] c.get_str.result
+    c.unwrap_or-format.result _ c.get_str.ensures c.unwrap_or-format.ensures refl in
+    IfOk-weaker c.format_of_options.result _ _
+    (λ p h. sym (ap₂ format_of_options format c.is_given.ensures) ∙ h) c.format_of_options.ensures.ok
+
+pub returns-clause-refused : goal.returns-clause-refused
+returns-clause-refused c =
+    let format = value_is c.args.matches.now (codes "message-format") [] c.get_str.result
+    c.unwrap_or-format.result _ c.get_str.ensures c.unwrap_or-format.ensures refl in
+    IfErr-weaker c.format_of_options.result _ _
+    (λ e h. sym (ap₂ format_of_options format c.is_given.ensures) ∙ h) c.format_of_options.ensures.refused

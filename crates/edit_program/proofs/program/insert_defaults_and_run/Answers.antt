@@ -1,0 +1,56 @@
+use Rattle.std.proofs.Common.{Bor, List, ℕ, map, rules, subst, true, ◌≡◌, ◌≢◌}
+use Rattle.std.specs.Prelude.{IfErr, IfOk, OnErr}
+use Rattle.std.specs.Io.KnownBytes.{Appends}
+use Rattle.edit_sources.specs.Configured.{given}
+use Rattle.edit_words.specs.Filled.{filled}
+use Rattle.edit_program.specs.Run.{run_at}
+use Rattle.edit_program.specs.Runs.{HasUsageError, HasCheckFlag, IsEnded, IsRunFailure, IsRunCause}
+use Rattle.edit_program.proofs.program.insert_defaults_and_run.Goals as goal
+
+pub returns-clause-fault : goal.returns-clause-fault
+returns-clause-fault g c =
+    let same : map (λ (w : Bor (List ℕ)). w.now) c.as_slice.result.now
+    ≡ filled (map (λ (w : Bor (List ℕ)). w.now) c.args.words.now) = search rules in
+    subst (λ (ws : List (List ℕ)). IfOk c.answer.result
+    (λ s. s ≡ 2 → HasUsageError ws)) same c.answer.ensures.fault
+
+pub returns-clause-ended : goal.returns-clause-ended
+returns-clause-ended g c =
+    let same : map (λ (w : Bor (List ℕ)). w.now) c.as_slice.result.now
+    ≡ filled (map (λ (w : Bor (List ℕ)). w.now) c.args.words.now) = search rules in
+    subst (λ (ws : List (List ℕ)). IfOk c.answer.result
+    (λ s. s ≢ 2 → (g.S.Store.view c.args.files.now).tells ≡ true
+    → IsEnded ws s (Appends (g.O.Write.contents c.args.out.now) (g.O.Write.contents c.answer.new.out))
+    (Appends (g.E.Write.contents c.args.err.now) (g.E.Write.contents c.answer.new.err))
+    (run_at c.args.place.now.current.now
+    (given c.args.place.now.cargo_home) (g.T.Store.view c.args.index_files) (g.S.Store.view c.args.files.now)
+    (g.S.Store.view c.answer.new.files)))) same c.answer.ensures.ended
+
+pub returns-clause-refused : goal.returns-clause-refused
+returns-clause-refused g c =
+    let same : map (λ (w : Bor (List ℕ)). w.now) c.as_slice.result.now
+    ≡ filled (map (λ (w : Bor (List ℕ)). w.now) c.args.words.now) = search rules in
+    subst (λ (ws : List (List ℕ)). OnErr c.answer.result
+    ((g.S.Store.view c.args.files.now).tells ≡ true
+    → IsRunFailure ws (Appends (g.O.Write.contents c.args.out.now) (g.O.Write.contents c.answer.new.out))
+    (Appends (g.E.Write.contents c.args.err.now) (g.E.Write.contents c.answer.new.err))
+    (run_at c.args.place.now.current.now
+    (given c.args.place.now.cargo_home) (g.T.Store.view c.args.index_files) (g.S.Store.view c.args.files.now)
+    (g.S.Store.view c.answer.new.files)))) same c.answer.ensures.refused
+
+pub returns-clause-why : goal.returns-clause-why
+returns-clause-why g c =
+    let same : map (λ (w : Bor (List ℕ)). w.now) c.as_slice.result.now
+    ≡ filled (map (λ (w : Bor (List ℕ)). w.now) c.args.words.now) = search rules in
+    subst (λ (ws : List (List ℕ)). IfErr c.answer.result
+    (λ r. IsRunCause ws (Appends (g.O.Write.contents c.args.out.now) (g.O.Write.contents c.answer.new.out))
+    (run_at c.args.place.now.current.now
+    (given c.args.place.now.cargo_home) (g.T.Store.view c.args.index_files) (g.S.Store.view c.args.files.now)
+    (g.S.Store.view c.answer.new.files)) r.error)) same c.answer.ensures.why
+
+pub returns-clause-asked : goal.returns-clause-asked
+returns-clause-asked g c =
+    let same : map (λ (w : Bor (List ℕ)). w.now) c.as_slice.result.now
+    ≡ filled (map (λ (w : Bor (List ℕ)). w.now) c.args.words.now) = search rules in
+    subst (λ (ws : List (List ℕ)). IfOk c.answer.result (λ s. s ≡ 1 → HasCheckFlag ws)) same
+    c.answer.ensures.asked

@@ -1,0 +1,24 @@
+use Rattle.std.proofs.Common.{◌≡◌, ◌∙◌, ap, of_z, rules, subst, to_z, w8}
+use Rattle.std.specs.Io.KnownBytes.{Appends}
+use Rattle.std.proofs.lemmas.Result.{on_ok_weaker}
+use Rattle.edit_program.specs.Said.{hidden, hidden_note}
+use Rattle.edit_program.proofs.NoteLemmas.{notes_said}
+use Rattle.edit_program.proofs.upgrade_output.notes.print_notes.Goals as goal
+
+pub returns-clause-text : goal.returns-clause-text
+returns-clause-text g c =
+    let plan = c.args.plan.now in
+    let v = c.args.options.now.verbosity in
+    let known : to_z w8 (of_z w8 v) ≡ v = search rules in
+    let before = g.E.Write.contents c.note_if-2.new.err in
+    let behind = g.E.Write.contents c.print_hidden.new.err in
+    on_ok_weaker c.print_absent.result
+    (λ h. notes_said plan c.args.options.now c.args.offline (g.E.Write.contents c.args.err.now)
+    (g.E.Write.contents c.note_if.new.err) before behind (g.E.Write.contents c.warn_if.new.err)
+    (g.E.Write.contents c.print_absent.new.err)
+    c.in_ok-note_if.ensures.text c.in_ok-note_if-2.ensures.text
+    (subst (Appends before behind)
+    (ap (λ n. hidden_note n (hidden n c.as_slice.result.now)) known
+    ∙ ap (λ rows. hidden_note v (hidden v rows)) c.as_slice.ensures.value)
+    c.in_ok-print_hidden.ensures.text) c.in_ok-warn_if.ensures.text h)
+    c.print_absent.ensures.text

@@ -1,0 +1,90 @@
+//! The calls of `cargo update` that follow an upgrade, as they are printed.
+ghost use Rattle.std.specs.Prelude.{◌≡◌, ◌⊎◌, IfErr, IfOk, OnOk, codes, map, option_map, string_bytes, true};
+ghost use Rattle.std.specs.Io.KnownBytes.{Appends};
+ghost use Rattle.std.specs.List.{join_by};
+ghost use Rattle.edit_base.specs.Errors.{IsMemory};
+ghost use Rattle.edit_base.specs.declared.errors.Error.TheVariants.{Output};
+ghost use Rattle.edit_lock.specs.Views.{lock_view};
+ghost use Rattle.edit_metadata.specs.Workspaces.{workspace_view};
+ghost use Rattle.edit_upgrade.specs.ParsedOptions.{call_options, is_due};
+ghost use Rattle.edit_upgrade.specs.WordCauses.{FailsAtPackageArg};
+ghost use Rattle.edit_upgrade.specs.Views.{calls_view, args_view};
+ghost use Rattle.edit_program.specs.Delivery.{calls_against, calls_of};
+ghost use Rattle.edit_program.specs.Said.{run, call_statuses};
+
+use edit_base::CargoResult;
+use edit_lock::{Lock, standing_calls};
+use edit_metadata::Workspace;
+use edit_report::shell_status;
+use edit_upgrade::update::update_calls;
+use edit_upgrade::{Options, UpgradePlan};
+use std::alloc::{AllocError, Global};
+use std::io;
+
+/// The calls that follow a plan: none without a workspace.
+pub(crate) fn calls_of(
+    alloc: Global,
+    plan: &UpgradePlan,
+    options: &Options,
+    workspace: Option<&Workspace>,
+) -> CargoResult<Vec<Vec<String>>>
+    ensures calls { IfOk result (λ v. calls_view v.items
+        ≡ calls_of plan.now options.now (option_map (λ w. workspace_view w.now) workspace.entry)) }
+    ensures refused { IfErr result (λ e. IsMemory e ⊎ ((is_due (call_options plan.now options.now) ≡ true)
+        × FailsAtPackageArg (map string_bytes options.now.package.items) e)) }
+{
+    match workspace {
+        Some(workspace) => update_calls(alloc, plan, workspace, options),
+        None => Ok(Vec::new(alloc)),
+    }
+}
+
+/// The calls that follow a plan, adapted to the lock file where there is one.
+pub(crate) fn calls_against(
+    alloc: Global,
+    calls: Vec<Vec<String>>,
+    lock: Option<&Lock>,
+    offline: bool,
+) -> Result<Vec<Vec<String>>, AllocError>
+    ensures { IfOk result (λ v. calls_view v.items ≡ calls_against
+        (option_map (λ l. lock_view l.now) lock.entry) offline (calls_view calls.items)) }
+{
+    match lock {
+        Some(lock) => standing_calls(alloc, &calls, lock, lock, offline),
+        None => Ok(calls),
+    }
+}
+
+/// Arguments, joined by spaces.
+fn join_args(alloc: Global, words: &[String]) -> Result<String, AllocError>
+    ensures { IfOk result (λ s. string_bytes s
+        ≡ join_by (λ word. word) (codes " ") (args_view words.now)) }
+{
+    words.join(alloc, " ")
+}
+
+/// Prints a call.
+fn print_call<E: io::Write>(alloc: Global, call: &[String], err: &mut E) -> CargoResult<()>
+    ensures text { OnOk result (Appends (E.contents err.old) (E.contents err.new)
+        (run (args_view call.now))) }
+    ensures refused { IfErr result (λ e. IsMemory e ⊎ (e ≡ Output)) }
+{
+    let words = join_args(alloc, call)?;
+    shell_status(err, "Run", words.as_str())
+}
+
+/// Prints calls, each as a status line with its arguments.
+pub(crate) fn print_calls<E: io::Write>(
+    alloc: Global,
+    calls: &[Vec<String>],
+    err: &mut E,
+) -> CargoResult<()>
+    ensures text { OnOk result (Appends (E.contents err.old) (E.contents err.new)
+        (call_statuses (calls_view calls.now))) }
+    ensures refused { IfErr result (λ e. IsMemory e ⊎ (e ≡ Output)) }
+{
+    for call in calls {
+        print_call(alloc, call.as_slice(), err)?;
+    }
+    Ok(())
+}

@@ -1,0 +1,86 @@
+//! The notes at the end of an upgrade: how to see or raise more.
+ghost use Rattle.std.specs.Prelude.{◌≡◌, ◌⊎◌, IfErr, OnOk};
+ghost use Rattle.std.specs.Io.KnownBytes.{Appends};
+ghost use Rattle.edit_base.specs.Errors.{IsMemory};
+ghost use Rattle.edit_base.specs.declared.errors.Error.TheVariants.{Output};
+ghost use Rattle.edit_program.specs.Said.{hidden, hidden_note, note, notes, warning, message_if};
+
+use crate::upgrade_output::absent::print_absent;
+use crate::upgrade_output::hidden::{hidden_rows, hidden_text};
+use edit_base::CargoResult;
+use edit_report::{Row, shell_note, shell_warn};
+use edit_upgrade::{Options, UpgradePlan};
+use std::alloc::Global;
+use std::io;
+
+const PINNED: &str = "Re-run with `--pinned` to upgrade pinned version requirements";
+
+const INCOMPATIBLE: &str =
+    "Re-run with `--incompatible` to upgrade incompatible version requirements";
+
+const DRY_RUN: &str = "aborting upgrade due to dry run";
+
+/// Prints a note, where `due` is set.
+fn note_if<E: io::Write>(due: bool, message: &str, err: &mut E) -> CargoResult<()>
+    ensures text { OnOk result (Appends (E.contents err.old) (E.contents err.new)
+        (message_if due (note message.now))) }
+    ensures refused { IfErr result (λ e. e ≡ Output) }
+{
+    if due {
+        shell_note(err, message)
+    } else {
+        Ok(())
+    }
+}
+
+/// Prints a warning, where `due` is set.
+fn warn_if<E: io::Write>(due: bool, message: &str, err: &mut E) -> CargoResult<()>
+    ensures text { OnOk result (Appends (E.contents err.old) (E.contents err.new)
+        (message_if due (warning message.now))) }
+    ensures refused { IfErr result (λ e. e ≡ Output) }
+{
+    if due {
+        shell_warn(err, message)
+    } else {
+        Ok(())
+    }
+}
+
+/// Prints the note on rows that are not shown, where there are any.
+fn print_hidden<E: io::Write>(
+    alloc: Global,
+    rows: &[Row],
+    verbosity: i8,
+    err: &mut E,
+) -> CargoResult<()>
+    ensures text { OnOk result (Appends (E.contents err.old) (E.contents err.new)
+        (hidden_note verbosity (hidden verbosity rows.now))) }
+    ensures refused { IfErr result (λ e. IsMemory e ⊎ (e ≡ Output)) }
+{
+    let hidden = hidden_rows(alloc, rows, verbosity)?;
+    if hidden.is_empty() {
+        return Ok(());
+    }
+    let text = hidden_text(alloc, hidden.as_slice(), verbosity)?;
+    shell_note(err, text.as_str())
+}
+
+/// Prints the notes on a plan, the warning that a dry run wrote nothing, and the note on crates missing in
+/// the index.
+pub(crate) fn print_notes<E: io::Write>(
+    alloc: Global,
+    plan: &UpgradePlan,
+    options: &Options,
+    offline: bool,
+    err: &mut E,
+) -> CargoResult<()>
+    ensures text { OnOk result (Appends (E.contents err.old) (E.contents err.new)
+        (notes plan.now options.now offline)) }
+    ensures refused { IfErr result (λ e. IsMemory e ⊎ (e ≡ Output)) }
+{
+    note_if(plan.pinned_present, PINNED, err)?;
+    note_if(plan.incompatible_present, INCOMPATIBLE, err)?;
+    print_hidden(alloc, plan.rows.as_slice(), options.verbosity, err)?;
+    warn_if(options.dry_run, DRY_RUN, err)?;
+    print_absent(alloc, plan, options, offline, err)
+}

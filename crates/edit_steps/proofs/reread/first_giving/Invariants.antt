@@ -1,5 +1,0 @@
-use Rattle.edit_store.specs.Store.{OnlyReads}
-use Rattle.edit_steps.proofs.reread.first_giving.Given as goal
-
-abbrev pub invariant-paths : goal.invariant-paths
-invariant-paths g l = OnlyReads (g.S.Store.view l.initial.files) (g.S.Store.view l.files)

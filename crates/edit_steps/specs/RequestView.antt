@@ -1,0 +1,36 @@
+-- The files that an upgrade is requested to read.
+use Rattle.std.specs.Prelude.{ℕ, List, Option, Some, None, false, true}
+use Rattle.edit_metadata.specs.Inputs.{RustOptions}
+use Rattle.edit_sources.specs.Configured.{given}
+use Rattle.edit_version.specs.RustVersions.{numbers_of}
+use Rattle.edit_steps.specs.declared.upgrade_read.asked.Asked.{Asked}
+use Rattle.edit_steps.specs.declared.upgrade_read.asked.RustChoice.{RustChoice}
+use Rattle.edit_steps.specs.declared.upgrade_read.asked.RustChoice.TheVariants.{Given, Ignored, Own}
+
+-- the request for Rust versions
+abbrev pub rust_request : RustChoice → RustOptions
+rust_request Own = record { given = None; ignored = false }
+rust_request Ignored = record { given = None; ignored = true }
+rust_request (Given version) = record { given = Some (numbers_of version); ignored = false }
+
+-- the given paths, as they are written, and the request for Rust versions
+pub record RequestView : Type 0 where
+  pub manifest : Option (List ℕ)
+  pub metadata : Option (List ℕ)
+  pub index : Option (List ℕ)
+  pub index_dir : Option (List ℕ)
+  pub config : Option (List ℕ)
+  pub default_config : Option (List ℕ)
+  pub rust : RustOptions
+
+-- the request of the program's type
+abbrev pub request_view : Asked → RequestView
+request_view asked = record {
+  manifest = given asked.manifest_path;
+  metadata = given asked.metadata_json;
+  index = given asked.index_file;
+  index_dir = given asked.index_dir;
+  config = given asked.config;
+  default_config = given asked.default_config;
+  rust = rust_request asked.rust;
+}
