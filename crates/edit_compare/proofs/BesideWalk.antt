@@ -3,7 +3,7 @@
 use Rattle.std.proofs.Common.{◌≡◌, ℕ, ◌+◌, ◌<◌, List, [], ◌∷◌, ◌++◌, length, get_or, take, drop, Some, None, sym, ap, subst, ◌∙◌}
 use Rattle.std.specs.Prelude.{map}
 use Rattle.std.proofs.lemmas.List.{map-append, take-append-drop}
-use Rattle.edit_document.specs.declared.place.Step.{Step as WrittenStep}
+use Rattle.edit_tree.specs.declared.place.Step.{Step as WrittenStep}
 use Rattle.edit_tree.specs.Assertions.{Place, at}
 use Rattle.edit_tree.specs.DocumentViews.{DocumentViews, tree_of}
 use Rattle.edit_document.specs.Items.{place_view, step_view, node_place, Numbers}

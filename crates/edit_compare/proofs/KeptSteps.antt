@@ -4,7 +4,7 @@ use Rattle.std.specs.Prelude.{map, nat_lt}
 use Rattle.std.proofs.lemmas.Bool.{cases_lt, ltb-true, ltb-false}
 use Rattle.std.proofs.lemmas.List.{map-append, take-append-drop, take_all}
 use Rattle.edit_syntax.specs.Grammar.{Text}
-use Rattle.edit_document.specs.declared.place.Step.{Step as WrittenStep}
+use Rattle.edit_tree.specs.declared.place.Step.{Step as WrittenStep}
 use Rattle.edit_tree.specs.Assertions.{Place, Step, at, assertions}
 use Rattle.edit_document.specs.Compared.{nth_part, AreSteps, AreApart}
 use Rattle.edit_document.specs.Items.{place_view, step_view, node_place, node_view, count_in}

@@ -7,7 +7,7 @@ use Rattle.edit_syntax.specs.Grammar.{Text}
 use Rattle.edit_tree.specs.Assertions.{Step, key, index, Place, at, Kind, assertions, IsDocument}
 use Rattle.edit_tree.specs.EditBytes.{unresolved, part_to, is_header_of, is_one_statement}
 use Rattle.edit_document.specs.Items.{node_place, place_view, step_view}
-use Rattle.edit_document.specs.declared.place.Step.{Step as WrittenStep}
+use Rattle.edit_tree.specs.declared.place.Step.{Step as WrittenStep}
 use Rattle.edit_document.proofs.MemberViews.{place_more}
 use Rattle.edit_tree.specs.DocumentViews.{DocumentViews}
 use Rattle.edit_tree.specs.Statements.{behind_part, PlacedPair, placed_statements, line_pairs, inner_pairs}

@@ -9,7 +9,7 @@ use Rattle.edit_document.specs.declared.replace.Rewrite.{Rewrite}
 use Rattle.edit_syntax.specs.Grammar.{Text, text}
 use Rattle.edit_tree.specs.Assertions.{IsDocument, Place}
 use Rattle.edit_tree.specs.Tree.{is_value_at}
-use Rattle.edit_document.specs.declared.place.Step.{Step as WrittenStep}
+use Rattle.edit_tree.specs.declared.place.Step.{Step as WrittenStep}
 use Rattle.edit_document.specs.Items.{place_view}
 use Rattle.edit_document.specs.Ranges.{HasRange, edit_views}
 use Rattle.edit_tree.specs.Written.{values}

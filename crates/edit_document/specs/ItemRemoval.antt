@@ -2,7 +2,7 @@
 use Rattle.std.specs.Prelude.{◌≡◌, ℕ, ◌+◌, ◌-◌, ◌<◌, Bool, true, false, nat_lt, if◌then◌else◌, ◌&&◌, List, [], ◌∷◌, ◌++◌, length, take, slice_get, Option, Some, None, MatchOption}
 use Rattle.std.specs.List.{list_any}
 use Rattle.edit_syntax.specs.Grammar.{Text}
-use Rattle.edit_document.specs.declared.place.Step.{Step as WrittenStep}
+use Rattle.edit_tree.specs.declared.place.Step.{Step as WrittenStep}
 use Rattle.edit_tree.specs.Assertions.{Step, key, index, Place, at, same_place, assertions}
 use Rattle.edit_document.specs.Compared.{nth_part, SameButOrderBelow, IsNumber}
 use Rattle.edit_tree.specs.EditBytes.{is_within}

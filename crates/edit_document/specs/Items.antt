@@ -1,8 +1,8 @@
 -- What the items of a document give to a caller, computed from their views.
 use Rattle.std.specs.Prelude.{◌≡◌, ℕ, ◌<◌, Bool, true, false, List, [], length, map, slice_get, unwrap_or, Option, Some, None, MatchOption, string_bytes, codes, ⊤}
 use Rattle.std.specs.List.{filter_map}
-use Rattle.edit_document.specs.declared.place.Step.{Step as WrittenStep}
-use Rattle.edit_document.specs.declared.place.Step.TheVariants.{Key, Index}
+use Rattle.edit_tree.specs.declared.place.Step.{Step as WrittenStep}
+use Rattle.edit_tree.specs.declared.place.Step.TheVariants.{Key, Index}
 use Rattle.edit_document.specs.declared.document.Datum.{Datum}
 use Rattle.edit_document.specs.declared.document.Datum.TheVariants as seen
 use Rattle.edit_tree.specs.Assertions.{Step, key, index, Place}

@@ -4,7 +4,7 @@ use Rattle.std.specs.Global.{Vec}
 use Rattle.std.specs.List.{Contains}
 use Rattle.std.specs.declared.string.String.{String}
 use Rattle.std.specs.declared.alloc.Global.{Global}
-use Rattle.edit_document.specs.declared.place.Step.{Step as WrittenStep}
+use Rattle.edit_tree.specs.declared.place.Step.{Step as WrittenStep}
 use Rattle.edit_syntax.specs.Grammar.{Between, Value, inline, Members, Text, text}
 use Rattle.edit_tree.specs.Assertions.{Place}
 use Rattle.edit_tree.specs.Tree.{is_value_at}

@@ -12,9 +12,9 @@ ghost use Rattle.edit_syntax.specs.SyntaxTokens.{IsTokenizeError};
 ghost use Rattle.edit_document.specs.Items.{node_place, node_view, names_in, count_in, place_view, Shows, Numbers};
 
 use crate::item::Item;
-use crate::place::Step;
 use edit_base::errors::CargoResult;
 use edit_syntax::read::read_marks;
+use edit_tree::Step;
 use edit_tree::nodes::{Content, Node, decoded_str};
 use edit_tree::walk::nodes_of;
 use std::alloc::Global;

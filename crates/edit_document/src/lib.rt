@@ -17,6 +17,7 @@ pub use document::Document;
 pub use edit_base::{
     CargoResult, DeviceCall, Error, MergedCommand, MissingKind, MissingNames, errors, paths,
 };
+pub use edit_tree::{Place, Step};
 pub use item::{Item, Keys};
 pub use new_item::{NewItem, NewValue};
-pub use place::{Place, Step, copied_place, member_place};
+pub use place::{copied_place, member_place};

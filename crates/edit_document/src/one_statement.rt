@@ -8,7 +8,7 @@ ghost use Rattle.edit_document.specs.Items.{node_place, place_view};
 ghost use Rattle.edit_document.specs.OneStatement.{HasMember, Answers};
 
 use crate::document::Document;
-use crate::place::Step;
+use edit_tree::Step;
 use edit_tree::nodes::DefinedBy;
 
 /// The number of statements that name the place of a node, as far as the node alone determines it.

@@ -1,21 +1,12 @@
-//! Places: paths to the items of a document.
+//! Copies of places, and the places of members.
 ghost use Rattle.std.specs.Prelude.{◌≡◌, IfErr, IfOk};
 ghost use Rattle.edit_base.specs.Errors.{IsMemory};
 ghost use Rattle.edit_tree.specs.Assertions.{at, key};
 ghost use Rattle.edit_document.specs.Items.{place_view, step_view};
 
 use edit_base::CargoResult;
+use edit_tree::{Place, Step};
 use std::alloc::Global;
-
-/// A step from a table or an array to a member or an element.
-#[derive(Debug, PartialEq, Eq, PartialOrd, Ord, Hash, Drop)]
-pub enum Step {
-    Key(String),
-    Index(usize),
-}
-
-/// The steps from the root; the empty list is the root.
-pub type Place = Vec<Step>;
 
 /// A copy of a step.
 fn clone_step(alloc: Global, step: &Step) -> CargoResult<Step>

@@ -15,8 +15,8 @@ ghost use Rattle.edit_tree.specs.Tree.{is_value_at, view_at};
 
 use crate::document::Document;
 use crate::literal::push_literal;
-use crate::place::{Place, Step};
 use edit_base::errors::CargoResult;
+use edit_tree::{Place, Step};
 use std::alloc::Global;
 
 /// A replacement for the value in the byte range from `start` to `end`.

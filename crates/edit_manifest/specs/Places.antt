@@ -1,7 +1,7 @@
 -- Models of lists of places.
 use Rattle.std.specs.Prelude.{List, map}
 use Rattle.std.specs.Global.{Vec}
-use Rattle.edit_document.specs.declared.place.Step.{Step}
+use Rattle.edit_tree.specs.declared.place.Step.{Step}
 use Rattle.edit_tree.specs.Assertions.{Place}
 use Rattle.edit_document.specs.Items.{place_view}
 

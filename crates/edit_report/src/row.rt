@@ -1,6 +1,6 @@
 //! The row of an entry in the report.
 
-use edit_document::Place;
+use edit_tree::Place;
 
 /// Which version an entry's new requirement was made from.
 #[derive(Debug, Clone, Copy, PartialEq, Eq)]

@@ -19,7 +19,7 @@ use Rattle.edit_syntax.proofs.Members.{contained_among, among_all}
 use Rattle.edit_syntax.proofs.NumberReadAgain.{is_start, integer_start, float_start}
 use Rattle.edit_syntax.proofs.ValueEdges.{value_rest, value_enclosed}
 use Rattle.edit_rewrite.specs.declared.remove_text.Around.{Around}
-use Rattle.edit_document.specs.declared.place.Step.{Step as WrittenStep}
+use Rattle.edit_tree.specs.declared.place.Step.{Step as WrittenStep}
 use Rattle.edit_tree.specs.Assertions.{IsDocument, Place, Step, at}
 use Rattle.edit_tree.specs.EditBytes.{before, with_splice}
 use Rattle.edit_document.specs.Items.{step_view, place_view}

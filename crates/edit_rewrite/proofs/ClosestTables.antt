@@ -5,7 +5,7 @@ use Rattle.std.proofs.lemmas.Bool.{ltb-true, ltb-false}
 use Rattle.std.proofs.lemmas.List.{take-map, length-map}
 use Rattle.edit_syntax.proofs.Cases.{by_test}
 use Rattle.edit_syntax.specs.Grammar.{Text}
-use Rattle.edit_document.specs.declared.place.Step.{Step as WrittenStep}
+use Rattle.edit_tree.specs.declared.place.Step.{Step as WrittenStep}
 use Rattle.edit_rewrite.specs.declared.way.PathMatch.TheVariants.{On}
 use Rattle.edit_tree.specs.Assertions.{Place}
 use Rattle.edit_rewrite.specs.Entries.{path_match_on, way}

@@ -4,8 +4,8 @@ use Rattle.std.specs.Prelude.{slice_get, nat_lt, option_map, string_bytes}
 use Rattle.std.proofs.lemmas.Bool.{ne_eqb}
 use Rattle.std.proofs.lemmas.Option.{slice_get-map, slice_get_past, slice_get_read}
 use Rattle.std.proofs.lemmas.List.{length-map}
-use Rattle.edit_document.specs.declared.place.Step.{Step as WrittenStep}
-use Rattle.edit_document.specs.declared.place.Step.TheVariants.{Key, Index}
+use Rattle.edit_tree.specs.declared.place.Step.{Step as WrittenStep}
+use Rattle.edit_tree.specs.declared.place.Step.TheVariants.{Key, Index}
 use Rattle.edit_document.specs.Items.{step_view, place_view}
 use Rattle.edit_tree.specs.Assertions.{Step, key, index, Place, at, same_step, same_place, Assertion, elements_at, resolved}
 use Rattle.edit_tree.specs.EditBytes.{is_within, unresolved}

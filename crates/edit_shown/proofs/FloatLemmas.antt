@@ -6,8 +6,8 @@ use Rattle.std.specs.Ordering.{match_ordering, nat_cmp}
 use Rattle.serde_json.specs.Data.{Data, Members, no_members, member, put}
 use Rattle.serde_json.specs.View.{items_of}
 use Rattle.serde_json.specs.Written.{has_float, items_have_float, members_have_float}
-use Rattle.edit_document.specs.declared.place.Step.{Step}
-use Rattle.edit_document.specs.declared.place.Step.TheVariants.{Key, Index}
+use Rattle.edit_tree.specs.declared.place.Step.{Step}
+use Rattle.edit_tree.specs.declared.place.Step.TheVariants.{Key, Index}
 use Rattle.edit_shown.specs.Fields.{field_data, list_data, member_data, step_data, text_data}
 use Rattle.edit_shown.specs.JsonMessages.{format_member, message_data, with_member}
 use Rattle.edit_shown.specs.declared.json.fields.Field.{Field}

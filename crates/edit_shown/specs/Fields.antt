@@ -3,8 +3,8 @@ use Rattle.std.specs.Prelude.{ℕ, List, map, Option, Some, None, option_map, St
 use Rattle.std.specs.declared.alloc.Global.{Global}
 use Rattle.serde_json.specs.Data.{Data, array, boolean, null, number, string, unsigned}
 use Rattle.serde_json.specs.View.{items_of}
-use Rattle.edit_document.specs.declared.place.Step.{Step}
-use Rattle.edit_document.specs.declared.place.Step.TheVariants.{Key, Index}
+use Rattle.edit_tree.specs.declared.place.Step.{Step}
+use Rattle.edit_tree.specs.declared.place.Step.TheVariants.{Key, Index}
 use Rattle.edit_shown.specs.declared.json.fields.Field.{Field}
 use Rattle.edit_shown.specs.declared.json.fields.Field.TheVariants as field
 use Rattle.edit_shown.specs.declared.json.fields.Member.{Member}

@@ -12,6 +12,15 @@ use crate::nodes::{Content, DefinedBy, Node, Words, copied, decoded_str};
 use edit_syntax::Span;
 use std::alloc::{AllocError, Global};
 
+/// How a key or a table is defined.
+#[derive(Drop)]
+pub(crate) struct Definition {
+    pub(crate) content: Content,
+    pub(crate) taken: DefinedBy,
+    /// The span of the value in the text, where it has one.
+    pub(crate) span: Option<Span>,
+}
+
 /// Whether a table or key already defined in the way `before` may be extended in the way `after`.
 fn joins(before: DefinedBy, after: DefinedBy) -> bool
     ensures { result ≡ taking.joins before after }
@@ -125,14 +134,13 @@ fn add(
     nodes: &mut Vec<Node>,
     number: usize,
     name: Words,
-    content: Content,
-    taken: DefinedBy,
-    span: Option<Span>,
+    definition: Definition,
 ) -> Result<Option<usize>, AllocError>
     ensures added { (spots : List ModelNode) → RepresentsNodes text.now nodes.old.items spots
         → child spots number (bytes_of text.now name) ≡ None
         → IfOk result (HasNodeAt text.now nodes.new.items
-        (added spots number (bytes_of text.now name) (shape_of text.now content) taken span)) }
+        (added spots number (bytes_of text.now name) (shape_of text.now definition.content)
+        definition.taken definition.span)) }
 {
     let count = nodes.len();
     if number >= count {
@@ -145,10 +153,10 @@ fn add(
     let steps = node.steps + 1;
     node.members.insert(alloc, text, name, count)?;
     nodes.push(Node {
-        content,
-        taken,
+        content: definition.content,
+        taken: definition.taken,
         steps,
-        span,
+        span: definition.span,
         members: Members::none(),
     })?;
     Ok(Some(count))
@@ -196,19 +204,18 @@ pub(crate) fn assert_member(
     nodes: &mut Vec<Node>,
     number: usize,
     name: Words,
-    content: Content,
-    taken: DefinedBy,
-    span: Option<Span>,
+    definition: Definition,
 ) -> Result<Option<usize>, AllocError>
     ensures made { (spots : List ModelNode) → RepresentsNodes text.now nodes.old.items spots
         → IfOk result (HasNodeAt text.now nodes.new.items
-        (member_defined spots number (bytes_of text.now name) (shape_of text.now content) taken span)) }
+        (member_defined spots number (bytes_of text.now name) (shape_of text.now definition.content)
+        definition.taken definition.span)) }
 {
     let Some(member) = find(text, nodes, number, decoded_str(text, &name)) else {
-        return add(alloc, text, nodes, number, name, content, taken, span);
+        return add(alloc, text, nodes, number, name, definition);
     };
-    let place = target(nodes, member, taken);
-    if !extend_node(nodes, place, taken) {
+    let place = target(nodes, member, definition.taken);
+    if !extend_node(nodes, place, definition.taken) {
         return Ok(None);
     }
     Ok(Some(place))
@@ -233,7 +240,12 @@ pub(crate) fn reach(
     'fronts: for front in fronts {
         let name = copied(alloc, front)?;
         let content = front_content(is_inline);
-        match assert_member(alloc, text, nodes, table, name, content, taken, None)? {
+        let definition = Definition {
+            content,
+            taken,
+            span: None,
+        };
+        match assert_member(alloc, text, nodes, table, name, definition)? {
             Some(next) => table = next,
             None => return Ok(None),
         }

@@ -7,5 +7,8 @@ pub mod cut;
 mod header_walk;
 pub mod members;
 pub mod nodes;
+pub mod place;
 pub mod walk;
 pub mod words;
+
+pub use place::{Place, Step};

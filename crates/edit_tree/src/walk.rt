@@ -7,7 +7,7 @@ ghost use Rattle.edit_tree.specs.WalkState.{Walks, HasNextState, HasDefinedState
 ghost use Rattle.edit_syntax.specs.SyntaxTokens.{IsTokenizeError};
 ghost use Rattle.std.specs.List.{AllByRecursion};
 
-use crate::assertions::{add_element, assert_member, reach};
+use crate::assertions::{Definition, add_element, assert_member, reach};
 use crate::members::Members;
 use crate::nodes::{Content, DefinedBy, Node, Words};
 use crate::words::{worded, words_of};
@@ -116,16 +116,12 @@ impl Walk {
             return Ok(None);
         };
         self.fronts.clear();
-        assert_member(
-            alloc,
-            text,
-            &mut self.nodes,
-            table,
-            name,
+        let definition = Definition {
             content,
             taken,
             span,
-        )
+        };
+        assert_member(alloc, text, &mut self.nodes, table, name, definition)
     }
 
     /// Adds a value to the innermost open table or array. Returns the index of its node.

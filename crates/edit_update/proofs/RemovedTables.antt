@@ -7,7 +7,7 @@ use Rattle.edit_base.specs.Errors.{IsMemory}
 use Rattle.edit_syntax.specs.Grammar.{Text}
 use Rattle.edit_tree.specs.Assertions.{Place, key, index, at, IsDocument}
 use Rattle.edit_document.specs.declared.item.Item.{Item}
-use Rattle.edit_document.specs.declared.place.Step.{Step as WrittenStep}
+use Rattle.edit_tree.specs.declared.place.Step.{Step as WrittenStep}
 use Rattle.edit_document.specs.ItemViews.{Finds, view_of}
 use Rattle.edit_document.specs.Items.{place_view}
 use Rattle.edit_tree.specs.IntendedTrees.{Tree, Removed, RemoveFails, is_member}

@@ -1,23 +1,21 @@
 //! The final value of each key after an entry is updated from a `Dependency`.
-ghost use Rattle.std.specs.Prelude.{◌≡◌, ◌++◌, ◌∷◌, [], List, ℕ, None, Some, IfErr, IfOk, OnOk, codes, if◌then◌else◌, map, option_copied, option_map, string_bytes, unwrap_or};
+ghost use Rattle.std.specs.Prelude.{◌≡◌, ◌++◌, ◌∷◌, [], List, ℕ, None, Some, IfErr, IfOk, OnOk, codes, if◌then◌else◌, map, option_copied, option_map, string_bytes};
 ghost use Rattle.edit_base.specs.Errors.{IsMemory};
 ghost use Rattle.edit_base.specs.Paths.{texts};
 ghost use Rattle.edit_tree.specs.NewItems.{a_string, a_truth};
 ghost use Rattle.edit_document.specs.NewItemViews.{new_value_view};
 ghost use Rattle.edit_update.specs.FinalValueViews.{final_values_view};
-ghost use Rattle.edit_record.specs.EachOnce.{each_once};
-ghost use Rattle.edit_update.specs.EntryUpdates.{ends, ends_with_version, joined_features, source_values, removed_source_keys, package_value, all_source_values, texts_or_none, workspace_removal};
+ghost use Rattle.edit_update.specs.EntryUpdates.{ends, ends_with_version, joined_features, source_values, removed_source_keys, package_value, all_source_values, workspace_removal};
 ghost use Rattle.edit_record.specs.EntryRecords.{from_git, from_registry, from_workspace};
 ghost use Rattle.edit_record.specs.NewEntries.{written_name};
-ghost use Rattle.edit_record.specs.ReadEntries.{features_at};
-ghost use Rattle.edit_record.specs.RecordViews.{path_view, record_view, repository_view, item_tree, source_view, texts_view};
+ghost use Rattle.edit_record.specs.RecordViews.{path_view, record_view, repository_view, item_tree, source_view};
 
-use edit_base::errors::{CargoResult, Error};
+use crate::joined_features::joined_features;
+use edit_base::errors::CargoResult;
 use edit_document::{Item, NewValue};
-use edit_record::dependency::{features_at, joined, path_field};
+use edit_record::dependency::path_field;
 use edit_record::{Dependency, GitSource, PathSource, Source};
 use std::alloc::{AllocError, Global};
-use std::collections::BTreeSet;
 
 /// A key of an entry with its final value; `None` where the key is removed.
 #[derive(Drop)]
@@ -146,49 +144,6 @@ fn push_other(ends: &mut Vec<FinalValue>, source: &Source) -> Result<(), AllocEr
             &["version", "path", "git", "branch", "tag", "rev"],
         ),
     }
-}
-
-/// The strings of the key `features`; `None` where it is absent or no array of strings.
-fn old_features(alloc: Global, entry: Item<'_>) -> CargoResult<Option<Vec<String>>>
-    ensures ok { IfOk result (λ o. unwrap_or (option_map texts_view o) []
-        ≡ texts_or_none (features_at (item_tree entry.entry) [])) }
-    ensures refused { IfErr result IsMemory }
-{
-    match features_at(alloc, "", entry) {
-        Ok(texts) => Ok(texts),
-        Err(error) => {
-            if error.number() == Error::Memory.number() {
-                return Err(error);
-            }
-            Ok(None)
-        }
-    }
-}
-
-/// Removes duplicates; the first of equal texts stays.
-fn remove_duplicates(alloc: Global, texts: &[String]) -> Result<Vec<String>, AllocError>
-    ensures { IfOk result (λ v. texts_view v ≡ each_once (map string_bytes texts.now)) }
-{
-    let mut seen = BTreeSet::new(alloc);
-    let mut once = Vec::new(alloc);
-    'texts: for text in texts {
-        let added = seen.insert(text.as_str())?;
-        if added {
-            once.push(text.clone()?)?;
-        }
-    }
-    Ok(once)
-}
-
-/// The features of an entry followed by new ones, without duplicates.
-fn joined_features(alloc: Global, entry: Item<'_>, new: &Vec<String>) -> CargoResult<NewValue>
-    ensures ok { IfOk result (λ v. new_value_view v
-        ≡ joined_features (item_tree entry.entry) (texts_view new.now)) }
-    ensures refused { IfErr result IsMemory }
-{
-    let old = old_features(alloc, entry)?;
-    let all = joined(old, new.clone()?)?;
-    Ok(NewValue::Strings(remove_duplicates(alloc, &all)?))
 }
 
 /// Appends the keys of the source and of other kinds of sources, if the dependency has a source.

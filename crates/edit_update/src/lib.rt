@@ -3,6 +3,7 @@
 
 mod ends;
 mod features;
+mod joined_features;
 mod manifest_ext;
 mod remove;
 mod update;

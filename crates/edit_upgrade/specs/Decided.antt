@@ -1,23 +1,23 @@
 -- The values that a decision is made of, over the program's types.
-use Rattle.std.specs.Prelude.{List, ℕ, Bool, true, false, not, ◌&&◌, if◌then◌else◌, is_some, Option, string_bytes, Some, None}
+use Rattle.std.specs.Prelude.{List, ℕ, Bool, true, false, not, ◌&&◌, if◌then◌else◌, is_some, Option, option_copied, string_bytes, Some, None}
 use Rattle.edit_upgrade.specs.Decision.{Case, Choice, Outcome, first_reason, first_row, kept, given, left_out, or_else, row_change, row_text, same_text, to_compatible, to_latest, unless, unread, some_if}
 use Rattle.edit_upgrade.specs.declared.decision.options.Options.{Options}
 use Rattle.edit_report.specs.declared.row.Reason.{Reason}
 use Rattle.edit_report.specs.declared.row.Reason.TheVariants as reason
 use Rattle.edit_upgrade.specs.Offers.{offered}
 use Rattle.edit_upgrade.specs.declared.decision.decide.Decided.{Decided}
-use Rattle.edit_upgrade.specs.declared.decision.offers.Offer.{Offer}
+use Rattle.edit_upgrade.specs.declared.decision.decide.EntryCase.{EntryCase}
 
 -- the case of a decision, from the program's values (own)
-abbrev pub case_view : Bool → Bool → Bool → Option (List ℕ) → List ℕ → Option Offer → Option Offer → Case
-case_view excluded renamed never_lower selected old compatible latest = record {
-  excluded = excluded;
-  renamed = renamed;
+abbrev pub case_view : EntryCase → Bool → List ℕ → Case
+case_view case never_lower old = record {
+  excluded = case.excluded;
+  renamed = case.renamed;
   never_lower = never_lower;
-  selected = selected;
+  selected = option_copied case.selected;
   old = old;
-  compatible = offered compatible;
-  latest = offered latest;
+  compatible = offered (option_copied case.compatible);
+  latest = offered (option_copied case.latest);
 }
 
 -- the choice of a decision, by its text (own)

@@ -19,11 +19,11 @@ ghost use Rattle.edit_upgrade.specs.PlannedView.{IsPlannedView};
 ghost use Rattle.edit_upgrade.specs.Upgraded.{IsNeededBy};
 
 use crate::addresses::Addresses;
-use crate::asked::ParsedOptions;
 use crate::lists::{git_crates, has_incompatible, has_pinned, modified_names};
 use crate::looks::PairSet;
 use crate::names::Names;
 use crate::planned::{Planned, plan_input};
+use crate::rows::Job;
 use crate::upgrade::{UpgradePlan, Warning};
 use crate::walk::LookupLog;
 use crate::writes::written;
@@ -131,82 +131,74 @@ fn add_planned(
 /// Plans the next input, whose manifest is already parsed as `document`.
 fn add_input<I: Index>(
     alloc: Global,
-    number: usize,
-    asked: ParsedOptions<'_>,
-    input: &Input,
+    job: Job<'_>,
     document: &Document,
     addresses: &mut Addresses<'_>,
     draft: &mut Draft,
     index: &mut IndexCache<I>,
 ) -> CargoResult<()>
-    requires document { document.now.bytes ≡ input.now.bytes.items }
+    requires document { document.now.bytes ≡ job.input.now.bytes.items }
     requires addresses { AreAddresses addresses.old.configs.now addresses.old }
     requires kept { AreAllCached (holds_pair draft.old.books.pairs) (cached_by index.old) }
     ensures addresses { OnOk result (AreAddresses addresses.old.configs.now addresses.new) }
     ensures kept { OnOk result (AreAllCached (holds_pair draft.new.books.pairs) (cached_by index.new)) }
-    ensures adds { OnOk result (AddsInput number asked.entry.options.now input.now addresses.old.configs.now
+    ensures adds { OnOk result (AddsInput job.entry.number job.entry.asked.options.now job.entry.input.now
+        addresses.old.configs.now
         (I.view (index_of index.old)).gives (cached_by index.old) (cached_by index.new) draft.old draft.new) }
-    ensures known { OnOk result (AddsNames asked.entry.options.now input.now.bytes.items
+    ensures known { OnOk result (AddsNames job.entry.asked.options.now job.entry.input.now.bytes.items
         (contains_text draft.old.known) (contains_text draft.new.known)) }
-    ensures left { LeavesCache (IsNeededBy addresses.old.configs.now input.now.bytes.items)
+    ensures left { LeavesCache (IsNeededBy addresses.old.configs.now job.entry.input.now.bytes.items)
         (cache_view I.view index.old) (cache_view I.view index.new) }
     ensures refused { IfErr result (λ e. IsMemory e
-        ⊎ StopsManifest addresses.old.configs.now input.now.bytes.items
+        ⊎ StopsManifest addresses.old.configs.now job.entry.input.now.bytes.items
         (cache_view I.view index.old) (cache_view I.view index.new) e) }
 {
     let books = &mut draft.books;
     let known = &mut draft.known;
-    let planned = plan_input(
-        alloc, number, asked, input, document, addresses, known, books, index,
-    )?;
-    add_planned(alloc, input, document, planned, draft)?;
+    let planned = plan_input(alloc, job, document, addresses, known, books, index)?;
+    add_planned(alloc, job.input, document, planned, draft)?;
     Ok(())
 }
 
 /// Plans the next input: over its document where one is given, else over the one parsed from its bytes.
 pub(crate) fn add_read<I: Index>(
     alloc: Global,
-    number: usize,
-    asked: ParsedOptions<'_>,
-    input: &Input,
+    job: Job<'_>,
     document: Option<&Document>,
     addresses: &mut Addresses<'_>,
     draft: &mut Draft,
     index: &mut IndexCache<I>,
 ) -> CargoResult<()>
-    requires document { IfSome (option_copied document) (λ d. d.bytes ≡ input.now.bytes.items) }
+    requires document { IfSome (option_copied document) (λ d. d.bytes ≡ job.input.now.bytes.items) }
     requires addresses { AreAddresses addresses.old.configs.now addresses.old }
     requires kept { AreAllCached (holds_pair draft.old.books.pairs) (cached_by index.old) }
     ensures addresses { OnOk result (AreAddresses addresses.old.configs.now addresses.new) }
     ensures kept { OnOk result (AreAllCached (holds_pair draft.new.books.pairs) (cached_by index.new)) }
-    ensures adds { OnOk result (AddsInput number asked.entry.options.now input.now addresses.old.configs.now
+    ensures adds { OnOk result (AddsInput job.entry.number job.entry.asked.options.now job.entry.input.now
+        addresses.old.configs.now
         (I.view (index_of index.old)).gives (cached_by index.old) (cached_by index.new) draft.old draft.new) }
-    ensures known { OnOk result (AddsNames asked.entry.options.now input.now.bytes.items
+    ensures known { OnOk result (AddsNames job.entry.asked.options.now job.entry.input.now.bytes.items
         (contains_text draft.old.known) (contains_text draft.new.known)) }
-    ensures utf8 { OnOk result (option_copied document.entry ≡ None → IsUtf8 input.now.bytes.items) }
-    ensures left { LeavesCache (IsNeededBy addresses.old.configs.now input.now.bytes.items)
+    ensures utf8 { OnOk result (option_copied document.entry ≡ None → IsUtf8 job.entry.input.now.bytes.items) }
+    ensures left { LeavesCache (IsNeededBy addresses.old.configs.now job.entry.input.now.bytes.items)
         (cache_view I.view index.old) (cache_view I.view index.new) }
     ensures given { IfErr result (λ e. IsSome (option_copied document.entry) → IsMemory e
-        ⊎ StopsManifest addresses.old.configs.now input.now.bytes.items
+        ⊎ StopsManifest addresses.old.configs.now job.entry.input.now.bytes.items
         (cache_view I.view index.old) (cache_view I.view index.new) e) }
     ensures read { IfErr result (λ e. option_copied document.entry ≡ None
-        → IsBadManifest input.now.bytes.items e
-        ⊎ StopsManifest addresses.old.configs.now input.now.bytes.items
+        → IsBadManifest job.entry.input.now.bytes.items e
+        ⊎ StopsManifest addresses.old.configs.now job.entry.input.now.bytes.items
         (cache_view I.view index.old) (cache_view I.view index.new) e) }
 {
     match document {
         Some(document) => {
-            add_input(
-                alloc, number, asked, input, document, addresses, draft, index,
-            )?;
+            add_input(alloc, job, document, addresses, draft, index)?;
             Ok(())
         }
         None => {
-            let manifest = Manifest::read_bytes(alloc, &input.bytes)?;
+            let manifest = Manifest::read_bytes(alloc, &job.input.bytes)?;
             let document = &manifest.document;
-            add_input(
-                alloc, number, asked, input, document, addresses, draft, index,
-            )?;
+            add_input(alloc, job, document, addresses, draft, index)?;
             Ok(())
         }
     }

@@ -24,6 +24,7 @@ use crate::decision::options::Options;
 use crate::draft::{Draft, add_read, finish_plan};
 use crate::missing::unknown;
 use crate::picks::parse_selection;
+use crate::rows::Job;
 use crate::upgrade::UpgradePlan;
 use edit_base::CargoResult;
 use edit_cache::IndexCache;
@@ -73,16 +74,12 @@ fn plan_each_input<I: Index>(
         let document = document_at(documents, i);
         let list = list_index(configs, i);
         let mut addresses = take_addresses(alloc, configs, list, &mut caches);
-        add_read(
-            alloc,
-            i,
-            asked,
+        let job = Job {
+            number: i,
             input,
-            document,
-            &mut addresses,
-            &mut draft,
-            index,
-        )?;
+            asked,
+        };
+        add_read(alloc, job, document, &mut addresses, &mut draft, index)?;
         keep_addresses(configs, list, addresses, &mut caches)?;
     }
     Ok(draft)

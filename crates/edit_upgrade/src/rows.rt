@@ -16,13 +16,14 @@ ghost use Rattle.edit_upgrade.specs.Rankings.{IsRankingOf};
 ghost use Rattle.edit_upgrade.specs.Rows.{IsDecided, IsRowOver, case_for, dash_reason, dashes, line_for};
 
 use crate::asked::{ParsedOptions, is_excluded, requirement_for};
-use crate::decision::decide::decide;
+use crate::decision::decide::{EntryCase, decide};
 use crate::decision::offers::{Offer, offer_of};
 use crate::seen::{Entry, Source};
 use edit_base::CargoResult;
 use edit_cache::cache::IndexCache;
 use edit_cache::ranking::{Ranked, VersionPair};
 use edit_document::copied_place;
+use edit_metadata::Input;
 use edit_record::Requirement;
 use edit_report::{Reason, Row};
 use edit_sources::index::Index;
@@ -31,13 +32,13 @@ use semver::Version;
 use std::alloc::{AllocError, Global};
 use url::Url;
 
-/// The inputs to the rows of one manifest.
+/// An input of a plan, and the options to plan it with.
 #[derive(Clone, Copy)]
 pub(crate) struct Job<'a> {
-    /// The index of the manifest among the inputs, from 0.
+    /// The index of the input, from 0.
     pub(crate) number: usize,
+    pub(crate) input: &'a Input,
     pub(crate) asked: ParsedOptions<'a>,
-    pub(crate) rust_version: Option<RustVersion>,
 }
 
 /// The greatest version that a requirement admits, and the latest version. Pre-releases are considered
@@ -121,16 +122,14 @@ fn row_over(
     let renamed = entry.rename.is_some();
     let excluded = is_excluded(job.asked, entry.name.as_str());
     let selected = requirement_for(job.asked, entry.name.as_str());
-    let decided = decide(
-        alloc,
-        job.asked.options,
+    let case = EntryCase {
         excluded,
         renamed,
         selected,
-        old,
-        near.as_ref(),
-        far.as_ref(),
-    )?;
+        compatible: near.as_ref(),
+        latest: far.as_ref(),
+    };
+    let decided = decide(alloc, job.asked.options, case, old)?;
     let latest = latest_text(alloc, near.as_ref(), far)?;
     Ok(Row {
         input: job.number,
@@ -156,11 +155,11 @@ fn row_with(
 ) -> CargoResult<Row>
     ensures ok { IfOk result (λ r. (answer : Option Answer) → IsRankingOf answer (option_copied ranked.entry)
         → IsDecided job.entry.number job.entry.asked.options.now
-        (versions_in (numbers_in job.entry.rust_version) answer)
+        (versions_in (numbers_in job.entry.input.now.rust_version) answer)
         (seen_of entry.now) (text_in old.now) (line_of r)) }
     ensures refused { IfErr result IsMemory }
 {
-    let pair = version_pair(ranked, old, job.rust_version);
+    let pair = version_pair(ranked, old, job.input.rust_version);
     let row = row_over(alloc, job, entry, old, pair.compatible, pair.latest)?;
     Ok(row)
 }
@@ -208,7 +207,7 @@ pub(crate) fn row_for(
 ) -> CargoResult<Row>
     ensures ok { IfOk result (λ r. (answer : Option Answer) → IsRankingOf answer (option_copied ranked.entry)
         → IsRowOver job.entry.number job.entry.asked.options.now
-        (versions_in (numbers_in job.entry.rust_version) answer)
+        (versions_in (numbers_in job.entry.input.now.rust_version) answer)
         (seen_of entry.now) (seen_of entry.now).old (line_of r)) }
     ensures refused { IfErr result IsMemory }
 {
@@ -232,7 +231,7 @@ fn cached_requirement_row<I: Index>(
     index: &mut IndexCache<I>,
 ) -> CargoResult<Row>
     ensures ok { IfOk result (λ r. IsDecided job.entry.number job.entry.asked.options.now
-        (versions_in (numbers_in job.entry.rust_version)
+        (versions_in (numbers_in job.entry.input.now.rust_version)
         (cached_by index.new (serialize registry.now) (seen_of entry.now).name))
         (seen_of entry.now) old.now (line_of r)) }
     ensures index { index_of index.new ≡ index_of index.old }
@@ -241,7 +240,7 @@ fn cached_requirement_row<I: Index>(
 {
     let name = entry.name.as_str();
     let old = Requirement::read(alloc, old)?;
-    index.rank_for(alloc, registry, name, &old, job.rust_version)?;
+    index.rank_for(alloc, registry, name, &old, job.input.rust_version)?;
     let ranked = index.cached_ranking(registry, name);
     row_with(alloc, job, entry, &old, ranked)
 }
@@ -255,7 +254,7 @@ pub(crate) fn cached_row<I: Index>(
     index: &mut IndexCache<I>,
 ) -> CargoResult<Row>
     ensures ok { IfOk result (λ r. IsRowOver job.entry.number job.entry.asked.options.now
-        (versions_in (numbers_in job.entry.rust_version)
+        (versions_in (numbers_in job.entry.input.now.rust_version)
         (cached_by index.new (serialize registry.now) (seen_of entry.now).name))
         (seen_of entry.now) (seen_of entry.now).old (line_of r)) }
     ensures index { index_of index.new ≡ index_of index.old }

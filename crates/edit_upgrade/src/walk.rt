@@ -53,7 +53,7 @@ fn registry_row<I: Index>(
         books.old.looks.items books.new.looks.items
         (holds_pair books.old.pairs) (holds_pair books.new.pairs)) }
     ensures row { IfOk result (λ r. IsRowBy (cached_basis job.entry.number job.entry.asked.options.now
-        (numbers_in job.entry.rust_version) addresses.old.configs.now (cached_by index.new))
+        (numbers_in job.entry.input.now.rust_version) addresses.old.configs.now (cached_by index.new))
         (seen_of entry.now) (line_of r)) }
     ensures left { LeavesCache (IsNeededFor addresses.old.configs.now (seen_of entry.now))
         (cache_view I.view index.old) (cache_view I.view index.new) }
@@ -87,7 +87,7 @@ fn entry_row<I: Index>(
         books.old.looks.items books.new.looks.items
         (holds_pair books.old.pairs) (holds_pair books.new.pairs)) }
     ensures row { IfOk result (λ r. IsRowBy (cached_basis job.entry.number job.entry.asked.options.now
-        (numbers_in job.entry.rust_version) addresses.old.configs.now (cached_by index.new))
+        (numbers_in job.entry.input.now.rust_version) addresses.old.configs.now (cached_by index.new))
         (seen_of entry.now) (line_of r)) }
     ensures left { LeavesCache (IsNeededFor addresses.old.configs.now (seen_of entry.now))
         (cache_view I.view index.old) (cache_view I.view index.new) }
@@ -136,7 +136,7 @@ pub(crate) fn walk<I: Index>(
     ensures passed { OnOk result
         (All (IsPassed addresses.old.configs.now (cached_by index.new)) (map seen_of entries.now)) }
     ensures rows { IfOk result (λ v. AreDecided (cached_basis job.entry.number job.entry.asked.options.now
-        (numbers_in job.entry.rust_version) addresses.old.configs.now (cached_by index.new))
+        (numbers_in job.entry.input.now.rust_version) addresses.old.configs.now (cached_by index.new))
         (map seen_of entries.now) (map line_of v.items)) }
     ensures left { LeavesCache (IsNeededIn addresses.old.configs.now (map seen_of entries.now))
         (cache_view I.view index.old) (cache_view I.view index.new) }

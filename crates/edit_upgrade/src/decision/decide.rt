@@ -242,27 +242,42 @@ fn decide_by(
     )
 }
 
-/// Decides whether and how the requirement of an entry changes. `selected` is the requirement of a
-/// `--package` argument, `compatible` and `latest` are the versions that the index offers.
+/// What is decided on beside the requirement of an entry and the options.
+#[derive(Clone, Copy)]
+pub struct EntryCase<'a> {
+    /// Whether a `--exclude` argument names the crate.
+    pub excluded: bool,
+    /// Whether the entry renames its crate.
+    pub renamed: bool,
+    /// The requirement of a `--package` argument for the crate.
+    pub selected: Option<&'a str>,
+    /// The greatest version in the index that the requirement admits.
+    pub compatible: Option<&'a Offer<'a>>,
+    /// The latest version in the index.
+    pub latest: Option<&'a Offer<'a>>,
+}
+
+/// Decides whether and how the requirement `old` of an entry changes.
 pub fn decide(
     alloc: Global,
     options: &Options,
-    excluded: bool,
-    renamed: bool,
-    selected: Option<&str>,
+    case: EntryCase<'_>,
     old: &Requirement<'_>,
-    compatible: Option<&Offer<'_>>,
-    latest: Option<&Offer<'_>>,
 ) -> CargoResult<Decided>
     ensures decided { IfOk result (λ d. choice_view d ≡ decision options.now
-        (case_view excluded renamed options.now.never_lower (option_copied selected.entry) (text_in old.now)
-        (option_copied compatible.entry) (option_copied latest.entry))) }
+        (case_view case.entry options.now.never_lower (text_in old.now))) }
     ensures refused { IfErr result IsMemory }
 {
-    if excluded {
+    if case.excluded {
         return Ok(keep(alloc, old.text(), Reason::Excluded)?);
     }
-    let pin = pin_of(renamed, old);
+    let pin = pin_of(case.renamed, old);
+    let EntryCase {
+        selected,
+        compatible,
+        latest,
+        ..
+    } = case;
     let far = latest_candidate(alloc, options.never_lower, old, compatible, latest)?;
     let near = compatible_candidate(alloc, old, compatible)?;
     Ok(decide_by(alloc, options, pin, selected, old.text(), far, near)?)

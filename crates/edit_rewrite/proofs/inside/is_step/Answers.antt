@@ -1,5 +1,5 @@
 use Rattle.std.proofs.Common.{◌≡◌, ℕ, List, string_bytes, sym, ap, ◌∙◌}
-use Rattle.edit_document.specs.declared.place.Step.{Step}
+use Rattle.edit_tree.specs.declared.place.Step.{Step}
 use Rattle.edit_tree.specs.Assertions.{key, same_bytes, same_step}
 use Rattle.edit_document.specs.Items.{step_view}
 use Rattle.edit_rewrite.proofs.SlotKeys.{word_is}

@@ -11,7 +11,7 @@ returns-then-number-count c = record {
       let past : length c.args.nodes.now.items ≤ c.args.number = let k = c.args.nodes.now.ok.0 in
       let n : c.len-count.result ≡ c.args.nodes.now.len = c.len-count.ensures in omega arith in
       added_past c.args.nodes.now.items spots c.args.number (bytes_of text c.args.name)
-      (shape_of text c.args.content) c.args.taken c.args.span holds past;
+      (shape_of text c.args.definition.content) c.args.definition.taken c.args.definition.span holds past;
 }
 
 pub returns-then-is_deepest : goal.returns-then-is_deepest
@@ -21,7 +21,7 @@ returns-then-is_deepest c = record {
       let inside : c.args.number < length c.args.nodes.now.items = let k = c.args.nodes.now.ok.0 in
       let n : c.len-count.result ≡ c.args.nodes.now.len = c.len-count.ensures in omega arith in
       add_stopped c.args.nodes.now.items spots c.args.number c.index_mut-node.result.now
-      (bytes_of text c.args.name) (shape_of text c.args.content) c.args.taken c.args.span holds inside
+      (bytes_of text c.args.name) (shape_of text c.args.definition.content) c.args.definition.taken c.args.definition.span holds inside
       c.index_mut-node.ensures.value
       (deepest c.index_mut-node.result.now.steps (sym c.is_deepest.ensures ∙ c.if-is_deepest.true));
 }
@@ -39,7 +39,7 @@ returns c = record {
       (bytes_of text c.args.name) holds inside c.index_mut-node.ensures.value) ∙ none in
       add_done c.args.nodes.now.items c.push.new.self.items spots c.args.number c.len-count.result
       c.index_mut-node.result.now (record c.index_mut-node.result.now { members = c.insert.new.self }) _
-      (bytes_of text c.args.name) c.args.content c.args.taken c.args.span holds
+      (bytes_of text c.args.name) c.args.definition.content c.args.definition.taken c.args.definition.span holds
       c.if-number-count.false (c.len-count.ensures ∙ c.args.nodes.now.ok.0) c.index_mut-node.ensures.value
       (not_deepest c.index_mut-node.result.now.steps (sym c.is_deepest.ensures ∙ c.if-is_deepest.false))
       (record {

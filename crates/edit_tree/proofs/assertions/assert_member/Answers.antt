@@ -18,7 +18,7 @@ returns-in_default c = record {
       c.in_default.is in
       subst (λ (o : Option (List ModelNode × ℕ)). IfOk c.add.result (HasNodeAt text c.add.new.nodes.items o))
       (sym (asserted_new spots c.args.number (bytes_of text c.args.name)
-      (shape_of text c.args.content) c.args.taken c.args.span none))
+      (shape_of text c.args.definition.content) c.args.definition.taken c.args.definition.span none))
       (c.add.ensures.added spots holds none);
 }
 
@@ -34,12 +34,12 @@ returns-then-not-extend_node c = record {
       ap (child spots c.args.number) (sym c.decoded_str.ensures) ∙ sym (c.find.ensures spots seen) ∙
       c.in-Some.is in
       let adds : HasNodes text c.extend_node.new.nodes.items
-      (node_extended spots c.target-place.result c.args.taken) false =
+      (node_extended spots c.target-place.result c.args.definition.taken) false =
       subst (λ (b : Bool). HasNodes text c.extend_node.new.nodes.items
-      (node_extended spots c.target-place.result c.args.taken) b) c.if-not-extend_node.true
+      (node_extended spots c.target-place.result c.args.definition.taken) b) c.if-not-extend_node.true
       (c.extend_node.ensures text spots holds) in
       asserted_refused spots c.args.number c.in-Some.member c.target-place.result (bytes_of text c.args.name)
-      (shape_of text c.args.content) c.args.taken c.args.span some
+      (shape_of text c.args.definition.content) c.args.definition.taken c.args.definition.span some
       (c.target-place.ensures text spots seen2) adds;
 }
 
@@ -55,12 +55,12 @@ returns c = record {
       ap (child spots c.args.number) (sym c.decoded_str.ensures) ∙ sym (c.find.ensures spots seen) ∙
       c.in-Some.is in
       let adds : HasNodes text c.extend_node.new.nodes.items
-      (node_extended spots c.target-place.result c.args.taken) true =
+      (node_extended spots c.target-place.result c.args.definition.taken) true =
       subst (λ (b : Bool). HasNodes text c.extend_node.new.nodes.items
-      (node_extended spots c.target-place.result c.args.taken) b) c.if-not-extend_node.false
+      (node_extended spots c.target-place.result c.args.definition.taken) b) c.if-not-extend_node.false
       (c.extend_node.ensures text spots holds) in
       asserted_again text c.extend_node.new.nodes.items spots c.args.number c.in-Some.member
       c.target-place.result (bytes_of text c.args.name)
-      (shape_of text c.args.content) c.args.taken c.args.span some
+      (shape_of text c.args.definition.content) c.args.definition.taken c.args.definition.span some
       (c.target-place.ensures text spots seen2) adds;
 }

@@ -21,7 +21,7 @@ returns-clause-adds g c =
       lines = map line_of planned.rows.items;
       outputs = own.0;
       told = map warning_view planned.warnings.items;
-      walked = subst (λ (books : LookupLog). IsWalked c.args.number c.args.asked.options.now c.args.input.now
+      walked = subst (λ (books : LookupLog). IsWalked c.args.job.number c.args.job.asked.options.now c.args.job.input.now
           c.args.addresses.now.configs.now
           (g.I.Index.view (index_of c.args.index.now)).gives (cached_by c.args.index.now)
           (cached_by c.plan_input.new.index)
@@ -39,6 +39,6 @@ returns-clause-adds g c =
 
 pub returns-clause-known : goal.returns-clause-known
 returns-clause-known g c =
-    subst (λ (known : BTreeSet (String Global) Global). AddsNames c.args.asked.options.now
-    c.args.input.now.bytes.items (contains_text c.args.draft.now.known) (contains_text known))
+    subst (λ (known : BTreeSet (String Global) Global). AddsNames c.args.job.asked.options.now
+    c.args.job.input.now.bytes.items (contains_text c.args.draft.now.known) (contains_text known))
     (sym c.in_ok-add_planned.ensures.known) c.in_ok-planned.ensures.known

@@ -59,14 +59,14 @@ returns-in_err-add_input-in-None-clause-read g c =
 
 pub returns-in_err-manifest-in-None-clause-left : goal.returns-in_err-manifest-in-None-clause-left
 returns-in_err-manifest-in-None-clause-left g c =
-    leaves-same (IsNeededBy c.args.addresses.now.configs.now c.args.input.now.bytes.items)
+    leaves-same (IsNeededBy c.args.addresses.now.configs.now c.args.job.input.now.bytes.items)
     (g.I.Index.view (index_of c.args.index.now)).gives
     (g.I.Index.view (index_of c.args.index.now)).faults (cached_by c.args.index.now)
 
 pub add_input-requires-clause-document : goal.add_input-requires-clause-document
 add_input-requires-clause-document g c =
     subst (λ (o : Option (Bor DocumentViews)). IfSome (option_copied o)
-    (λ d. d.bytes ≡ c.args.input.now.bytes.items)) c.in-Some.is c.requires.document
+    (λ d. d.bytes ≡ c.args.job.input.now.bytes.items)) c.in-Some.is c.requires.document
 
 pub add_input-requires-in-None-clause-document : goal.add_input-requires-in-None-clause-document
 add_input-requires-in-None-clause-document g c =

@@ -12,7 +12,7 @@ use Rattle.edit_upgrade.proofs.walk.entry_row.Goals as goal
 pub returns-in_ok-row-in-Git-clause-row : goal.returns-in_ok-row-in-Git-clause-row
 returns-in_ok-row-in-Git-clause-row g c =
     elsewhere-decided c.args.job.number c.args.job.asked.options.now
-    (option_map numbers_of c.args.job.rust_version) c.args.addresses.now.configs.now (cached_by c.args.index.now)
+    (option_map numbers_of c.args.job.input.now.rust_version) c.args.addresses.now.configs.now (cached_by c.args.index.now)
     (seen_of c.args.entry.now) (line_of c.in_ok-row-in-Git.row)
     (elim c.in-Git.is [
       | inl git ↦ ap (λ (s : Source). is_elsewhere (source_view s)) git

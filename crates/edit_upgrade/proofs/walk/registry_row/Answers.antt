@@ -95,7 +95,7 @@ returns-clause-step g c =
 pub returns-clause-row : goal.returns-clause-row
 returns-clause-row g c =
     registry-decided c.args.job.number c.args.job.asked.options.now
-    (option_map numbers_of c.args.job.rust_version) c.args.addresses.now.configs.now (cached_by c.cached_row.new.index)
+    (option_map numbers_of c.args.job.input.now.rust_version) c.args.addresses.now.configs.now (cached_by c.cached_row.new.index)
     (seen_of c.args.entry.now) (given c.args.registry) c.in-Some.url.now
     (line_of c.in_ok-row.row) c.requires.source
     ((c.in_ok-see.ensures.are c.args.addresses.now.configs.now c.requires.addresses).has

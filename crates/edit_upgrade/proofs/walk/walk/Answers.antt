@@ -31,7 +31,7 @@ pub entries-init : goal.entries-init
 entries-init g c =
     let configs = c.args.addresses.now.configs.now in
     let kept = cached_by c.args.index.now in
-    let rust = option_map numbers_of c.args.job.rust_version in
+    let rust = option_map numbers_of c.args.job.input.now.rust_version in
     record {
       addresses = c.requires.addresses;
       kept = c.requires.kept;
@@ -124,7 +124,7 @@ entries-preserved g c =
     let all = map seen_of c.args.entries.now in
     let front = map seen_of (take c.entries.entry-index c.args.entries.now) in
     let e = seen_of c.entry-item.result in
-    let rust = option_map numbers_of c.args.job.rust_version in
+    let rust = option_map numbers_of c.args.job.input.now.rust_version in
     let more = names-more seen_of c.args.entries.now c.entries.entry-index c.entry-item.result
     c.entries-test.true c.entry-item.is in
     let lines = ap (map line_of) c.in_ok-push.ensures.items ∙ map-append line_of c.entries.rows.items
@@ -197,7 +197,7 @@ returns-clause-rows g c =
     let whole = take_all c.entries.entry-index c.args.entries.now (omega (arith, c.entries-test.false)) in
     subst (λ (es : List Entry). AreDecided
     (cached_basis c.args.job.number c.args.job.asked.options.now
-    (option_map numbers_of c.args.job.rust_version) c.args.addresses.now.configs.now (cached_by c.entries.index))
+    (option_map numbers_of c.args.job.input.now.rust_version) c.args.addresses.now.configs.now (cached_by c.entries.index))
     (map seen_of es) (map line_of c.entries.rows.items)) whole c.entries.invariant.rows
 
 pub returns-in_err-rows-clause-left : goal.returns-in_err-rows-clause-left

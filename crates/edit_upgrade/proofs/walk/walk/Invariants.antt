@@ -23,7 +23,7 @@ invariant-entries g l = record {
       (holds_pair l.fn.books.pairs) (holds_pair l.books.pairs);
   passed : All (IsPassed l.fn.addresses.configs.now (cached_by l.index)) (map seen_of (take l.entry-index l.entries));
   rows : AreDecided (cached_basis l.job.number l.job.asked.options.now
-      (option_map numbers_of l.job.rust_version)
+      (option_map numbers_of l.job.input.now.rust_version)
       l.fn.addresses.configs.now (cached_by l.index))
       (map seen_of (take l.entry-index l.entries)) (map line_of l.rows.items);
   left : Leaves (IsNeededIn l.fn.addresses.configs.now (map seen_of l.entries))

@@ -1,6 +1,6 @@
 use Rattle.std.proofs.Common.{◌≡◌, ◌≢◌, ◌∙◌, ◌==◌, ℕ, Bool, false, Global, List, [], ◌∷◌, String, ap, length, map, subst, sym, true≢false}
 use Rattle.std.specs.Global.{Vec}
-use Rattle.edit_document.specs.declared.place.Step.{Step}
+use Rattle.edit_tree.specs.declared.place.Step.{Step}
 use Rattle.std.specs.Prelude.{string_bytes}
 use Rattle.edit_document.specs.Ranges.{edit_views}
 use Rattle.edit_tree.specs.Replaces.{AreStrings, Edits, tree_without_below}

@@ -1,5 +1,5 @@
 use Rattle.std.proofs.Common.{◌≡◌, ℕ, List, sym, subst, true, map}
-use Rattle.edit_document.specs.declared.place.Step.{Step as WrittenStep}
+use Rattle.edit_tree.specs.declared.place.Step.{Step as WrittenStep}
 use Rattle.edit_document.specs.Items.{place_view}
 use Rattle.std.specs.Prelude.{string_bytes, IfOk}
 use Rattle.std.proofs.lemmas.Result.{IfOk-weaker}

@@ -10,10 +10,9 @@ returns-clause-decided c =
     c.in_ok-decide_by.ensures
     ∙ ap (λ (t : List ℕ).
     decision_by c.args.options.now false c.pin_of-pin.result.pinned c.pin_of-pin.result.readable
-    (option_copied c.args.selected) t
+    (option_copied c.args.case.selected) t
     (option_map string_bytes c.in_ok-far.far) (option_map string_bytes c.in_ok-near.near)) c.text-2.ensures
     ∙ decision-is c.args.options.now
-    (case_view c.args.excluded c.args.renamed c.args.options.now.never_lower (option_copied c.args.selected)
-    (text_in c.args.old.now) (option_copied c.args.compatible) (option_copied c.args.latest))
-    _ _ _ _ c.if-excluded.false c.pin_of-pin.ensures.pinned c.pin_of-pin.ensures.readable
+    (case_view c.args.case c.args.options.now.never_lower (text_in c.args.old.now))
+    _ _ _ _ c.if-case.false c.pin_of-pin.ensures.pinned c.pin_of-pin.ensures.readable
     c.in_ok-far.ensures.text c.in_ok-near.ensures.text

@@ -2,7 +2,7 @@ use Rattle.std.proofs.Common.{◌++◌, ap, map, string_bytes, ◌∙◌}
 use Rattle.edit_tree.specs.NewItems.{a_list}
 use Rattle.edit_record.specs.EachOnce.{each_once}
 use Rattle.edit_record.proofs.CopiedLists.{copied_texts}
-use Rattle.edit_update.proofs.ends.joined_features.Goals as goal
+use Rattle.edit_update.proofs.joined_features.joined_features.Goals as goal
 
 pub returns-clause-ok : goal.returns-clause-ok
 returns-clause-ok c =

@@ -3,8 +3,8 @@ use Rattle.std.proofs.Math.Seq.{take-length}
 use Rattle.std.proofs.lemmas.List.{map-append, map_more}
 use Rattle.edit_record.specs.RecordViews.{texts_view}
 use Rattle.edit_update.proofs.EachOnce.{holds_joined, is_old, join_all, join_more, joined_all, joins}
-use Rattle.edit_update.proofs.ends.remove_duplicates.Goals as goal
-use Rattle.edit_update.proofs.ends.remove_duplicates.Goals.{then-added+in_ok-clone+in_ok-push, else-added}
+use Rattle.edit_update.proofs.joined_features.remove_duplicates.Goals as goal
+use Rattle.edit_update.proofs.joined_features.remove_duplicates.Goals.{then-added+in_ok-clone+in_ok-push, else-added}
 
 new-text : (a b : Bool) → a ≡ not b → a ≡ true → b ≡ false
 new-text a true added is = cc (sym added ∙ is)
