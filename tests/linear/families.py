@@ -131,6 +131,10 @@ def rows():
                  lambda n: single(entries(n), lines(n), ["--diff"]))
     yield Family("entries that are raised, as JSON", 10000,
                  lambda n: single(entries(n), lines(n), ["--message-format", "json"]))
+    yield Family("entries that are raised, as a Markdown table", 10000,
+                 lambda n: single(entries(n), lines(n), ["--message-format", "markdown"]))
+    yield Family("members of one row of a Markdown table", 2000, lambda n: members(
+        [entries(1)] * n, ["upgrade", "--message-format", "markdown"], lines(1)))
     yield Family("warnings of unreadable requirements", 10000,
                  lambda n: single(entries(n, b'c%d = "x"\n'), b""))
     yield Family("warnings, as JSON", 10000, lambda n: single(entries(n, b'c%d = "x"\n'), b"",
@@ -196,11 +200,9 @@ def workspaces():
     yield Family("members", 2000, lambda n: upgrade([PACKAGE + b'x="1.0"\n'] * n, versions(5)))
     yield Family("members and registries", 1000, lambda n: upgrade(
         [PACKAGE + b'x={version="1.0",registry="r%d"}\n' % number for number in range(n)], versions(5),
-                                                                   config=registries(n)),
-        ("work",))
+                                                                   config=registries(n)))
     yield Family("members, and registries with addresses of 1 kB", 500, lambda n: upgrade(
-        [PACKAGE + b'x="1.0"\n'] * n, versions(5), config=registries(n, b"file:///" + b"r" * 990)),
-                 ("work",))
+        [PACKAGE + b'x="1.0"\n'] * n, versions(5), config=registries(n, b"file:///" + b"r" * 990)))
     yield Family("members in folders that lie deeper", 1000, lambda n: upgrade(
         [PACKAGE + b'x="1.0"\n'] * n, versions(5), deep="d/" * (n // 10)))
     yield Family("calls of cargo update: packages of one member", 10000, lambda n: upgrade(

@@ -1,6 +1,8 @@
 -- The model of the cache of configurations: a finite map from folders to what was found there (own).
-use Rattle.std.specs.Prelude.{◌≡◌, ℕ, List, Option, true, IfSome}
+use Rattle.std.specs.Prelude.{◌≡◌, ℕ, List, Option, true, IfSome, IsSome}
 use Rattle.std.specs.BTreeMap.{get_by_text}
+use Rattle.std.specs.List.{filter_map}
+use Rattle.std.specs.Option.{option_flatten}
 use Rattle.edit_store.specs.Store.{StoreView}
 use Rattle.edit_sources.specs.ConfigurationFiles.{IsReadOf, file_in}
 use Rattle.edit_sources.specs.declared.config.Config.{Config}
@@ -15,3 +17,11 @@ found_at cache place = get_by_text cache.found place
 abbrev pub AreCached : StoreView → ConfigCache → Type 0
 AreCached seen cache = seen.tells ≡ true → (place : List ℕ)
     → IfSome (found_at cache place) (IsReadOf (file_in seen.file_at place))
+
+-- a folder was searched (own)
+abbrev pub IsSearchedIn : ConfigCache → List ℕ → Type 0
+IsSearchedIn cache place = IsSome (found_at cache place)
+
+-- the configurations that were found in these folders, in their order (own)
+abbrev pub found_in : ConfigCache → List (List ℕ) → List Config
+found_in cache places = filter_map (λ place. option_flatten (found_at cache place)) places

@@ -11,7 +11,7 @@ use Rattle.edit_base.specs.declared.errors.DeviceCall.TheVariants.{Read}
 use Rattle.edit_store.specs.Store.{Files, raised}
 use Rattle.edit_sources.specs.Configuration.{Says, IsMalformedConfig}
 use Rattle.url.specs.Parts.{Parts}
-use Rattle.edit_sources.specs.Configured.{configuration, IsConfigRefusal, HasAddress, HasNoUrl}
+use Rattle.edit_sources.specs.Configured.{configuration, paths_of, IsConfigRefusal, HasAddress, HasNoUrl}
 use Rattle.edit_sources.specs.Sources.{or_else}
 use Rattle.edit_sources.specs.declared.config.Config.{Config}
 
@@ -84,6 +84,13 @@ pub record AreConfigs (files : Files) (manifest : List ℕ) (home : Option (List
   pub places : List (List ℕ)
   pub searched : IsSearched manifest home places
   pub each : AllZip IsReadFrom (files_in files places) configs
+
+-- the paths of the files of a manifest's configurations, in their order (own)
+pub record AreConfigPaths (files : Files) (manifest : List ℕ) (home : Option (List ℕ))
+    (paths : List (List ℕ)) : Type 0 where
+  pub configs : List Config
+  pub read : AreConfigs files manifest home configs
+  pub all : paths ≡ paths_of configs
 
 -- the error of these folders: the configuration file in one of them is malformed (own)
 pub record PlaceFails (tells : Bool) (files : Files) (places : List (List ℕ)) (e : Error) : Type 0 where

@@ -33,6 +33,14 @@ abbrev pub configuration : Config → said.Configuration
 configuration c =
     record { registries = map registry_entry c.registries.items; sources = map source_entry c.sources.items }
 
+-- the path of a configuration's file, and the model of the configuration (own)
+abbrev pub path_and_entries : Config → List ℕ × said.Configuration
+path_and_entries c = (string_bytes c.path, configuration c)
+
+-- the paths of the files of these configurations (own)
+abbrev pub paths_of : List Config → List (List ℕ)
+paths_of configs = map (λ c. string_bytes c.path) configs
+
 -- the error is `Config` with this path (own)
 abbrev pub IsConfigRefusal : List ℕ → Error → Type 0
 IsConfigRefusal path e = (named : String Global) × (e ≡ refusal.Config named) × (string_bytes named ≡ path)

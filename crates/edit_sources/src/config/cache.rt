@@ -1,14 +1,14 @@
 //! The configurations of manifests; each file is read once for all of them.
-ghost use Rattle.std.specs.Prelude.{◌≡◌, ◌⊎◌, true, IfOk, IfErr, map, string_bytes};
-ghost use Rattle.std.specs.List.{AllZip};
+ghost use Rattle.std.specs.Prelude.{◌≡◌, ◌⊎◌, ℕ, List, All, true, IfOk, IfErr, OnOk, map, option_copied, string_bytes};
+ghost use Rattle.std.specs.Option.{option_flatten};
 ghost use Rattle.edit_base.specs.Errors.{IsMemory};
 ghost use Rattle.edit_sources.specs.Configured.{given};
-ghost use Rattle.edit_sources.specs.ConfigurationFiles.{IsReadOf, IsReadFrom, IsConfigPath, HasFailed, FileFails, PlaceFails, AreConfigs, ConfigsFail, IsFirstMalformed, StopsAtConfig, file_in, files_in};
-ghost use Rattle.edit_sources.specs.CachedConfigs.{AreCached};
+ghost use Rattle.edit_sources.specs.ConfigurationFiles.{IsReadOf, IsConfigPath, IsSearched, HasFailed, FileFails, PlaceFails, AreConfigPaths, AreConfigs, ConfigsFail, IsFirstMalformed, StopsAtConfig, file_in};
+ghost use Rattle.edit_sources.specs.CachedConfigs.{AreCached, IsSearchedIn, found_at, found_in};
 ghost use Rattle.edit_store.specs.Store.{OnlyReads, StoreView};
 
 use super::Config;
-use super::copies::copied;
+use super::copies::{copied_paths, copies};
 use super::files::{add, config_in, places};
 use edit_base::CargoResult;
 use edit_store::store::Store;
@@ -33,57 +33,54 @@ impl ConfigCache {
 
     /// Stores the configuration that was found in a folder.
     fn keep(&mut self, alloc: Global, place: &str, found: Option<Config>) -> Result<(), AllocError>
-        ensures { (seen : StoreView) → AreCached seen self.old
+        ensures cached { (seen : StoreView) → AreCached seen self.old
             → (seen.tells ≡ true → IsReadOf (file_in seen.file_at place.now) found)
             → AreCached seen self.new }
+        ensures searched { OnOk result (IsSearchedIn self.new place.now) }
+        ensures others { (other : List ℕ) → IsSearchedIn self.old other → IsSearchedIn self.new other }
     {
         let place = String::from_str(alloc, place)?;
         self.found.insert(place, found)?;
         Ok(())
     }
 
-    /// The configuration in a folder: from the cache, or else from the store.
-    fn config_in<S: Store>(
+    /// Searches a folder through the store, unless it is cached.
+    fn search_folder<S: Store>(
         &mut self,
         alloc: Global,
         store: &mut S,
         place: &str,
-    ) -> CargoResult<Option<Config>>
+    ) -> CargoResult<()>
         ensures store { OnlyReads (S.view store.old) (S.view store.new) }
         ensures kept { AreCached (S.view store.old) self.old → AreCached (S.view store.new) self.new }
-        ensures read { IfOk result (λ found. AreCached (S.view store.old) self.old
-            → (S.view store.old).tells ≡ true
-            → IsReadOf (file_in (S.view store.old).file_at place.now) found) }
+        ensures searched { OnOk result (IsSearchedIn self.new place.now) }
+        ensures others { (other : List ℕ) → IsSearchedIn self.old other → IsSearchedIn self.new other }
         ensures refused { IfErr result (λ e. IsMemory e
             ⊎ (HasFailed (S.view store.old).faults (S.view store.new).faults e
             ⊎ FileFails (S.view store.old).tells (IsConfigPath place.now)
             (file_in (S.view store.old).file_at place.now) e)) }
     {
-        if let Some(found) = self.found.get(place) {
-            let copy = copied(alloc, found.as_ref())?;
-            return Ok(copy);
+        if self.found.contains_key(place) {
+            return Ok(());
         }
         let found = match config_in(alloc, store, place) {
             Ok(found) => found,
             Err(error) => return Err(error),
         };
-        let copy = copied(alloc, found.as_ref())?;
         self.keep(alloc, place, found)?;
-        Ok(copy)
+        Ok(())
     }
 
-    /// The configurations in these folders, in their order.
-    fn configs_in<S: Store>(
+    /// Searches these folders through the store, unless they are cached.
+    fn search_folders<S: Store>(
         &mut self,
         alloc: Global,
         store: &mut S,
         places: &[String],
-    ) -> CargoResult<Vec<Config>>
+    ) -> CargoResult<()>
         ensures store { OnlyReads (S.view store.old) (S.view store.new) }
         ensures kept { AreCached (S.view store.old) self.old → AreCached (S.view store.new) self.new }
-        ensures read { IfOk result (λ v. AreCached (S.view store.old) self.old
-            → (S.view store.old).tells ≡ true → AllZip IsReadFrom
-            (files_in (S.view store.old).file_at (map string_bytes places.now)) v.items) }
+        ensures searched { OnOk result (All (IsSearchedIn self.new) (map string_bytes places.now)) }
         ensures refused { IfErr result (λ e. IsMemory e
             ⊎ (HasFailed (S.view store.old).faults (S.view store.new).faults e ⊎ PlaceFails
             (S.view store.old).tells (S.view store.old).file_at (map string_bytes places.now) e)) }
@@ -92,13 +89,65 @@ impl ConfigCache {
             ⊎ (AreCached (S.view store.old) self.old → (S.view store.old).tells ≡ true
             → IsFirstMalformed (S.view store.old).file_at (map string_bytes places.now) e))) }
     {
+        for place in places {
+            match self.search_folder(alloc, store, place.as_str()) {
+                Ok(()) => {}
+                Err(error) => return Err(error),
+            }
+        }
+        Ok(())
+    }
+
+    /// Searches the folders of a manifest, and returns them.
+    fn search<S: Store>(
+        &mut self,
+        alloc: Global,
+        store: &mut S,
+        manifest_path: &str,
+        cargo_home: Option<&str>,
+    ) -> CargoResult<Vec<String>>
+        ensures store { OnlyReads (S.view store.old) (S.view store.new) }
+        ensures kept { AreCached (S.view store.old) self.old → AreCached (S.view store.new) self.new }
+        ensures places { IfOk result (λ v. IsSearched manifest_path.now (given cargo_home.entry)
+            (map string_bytes v.items)) }
+        ensures searched { IfOk result (λ v. All (IsSearchedIn self.new) (map string_bytes v.items)) }
+        ensures refused { IfErr result (λ e. IsMemory e
+            ⊎ (HasFailed (S.view store.old).faults (S.view store.new).faults e
+            ⊎ ConfigsFail (S.view store.old).tells (S.view store.old).file_at manifest_path.now
+            (given cargo_home.entry) e)) }
+        ensures first { IfErr result (λ e. IsMemory e
+            ⊎ (HasFailed (S.view store.old).faults (S.view store.new).faults e
+            ⊎ (AreCached (S.view store.old) self.old → (S.view store.old).tells ≡ true
+            → StopsAtConfig (S.view store.old).file_at manifest_path.now (given cargo_home.entry) e))) }
+    {
+        let places = match places(alloc, manifest_path, cargo_home) {
+            Ok(places) => places,
+            Err(error) => return Err(error),
+        };
+        match self.search_folders(alloc, store, &places) {
+            Ok(()) => Ok(places),
+            Err(error) => Err(error),
+        }
+    }
+
+    /// The configuration that was found in a folder; `None` where no file exists there.
+    fn config_at(&self, place: &str) -> Option<&Config>
+        ensures { option_copied result ≡ option_flatten (found_at self.now place.now) }
+    {
+        match self.found.get(place) {
+            Some(found) => found.as_ref(),
+            None => None,
+        }
+    }
+
+    /// The configurations that were found in these folders, in their order.
+    fn configs_in(&self, alloc: Global, places: &[String]) -> Result<Vec<&Config>, AllocError>
+        ensures { IfOk result (λ v. map (λ c. c.now) v.items
+            ≡ found_in self.now (map string_bytes places.now)) }
+    {
         let mut configs = Vec::new(alloc);
         for place in places {
-            let found = match self.config_in(alloc, store, place.as_str()) {
-                Ok(found) => found,
-                Err(error) => return Err(error),
-            };
-            add(&mut configs, found)?;
+            add(&mut configs, self.config_at(place.as_str()))?;
         }
         Ok(configs)
     }
@@ -128,14 +177,48 @@ impl ConfigCache {
             ⊎ (AreCached (S.view store.old) self.old → (S.view store.old).tells ≡ true
             → StopsAtConfig (S.view store.old).file_at manifest_path.now (given cargo_home.entry) e))) }
     {
-        let places = match places(alloc, manifest_path, cargo_home) {
+        let places = match self.search(alloc, store, manifest_path, cargo_home) {
             Ok(places) => places,
             Err(error) => return Err(error),
         };
-        match self.configs_in(alloc, store, &places) {
-            Ok(configs) => Ok(configs),
-            Err(error) => Err(error),
-        }
+        let found = self.configs_in(alloc, &places)?;
+        let configs = copies(alloc, &found)?;
+        Ok(configs)
+    }
+
+    /// Returns the paths of the files that `read_configs` would read for a manifest, in the same order; no
+    /// configuration is copied.
+    pub fn config_paths<S: Store>(
+        &mut self,
+        alloc: Global,
+        store: &mut S,
+        manifest_path: &str,
+        cargo_home: Option<&str>,
+    ) -> CargoResult<Vec<String>>
+        ensures store { OnlyReads (S.view store.old) (S.view store.new) }
+        ensures kept { AreCached (S.view store.old) self.old → AreCached (S.view store.new) self.new }
+        ensures read { IfOk result (λ v. AreCached (S.view store.old) self.old
+            → (S.view store.old).tells ≡ true
+            → AreConfigPaths (S.view store.old).file_at manifest_path.now (given cargo_home.entry)
+            (map string_bytes v.items)) }
+        // an error never concerns a folder that is cached
+        ensures refused { IfErr result (λ e. IsMemory e
+            ⊎ (HasFailed (S.view store.old).faults (S.view store.new).faults e
+            ⊎ ConfigsFail (S.view store.old).tells (S.view store.old).file_at manifest_path.now
+            (given cargo_home.entry) e)) }
+        // of several malformed files the first one is the error
+        ensures first { IfErr result (λ e. IsMemory e
+            ⊎ (HasFailed (S.view store.old).faults (S.view store.new).faults e
+            ⊎ (AreCached (S.view store.old) self.old → (S.view store.old).tells ≡ true
+            → StopsAtConfig (S.view store.old).file_at manifest_path.now (given cargo_home.entry) e))) }
+    {
+        let places = match self.search(alloc, store, manifest_path, cargo_home) {
+            Ok(places) => places,
+            Err(error) => return Err(error),
+        };
+        let found = self.configs_in(alloc, &places)?;
+        let paths = copied_paths(alloc, &found)?;
+        Ok(paths)
     }
 }
 

@@ -1,7 +1,6 @@
 //! Deep copies of configurations.
-ghost use Rattle.std.specs.Prelude.{◌≡◌, ℕ, List, IfOk, Option, map, option_copied, option_map, string_bytes};
-ghost use Rattle.edit_sources.specs.Configured.{configuration, registry_entry, source_entry, source_view};
-ghost use Rattle.edit_sources.specs.ConfigurationFiles.{IsReadOf};
+ghost use Rattle.std.specs.Prelude.{◌≡◌, IfOk, map, option_copied, option_map, string_bytes};
+ghost use Rattle.edit_sources.specs.Configured.{configuration, path_and_entries, paths_of, registry_entry, source_entry, source_view};
 
 use super::{Config, ConfigSource};
 use std::alloc::{AllocError, Global};
@@ -69,13 +68,25 @@ impl Config {
     }
 }
 
-/// Returns a deep copy of a configuration, if there is one; it is what the same file holds.
-pub(super) fn copied(alloc: Global, found: Option<&Config>) -> Result<Option<Config>, AllocError>
-    ensures { IfOk result (λ copy. (file : Option (List ℕ × List ℕ))
-        → IsReadOf file (option_copied found.entry) → IsReadOf file copy) }
+/// Returns deep copies of configurations, in their order.
+pub(super) fn copies(alloc: Global, configs: &[&Config]) -> Result<Vec<Config>, AllocError>
+    ensures { IfOk result (λ v. map path_and_entries v.items
+        ≡ map path_and_entries (map (λ c. c.now) configs.now)) }
 {
-    match found {
-        Some(config) => Ok(Some(config.try_clone(alloc)?)),
-        None => Ok(None),
+    let mut all = Vec::with_capacity(alloc, configs.len())?;
+    for config in configs {
+        all.push(config.try_clone(alloc)?)?;
     }
+    Ok(all)
+}
+
+/// Returns copies of the paths of the files of configurations, in their order.
+pub(super) fn copied_paths(alloc: Global, configs: &[&Config]) -> Result<Vec<String>, AllocError>
+    ensures { IfOk result (λ v. map string_bytes v.items ≡ paths_of (map (λ c. c.now) configs.now)) }
+{
+    let mut all = Vec::with_capacity(alloc, configs.len())?;
+    for config in configs {
+        all.push(config.path.clone()?)?;
+    }
+    Ok(all)
 }

@@ -1,5 +1,5 @@
 //! Finds and reads configuration files.
-ghost use Rattle.std.specs.Prelude.{◌≡◌, ◌⊎◌, ◌++◌, true, IfOk, IfErr, OnOk, map, string_bytes};
+ghost use Rattle.std.specs.Prelude.{◌≡◌, ◌⊎◌, ◌++◌, true, IfOk, IfErr, OnOk, map, option_copied, string_bytes};
 ghost use Rattle.std.specs.Option.{option_to_list};
 ghost use Rattle.edit_base.specs.Errors.{IsMemory};
 ghost use Rattle.edit_base.specs.Paths.{texts};
@@ -104,8 +104,12 @@ pub(super) fn config_in<S: Store>(
 }
 
 /// Appends a configuration, if there is one.
-pub(super) fn add(configs: &mut Vec<Config>, found: Option<Config>) -> Result<(), AllocError>
-    ensures { OnOk result (configs.new.items ≡ configs.old.items ++ option_to_list found) }
+pub(super) fn add<'a>(
+    configs: &mut Vec<&'a Config>,
+    found: Option<&'a Config>,
+) -> Result<(), AllocError>
+    ensures { OnOk result (map (λ c. c.now) configs.new.items
+        ≡ map (λ c. c.now) configs.old.items ++ option_to_list (option_copied found.entry)) }
 {
     if let Some(config) = found {
         configs.push(config)?;

@@ -101,6 +101,34 @@ fn configurations_by_one_cache(rt: HostRuntime) {
     kept_rows(&rt, rt.alloc(), &mut cache, &mut store);
 }
 
+/// The paths of the configurations that count for a manifest, by a cache.
+fn paths_by_cache(
+    rt: &impl Abort,
+    alloc: Global,
+    cache: &mut ConfigCache,
+    store: &mut FaultStore,
+    path: &str,
+) -> String {
+    let paths = unwrap_ok(rt, cache.config_paths(alloc, store, path, Some("/home")));
+    let mut seen = String::new(alloc);
+    for path in &paths {
+        kept(rt, write!(seen, "{path} "));
+    }
+    seen
+}
+
+/// The third call makes no read, since all its folders were searched: it would be the ninth, which fails.
+#[test]
+fn paths_by_one_cache(rt: HostRuntime) {
+    let mut store = FaultStore::new(files_of(&rt, rt.alloc(), WORKSPACE), 8, 0);
+    let mut cache = ConfigCache::new(rt.alloc());
+    'rows: for row in MEMBERS.lines() {
+        let seen = paths_by_cache(&rt, rt.alloc(), &mut cache, &mut store, field(row, 2));
+        let (paths, _) = field(row, 0).split_once("file:").unwrap_or(("", ""));
+        check_result(&rt, row, seen.as_str(), paths);
+    }
+}
+
 #[test]
 fn config_errors_are_not_cached(rt: HostRuntime) {
     let mut store = FaultStore::new(files_of(&rt, rt.alloc(), WORKSPACE), 1, 0);

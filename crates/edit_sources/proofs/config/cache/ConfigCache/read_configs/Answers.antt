@@ -1,22 +1,14 @@
-use Rattle.std.proofs.Common.{inl, inr, ⊎_elim, map, string_bytes, subst, sym}
-use Rattle.edit_sources.specs.Configured.{given}
-use Rattle.edit_sources.specs.ConfigurationFiles.{IsSearched}
+use Rattle.std.proofs.Common.{◌∙◌, ap, map}
+use Rattle.edit_sources.specs.Configured.{given, path_and_entries}
+use Rattle.edit_sources.proofs.CachedConfigLemmas.{copies_configs, found_configs}
 use Rattle.edit_sources.proofs.config.cache.ConfigCache.read_configs.Goals as goal
 
-pub returns-clause-refused : goal.returns-clause-refused
-returns-clause-refused g c =
-    ⊎_elim (λ memory. inl memory) (λ other. inr (⊎_elim (λ failed. inl failed) (λ fails. inr (record {
-      places = map string_bytes c.deref.result.now;
-      searched = subst (λ ps. IsSearched c.args.manifest_path.now (given c.args.cargo_home) (map string_bytes ps))
-          (sym c.deref.ensures.value) c.in-Ok.ensures.searched;
-      fails = fails;
-    })) other)) c.in-Err-configs_in.ensures.refused
-
-pub returns-clause-first : goal.returns-clause-first
-returns-clause-first g c =
-    ⊎_elim (λ memory. inl memory) (λ other. inr (⊎_elim (λ failed. inl failed) (λ stops. inr (λ kept tells. record {
-      places = map string_bytes c.deref.result.now;
-      searched = subst (λ ps. IsSearched c.args.manifest_path.now (given c.args.cargo_home) (map string_bytes ps))
-          (sym c.deref.ensures.value) c.in-Ok.ensures.searched;
-      first = stops kept tells;
-    })) other)) c.in-Err-configs_in.ensures.first
+pub returns-clause-read : goal.returns-clause-read
+returns-clause-read g c = λ kept tells. copies_configs (g.S.Store.view c.args.store.now).file_at
+    c.args.manifest_path.now (given c.args.cargo_home) (map (λ x. x.now) c.in_ok-found.found.items)
+    c.in_ok-configs.configs.items
+    (found_configs (g.S.Store.view c.args.store.now) (g.S.Store.view c.search.new.store) c.search.new.self
+    c.args.manifest_path.now (given c.args.cargo_home) c.in-Ok.places.items c.deref.result.now
+    (map (λ x. x.now) c.in_ok-found.found.items) c.in-Ok.ensures.store (c.search.ensures.kept kept)
+    c.in-Ok.ensures.places c.in-Ok.ensures.searched c.deref.ensures.value c.in_ok-found.ensures tells)
+    (c.in_ok-configs.ensures ∙ ap (λ cs. map path_and_entries (map (λ x. x.now) cs)) c.deref-2.ensures.value)
