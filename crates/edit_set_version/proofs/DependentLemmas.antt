@@ -1,22 +1,27 @@
 -- The requirements on bumped crates, with the indices of their bumps.
-use Rattle.std.proofs.Common.{◌≡◌, ◌∙◌, ℕ, zero, arith, List, [], ◌∷◌, ◌++◌, cond, map, Option, Some, None, option_map, refl, ap, sym, subst, inl, inr}
-use Rattle.std.specs.Prelude.{Contains, codes, nat_eq, option_to_list}
+use Rattle.std.proofs.Common.{◌≡◌, ◌⊎◌, ◌∙◌, ℕ, List, [], ◌∷◌, ◌++◌, cond, map, Option, Some, None, option_map, refl, ap, sym, subst, inl, inr}
+use Rattle.std.specs.Prelude.{All, codes, nat_eq, option_to_list}
 use Rattle.std.specs.declared.collections.BTreeMap.{BTreeMap}
 use Rattle.std.specs.List.{cons_option, filter_map, starts_with}
 use Rattle.std.specs.Prelude.{String}
 use Rattle.std.specs.declared.alloc.Global.{Global}
 use Rattle.std.proofs.lemmas.Bool.{cases_Bool}
 use Rattle.std.proofs.lemmas.List.{map-append, map_push}
-use Rattle.std.proofs.lemmas.List.Elements.{Contains-append_right, filter_map-append}
+use Rattle.std.proofs.lemmas.List.Elements.{All-map, All-weaker, filter_map-append}
 use Rattle.semver.specs.Parse.{Parts}
+use Rattle.edit_base.specs.Errors.{IsMemory}
 use Rattle.edit_base.specs.Paths.{parts_of}
 use Rattle.edit_base.specs.declared.errors.Error.{Error}
 use Rattle.edit_manifest.specs.Tables.{Tree}
+use Rattle.edit_version.specs.Requirement.{raise}
+use Rattle.edit_set_version.specs.Admitted.{AllRise, CanRise}
 use Rattle.edit_set_version.specs.Folders.{along, folder_of, names_of, reached}
-use Rattle.edit_set_version.specs.Dependents.{IsUnraised, IsEntryUnraised, all_numbered, fixed, lacks, memory, with_bump_index, stays}
+use Rattle.edit_set_version.specs.Dependents.{HasRaisedText, IsEntryUnraised, all_numbered, dependent_of, lacks, numbered_dependent_view, stays, with_bump_index}
 use Rattle.edit_set_version.specs.BumpsByFolder.{HasFirstBumps, first_in, numbered_at}
 use Rattle.edit_set_version.specs.PathDependency.{PathDependency, dependent_by_path, pointed, path_dependency_view, path_dependency_views}
+use Rattle.edit_set_version.specs.PlanCauses.{IsUnraised}
 use Rattle.edit_set_version.specs.SetVersioned.{Bump, Dependent, dependents}
+use Rattle.edit_set_version.specs.declared.dependents.DependentEntry.{DependentEntry}
 use Rattle.edit_set_version.specs.declared.pointed.PathEntry.{PathEntry}
 use Rattle.edit_set_version.specs.declared.numbers.Numbered.{Numbered}
 use Rattle.edit_set_version.proofs.NumberLemmas.{next_first}
@@ -69,10 +74,11 @@ led_numbered bs file q =
     both None = refl
     both (Some n) = refl
 
--- all of a manifest without their numbers
-pub dependents_numbered : (bs : List Bump) (file : List ℕ) (t : Tree)
-    → dependents bs file t ≡ map (λ (n : ℕ × Dependent). n.1) (all_numbered bs file t)
-dependents_numbered bs file t = dependents_pointed bs file t ∙ each (pointed t)
+-- those of entries without their numbers
+pub led_each : (bs : List Bump) (file : List ℕ) (qs : List PathDependency)
+    → filter_map (dependent_by_path bs file) qs
+    ≡ map (λ (n : ℕ × Dependent). n.1) (filter_map (with_bump_index bs file) qs)
+led_each bs file qs = each qs
   where
     kept : (o : Option (ℕ × Dependent)) (ns : List (ℕ × Dependent))
         → cons_option (option_map (λ (n : ℕ × Dependent). n.1) o) (map (λ (n : ℕ × Dependent). n.1) ns)
@@ -89,6 +95,33 @@ dependents_numbered bs file t = dependents_pointed bs file t ∙ each (pointed t
         (led_numbered bs file q)
         ∙ kept (with_bump_index bs file q) (filter_map (with_bump_index bs file) qs)
 
+-- all of a manifest without their numbers
+pub dependents_numbered : (bs : List Bump) (file : List ℕ) (t : Tree)
+    → dependents bs file t ≡ map (λ (n : ℕ × Dependent). n.1) (all_numbered bs file t)
+dependents_numbered bs file t = dependents_pointed bs file t ∙ led_each bs file (pointed t)
+
+-- the requirements of entries of the program, without the indices of their bumps
+pub without_indices : (fs : List DependentEntry)
+    → map dependent_of fs ≡ map (λ (n : ℕ × Dependent). n.1) (map numbered_dependent_view fs)
+without_indices [] = refl
+without_indices (f ∷ fs) = ap (λ (xs : List Dependent). dependent_of f ∷ xs) (without_indices fs)
+
+-- requirements that are raised can be
+pub all_can_rise : (fs : List DependentEntry) (ds : List Dependent) → map dependent_of fs ≡ ds
+    → All HasRaisedText fs → All (λ (f : Dependent). CanRise (raise f.text f.next)) ds
+all_can_rise fs ds same risen =
+    subst (All (λ (f : Dependent). CanRise (raise f.text f.next))) same
+    (All-map (λ (f : Dependent). CanRise (raise f.text f.next)) dependent_of fs
+    (All-weaker HasRaisedText (λ (f : DependentEntry). CanRise (raise (dependent_of f).text (dependent_of f).next))
+    (λ f h. h.can) fs risen))
+
+-- those of a manifest are all its requirements on bumped crates
+pub all_rise : (bs : List Bump) (file : List ℕ) (t : Tree) (fs : List DependentEntry)
+    → map numbered_dependent_view fs ≡ all_numbered bs file t → All HasRaisedText fs → AllRise bs file t
+all_rise bs file t fs same risen =
+    all_can_rise fs (dependents bs file t)
+    (without_indices fs ∙ ap (map (λ (n : ℕ × Dependent). n.1)) same ∙ sym (dependents_numbered bs file t)) risen
+
 -- one entry more
 pub numbered_more : (bs : List Bump) (file : List ℕ) (es : List PathEntry) (e : PathEntry)
     → filter_map (with_bump_index bs file) (path_dependency_views (es ++ e ∷ []))
@@ -101,23 +134,28 @@ numbered_more bs file es e =
 
 -- ---- errors
 
--- what an entry gives is among what all give
-led_among : (bs : List Bump) (file : List ℕ) (xs : List PathDependency) (q : PathDependency) (ys : List PathDependency)
-    (f : Dependent) → dependent_by_path bs file q ≡ Some f → Contains (filter_map (dependent_by_path bs file) (xs ++ q ∷ ys)) f
-led_among bs file xs q ys f is =
-    subst (λ (fs : List Dependent). Contains fs f) (sym (filter_map-append (dependent_by_path bs file) xs (q ∷ ys)))
-    (Contains-append_right (filter_map (dependent_by_path bs file) xs) (filter_map (dependent_by_path bs file) (q ∷ ys)) f
-    (subst (λ (o : Option Dependent). Contains (cons_option o (filter_map (dependent_by_path bs file) ys)) f) (sym is)
-    (zero, omega arith, refl)))
-
--- a requirement that cannot be raised is one of its manifest
+-- a requirement that cannot be raised is the first such one of its manifest, where those of the entries before
+-- it are raised
 pub unraised : (bs : List Bump) (file : List ℕ) (t : Tree) (es : List PathEntry) (e : PathEntry)
-    (rest : List PathEntry) (why : Error) → path_dependency_views (es ++ e ∷ rest) ≡ pointed t
-    → IsEntryUnraised bs file (path_dependency_view e) why → IsUnraised bs file t why
-unraised bs file t es e rest why all (lacks none) = memory none
-unraised bs file t es e rest why all (stays f is refused) =
-    fixed f
-    (subst (λ (fs : List Dependent). Contains fs f)
-    (ap (filter_map (dependent_by_path bs file))
-    (sym (map-append path_dependency_view es (e ∷ rest)) ∙ all) ∙ sym (dependents_pointed bs file t))
-    (led_among bs file (path_dependency_views es) (path_dependency_view e) (path_dependency_views rest) f is)) refused
+    (rest : List PathEntry) (fs : List DependentEntry) (why : Error)
+    → path_dependency_views (es ++ e ∷ rest) ≡ pointed t
+    → map numbered_dependent_view fs ≡ filter_map (with_bump_index bs file) (path_dependency_views es)
+    → All HasRaisedText fs → IsEntryUnraised bs file (path_dependency_view e) why
+    → IsMemory why ⊎ IsUnraised bs file t why
+unraised bs file t es e rest fs why all same risen (lacks none) = inl none
+unraised bs file t es e rest fs why all same risen (stays f is refused) = inr (record {
+  before = filter_map (dependent_by_path bs file) (path_dependency_views es);
+  first = f;
+  behind = filter_map (dependent_by_path bs file) (path_dependency_views rest);
+  within = dependents_pointed bs file t
+      ∙ ap (filter_map (dependent_by_path bs file))
+      (sym all ∙ map-append path_dependency_view es (e ∷ rest))
+      ∙ filter_map-append (dependent_by_path bs file) (path_dependency_views es)
+      (path_dependency_view e ∷ path_dependency_views rest)
+      ∙ ap (λ (o : Option Dependent). filter_map (dependent_by_path bs file) (path_dependency_views es)
+      ++ cons_option o (filter_map (dependent_by_path bs file) (path_dependency_views rest))) is;
+  good = all_can_rise fs (filter_map (dependent_by_path bs file) (path_dependency_views es))
+      (without_indices fs ∙ ap (map (λ (n : ℕ × Dependent). n.1)) same
+      ∙ sym (led_each bs file (path_dependency_views es))) risen;
+  cause = refused;
+})

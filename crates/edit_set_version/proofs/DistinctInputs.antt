@@ -47,7 +47,7 @@ holds_of P (y ∷ ys) x all (zero, within, is) = subst P is all.0
 holds_of P (y ∷ ys) x all (suc k, within, is) = holds_of P ys x all.1 (k, omega (arith, within), is)
 
 -- two of them with one path are one
-same_input : (xs : List Input) (x y : Input) → Distinct xs → Contains xs x → Contains xs y
+pub same_input : (xs : List Input) (x y : Input) → Distinct xs → Contains xs x → Contains xs y
     → path_of x ≡ path_of y → x ≡ y
 same_input [] x y d i j same = absurd (omega (arith, i.1))
 same_input (z ∷ zs) x y d (zero, a, is) (zero, b, it) same = sym is ∙ it

@@ -1,10 +1,12 @@
 -- When the edits of an input are possible, and which error they cause otherwise.
-use Rattle.std.proofs.Common.{◌≡◌, ◌≢◌, ◌∙◌, ℕ, List, [], true, ◌⊎◌, ap, inl, inr, subst, sym}
+use Rattle.std.proofs.Common.{◌≡◌, ◌≢◌, ◌∙◌, ℕ, List, [], true, ◌⊎◌, ap, inl, inr, refl, slice_index_or, subst, sym}
 use Rattle.std.proofs.Math.Path.{fun_ext}
-use Rattle.std.specs.Prelude.{Contains}
+use Rattle.std.specs.Prelude.{All}
 use Rattle.std.specs.List.{filter}
+use Rattle.std.proofs.lemmas.List.Elements.{All-contains}
 use Rattle.edit_base.specs.Errors.{IsMemory}
 use Rattle.edit_base.specs.declared.errors.Error.{Error}
+use Rattle.edit_base.specs.declared.errors.Error.TheVariants as error
 use Rattle.edit_base.specs.declared.errors.Error.TheVariants.{NoVersionPlace}
 use Rattle.edit_manifest.specs.Tables.{Tree}
 use Rattle.edit_manifest.specs.Versions.{IsNoValue, package_version}
@@ -15,27 +17,42 @@ use Rattle.edit_tree.specs.Assertions.{IsDocument}
 use Rattle.edit_tree.specs.DocumentViews.{tree_of}
 use Rattle.edit_tree.specs.Tree.{is_value_at, view_at}
 use Rattle.edit_tree.proofs.Shallow.{one_form}
+use Rattle.edit_version.specs.Requirement.{UpgradeResult, raise}
+use Rattle.edit_version.specs.RequirementErrors.{IsUpgradeError}
 use Rattle.edit_set_version.specs.Crates.{IsReadOf}
-use Rattle.edit_set_version.specs.Dependents.{IsUnraised, fixed, memory}
-use Rattle.edit_set_version.specs.Admitted.{AllRise}
-use Rattle.edit_set_version.specs.PlanCauses.{literal as of_literal, requirement}
-use Rattle.edit_set_version.specs.PlanRefused.{HasBadInputBy, HasLiteral, IsInputClearBy, IsInputError}
+use Rattle.edit_set_version.specs.Admitted.{AllRise, CanRise}
+use Rattle.edit_set_version.specs.PlanCauses.{AllRiseIn, HasLiteral, IsUnraised, LacksLiteral}
+use Rattle.edit_set_version.specs.PlanLines.{Named}
+use Rattle.edit_set_version.specs.PlanRefused.{IsInputClearBy}
+use Rattle.edit_set_version.specs.Projects.{IsManifestAmong}
 use Rattle.edit_metadata.specs.Inputs.{path_of}
-use Rattle.edit_set_version.specs.SetVersioned.{Bump, dependents, writes_own}
+use Rattle.edit_set_version.specs.SetVersioned.{Bump, Dependent, dependents, writes_own}
+use Rattle.edit_set_version.proofs.FirstCauseLemmas.{first_good}
 
--- a requirement that cannot be raised stands against the bumps
-pub unraised_stands : (bs : List Bump) (input : Input) (m : Manifest) (e : Error) → IsReadOf input m
-    → IsUnraised bs (path_of input) (tree_of m.document) e → IsMemory e ⊎ IsInputError bs input e
-unraised_stands bs input m e read (memory none) = inl none
-unraised_stands bs input m e read (fixed f among refused) = inr (record {
-  form = read.form;
-  manifest = read.manifest;
-  against = requirement (record {
-    dependent = f;
-    among = subst (λ (t : Tree). Contains (dependents bs (path_of input) t) f) (fun_ext read.shows) among;
-    fixed = refused;
-  });
-})
+-- a requirement that can be raised causes no other error than a lack of memory
+rise_memory : (r : UpgradeResult) (text : List ℕ) (e : Error) → CanRise r → IsUpgradeError r text e → IsMemory e
+rise_memory r text error.Memory can h = refl
+rise_memory r text (error.InvalidRequirement s) can h = absurd (subst CanRise h.0 can)
+rise_memory r text (error.Unsupported s) can h = absurd (subst CanRise h.1 can)
+rise_memory r text other can h = absurd h
+
+-- the error of a requirement of an input in which nothing is at fault is a lack of memory
+pub unraised_memory : (bs : List Bump) (input : Input) (m : Manifest) (e : Error) → IsReadOf input m
+    → IsMemory e ⊎ IsUnraised bs (path_of input) (tree_of m.document) e → IsInputClearBy bs input → IsMemory e
+unraised_memory bs input m e read (inl none) clear = none
+unraised_memory bs input m e read (inr has) clear =
+    rise_memory (raise has.first.text has.first.next) has.first.text e
+    (first_good (λ (f : Dependent). CanRise (raise f.text f.next))
+    (λ (f : Dependent). IsUpgradeError (raise f.text f.next) f.text e)
+    (dependents bs (path_of input) (tree_of m.document)) has rise) has.cause
+  where
+    same : view_at clear.form ≡ tree_of m.document
+    same =
+        ap view_at (one_form input.bytes.items clear.form read.form clear.manifest read.manifest)
+        ∙ sym (fun_ext read.shows)
+
+    rise : AllRise bs (path_of input) (tree_of m.document)
+    rise = subst (λ (t : Tree). AllRise bs (path_of input) t) same clear.requirements
 
 -- a manifest that was read has a literal where a bumped version is to be written into it
 pub has_literal : (bs : List Bump) (input : Input) (m : Manifest) → IsReadOf input m
@@ -48,27 +65,36 @@ has_literal bs input m read literal = record {
       (subst (λ (bytes : List ℕ). IsDocument bytes read.form) (sym read.bytes) read.manifest);
 }
 
--- a bumped version that is to be written into a manifest where no value stands is a cause
-pub unvalued_stands : (bs : List Bump) (input : Input) (m : Manifest) (e : Error) → IsReadOf input m
+-- a bumped version that is to be written into a manifest without a value for it
+pub lacks_literal : (bs : List Bump) (input : Input) (m : Manifest) (e : Error) → IsReadOf input m
     → IsMemory e ⊎ ((e ≡ NoVersionPlace) × (filter (writes_own (path_of input)) bs ≢ [])
     × IsNoValue m.document package_version)
-    → IsMemory e ⊎ ((e ≡ NoVersionPlace) × IsInputError bs input e)
-unvalued_stands bs input m e read (inl none) = inl none
-unvalued_stands bs input m e read (inr why) = inr (
+    → IsMemory e ⊎ ((e ≡ NoVersionPlace) × LacksLiteral bs input)
+lacks_literal bs input m e read (inl none) = inl none
+lacks_literal bs input m e read (inr why) = inr (
   why.0,
   record {
     form = read.form;
     manifest = read.manifest;
-    against = of_literal (record {
-      written = why.1;
-      no_value = why.2 read.form
-          (subst (λ (bytes : List ℕ). IsDocument bytes read.form) (sym read.bytes) read.manifest);
-      told = why.0;
-    });
+    written = why.1;
+    no_value = why.2 read.form
+        (subst (λ (bytes : List ℕ). IsDocument bytes read.form) (sym read.bytes) read.manifest);
   },
 )
 
--- nothing does where each is written
+-- the error of a literal of an input in which nothing is at fault is a lack of memory
+pub unvalued_memory : (bs : List Bump) (input : Input) (m : Manifest) (e : Error) → IsReadOf input m
+    → IsMemory e ⊎ ((e ≡ NoVersionPlace) × (filter (writes_own (path_of input)) bs ≢ [])
+    × IsNoValue m.document package_version)
+    → IsInputClearBy bs input → IsMemory e
+unvalued_memory bs input m e read (inl none) clear = none
+unvalued_memory bs input m e read (inr why) clear =
+    let found = clear.literal why.1 in
+    let none = why.2 clear.form
+    (subst (λ (bytes : List ℕ). IsDocument bytes clear.form) (sym read.bytes) clear.manifest) in
+    cc (sym none ∙ found)
+
+-- nothing is at fault in an input whose literals are there and whose requirements can be raised
 pub written_clear : (bs : List Bump) (input : Input) (m : Manifest) → IsReadOf input m
     → (filter (writes_own (path_of input)) bs ≢ [] → (form : Text) → IsDocument m.document.bytes form
     → is_value_at form package_version ≡ true)
@@ -102,9 +128,20 @@ literal_of bs input m form read manifest clear some =
     (one_form input.bytes.items clear.form form clear.manifest
     (subst (λ (bytes : List ℕ). IsDocument bytes form) read.bytes manifest)) (clear.literal some)
 
--- what stands against an input stands against it among all
-pub stands_among : (bs : List Bump) (inputs : List Input) (input : Input) (e : Error) → Contains inputs input
-    → IsMemory e ⊎ IsInputError bs input e → IsMemory e ⊎ HasBadInputBy bs inputs e
-stands_among bs inputs input e among (inl none) = inl none
-stands_among bs inputs input e among (inr stands) =
-    inr (record { input = input; among = among; stands = stands })
+-- inputs with literals whose manifests are among some in which each requirement can be raised
+pub all_clear : (bs : List Bump) (ms : List Named) (inputs : List Input) → All (HasLiteral bs) inputs
+    → All (AllRiseIn bs) ms → All (IsManifestAmong ms) inputs → All (IsInputClearBy bs) inputs
+all_clear bs ms inputs literals rise among =
+    λ k d within. one (slice_index_or inputs k d) (literals k d within) (among k d within)
+  where
+    one : (input : Input) → HasLiteral bs input → IsManifestAmong ms input → IsInputClearBy bs input
+    one input literal there = record {
+      form = literal.form;
+      manifest = literal.manifest;
+      literal = literal.literal;
+      requirements = subst (λ (f : Text). AllRise bs (path_of input) (view_at f))
+          (one_form input.bytes.items there.form literal.form there.manifest literal.manifest)
+          (subst (λ (t : Tree). AllRise bs (path_of input) t) (fun_ext there.is)
+          (subst (λ (path : List ℕ). AllRise bs path there.named.tree) there.at
+          (All-contains (AllRiseIn bs) ms there.named rise there.among)));
+    }

@@ -1,4 +1,5 @@
 pub mod Greater
+pub mod FirstCauseLemmas
 pub mod FolderLemmas
 pub mod TablePlaces
 pub mod Clear
@@ -29,7 +30,9 @@ pub mod EditsValues
 pub mod DistinctInputs
 pub mod OutputLists
 pub mod EditsStand
+pub mod VersionLemmas
 pub mod PlanLemmas
 pub mod InputPaths
+mod InputManifests
 pub mod PlanParts
 pub mod MadeVersions

@@ -1,18 +1,21 @@
 -- Lists of lines to which the lines of manifests are appended.
-use Rattle.std.proofs.Common.{◌≡◌, ◌∙◌, ◌+◌, ◌<◌, ℕ, zero, suc, arith, get_or, length, not, subst, take, List, [], ◌∷◌, ◌++◌, false, true, map, refl, sym, ap}
-use Rattle.std.specs.Prelude.{if◌then◌else◌}
+use Rattle.std.proofs.Common.{◌≡◌, ◌⊎◌, ◌∙◌, ◌+◌, ◌<◌, ℕ, suc, drop, get_or, inl, inr, length, not, subst, take, List, [], ◌∷◌, ◌++◌, false, true, map, refl, sym, ap}
+use Rattle.std.specs.Prelude.{All, if◌then◌else◌}
 use Rattle.std.specs.List.{filter}
 use Rattle.std.proofs.lemmas.List.{append_assoc, append-nil, map-append, map_more}
-use Rattle.std.proofs.lemmas.List.Elements.{Contains-append_left, Contains-append_right, filter-append}
+use Rattle.std.proofs.lemmas.List.Elements.{filter-append}
 use Rattle.edit_tree.specs.Assertions.{same_bytes}
+use Rattle.edit_base.specs.Errors.{IsMemory}
 use Rattle.edit_base.specs.declared.errors.Error.{Error}
 use Rattle.edit_set_version.specs.Chosen.{Member}
 use Rattle.edit_set_version.specs.Crates.{member_of, members_of}
 use Rattle.edit_set_version.specs.declared.crates.Crate.{Crate}
 use Rattle.edit_set_version.specs.Dependents.{all_numbered}
+use Rattle.edit_set_version.specs.PlanCauses.{AllRiseIn, AreUnraised, IsUnraised}
 use Rattle.edit_set_version.specs.PlanLines.{Named, ReportLine}
 use Rattle.edit_set_version.specs.SetVersioned.{Bump}
-use Rattle.edit_set_version.specs.ToldLines.{HasUnraised, manifest_lines_view, named_member, other_manifests, update_lines_view, with_manifests, with_more, with_updates}
+use Rattle.edit_set_version.specs.ToldLines.{manifest_lines_view, named_member, other_manifests, update_lines_view, with_manifests, with_more, with_updates}
+use Rattle.edit_set_version.proofs.FirstCauseLemmas.{first_before, first_behind, split_at}
 
 -- lines in two parts
 more_in_parts : (f g h : ℕ → List ReportLine) → ((k : ℕ) → h k ≡ f k ++ g k)
@@ -92,34 +95,33 @@ others_more path cs i c within is =
     ∙ ap (λ z. members_of (take i cs) ++ member_of z ∷ []) (sym is))
     ∙ other_append path (members_of (take i cs)) (member_of c ∷ [])
 
--- ---- errors
+-- ---- requirements that cannot be raised
 
-pub unraised_first : (bs : List Bump) (xs ys : List Named) (e : Error) → HasUnraised bs xs e
-    → HasUnraised bs (xs ++ ys) e
-unraised_first bs xs ys e has = record {
-  manifest = has.manifest;
-  among = Contains-append_left xs ys has.manifest has.among;
-  unraised = has.unraised;
-}
-
-pub unraised_last : (bs : List Bump) (xs ys : List Named) (e : Error) → HasUnraised bs ys e
-    → HasUnraised bs (xs ++ ys) e
-unraised_last bs xs ys e has = record {
-  manifest = has.manifest;
-  among = Contains-append_right xs ys has.manifest has.among;
-  unraised = has.unraised;
-}
-
--- that of a crate stands for all
+-- that of one of several crates, where each requirement of those before it can be raised
 pub unraised_among : (bs : List Bump) (path : List ℕ) (cs : List Crate) (i : ℕ) (c : Crate) (e : Error)
-    → i < length cs → c ≡ get_or cs i c → HasUnraised bs (other_manifests path (member_of c ∷ [])) e
-    → HasUnraised bs (other_manifests path (members_of cs)) e
-unraised_among bs path [] i c e within is has = absurd (omega (arith, within))
-unraised_among bs path (x ∷ xs) zero c e within is has =
-    subst (λ ms. HasUnraised bs ms e) (sym (other_append path (member_of x ∷ []) (members_of xs)))
-    (unraised_first bs (other_manifests path (member_of x ∷ [])) (other_manifests path (members_of xs)) e
-    (subst (λ z. HasUnraised bs (other_manifests path (member_of z ∷ [])) e) is has))
-unraised_among bs path (x ∷ xs) (suc i) c e within is has =
-    subst (λ ms. HasUnraised bs ms e) (sym (other_append path (member_of x ∷ []) (members_of xs)))
-    (unraised_last bs (other_manifests path (member_of x ∷ [])) (other_manifests path (members_of xs)) e
-    (unraised_among bs path xs i c e (omega (arith, within)) is has))
+    → i < length cs → c ≡ get_or cs i c
+    → All (AllRiseIn bs) (other_manifests path (members_of (take i cs)))
+    → IsMemory e ⊎ AreUnraised bs (other_manifests path (member_of c ∷ [])) e
+    → IsMemory e ⊎ AreUnraised bs (other_manifests path (members_of cs)) e
+unraised_among bs path cs i c e within is rise (inl none) = inl none
+unraised_among bs path cs i c e within is rise (inr has) =
+    inr (subst (λ (ms : List Named). AreUnraised bs ms e) (sym split)
+    (first_behind (AllRiseIn bs) (λ (m : Named). IsUnraised bs m.path m.tree e) front (own ++ rest) rise
+    (first_before (AllRiseIn bs) (λ (m : Named). IsUnraised bs m.path m.tree e) own rest has)))
+  where
+    front : List Named
+    front = other_manifests path (members_of (take i cs))
+
+    own : List Named
+    own = other_manifests path (member_of c ∷ [])
+
+    rest : List Named
+    rest = other_manifests path (members_of (drop (i + 1) cs))
+
+    split : other_manifests path (members_of cs) ≡ front ++ (own ++ rest)
+    split =
+        ap (λ (xs : List Crate). other_manifests path (members_of xs)) (split_at cs i c within is)
+        ∙ ap (other_manifests path) (map-append member_of (take i cs) (c ∷ drop (i + 1) cs))
+        ∙ other_append path (members_of (take i cs)) (member_of c ∷ members_of (drop (i + 1) cs))
+        ∙ ap (λ (ms : List Named). front ++ ms)
+        (other_append path (member_of c ∷ []) (members_of (drop (i + 1) cs)))

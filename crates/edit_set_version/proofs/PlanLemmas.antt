@@ -1,14 +1,11 @@
 -- The guarantees of a plan, from those of its steps.
-use Rattle.std.proofs.Common.{◌≡◌, ◌≢◌, ◌⊎◌, ◌∙◌, ℕ, zero, suc, arith, List, [], ◌∷◌, ◌++◌, Bool, true, false, Bor, Option, Ok, Err, Some, None, not, ap, ap₂, inl, inr, length, map, option_map, refl, slice_index_or, subst, sym}
-use Rattle.std.specs.Prelude.{◌==◌, ◌&&◌, All, Contains, IfErr, IfOk, IfSome, OnOk, if◌then◌else◌, option_and_then, option_copied, option_to_list, Result}
+use Rattle.std.proofs.Common.{◌≡◌, ◌≢◌, ◌∙◌, ℕ, List, [], ◌∷◌, ◌++◌, Bool, true, false, Bor, Option, Ok, Err, Some, None, not, ap, ap₂, length, map, option_map, refl, slice_index_or, subst, sym}
+use Rattle.std.specs.Prelude.{◌==◌, ◌&&◌, All, IfErr, IfOk, OnOk, if◌then◌else◌, option_and_then, option_copied, Result}
 use Rattle.std.specs.List.{AllZip, filter, flat_map}
-use Rattle.std.proofs.Math.Path.{fun_ext}
-use Rattle.std.proofs.lemmas.List.Elements.{All-append, All-cons, All-contains, All-filter, All-head, All-map, All-nil, All-tail, Contains-append_right}
+use Rattle.std.proofs.lemmas.List.Elements.{All-append, All-cons, All-filter, All-head, All-map, All-nil, All-tail}
 use Rattle.semver.specs.Identifiers.{parts_of}
 use Rattle.semver.specs.Parse.{Parts}
 use Rattle.semver.specs.declared.Version.{Version}
-use Rattle.edit_base.specs.Errors.{IsMemory}
-use Rattle.edit_base.specs.declared.errors.Error.{Error}
 use Rattle.edit_manifest.specs.Tables.{Tree}
 use Rattle.edit_manifest.specs.Versions.{is_inherited, workspace_version}
 use Rattle.edit_metadata.specs.Metadata.{PackageModel, WorkspaceModel, members}
@@ -22,17 +19,13 @@ use Rattle.edit_report.specs.declared.output.Output.{Output}
 use Rattle.edit_version.specs.Laws.{IsReadable}
 use Rattle.edit_set_version.specs.Bumps.{Target, bump, next_of}
 use Rattle.edit_set_version.specs.Chosen.{Asked, Member, bumps_workspace, chosen, inheriting, is_asked}
-use Rattle.edit_set_version.specs.Dependents.{IsUnraised, fixed, memory}
 use Rattle.edit_set_version.specs.Admitted.{AllRise, AreVersions, AllAdmitNext, IsLeftBy}
-use Rattle.edit_set_version.specs.PlanCauses.{currents, requirement}
 use Rattle.edit_set_version.specs.PlanLines.{Named, lines_of, manifests, shared_lines}
-use Rattle.edit_set_version.specs.PlanRefused.{HasBadInput, HasBadInputBy, HasVersions, IsBehindLiterals, IsCauseOf, IsInputClear, IsInputClearBy, unknown}
-use Rattle.edit_set_version.specs.PlanRefused.IsCauseOf.{manifest as of_manifest, memory as of_memory}
+use Rattle.edit_set_version.specs.PlanRefused.{IsInputClear, IsInputClearBy}
 use Rattle.edit_set_version.specs.Planned.{AreOutputs, HasAdmitted, HasOutputsBy, HasSetOutputs, bytes_after, changed, outputs_at, unchanged}
 use Rattle.edit_metadata.specs.Inputs.{path_of}
 use Rattle.edit_set_version.specs.Projects.{IsMemberOf, IsProject, IsTreeAt}
-use Rattle.edit_set_version.specs.SetVersioned.{Bump, Project, bumps, edits, dependents, workspace_current, workspace_next}
-use Rattle.edit_set_version.specs.ToldLines.{HasUnraised}
+use Rattle.edit_set_version.specs.SetVersioned.{Bump, Project, bumps, edits, workspace_current, workspace_next}
 use Rattle.edit_set_version.specs.Written.{HasSharedVersion, shared_version_view}
 use Rattle.edit_set_version.proofs.DependentLaw.{dependents_admit}
 
@@ -86,7 +79,7 @@ trees_told is (p ∷ ps) (m ∷ ms) are =
     All-cons (λ (m : Member). IsTreeAt is m.path m.tree) m ms are.0.tree (trees_told is ps ms are.1)
 
 -- so is each manifest of a project
-manifest_lines_view : (w : WorkspaceModel) (is : List Input) (p : Project) → IsProject w is p
+pub manifest_lines_view : (w : WorkspaceModel) (is : List Input) (p : Project) → IsProject w is p
     → All (λ (m : Named). IsTreeAt is m.path m.tree) (manifests p)
 manifest_lines_view w is p project =
     All-cons (λ (m : Named). IsTreeAt is m.path m.tree) _ _ project.tree
@@ -96,30 +89,7 @@ manifest_lines_view w is p project =
     (All-filter (λ m. not (same_bytes m.path p.path)) (λ (m : Member). IsTreeAt is m.path m.tree) p.members
     (trees_told is (members w.packages) p.members project.members)))
 
--- ---- the versions that are bumped
-
--- the version of the workspace
-pub current_among : (a : Asked) (p : Project) (v : Parts) → workspace_current a p ≡ Some v
-    → Contains (currents a p) v
-current_among a p v is =
-    subst (λ (o : Option Parts). Contains (option_to_list o ++ map (λ (m : Member). m.version)
-    (chosen a p.members)) v)
-    (sym is) (zero, omega arith, refl)
-
-contains_map : {X Y : Type 0} (f : X → Y) (xs : List X) (x : X) → Contains xs x → Contains (map f xs) (f x)
-contains_map f [] x there = absurd (omega (arith, there.1))
-contains_map f (y ∷ ys) x (zero, within, is) = (zero, omega arith, ap f is)
-contains_map f (y ∷ ys) x (suc n, within, is) =
-    let later = contains_map f ys x (n, omega (arith, within), is) in
-    (suc later.0, omega (arith, later.1), later.2)
-
--- that of a chosen member
-pub member_current : (a : Asked) (p : Project) (m : Member) → Contains (chosen a p.members) m
-    → Contains (currents a p) m.version
-member_current a p m there =
-    Contains-append_right (option_to_list (workspace_current a p)) (map (λ (m : Member). m.version)
-    (chosen a p.members)) m.version
-    (contains_map (λ (m : Member). m.version) (chosen a p.members) m there)
+-- ---- versions, outputs and lines over equal values
 
 -- a version that is lent, by its parts
 pub seen_copied : (o : Option (Bor Version)) → shared_version_view o ≡ option_map parts_of (option_copied o)
@@ -142,23 +112,6 @@ lines_for p a b m n bs cs old next same =
     ∙ ap (λ (o : Option Parts). shared_lines b o ++ flat_map (lines_of p) bs) next
     ∙ ap (λ (xs : List Bump). shared_lines b n ++ flat_map (lines_of p) xs) same
 
--- what holds of a version that may be there
-pub all_shared : (P : Parts → Type 0) (o : Option (Bor Version)) (q : Option Parts)
-    → shared_version_view o ≡ q
-    → IfSome o (λ v. P (parts_of v.now)) → All P (option_to_list q)
-all_shared P None q is h = subst (λ z. All P (option_to_list z)) is (All-nil P)
-all_shared P (Some v) q is h =
-    subst (λ z. All P (option_to_list z)) is (All-cons P (parts_of v.now) [] h (All-nil P))
-
--- all of them
-pub all_currents : (P : Parts → Type 0) (a : Asked) (p : Project)
-    → All P (option_to_list (workspace_current a p)) → All (λ (m : Member). P m.version) (chosen a p.members)
-    → All P (currents a p)
-all_currents P a p shared own =
-    All-append P (option_to_list (workspace_current a p)) (map (λ (m : Member). m.version)
-    (chosen a p.members)) shared
-    (All-map P (λ (m : Member). m.version) (chosen a p.members) own)
-
 -- where the workspace gets a next version, its root has the current one
 pub tells_shared : (t : Target) (a : Asked) (w : WorkspaceModel) (is : List Input) (p : Project)
     → IsProject w is p → HasSharedVersion is p.path (workspace_next t a p)
@@ -178,36 +131,6 @@ tells_shared t a w is p project = by (workspace_next t a p) refl
     by : (o : Option Parts) → workspace_next t a p ≡ o → HasSharedVersion is p.path o
     by None e = tt
     by (Some v) e = (p.tree, project.tree, current (workspace_current a p) refl v e)
-
--- a requirement that cannot be raised stands in an input
-pub bad_input : (t : Target) (a : Asked) (w : WorkspaceModel) (is : List Input) (p : Project) (e : Error)
-    → IsProject w is p → HasUnraised (bumps t a p) (manifests p) e → IsMemory e ⊎ HasBadInput t a is p e
-bad_input t a w is p e project has = by has.unraised
-  where
-    at : IsTreeAt is has.manifest.path has.manifest.tree
-    at =
-        All-contains (λ (m : Named). IsTreeAt is m.path m.tree) (manifests p) has.manifest
-        (manifest_lines_view w is p project) has.among
-
-    by : IsUnraised (bumps t a p) has.manifest.path has.manifest.tree e
-        → IsMemory e ⊎ HasBadInput t a is p e
-    by (memory none) = inl none
-    by (fixed f among refused) = inr (record {
-      input = at.input;
-      among = at.among;
-      stands = record {
-        form = at.form;
-        manifest = at.manifest;
-        against = requirement (record {
-          dependent = f;
-          among = subst (λ (path : List ℕ). Contains (dependents (bumps t a p) path (view_at at.form)) f)
-              (sym at.at)
-              (subst (λ (tree : Tree). Contains (dependents (bumps t a p) has.manifest.path tree) f)
-              (fun_ext at.is) among);
-          fixed = refused;
-        });
-      };
-    })
 
 -- what stands after a plan is a manifest of which this holds
 record StandsAfter (old : List ℕ) (outputs : List Output) (RepresentsNodes : Tree → Type 0) : Type 0 where
@@ -278,22 +201,3 @@ pub all_admitted : (t : Target) (a : Asked) (is : List Input) (p : Project) (out
 all_admitted t a is p outputs versions set clear =
     λ k d within. has_admitted t a outputs p (slice_index_or is k d) versions (clear k d within)
     (set k d within)
-
--- an error of the lines or the outputs has its cause
-pub cause_given : (t : Target) (a : Asked) (w : WorkspaceModel) (is : List Input) (p : Project)
-    (bs : List Bump) (e : Error) → unknown a w ≡ [] → IsProject w is p → HasVersions t a p
-    → bs ≡ bumps t a p
-    → IsMemory e ⊎ (IsBehindLiterals bs is e × (HasUnraised bs (manifests p) e ⊎ HasBadInputBy bs is e))
-    → IsCauseOf t a w is e
-cause_given t a w is p bs e known project versions same (inl none) = of_memory none
-cause_given t a w is p bs e known project versions same (inr (behind, inl has)) =
-    by (bad_input t a w is p e project
-    (subst (λ (cs : List Bump). HasUnraised cs (manifests p) e) same has))
-  where
-    by : IsMemory e ⊎ HasBadInput t a is p e → IsCauseOf t a w is e
-    by (inl none) = of_memory none
-    by (inr bad) =
-        of_manifest known p project versions (subst (λ (cs : List Bump). IsBehindLiterals cs is e) same behind) bad
-cause_given t a w is p bs e known project versions same (inr (behind, inr bad)) =
-    of_manifest known p project versions (subst (λ (cs : List Bump). IsBehindLiterals cs is e) same behind)
-    (subst (λ (cs : List Bump). HasBadInputBy cs is e) same bad)

@@ -1,7 +1,8 @@
 -- The root of a workspace is among its inputs.
 use Rattle.std.proofs.Common.{◌≡◌, ◌∙◌, ℕ, zero, suc, ◌<◌, List, [], ◌∷◌, arith, get_or, length, subst, sym}
-use Rattle.std.specs.Prelude.{Contains, string_bytes}
+use Rattle.std.specs.Prelude.{All, Contains, string_bytes}
 use Rattle.std.specs.List.{AllZip}
+use Rattle.std.proofs.lemmas.List.Elements.{All-cons, All-nil}
 use Rattle.edit_base.specs.Paths.{IsNormalOf}
 use Rattle.edit_manifest.specs.declared.manifest.Manifest.{Manifest}
 use Rattle.edit_metadata.specs.Inputs.{AreInputs, RustOptions, input_paths, path_of, root_manifest}
@@ -9,6 +10,7 @@ use Rattle.edit_metadata.specs.Inputs.AreInputs.{of_members, with_root}
 use Rattle.edit_metadata.specs.Metadata.{WorkspaceModel}
 use Rattle.edit_metadata.specs.declared.input.Input.{Input}
 use Rattle.edit_set_version.specs.Crates.{IsReadOf}
+use Rattle.edit_set_version.specs.PlanRefused.{IsManifest}
 use Rattle.edit_set_version.specs.Projects.{AreInputsOf, IsTreeAt}
 use Rattle.edit_set_version.proofs.ReachedFolders.{normal_text}
 use Rattle.edit_tree.specs.DocumentViews.{tree_of}
@@ -27,6 +29,13 @@ root_among w is path are normal = by (are.0) is are.1
         subst (Contains (input_paths js)) (one_normal (root_manifest w).path root path own normal) among
     by asked _ (with_root j js made own other) =
         (zero, omega arith, one_normal (root_manifest w).path (string_bytes j.path) path own.path normal)
+
+-- inputs whose manifests were read are manifests
+pub all_manifests : (is : List Input) (ms : List Manifest) → AllZip IsReadOf is ms → All IsManifest is
+all_manifests [] ms read = All-nil IsManifest
+all_manifests (i ∷ is) [] read = absurd read
+all_manifests (i ∷ is) (m ∷ ms) read =
+    All-cons IsManifest i is (read.0.form, read.0.manifest) (all_manifests is ms read.1)
 
 -- the manifest beside an input was read of it
 pub read_beside : (i : Input) (m : Manifest) (is : List Input) (ms : List Manifest) (n : ℕ)

@@ -7,7 +7,13 @@ use Rattle.edit_base.specs.declared.errors.Error.{Error}
 use Rattle.edit_base.specs.declared.errors.Error.TheVariants as error
 use Rattle.edit_version.specs.Changed.{IsCause}
 use Rattle.edit_version.specs.Increments.{Change, Refused, To}
-use Rattle.edit_set_version.specs.Bumps.{Bumped, becomes, lower, refused}
+use Rattle.edit_set_version.specs.Bumps.{Bumped, becomes, lower, refused, stays}
+
+-- the version can be bumped: it is unchanged or becomes another
+abbrev pub IsBumpable : Bumped → Type 0
+IsBumpable stays = Unit {0}
+IsBumpable (becomes v) = Unit {0}
+IsBumpable _ = ⊥
 
 -- the result of an increment or of setting build metadata on the current version
 abbrev pub change_of : Parts → Bumped → Change

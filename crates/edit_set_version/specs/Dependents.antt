@@ -1,5 +1,5 @@
 -- The requirements of a manifest on bumped crates, each with the index of its bump (own).
-use Rattle.std.specs.Prelude.{◌≡◌, ℕ, List, Contains, Option, Some, option_map, string_bytes}
+use Rattle.std.specs.Prelude.{◌≡◌, ℕ, List, Option, Some, option_map, string_bytes}
 use Rattle.std.specs.List.{filter_map}
 use Rattle.semver.specs.Identifiers.{parts_of}
 use Rattle.edit_base.specs.Errors.{IsMemory}
@@ -12,7 +12,7 @@ use Rattle.edit_set_version.specs.Folders.{reached}
 use Rattle.edit_set_version.specs.Admitted.{CanRise}
 use Rattle.edit_set_version.specs.BumpsByFolder.{first_in}
 use Rattle.edit_set_version.specs.PathDependency.{PathDependency, dependent_by_path, pointed}
-use Rattle.edit_set_version.specs.SetVersioned.{Bump, Dependent, dependents, risen}
+use Rattle.edit_set_version.specs.SetVersioned.{Bump, Dependent, risen}
 use Rattle.edit_set_version.specs.declared.dependents.DependentEntry.{DependentEntry}
 
 -- the requirement of an entry on a bumped crate, with the index of the bump
@@ -42,12 +42,6 @@ numbered_dependent_view f = (f.bump.number, dependent_of f)
 pub record HasRaisedText (f : DependentEntry) : Type 0 where
   pub can : CanRise (raise (dependent_of f).text (dependent_of f).next)
   pub new : option_map string_bytes f.risen ≡ risen (dependent_of f)
-
--- the error of a manifest: a requirement on a bumped crate cannot be raised, or out of memory
-pub data IsUnraised (bs : List Bump) (file : List ℕ) (t : Tree) (e : Error) : Type 0 where
-  memory : IsMemory e → IsUnraised bs file t e
-  fixed : (f : Dependent) → Contains (dependents bs file t) f → IsUpgradeError (raise f.text f.next) f.text e
-      → IsUnraised bs file t e
 
 -- the error of an entry: its requirement cannot be raised, or out of memory
 pub data IsEntryUnraised (bs : List Bump) (file : List ℕ) (q : PathDependency) (e : Error) : Type 0 where

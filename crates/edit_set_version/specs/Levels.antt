@@ -14,7 +14,7 @@ level_name level.Rc = codes "rc"
 level_name level.Beta = codes "beta"
 level_name level.Alpha = codes "alpha"
 
--- the message for an argument that is no level; as in cargo-edit it leaves out `clear_prerelease`
+-- the message for an argument that is no level; as in cargo-edit it leaves out `release`
 abbrev pub valid_levels : List ℕ
 valid_levels = codes "[valid values: major, minor, patch, rc, beta, alpha]"
 

@@ -1,10 +1,9 @@
 -- The errors of a set-version plan over the inputs of a workspace, and what a plan that succeeds rules out
 -- (own, after cargo-edit).
-use Rattle.std.specs.Prelude.{◌≡◌, ◌≢◌, ◌⊎◌, ℕ, List, [], true, All, Contains, map}
+use Rattle.std.specs.Prelude.{◌≡◌, ◌≢◌, ℕ, List, [], true, All, map}
 use Rattle.std.specs.List.{filter}
 use Rattle.edit_base.specs.Errors.{IsMemory}
 use Rattle.edit_base.specs.declared.errors.Error.{Error}
-use Rattle.edit_base.specs.declared.errors.Error.TheVariants.{NoVersionPlace}
 use Rattle.edit_syntax.specs.Grammar.{Text}
 use Rattle.edit_tree.specs.Assertions.{IsDocument}
 use Rattle.edit_tree.specs.Tree.{is_value_at, view_at}
@@ -12,35 +11,15 @@ use Rattle.edit_manifest.specs.Loaded.{IsBadManifest}
 use Rattle.edit_manifest.specs.Versions.{package_version}
 use Rattle.edit_metadata.specs.Metadata.{WorkspaceModel, members}
 use Rattle.edit_metadata.specs.declared.input.Input.{Input}
-use Rattle.edit_set_version.specs.Bumps.{Bumped, Target, becomes, bump, stays}
+use Rattle.edit_set_version.specs.BumpCauses.{IsBumpable}
+use Rattle.edit_set_version.specs.Bumps.{Target, bump}
 use Rattle.edit_set_version.specs.Chosen.{Asked, held_back, missing}
 use Rattle.edit_set_version.specs.Admitted.{AllRise}
-use Rattle.edit_set_version.specs.PlanCauses.{IsMissing, ManifestStandsAgainst, IsVersionError, currents}
+use Rattle.edit_set_version.specs.FirstCauses.{HasFirstCause}
+use Rattle.edit_set_version.specs.PlanCauses.{IsManifestError, IsMissing, IsVersionError, currents}
 use Rattle.edit_metadata.specs.Inputs.{path_of}
 use Rattle.edit_set_version.specs.Projects.{IsProject}
 use Rattle.edit_set_version.specs.SetVersioned.{Bump, Project, bumps, writes_own}
-
--- the error is caused by an input's manifest, for these bumps
-pub record IsInputError (bs : List Bump) (input : Input) (e : Error) : Type 0 where
-  pub form : Text
-  pub manifest : IsDocument input.bytes.items form
-  pub against : ManifestStandsAgainst bs (path_of input) form e
-
--- the error is caused by one of these inputs, for these bumps
-pub record HasBadInputBy (bs : List Bump) (inputs : List Input) (e : Error) : Type 0 where
-  pub input : Input
-  pub among : Contains inputs input
-  pub stands : IsInputError bs input e
-
--- the error is caused by an input of a project
-abbrev pub HasBadInput : Target → Asked → List Input → Project → Error → Type 0
-HasBadInput t a inputs p e = HasBadInputBy (bumps t a p) inputs e
-
--- the version can be bumped: it is unchanged or becomes another
-abbrev pub IsBumpable : Bumped → Type 0
-IsBumpable stays = Unit {0}
-IsBumpable (becomes v) = Unit {0}
-IsBumpable _ = ⊥
 
 -- the selected names that no member of a workspace has
 abbrev pub unknown : Asked → WorkspaceModel → List (List ℕ)
@@ -51,29 +30,24 @@ pub record HasVersions (t : Target) (a : Asked) (p : Project) : Type 0 where
   pub excluded : held_back a p.members ≡ []
   pub versions : All (λ v. IsBumpable (bump t a.metadata v)) (currents a p)
 
--- an input has a literal for the bumped version that is to be written into it
-pub record HasLiteral (bs : List Bump) (input : Input) : Type 0 where
-  pub form : Text
-  pub manifest : IsDocument input.bytes.items form
-  pub literal : filter (writes_own (path_of input)) bs ≢ [] → is_value_at form package_version ≡ true
-
--- the error is `Error::NoVersionPlace`, or each input has literals for its bumped version
-abbrev pub IsBehindLiterals : List Bump → List Input → Error → Type 0
-IsBehindLiterals bs inputs e = (e ≡ NoVersionPlace) ⊎ All (HasLiteral bs) inputs
+-- the bytes of an input are a manifest
+abbrev pub IsManifest : Input → Type 0
+IsManifest input = (form : Text) × IsDocument input.bytes.items form
 
 -- Why a plan is refused: memory ran out, or the first of these stands, each where none before it does: a name
 -- that no member has, an input that is no manifest, an excluded member that shares a bumped version, a
--- version that the target refuses, a bumped version without a literal, and a requirement that cannot rise.
+-- version that the target refuses, a bumped version without a literal, and a requirement that cannot rise. Of
+-- several inputs, versions or requirements it is the first in their order.
 pub data IsCauseOf
     (t : Target) (a : Asked) (w : WorkspaceModel) (inputs : List Input) (e : Error) : Type 0 where
   memory : IsMemory e → IsCauseOf t a w inputs e
   no_package : IsMissing (unknown a w) e → IsCauseOf t a w inputs e
-  no_manifest : unknown a w ≡ [] → (input : Input) → Contains inputs input
-      → IsBadManifest input.bytes.items e → IsCauseOf t a w inputs e
+  no_manifest : unknown a w ≡ [] → HasFirstCause IsManifest (λ input. IsBadManifest input.bytes.items e) inputs
+      → IsCauseOf t a w inputs e
   project : unknown a w ≡ [] → (p : Project) → IsProject w inputs p → IsVersionError t a p e
       → IsCauseOf t a w inputs e
   manifest : unknown a w ≡ [] → (p : Project) → IsProject w inputs p → HasVersions t a p
-      → IsBehindLiterals (bumps t a p) inputs e → HasBadInput t a inputs p e → IsCauseOf t a w inputs e
+      → IsManifestError (bumps t a p) inputs p e → IsCauseOf t a w inputs e
 
 -- no error in an input for these bumps: a version that is to be written has a literal, and each requirement
 -- on a bumped crate can be raised

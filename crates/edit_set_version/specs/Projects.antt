@@ -10,6 +10,7 @@ use Rattle.edit_metadata.specs.Inputs.{AreInputs, RustOptions, path_of, root_man
 use Rattle.edit_metadata.specs.Metadata.{PackageModel, WorkspaceModel, members}
 use Rattle.edit_metadata.specs.declared.input.Input.{Input}
 use Rattle.edit_set_version.specs.Chosen.{Member}
+use Rattle.edit_set_version.specs.PlanLines.{Named}
 use Rattle.edit_set_version.specs.SetVersioned.{Project}
 
 -- the inputs are the manifests of the workspace, for any Rust version
@@ -24,6 +25,15 @@ pub record IsTreeAt (inputs : List Input) (path : List ℕ) (tree : Tree) : Type
   pub form : Text
   pub manifest : IsDocument input.bytes.items form
   pub is : (q : Place) → tree q ≡ view_at form q
+
+-- the manifest of an input is one of these
+pub record IsManifestAmong (ms : List Named) (input : Input) : Type 0 where
+  pub named : Named
+  pub among : Contains ms named
+  pub at : named.path ≡ path_of input
+  pub form : Text
+  pub manifest : IsDocument input.bytes.items form
+  pub is : (q : Place) → named.tree q ≡ view_at form q
 
 -- the member has the name and the version of this package, and the manifest at the package's path
 pub record IsMemberOf (inputs : List Input) (p : PackageModel) (m : Member) : Type 0 where

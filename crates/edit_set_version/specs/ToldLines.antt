@@ -1,12 +1,11 @@
 -- The lines of a plan, over the program's types.
-use Rattle.std.specs.Prelude.{ℕ, Contains, not, zero, suc, List, [], ◌∷◌, ◌++◌, ◌==◌, Bool, Option, Some, None, String, codes, if◌then◌else◌, map, option_map, string_bytes}
+use Rattle.std.specs.Prelude.{ℕ, not, zero, suc, List, [], ◌∷◌, ◌++◌, ◌==◌, Bool, Option, Some, None, String, codes, if◌then◌else◌, map, option_map, string_bytes}
 use Rattle.std.specs.Global.{Vec}
 use Rattle.std.specs.List.{filter, filter_map, flat_map}
 use Rattle.std.specs.declared.alloc.Global.{Global}
-use Rattle.edit_base.specs.declared.errors.Error.{Error}
 use Rattle.edit_tree.specs.Assertions.{same_bytes}
 use Rattle.edit_set_version.specs.Chosen.{Member}
-use Rattle.edit_set_version.specs.Dependents.{IsUnraised, all_numbered}
+use Rattle.edit_set_version.specs.Dependents.{all_numbered}
 use Rattle.edit_set_version.specs.PlanLines.{Named, ReportLine, note_of, updating_line, upgrading}
 use Rattle.edit_set_version.specs.SetVersioned.{Bump, Dependent, risen}
 
@@ -72,9 +71,3 @@ manifest_lines_view bs ms n = flat_map (λ m. update_lines_view m.name (all_numb
 -- with the lines of manifests
 abbrev pub with_manifests : List Bump → List Named → ℕ → List (List ReportLine) → List (List ReportLine)
 with_manifests bs ms n ls = with_more (manifest_lines_view bs ms) n ls
-
--- a requirement of one of these manifests on a bumped crate cannot be raised, or memory ran out
-pub record HasUnraised (bs : List Bump) (ms : List Named) (e : Error) : Type 0 where
-  pub manifest : Named
-  pub among : Contains ms manifest
-  pub unraised : IsUnraised bs manifest.path manifest.tree e

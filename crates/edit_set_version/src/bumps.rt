@@ -1,15 +1,14 @@
 //! The next versions of the crates that are bumped.
-ghost use Rattle.std.specs.Prelude.{◌≡◌, ◌⊎◌, ◌++◌, ◌<◌, ◌^◌, All, Contains, IfErr, IfOk, IfSome, OnOk, option_copied, option_map, option_to_list};
+ghost use Rattle.std.specs.Prelude.{◌≡◌, ◌⊎◌, ◌++◌, ◌<◌, ◌^◌, All, IfErr, IfOk, IfSome, OnOk, map, option_copied, option_map, option_to_list};
 ghost use Rattle.std.specs.List.{filter_map};
 ghost use Rattle.semver.specs.Identifiers.{parts_of};
 ghost use Rattle.edit_base.specs.Errors.{IsMemory};
 ghost use Rattle.edit_version.specs.Laws.{IsReadable, IsVersion};
-ghost use Rattle.edit_set_version.specs.BumpCauses.{IsUnbumped};
+ghost use Rattle.edit_set_version.specs.BumpCauses.{IsBumpable, IsUnbumped};
 ghost use Rattle.edit_set_version.specs.Bumps.{IsReadableTarget, bump, target_of};
-ghost use Rattle.edit_set_version.specs.Chosen.{Member};
 ghost use Rattle.edit_set_version.specs.Crates.{bump_view, bumps_view, member_of, members_of};
 ghost use Rattle.edit_set_version.specs.Admitted.{AreVersions};
-ghost use Rattle.edit_set_version.specs.PlanRefused.{IsBumpable};
+ghost use Rattle.edit_set_version.specs.PlanCauses.{AreUnbumped};
 ghost use Rattle.edit_set_version.specs.Selections.{selection_view};
 ghost use Rattle.edit_set_version.specs.SetVersioned.{bump_of};
 
@@ -117,8 +116,8 @@ pub(crate) fn bumps_of<'a>(
     ensures versions { IsReadableTarget (target_of target.now)
         → All (λ m. IsReadable m.version) (members_of crates.now)
         → IfOk result (λ bs. AreVersions (bumps_view bs.items)) }
-    ensures refused { IfErr result (λ e. IsMemory e ⊎ ((m : Member) × Contains (members_of crates.now) m
-        × IsUnbumped (bump (target_of target.now) (selection_view selection.now).metadata m.version) m.version e)) }
+    ensures refused { IfErr result (λ e. IsMemory e ⊎ AreUnbumped (target_of target.now)
+        (selection_view selection.now) (map (λ m. m.version) (members_of crates.now)) e) }
 {
     let mut bumps = Vec::new(alloc);
     'crates: for found in crates {

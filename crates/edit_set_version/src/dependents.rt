@@ -1,13 +1,13 @@
 //! The entries of a manifest that depend on bumped crates.
-ghost use Rattle.std.specs.Prelude.{◌≡◌, ◌++◌, List, All, IfErr, IfOk, OnOk, map, option_to_list, string_bytes};
-ghost use Rattle.semver.specs.Identifiers.{parts_of};
-ghost use Rattle.edit_document.specs.Items.{place_view};
+ghost use Rattle.std.specs.Prelude.{◌≡◌, ◌⊎◌, ◌++◌, List, All, IfErr, IfOk, OnOk, map, option_to_list, string_bytes};
+ghost use Rattle.edit_base.specs.Errors.{IsMemory};
 ghost use Rattle.edit_tree.specs.DocumentViews.{tree_of};
 ghost use Rattle.edit_version.specs.RequirementErrors.{IsUpgradeError};
 ghost use Rattle.edit_version.specs.Requirement.{raise};
-ghost use Rattle.edit_set_version.specs.Dependents.{HasRaisedText, IsUnraised, IsEntryUnraised, all_numbered, dependent_of, numbered_dependent_view, with_bump_index};
+ghost use Rattle.edit_set_version.specs.Dependents.{HasRaisedText, IsEntryUnraised, all_numbered, dependent_of, numbered_dependent_view, with_bump_index};
 ghost use Rattle.edit_set_version.specs.BumpsByFolder.{HasFirstBumps, numbered_view};
 ghost use Rattle.edit_set_version.specs.PathDependency.{path_dependency_view};
+ghost use Rattle.edit_set_version.specs.PlanCauses.{IsUnraised};
 ghost use Rattle.edit_set_version.specs.SetVersioned.{Bump};
 
 use crate::numbers::{BumpsByFolder, Numbered, bump_at};
@@ -92,7 +92,7 @@ pub(crate) fn dependents_of<'a>(
         → map numbered_dependent_view fs.items ≡ all_numbered bs file.now (tree_of document.now)) }
     ensures risen { IfOk result (λ fs. All HasRaisedText fs.items) }
     ensures refused { IfErr result (λ e. (bs : List Bump) → HasFirstBumps bs numbers.now
-        → IsUnraised bs file.now (tree_of document.now) e) }
+        → IsMemory e ⊎ IsUnraised bs file.now (tree_of document.now) e) }
 {
     let entries = path_entries(alloc, document)?;
     let mut dependents = Vec::new(alloc);

@@ -6,7 +6,7 @@ ghost use Rattle.edit_base.specs.declared.errors.Error.TheVariants.{NoVersionPla
 ghost use Rattle.edit_set_version.specs.Apart.{AreApart};
 ghost use Rattle.edit_set_version.specs.Crates.{IsReadOf, bumps_view};
 ghost use Rattle.edit_set_version.specs.BumpsByFolder.{HasFirstBumps};
-ghost use Rattle.edit_set_version.specs.PlanRefused.{HasBadInputBy, HasLiteral, IsInputError};
+ghost use Rattle.edit_set_version.specs.PlanCauses.{HasLiteral, LackLiterals, LacksLiteral};
 
 use crate::outputs::{PlannedWrites, push_own};
 use edit_base::CargoResult;
@@ -27,7 +27,7 @@ fn check_literal(
     requires read { IsReadOf input.now manifest.now }
     ensures literal { OnOk result (HasLiteral (bumps_view writing.now.bumps.now) input.now) }
     ensures refused { IfErr result (λ e. IsMemory e ⊎ ((e ≡ NoVersionPlace)
-        × IsInputError (bumps_view writing.now.bumps.now) input.now e)) }
+        × LacksLiteral (bumps_view writing.now.bumps.now) input.now)) }
 {
     let path = input.path.as_str();
     let mut edits = Vec::new(alloc);
@@ -48,7 +48,7 @@ pub(crate) fn check_literals(
     requires read { AllZip IsReadOf inputs.now manifests.now }
     ensures literals { OnOk result (All (HasLiteral (bumps_view writing.now.bumps.now)) inputs.now) }
     ensures refused { IfErr result (λ e. IsMemory e ⊎ ((e ≡ NoVersionPlace)
-        × HasBadInputBy (bumps_view writing.now.bumps.now) inputs.now e)) }
+        × LackLiterals (bumps_view writing.now.bumps.now) inputs.now)) }
 {
     'inputs: for i in 0..inputs.len() {
         check_literal(alloc, writing, &inputs[i], &manifests[i])?;

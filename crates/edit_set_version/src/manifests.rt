@@ -1,10 +1,11 @@
 //! The parsed manifests that a plan is made from.
-ghost use Rattle.std.specs.Prelude.{◌⊎◌, Contains, IfErr, IfOk};
+ghost use Rattle.std.specs.Prelude.{◌⊎◌, IfErr, IfOk};
 ghost use Rattle.std.specs.List.{AllZip};
 ghost use Rattle.edit_base.specs.Errors.{IsMemory};
 ghost use Rattle.edit_manifest.specs.Loaded.{IsBadManifest};
-ghost use Rattle.edit_metadata.specs.declared.input.Input.{Input};
 ghost use Rattle.edit_set_version.specs.Crates.{IsReadOf};
+ghost use Rattle.edit_set_version.specs.FirstCauses.{HasFirstCause};
+ghost use Rattle.edit_set_version.specs.PlanRefused.{IsManifest};
 
 use edit_base::CargoResult;
 use edit_manifest::Manifest;
@@ -15,7 +16,7 @@ use std::alloc::Global;
 pub(crate) fn manifests_of(alloc: Global, inputs: &[Input]) -> CargoResult<Vec<Manifest>>
     ensures ok { IfOk result (λ ms. AllZip IsReadOf inputs.now ms.items) }
     ensures refused { IfErr result (λ e. IsMemory e
-        ⊎ ((i : Input) × Contains inputs.now i × IsBadManifest i.bytes.items e)) }
+        ⊎ HasFirstCause IsManifest (λ i. IsBadManifest i.bytes.items e) inputs.now) }
 {
     let mut manifests = Vec::with_capacity(alloc, inputs.len())?;
     'inputs: for input in inputs {

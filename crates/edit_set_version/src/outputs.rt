@@ -13,9 +13,9 @@ ghost use Rattle.edit_tree.specs.Tree.{is_value_at};
 ghost use Rattle.edit_set_version.specs.Apart.{AreApart};
 ghost use Rattle.edit_set_version.specs.Crates.{IsReadOf, bump_view, bumps_view};
 ghost use Rattle.edit_set_version.specs.Admitted.{AllRise};
-ghost use Rattle.edit_set_version.specs.Dependents.{IsUnraised};
 ghost use Rattle.edit_set_version.specs.BumpsByFolder.{HasFirstBumps};
-ghost use Rattle.edit_set_version.specs.PlanRefused.{HasBadInputBy, IsInputClearBy, IsInputError};
+ghost use Rattle.edit_set_version.specs.PlanCauses.{IsUnraised};
+ghost use Rattle.edit_set_version.specs.PlanRefused.{IsInputClearBy};
 ghost use Rattle.edit_set_version.specs.Planned.{AreOutputsOf, HasOutputsBy, OutputsInOrder};
 ghost use Rattle.edit_set_version.specs.SetVersioned.{edits_by, dependents, own_edit, requirement_edit, shared_edits, writes_own};
 ghost use Rattle.edit_metadata.specs.Inputs.{HaveOwnPaths, path_of};
@@ -147,8 +147,8 @@ fn push_dependents(
         (dependents (bumps_view writing.now.bumps.now) path.now (tree_of document.now))) }
     ensures rise { OnOk result
         (AllRise (bumps_view writing.now.bumps.now) path.now (tree_of document.now)) }
-    ensures refused { IfErr result
-        (IsUnraised (bumps_view writing.now.bumps.now) path.now (tree_of document.now)) }
+    ensures refused { IfErr result (λ e. IsMemory e
+        ⊎ IsUnraised (bumps_view writing.now.bumps.now) path.now (tree_of document.now) e) }
 {
     let dependents = dependents_of(alloc, writing.numbers, path, document)?;
     push_requirements(alloc, &dependents, edits)?;
@@ -169,8 +169,8 @@ fn edits_of(
         ≡ edits_by writing.now.root.now (shared_version_view writing.now.shared)
         (bumps_view writing.now.bumps.now) (path_of input.now) (tree_of manifest.now.document)) }
     ensures clear { OnOk result (IsInputClearBy (bumps_view writing.now.bumps.now) input.now) }
-    ensures refused { IfErr result (λ e. IsMemory e
-        ⊎ IsInputError (bumps_view writing.now.bumps.now) input.now e) }
+    ensures refused { IfErr result (λ e. IsInputClearBy (bumps_view writing.now.bumps.now) input.now
+        → IsMemory e) }
 {
     let path = input.path.as_str();
     let document = &manifest.document;
@@ -196,8 +196,8 @@ fn output_of(
     ensures output { IfOk result (λ o. AreOutputsOf writing.now.root.now (shared_version_view writing.now.shared)
         (bumps_view writing.now.bumps.now) input.now (option_to_list o)) }
     ensures clear { OnOk result (IsInputClearBy (bumps_view writing.now.bumps.now) input.now) }
-    ensures refused { IfErr result (λ e. IsMemory e
-        ⊎ IsInputError (bumps_view writing.now.bumps.now) input.now e) }
+    ensures refused { IfErr result (λ e. IsInputClearBy (bumps_view writing.now.bumps.now) input.now
+        → IsMemory e) }
 {
     let edits = edits_of(alloc, writing, input, manifest)?;
     if edits.is_empty() {
@@ -231,8 +231,8 @@ fn push_output(
         × AreOutputsOf writing.now.root.now (shared_version_view writing.now.shared)
         (bumps_view writing.now.bumps.now) input.now own) }
     ensures clear { OnOk result (IsInputClearBy (bumps_view writing.now.bumps.now) input.now) }
-    ensures refused { IfErr result (λ e. IsMemory e
-        ⊎ IsInputError (bumps_view writing.now.bumps.now) input.now e) }
+    ensures refused { IfErr result (λ e. IsInputClearBy (bumps_view writing.now.bumps.now) input.now
+        → IsMemory e) }
 {
     let output = output_of(alloc, writing, input, manifest)?;
     match output {
@@ -261,8 +261,9 @@ pub(crate) fn outputs_of(
         (shared_version_view writing.now.shared) (bumps_view writing.now.bumps.now) os.items) inputs.now) }
     ensures in_order { IfOk result (λ os. OutputsInOrder inputs.now os.items) }
     ensures clear { OnOk result (All (IsInputClearBy (bumps_view writing.now.bumps.now)) inputs.now) }
-    ensures refused { IfErr result (λ e. IsMemory e
-        ⊎ HasBadInputBy (bumps_view writing.now.bumps.now) inputs.now e) }
+    // an input in which a literal or a requirement is at fault was an error before
+    ensures refused { IfErr result (λ e. All (IsInputClearBy (bumps_view writing.now.bumps.now)) inputs.now
+        → IsMemory e) }
 {
     let mut outputs = Vec::new(alloc);
     'inputs: for i in 0..inputs.len() {

@@ -6,19 +6,19 @@ ghost use Rattle.edit_base.specs.Errors.{IsMemory};
 ghost use Rattle.edit_metadata.specs.Workspaces.{HasOwnFolders, workspace_view};
 ghost use Rattle.edit_version.specs.Laws.{IsReadable};
 ghost use Rattle.edit_set_version.specs.Apart.{AreApart};
+ghost use Rattle.edit_set_version.specs.BumpCauses.{IsBumpable};
 ghost use Rattle.edit_set_version.specs.Bumps.{IsReadableTarget, bump, target_of};
 ghost use Rattle.edit_set_version.specs.Chosen.{chosen, held_back};
 ghost use Rattle.edit_set_version.specs.Crates.{IsReadOf, bumps_view, project_view};
 ghost use Rattle.edit_set_version.specs.Admitted.{AreVersions};
-ghost use Rattle.edit_set_version.specs.PlanCauses.{IsVersionError, currents};
+ghost use Rattle.edit_set_version.specs.PlanCauses.{IsManifestError, IsVersionError, currents};
 ghost use Rattle.edit_set_version.specs.Plan.{IsPlan};
 ghost use Rattle.edit_set_version.specs.PlanLines.{lines_of, manifests, shared_lines};
-ghost use Rattle.edit_set_version.specs.PlanRefused.{HasBadInputBy, IsBehindLiterals, IsBumpable, IsCauseOf, IsInputClearBy};
+ghost use Rattle.edit_set_version.specs.PlanRefused.{IsCauseOf, IsInputClearBy};
 ghost use Rattle.edit_set_version.specs.Planned.{HasOutputsBy, OutputsInOrder, has_lines, plan_lines_view};
-ghost use Rattle.edit_set_version.specs.Projects.{AreInputsOf, HasProject};
+ghost use Rattle.edit_set_version.specs.Projects.{AreInputsOf, HasProject, IsManifestAmong};
 ghost use Rattle.edit_set_version.specs.Selections.{selection_view};
 ghost use Rattle.edit_set_version.specs.SetVersioned.{bumps, workspace_current, workspace_next};
-ghost use Rattle.edit_set_version.specs.ToldLines.{HasUnraised};
 ghost use Rattle.edit_metadata.specs.Inputs.{HaveOwnPaths};
 ghost use Rattle.edit_set_version.specs.Written.{HasSharedVersion};
 
@@ -95,6 +95,7 @@ fn plan_with(
     requires apart { AreApart (bumps_view versions.now.bumps.items) }
     requires read { AllZip IsReadOf inputs.now read.now }
     requires distinct { HaveOwnPaths inputs.now }
+    requires among { All (IsManifestAmong (manifests (project_view project.now))) inputs.now }
     requires shared { HasSharedVersion inputs.now (project_view project.now).path
         (option_map parts_of versions.now.next) }
     ensures outputs { IfOk result (λ plan. All (HasOutputsBy (project_view project.now).path
@@ -106,10 +107,8 @@ fn plan_with(
         ++ flat_map (lines_of (project_view project.now)) (bumps_view versions.now.bumps.items)) }
     ensures changed { IfOk result (λ plan. plan.changed ≡ has_lines plan) }
     ensures clear { OnOk result (All (IsInputClearBy (bumps_view versions.now.bumps.items)) inputs.now) }
-    ensures refused { IfErr result (λ e. IsMemory e
-        ⊎ (IsBehindLiterals (bumps_view versions.now.bumps.items) inputs.now e
-        × (HasUnraised (bumps_view versions.now.bumps.items) (manifests (project_view project.now)) e
-        ⊎ HasBadInputBy (bumps_view versions.now.bumps.items) inputs.now e))) }
+    ensures refused { IfErr result (λ e. IsMemory e ⊎ IsManifestError (bumps_view versions.now.bumps.items)
+        inputs.now (project_view project.now) e) }
 {
     let numbers = index_bumps(alloc, &versions.bumps)?;
     let old = versions.current.as_ref();
@@ -143,7 +142,9 @@ fn plan_with(
 /// target rejects (`Error::Downgrade`, `Error::ReleaseLevel`, `Error::PrereleaseScheme`,
 /// `Error::NumberAtEnd`, `Error::InvalidMetadata`); a version without a literal to write it to
 /// (`Error::NoVersionPlace`); a requirement that cannot be raised (`Error::InvalidRequirement`,
-/// `Error::Unsupported`).
+/// `Error::Unsupported`). Of several causes of one kind it is the first: of inputs in their order; of
+/// versions that of the workspace, then those of the members in order; of requirements those of the root
+/// manifest, then those of the other members.
 pub fn plan_set_version(
     alloc: Global,
     target: &TargetVersion,

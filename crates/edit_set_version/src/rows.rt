@@ -1,13 +1,14 @@
 //! The lines of a plan, concatenated.
-ghost use Rattle.std.specs.Prelude.{◌≡◌, ◌⊎◌, ◌++◌, IfErr, IfOk, OnOk, map, option_map, option_to_list};
+ghost use Rattle.std.specs.Prelude.{◌≡◌, ◌⊎◌, ◌++◌, All, IfErr, IfOk, OnOk, map, option_map, option_to_list};
 ghost use Rattle.std.specs.List.{flat_map};
 ghost use Rattle.edit_base.specs.Errors.{IsMemory};
 ghost use Rattle.semver.specs.Identifiers.{parts_of};
 ghost use Rattle.edit_set_version.specs.Apart.{AreApart};
 ghost use Rattle.edit_set_version.specs.Crates.{bumps_view, project_view};
 ghost use Rattle.edit_set_version.specs.BumpsByFolder.{HasFirstBumps};
+ghost use Rattle.edit_set_version.specs.PlanCauses.{AllRiseIn, AreUnraised};
 ghost use Rattle.edit_set_version.specs.PlanLines.{lines_of, manifests, shared_lines};
-ghost use Rattle.edit_set_version.specs.ToldLines.{HasUnraised, report_line_view, line_lists_view};
+ghost use Rattle.edit_set_version.specs.ToldLines.{report_line_view, line_lists_view};
 
 use crate::crates::Bump;
 use crate::lines::{Line, workspace_line};
@@ -81,8 +82,9 @@ pub(crate) fn plan_lines(
     ensures ok { IfOk result (λ v. map report_line_view v.items ≡ shared_lines
         (option_map (λ v. parts_of v.now) old.entry) (option_map (λ v. parts_of v.now) new.entry)
         ++ flat_map (lines_of (project_view project.now)) (bumps_view bumps.now)) }
+    ensures rise { OnOk result (All (AllRiseIn (bumps_view bumps.now)) (manifests (project_view project.now))) }
     ensures refused { IfErr result (λ e. IsMemory e
-        ⊎ HasUnraised (bumps_view bumps.now) (manifests (project_view project.now)) e) }
+        ⊎ AreUnraised (bumps_view bumps.now) (manifests (project_view project.now)) e) }
 {
     let lists = lists_of(alloc, numbers, project, bumps)?;
     let first = shared_line(alloc, old, new)?;

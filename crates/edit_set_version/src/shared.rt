@@ -4,9 +4,8 @@ ghost use Rattle.semver.specs.Identifiers.{parts_of};
 ghost use Rattle.semver.specs.Parse.{Parts};
 ghost use Rattle.edit_base.specs.Errors.{IsMemory};
 ghost use Rattle.edit_manifest.specs.Versions.{workspace_version};
-ghost use Rattle.edit_set_version.specs.BumpCauses.{IsUnbumped};
+ghost use Rattle.edit_set_version.specs.BumpCauses.{IsBumpable, IsUnbumped};
 ghost use Rattle.edit_set_version.specs.Bumps.{bump, next_of, target_of};
-ghost use Rattle.edit_set_version.specs.PlanRefused.{IsBumpable};
 ghost use Rattle.edit_set_version.specs.Selections.{selection_view};
 ghost use Rattle.edit_tree.specs.DocumentViews.{tree_of};
 

@@ -1,12 +1,14 @@
 //! A walk over the manifests of a project that collects the lines of raised requirements.
-ghost use Rattle.std.specs.Prelude.{◌≡◌, ◌⊎◌, ◌∷◌, [], List, IfErr, IfOk, OnOk, map};
+ghost use Rattle.std.specs.Prelude.{◌≡◌, ◌⊎◌, ◌∷◌, [], List, All, IfErr, IfOk, OnOk, map};
 ghost use Rattle.edit_base.specs.Errors.{IsMemory};
+ghost use Rattle.edit_set_version.specs.Admitted.{AllRise};
 ghost use Rattle.edit_set_version.specs.Crates.{bumps_view, member_of, members_of, project_view};
 ghost use Rattle.edit_set_version.specs.BumpsByFolder.{HasFirstBumps};
+ghost use Rattle.edit_set_version.specs.PlanCauses.{AllRiseIn, AreUnraised, IsUnraised};
 ghost use Rattle.edit_set_version.specs.PlanLines.{manifests};
 ghost use Rattle.edit_metadata.specs.Inputs.{path_of};
 ghost use Rattle.edit_set_version.specs.SetVersioned.{Bump as Bumped};
-ghost use Rattle.edit_set_version.specs.ToldLines.{HasUnraised, bump_line_view, line_lists_view, other_manifests, with_manifests};
+ghost use Rattle.edit_set_version.specs.ToldLines.{bump_line_view, line_lists_view, other_manifests, with_manifests};
 ghost use Rattle.edit_tree.specs.DocumentViews.{tree_of};
 
 use crate::crates::{Bump, Crate};
@@ -35,12 +37,10 @@ fn push_manifest(
           path = path_of input.now;
           tree = tree_of manifest.now.document;
         } ∷ []) 0 (line_lists_view lists.old.items)) }
+    ensures rise { OnOk result ((bs : List Bumped) → HasFirstBumps bs numbers.now
+        → AllRise bs (path_of input.now) (tree_of manifest.now.document)) }
     ensures refused { IfErr result (λ e. (bs : List Bumped) → HasFirstBumps bs numbers.now
-        → HasUnraised bs (record {
-          name = name.now;
-          path = path_of input.now;
-          tree = tree_of manifest.now.document;
-        } ∷ []) e) }
+        → IsMemory e ⊎ IsUnraised bs (path_of input.now) (tree_of manifest.now.document) e) }
 {
     let dependents = dependents_of(alloc, numbers, input.path.as_str(), &manifest.document)?;
     push_updates(alloc, name, &dependents, lists)?;
@@ -58,8 +58,10 @@ fn push_member(
     ensures ok { OnOk result ((bs : List Bumped) → HasFirstBumps bs numbers.now
         → line_lists_view lists.new.items ≡ with_manifests bs
         (other_manifests root.now (member_of found.entry ∷ [])) 0 (line_lists_view lists.old.items)) }
+    ensures rise { OnOk result ((bs : List Bumped) → HasFirstBumps bs numbers.now
+        → All (AllRiseIn bs) (other_manifests root.now (member_of found.entry ∷ []))) }
     ensures refused { IfErr result (λ e. (bs : List Bumped) → HasFirstBumps bs numbers.now
-        → HasUnraised bs (other_manifests root.now (member_of found.entry ∷ [])) e) }
+        → IsMemory e ⊎ AreUnraised bs (other_manifests root.now (member_of found.entry ∷ [])) e) }
 {
     if found.input.path.as_str() == root {
         return Ok(());
@@ -86,8 +88,10 @@ fn push_members(
     ensures ok { OnOk result ((bs : List Bumped) → HasFirstBumps bs numbers.now
         → line_lists_view lists.new.items ≡ with_manifests bs
         (other_manifests root.now (members_of crates.now)) 0 (line_lists_view lists.old.items)) }
+    ensures rise { OnOk result ((bs : List Bumped) → HasFirstBumps bs numbers.now
+        → All (AllRiseIn bs) (other_manifests root.now (members_of crates.now))) }
     ensures refused { IfErr result (λ e. (bs : List Bumped) → HasFirstBumps bs numbers.now
-        → HasUnraised bs (other_manifests root.now (members_of crates.now)) e) }
+        → IsMemory e ⊎ AreUnraised bs (other_manifests root.now (members_of crates.now)) e) }
 {
     'members: for found in crates {
         push_member(alloc, numbers, root, *found, lists)?;
@@ -105,8 +109,10 @@ fn push_project(
     ensures ok { OnOk result ((bs : List Bumped) → HasFirstBumps bs numbers.now
         → line_lists_view lists.new.items
         ≡ with_manifests bs (manifests (project_view project.now)) 0 (line_lists_view lists.old.items)) }
+    ensures rise { OnOk result ((bs : List Bumped) → HasFirstBumps bs numbers.now
+        → All (AllRiseIn bs) (manifests (project_view project.now))) }
     ensures refused { IfErr result (λ e. (bs : List Bumped) → HasFirstBumps bs numbers.now
-        → HasUnraised bs (manifests (project_view project.now)) e) }
+        → IsMemory e ⊎ AreUnraised bs (manifests (project_view project.now)) e) }
 {
     let root = project.root;
     push_manifest(
@@ -139,8 +145,9 @@ pub(crate) fn lists_of(
     ensures ok { IfOk result (λ ls. line_lists_view ls.items
         ≡ with_manifests (bumps_view bumps.now) (manifests (project_view project.now)) 0
         (map (λ b. bump_line_view b ∷ []) (bumps_view bumps.now))) }
+    ensures rise { OnOk result (All (AllRiseIn (bumps_view bumps.now)) (manifests (project_view project.now))) }
     ensures refused { IfErr result (λ e. IsMemory e
-        ⊎ HasUnraised (bumps_view bumps.now) (manifests (project_view project.now)) e) }
+        ⊎ AreUnraised (bumps_view bumps.now) (manifests (project_view project.now)) e) }
 {
     let mut lists = bump_lists(alloc, bumps)?;
     push_project(alloc, numbers, project, &mut lists)?;

@@ -1,10 +1,14 @@
--- The first configuration file that is malformed, of those of one manifest and of several.
-use Rattle.std.proofs.Common.{◌≡◌, ◌∙◌, ◌+◌, ◌<◌, ◌∷◌, ◌++◌, ℕ, List, Option, Result, Ok, Err, true, ap, drop, get_or, inl, inr, length, subst, sym, take}
+-- The first configuration file that is malformed, of those of one manifest and of several, and the first input whose
+-- manifest is.
+use Rattle.std.proofs.Common.{◌≡◌, ◌∙◌, ◌+◌, ◌<◌, ◌∷◌, ◌++◌, [], ℕ, List, Option, Result, Ok, Err, true, ap, drop, get_or, inl, inr, length, refl, subst, sym, take}
 use Rattle.std.specs.Borrow.{Bor}
 use Rattle.std.specs.Global.{Vec}
-use Rattle.std.specs.Prelude.{◌⊎◌, IfErr, IsErrAnd, option_copied, option_map, string_bytes}
+use Rattle.std.specs.Prelude.{◌⊎◌, All, IfErr, IfSome, IsErrAnd, String, option_copied, option_map, string_bytes}
+use Rattle.std.specs.declared.alloc.Global.{Global}
 use Rattle.std.proofs.lemmas.List.{drop_more, take-append-drop}
-use Rattle.edit_base.specs.Errors.{IsMemory}
+use Rattle.std.proofs.lemmas.List.Elements.{All-head}
+use Rattle.std.proofs.lemmas.Option.{IfSome_then}
+use Rattle.edit_base.specs.Errors.{IsMemory, number_of}
 use Rattle.edit_base.specs.declared.errors.DeviceCall.TheVariants as call
 use Rattle.edit_base.specs.declared.errors.Error.{Error}
 use Rattle.edit_metadata.specs.declared.input.Input.{Input}
@@ -16,6 +20,8 @@ use Rattle.edit_steps.proofs.ReadLemmas.{before, refused_on}
 use Rattle.edit_steps.specs.Causes.{IsUngathered, StopsAtInput}
 use Rattle.edit_steps.specs.Causes.IsUngathered.{at_first, at_last, at_own}
 use Rattle.edit_steps.specs.Named.{AreConfigured, AreConfigsIn, IsUnreadFile, Pair, path_and_bytes, seen}
+use Rattle.edit_steps.specs.Shared.{IsOfSome}
+use Rattle.edit_steps.specs.Places.{FailsWith, IsPlaceIn, IsPlaceOfFirst, PassesWith}
 use Rattle.edit_steps.specs.declared.upgrade_read.named.NamedFile.{NamedFile}
 
 -- what holds of an error holds of it when `?` returns it
@@ -67,7 +73,42 @@ last_ungathered F K old home pair manifest file last whole last_whole first own 
     (subst (λ f. AreConfigsIn f first) (seen_of file whole is ∙ named) said) (read kept t)
     (subst (λ f. IsUnreadFile f e) (seen_of last last_whole behind ∙ last_named) unread)))
 
+-- a file of the manifest's own is malformed, and another manifest has a list
+pub own_unshared : (files : Files) (home : Option (List ℕ)) (pair : Pair) (manifest : List ℕ)
+    (lists : List (Vec Config)) (e : Error) → (lists ≡ [] → ⊥) → All (IsOfSome files home pair) lists
+    → StopsAtConfig files manifest home e → IsUngathered files home pair manifest e
+own_unshared files home pair manifest [] e some all stops = absurd (some refl)
+own_unshared files home pair manifest (list ∷ lists) e some all stops =
+    let one = (All-head (IsOfSome files home pair) list lists all).1 in
+    at_own one.before one.first stops
+
 -- ---- the inputs
+
+-- the inputs are those before an index, the one there, and those behind it
+inputs_split : (inputs : List Input) (i : ℕ) (input : Input) → i < length inputs → input ≡ get_or inputs i input
+    → inputs ≡ take i inputs ++ input ∷ drop (i + 1) inputs
+inputs_split inputs i input within is =
+    sym (take-append-drop i inputs) ∙ ap (λ xs. take i inputs ++ xs)
+    (drop_more inputs i input within ∙ ap (λ x. x ∷ drop (i + 1) inputs) (sym is))
+
+-- the place of an error in an input is that of the first whose manifest fails so
+pub place_of_first : (inputs : List Input) (i : ℕ) (input : Input) (path bytes : List ℕ) (e : Error)
+    (place : Option (String Global)) → i < length inputs → input ≡ get_or inputs i input
+    → path ≡ string_bytes input.path → bytes ≡ input.bytes.items
+    → All (PassesWith (number_of e)) (take i inputs) → FailsWith (number_of e) input
+    → IfSome place (λ s. IsPlaceIn path bytes e (string_bytes s))
+    → IfSome place (λ s. IsPlaceOfFirst inputs e (string_bytes s))
+place_of_first inputs i input path bytes e place within is at has passed fails known =
+    IfSome_then place known (λ s shown. record {
+      before = take i inputs;
+      input = input;
+      behind = drop (i + 1) inputs;
+      within = inputs_split inputs i input within is;
+      passed = passed;
+      fails = fails;
+      place = subst (λ (bs : List ℕ). IsPlaceIn (string_bytes input.path) bs e (string_bytes s)) has
+          (subst (λ (p : List ℕ). IsPlaceIn p bytes e (string_bytes s)) at shown);
+    })
 
 -- the configurations of one input are not read
 pub stops_at_input : (old mid new : StoreView) (K : Type 0) (home : Option (List ℕ)) (pair : Pair)
@@ -87,8 +128,7 @@ stops_at_input old mid new K home pair inputs i input path configs e reads kept 
       before = take i inputs;
       input = input;
       behind = drop (i + 1) inputs;
-      within = sym (take-append-drop i inputs) ∙ ap (λ xs. take i inputs ++ xs)
-          (drop_more inputs i input within ∙ ap (λ x. x ∷ drop (i + 1) inputs) (sym is));
+      within = inputs_split inputs i input within is;
       configs = configs;
       gathered = read t;
       fails = subst (λ at. IsUngathered old.file_at home pair at e) here

@@ -1,6 +1,6 @@
 -- Given configuration files, and the configurations of a manifest with them.
-use Rattle.std.proofs.Common.{◌≡◌, ◌∙◌, ◌++◌, ℕ, List, Option, Some, None, true, ap, inl, inr, refl, subst, sym}
-use Rattle.std.proofs.lemmas.List.{append_assoc}
+use Rattle.std.proofs.Common.{◌≡◌, ◌∙◌, ◌++◌, ℕ, Global, List, Option, Some, None, String, true, ap, inl, inr, map, refl, subst, sym}
+use Rattle.std.proofs.lemmas.List.{append_assoc, map-append}
 use Rattle.std.specs.Borrow.{Bor}
 use Rattle.std.specs.Prelude.{◌⊎◌, option_copied, option_map, string_bytes}
 use Rattle.edit_base.specs.Errors.{IsMemory}
@@ -14,7 +14,7 @@ use Rattle.edit_store.specs.Store.{Files, OnlyReads, IsCallError, StoreView}
 use Rattle.edit_steps.proofs.ReadLemmas.{before, refused_on}
 use Rattle.edit_steps.specs.RequestView.{RequestView}
 use Rattle.edit_steps.specs.Causes.{LacksNamed}
-use Rattle.edit_steps.specs.Named.{AreGathered, AreConfigsIn, HasNoFile, IsUnreadFile, Pair, PathAndBytes, path_and_bytes, seen}
+use Rattle.edit_steps.specs.Named.{AreGathered, AreConfigsIn, HasNoFile, IsUnreadFile, Pair, PathAndBytes, path_and_bytes, path_in, seen}
 use Rattle.edit_steps.specs.declared.upgrade_read.named.NamedFile.{NamedFile}
 
 -- a borrowed file is seen as the file is
@@ -65,3 +65,20 @@ gathered files home pair manifest first own last both all f l is_first is_last s
       last = subst (λ x. AreConfigsIn x last) is_last behind;
       all = two ∙ ap (λ xs. xs ++ last) one ∙ append_assoc first own last;
     }
+
+-- the paths of a list, one part after another
+pub paths_listed : (first own last both all : List (String Global)) (f l : Option (Bor NamedFile))
+    (whole last_whole : Option NamedFile) → option_copied f ≡ whole → option_copied l ≡ last_whole
+    → map string_bytes first ≡ path_in (seen f) → map string_bytes last ≡ path_in (seen l)
+    → both ≡ first ++ own → all ≡ both ++ last
+    → map string_bytes all ≡ path_in (option_map path_and_bytes whole)
+    ++ (map string_bytes own ++ path_in (option_map path_and_bytes last_whole))
+paths_listed first own last both all f l whole last_whole is_first is_last said behind one two =
+    ap (map string_bytes) two ∙ map-append string_bytes both last
+    ∙ ap (λ ps. ps ++ map string_bytes last)
+    (ap (map string_bytes) one ∙ map-append string_bytes first own)
+    ∙ append_assoc (map string_bytes first) (map string_bytes own) (map string_bytes last)
+    ∙ ap (λ ps. ps ++ (map string_bytes own ++ map string_bytes last))
+    (said ∙ ap path_in (seen_of f whole is_first))
+    ∙ ap (λ ps. path_in (option_map path_and_bytes whole) ++ (map string_bytes own ++ ps))
+    (behind ∙ ap path_in (seen_of l last_whole is_last))

@@ -1,5 +1,5 @@
 -- Reading one file after another, and the errors of each.
-use Rattle.std.proofs.Common.{◌≡◌, ◌∙◌, ◌<◌, ◌^◌, ◌+◌, ◌++◌, ◌∷◌, ℕ, List, [], Option, None, Some, true, ap, arith, refl, get_or, inl, inr, length, sym, subst, take}
+use Rattle.std.proofs.Common.{◌≡◌, ◌∙◌, ◌<◌, ◌^◌, ◌+◌, ◌++◌, ◌∷◌, Bool, ℕ, List, [], Option, None, Some, true, ap, arith, refl, get_or, inl, inr, length, sym, subst, take}
 use Rattle.std.specs.Global.{Vec}
 use Rattle.std.specs.List.{AllZip}
 use Rattle.std.specs.Prelude.{◌⊎◌, Contains, string_bytes}
@@ -27,6 +27,12 @@ use Rattle.edit_steps.specs.Sources.{AreInputsRead}
 pub before : (P : Files → Type 0) (old mid : StoreView) → OnlyReads old mid
     → (mid.tells ≡ true → P mid.file_at) → old.tells ≡ true → P old.file_at
 before P old mid reads h t = as_before P old.file_at mid.file_at reads.files (h (reads.tells ∙ t))
+
+-- what held of files before reads holds of them after
+pub since : (P : Files → Type 0) (old mid : StoreView) → OnlyReads old mid
+    → (old.tells ≡ true → P old.file_at) → mid.tells ≡ true → P mid.file_at
+since P old mid reads h t =
+    as_before P mid.file_at old.file_at (λ path. sym (reads.files path)) (h (sym reads.tells ∙ t))
 
 -- a refusal of the device behind reads
 pub refused_on : (of : DeviceCall) (old mid new : StoreView) (e : Error) → OnlyReads old mid
@@ -86,6 +92,15 @@ pub unread_there : (file : Option PathAndBytes) (e : Error) → IsUnreadFile fil
     → (there : PathAndBytes) × (file ≡ Some there) × IsBadConfig there e
 unread_there None e unread = elim unread [ ]
 unread_there (Some there) e unread = (there, refl, unread)
+
+-- an error of the configurations of a manifest's own, among those of all that count for it
+pub own_fails : (F : Type 0) (pair : Pair) (tells : Bool) (files : Files) (manifest : List ℕ)
+    (home : Option (List ℕ)) (e : Error) → IsMemory e ⊎ (F ⊎ ConfigsFail tells files manifest home e)
+    → IsMemory e ⊎ (F ⊎ (IsUnreadFile pair.first e
+    ⊎ (IsUnreadFile pair.last e ⊎ ConfigsFail tells files manifest home e)))
+own_fails F pair tells files manifest home e (inl memory) = inl memory
+own_fails F pair tells files manifest home e (inr (inl failed)) = inr (inl failed)
+own_fails F pair tells files manifest home e (inr (inr fails)) = inr (inr (inr (inr fails)))
 
 -- a configuration that is not read: of a file that is named, or of one of the inputs
 pub unconfigured : (old mid new : StoreView) (home : Option (List ℕ)) (pair : Pair) (inputs : List Input)

@@ -1,21 +1,21 @@
 -- Lists of configurations that inputs share.
-use Rattle.std.proofs.Common.{◌≡◌, ◌∙◌, ◌<◌, ◌++◌, ◌∷◌, [], ℕ, List, Option, Some, None, zero, suc, ap, arith, length, map, refl, subst, sym}
+use Rattle.std.proofs.Common.{◌≡◌, ◌∙◌, ◌+◌, ◌<◌, ◌++◌, ◌∷◌, [], ℕ, List, Option, Some, None, zero, suc, ap, arith, length, map, refl, subst, sym, take}
 use Rattle.std.specs.Prelude.{All, codes, option_map, slice_get, string_bytes}
 use Rattle.std.specs.List.{AllZip, cons_option, filter_map}
 use Rattle.std.specs.Option.{option_to_list}
 use Rattle.std.specs.Global.{Vec}
-use Rattle.std.proofs.lemmas.List.{length-append, length-map, map-append}
+use Rattle.std.proofs.lemmas.List.{length-append, length-map, length-take-le, map-append}
 use Rattle.std.proofs.lemmas.List.Elements.{All-cons, All-head, All-nil, All-push, All-tail, filter_map-append}
 use Rattle.std.proofs.lemmas.Option.{get_or_from_slice_get, slice_get_within}
 use Rattle.std.proofs.lemmas.Slice.Zip.{AllZip-long}
 use Rattle.edit_base.specs.Paths.{joined}
-use Rattle.edit_sources.specs.ConfigurationFiles.{AreConfigs, IsReadFrom, file_in, files_in, standing}
+use Rattle.edit_sources.specs.ConfigurationFiles.{AreConfigPaths, AreConfigs, IsReadFrom, file_in, files_in, standing}
+use Rattle.edit_sources.specs.Configured.{paths_of}
 use Rattle.edit_sources.specs.Sources.{or_else}
 use Rattle.edit_sources.specs.declared.config.Config.{Config}
 use Rattle.edit_store.specs.Store.{Files}
-use Rattle.edit_steps.specs.Named.{AreGathered, Pair, PathAndBytes}
-use Rattle.edit_steps.specs.Shared.{AddsList, HasLists, lists_for, paths_of}
-use Rattle.edit_steps.specs.Shared.AddsList.{again, first}
+use Rattle.edit_steps.specs.Named.{AreGathered, Pair, PathAndBytes, list_paths, path_in}
+use Rattle.edit_steps.specs.Shared.{AddsList, HasLists, IsListed, IsOfSome, SharesList}
 use Rattle.edit_steps.specs.declared.upgrade_read.shared.SharedConfigs.{SharedConfigs}
 
 -- ---- what a path says of a configuration
@@ -115,7 +115,7 @@ as_long R xs a b left right =
     length-map a path ∙ AllZip-long R xs a left ∙ sym (AllZip-long R xs b right) ∙ sym (length-map b path)
 
 -- the list of an input serves for another one whose list has the same files
-pub gathered_same : (files : Files) (home : Option (List ℕ)) (pair : Pair) (one other : List ℕ)
+gathered_same : (files : Files) (home : Option (List ℕ)) (pair : Pair) (one other : List ℕ)
     (a b : List Config) → AreGathered files home pair one a → AreGathered files home pair other b
     → paths_of a ≡ paths_of b → AreGathered files home pair other a
 gathered_same files home pair one other a b left right same =
@@ -173,61 +173,92 @@ chosen_more {A} lists which j x is =
     filter_map-append (slice_get lists) which (j ∷ [])
     ∙ ap (λ (o : Option A). filter_map (slice_get lists) which ++ cons_option o []) is
 
-pub adds_again : (own list : Vec Config) (old new : SharedConfigs) (j : ℕ)
-    → slice_get old.lists.items j ≡ Some list → paths_of list.items ≡ paths_of own.items
+pub shares_list : (paths : List (List ℕ)) (list : Vec Config) (old new : SharedConfigs) (j : ℕ)
+    → slice_get old.lists.items j ≡ Some list → paths_of list.items ≡ paths
     → new.lists.items ≡ old.lists.items → new.which.items ≡ old.which.items ++ j ∷ []
-    → AddsList own old new
-adds_again own list old new j is same lists which =
-    again list (
-      j,
-      slice_get_within old.lists.items j list is,
-      get_or_from_slice_get old.lists.items j list list is,
-    ) same lists
-    (ap (λ (xs : List (Vec Config)). filter_map (slice_get xs) new.which.items) lists
-    ∙ ap (filter_map (slice_get old.lists.items)) which
-    ∙ chosen_more old.lists.items old.which.items j list is)
+    → SharesList paths old new
+shares_list paths list old new j is same lists which = record {
+  list = list;
+  has = (
+    j,
+    slice_get_within old.lists.items j list is,
+    get_or_from_slice_get old.lists.items j list list is,
+  );
+  same = same;
+  lists = lists;
+  chosen = ap (λ (xs : List (Vec Config)). filter_map (slice_get xs) new.which.items) lists
+      ∙ ap (filter_map (slice_get old.lists.items)) which
+      ∙ chosen_more old.lists.items old.which.items j list is;
+}
 
-pub adds_first : (own : Vec Config) (old new : SharedConfigs) (j : ℕ) → HasLists old
+pub adds_list : (own : Vec Config) (old new : SharedConfigs) (j : ℕ) → HasLists old
     → j ≡ length old.lists.items → new.lists.items ≡ old.lists.items ++ own ∷ []
     → new.which.items ≡ old.which.items ++ j ∷ [] → AddsList own old new
-adds_first own old new j within is lists which =
-    first lists (ap (λ (xs : List (Vec Config)). filter_map (slice_get xs) new.which.items) lists
-    ∙ ap (filter_map (slice_get (old.lists.items ++ own ∷ []))) which
-    ∙ chosen_more (old.lists.items ++ own ∷ []) old.which.items j own
-    (ap (slice_get (old.lists.items ++ own ∷ [])) is ∙ get_behind old.lists.items own)
-    ∙ ap (λ (xs : List (Vec Config)). xs ++ own ∷ [])
-    (chosen_stay old.lists.items (own ∷ []) old.which.items within))
+adds_list own old new j within is lists which = record {
+  lists = lists;
+  chosen = ap (λ (xs : List (Vec Config)). filter_map (slice_get xs) new.which.items) lists
+      ∙ ap (filter_map (slice_get (old.lists.items ++ own ∷ []))) which
+      ∙ chosen_more (old.lists.items ++ own ∷ []) old.which.items j own
+      (ap (slice_get (old.lists.items ++ own ∷ [])) is ∙ get_behind old.lists.items own)
+      ∙ ap (λ (xs : List (Vec Config)). xs ++ own ∷ [])
+      (chosen_stay old.lists.items (own ∷ []) old.which.items within);
+}
 
 -- ---- lists that are those of manifests
 
--- the configurations of a manifest
-abbrev pub IsOfSome : Files → Option (List ℕ) → Pair → Vec Config → Type 0
-IsOfSome files home pair list = (manifest : List ℕ) × AreGathered files home pair manifest list.items
+-- a list that is shared is that of the manifest with the same files
+pub shared_listed : (files : Files) (home : Option (List ℕ)) (pair : Pair) (manifest : List ℕ)
+    (own : List (List ℕ)) (old new : SharedConfigs) → SharesList (list_paths pair own) old new
+    → All (IsOfSome files home pair) old.lists.items → AreConfigPaths files manifest home own
+    → IsListed files home pair manifest old new
+shared_listed files home pair manifest own old new shares all paths =
+    let there : IsOfSome files home pair shares.list
+    = subst (IsOfSome files home pair) shares.has.2 (all shares.has.0 shares.list shares.has.1) in
+    let one = there.1 in
+    let other : AreGathered files home pair manifest (one.before ++ (paths.configs ++ one.behind)) = record {
+      before = one.before;
+      own = paths.configs;
+      behind = one.behind;
+      first = one.first;
+      read = paths.read;
+      last = one.last;
+      all = refl;
+    } in
+    let same : paths_of (one.before ++ (paths.configs ++ one.behind)) ≡ list_paths pair own
+    = paths_joined one.before paths.configs one.behind
+    ∙ ap (λ (ps : List (List ℕ)). ps ++ (paths_of paths.configs ++ paths_of one.behind))
+    (read_paths (option_to_list pair.first) one.before one.first)
+    ∙ ap (λ (ps : List (List ℕ)). path_in pair.first ++ (ps ++ paths_of one.behind)) (sym paths.all)
+    ∙ ap (λ (ps : List (List ℕ)). path_in pair.first ++ (own ++ ps))
+    (read_paths (option_to_list pair.last) one.behind one.last) in
+    record {
+      list = shares.list;
+      is = shares.chosen;
+      gathered = gathered_same files home pair there.0 manifest shares.list.items
+          (one.before ++ (paths.configs ++ one.behind)) one other (shares.same ∙ sym same);
+      others = subst (All (IsOfSome files home pair)) (sym shares.lists) all;
+    }
 
--- the list of one more manifest, whose own configurations were read
-pub record IsListed (files : Files) (home : Option (List ℕ)) (pair : Pair) (manifest : List ℕ)
-    (old new : SharedConfigs) : Type 0 where
-  pub list : Vec Config
-  pub is : lists_for new ≡ lists_for old ++ list ∷ []
-  pub gathered : AreGathered files home pair manifest list.items
-  pub others : All (IsOfSome files home pair) new.lists.items
-
-pub listed : (files : Files) (home : Option (List ℕ)) (pair : Pair) (manifest : List ℕ) (own : Vec Config)
+-- a new list is that of its manifest
+pub added_listed : (files : Files) (home : Option (List ℕ)) (pair : Pair) (manifest : List ℕ) (own : Vec Config)
     (old new : SharedConfigs) → AddsList own old new → All (IsOfSome files home pair) old.lists.items
     → AreGathered files home pair manifest own.items → IsListed files home pair manifest old new
-listed files home pair manifest own old new (again list has same lists is) all gathered =
-    let there : IsOfSome files home pair list
-    = subst (IsOfSome files home pair) has.2 (all has.0 list has.1) in
-    record {
-      list = list;
-      is = is;
-      gathered = gathered_same files home pair there.0 manifest list.items own.items there.1 gathered same;
-      others = subst (All (IsOfSome files home pair)) (sym lists) all;
-    }
-listed files home pair manifest own old new (first lists is) all gathered = record {
+added_listed files home pair manifest own old new adds all gathered = record {
   list = own;
-  is = is;
+  is = adds.chosen;
   gathered = gathered;
-  others = subst (All (IsOfSome files home pair)) (sym lists)
+  others = subst (All (IsOfSome files home pair)) (sym adds.lists)
       (All-push (IsOfSome files home pair) old.lists.items own all (manifest, gathered));
 }
+
+-- ---- one input more
+
+-- each input so far has an index
+pub each_more : {X : Type 0} (inputs : List X) (i : ℕ) (old new : SharedConfigs) → i < length inputs
+    → length new.which.items ≡ length old.which.items + 1
+    → length old.which.items ≡ length (take i inputs)
+    → length new.which.items ≡ length (take (i + 1) inputs)
+each_more inputs i old new within more each =
+    more ∙ ap (λ n. n + 1) each
+    ∙ ap (λ n. n + 1) (length-take-le i inputs (omega (arith, within)))
+    ∙ sym (length-take-le (i + 1) inputs (omega (arith, within)))

@@ -5,6 +5,7 @@ pub mod Errors
 pub mod Faults
 pub mod Named
 pub mod Own
+pub mod Places
 pub mod Printed
 pub mod Shared
 pub mod Sources

@@ -1,5 +1,5 @@
 -- Configuration files that the command line gives, and the configurations of a manifest with them.
-use Rattle.std.specs.Prelude.{◌≡◌, ℕ, List, ◌++◌, Option, Some, None, ⊤, option_map, string_bytes}
+use Rattle.std.specs.Prelude.{◌≡◌, ℕ, List, ◌++◌, map, Option, Some, None, ⊤, option_map, string_bytes}
 use Rattle.std.specs.Borrow.{Bor}
 use Rattle.std.specs.Global.{Vec}
 use Rattle.std.specs.List.{AllZip}
@@ -54,6 +54,14 @@ pub record ArePairRead (files : Files) (current : List ℕ) (asking : RequestVie
 -- the configurations in a file, none without a file
 abbrev pub AreConfigsIn : Option PathAndBytes → List Config → Type 0
 AreConfigsIn file configs = AllZip IsReadFrom (option_to_list file) configs
+
+-- the path of a file, none without a file
+abbrev pub path_in : Option PathAndBytes → List (List ℕ)
+path_in file = map (λ f. f.0) (option_to_list file)
+
+-- the paths of all files of a manifest, given those of its own, in order of precedence
+abbrev pub list_paths : Pair → List (List ℕ) → List (List ℕ)
+list_paths pair own = path_in pair.first ++ (own ++ path_in pair.last)
 
 -- a file that is no configuration, and the error
 abbrev pub IsUnreadFile : Option PathAndBytes → Error → Type 0

@@ -1,13 +1,12 @@
 -- Lists of configurations that inputs share.
-use Rattle.std.specs.Prelude.{◌≡◌, ◌<◌, ◌++◌, ◌∷◌, [], ℕ, List, All, Contains, length, map, slice_get, string_bytes}
+use Rattle.std.specs.Prelude.{◌≡◌, ◌<◌, ◌++◌, ◌∷◌, [], ℕ, List, Option, All, Contains, length, slice_get}
 use Rattle.std.specs.Global.{Vec}
 use Rattle.std.specs.List.{filter_map}
+use Rattle.edit_sources.specs.Configured.{paths_of}
 use Rattle.edit_sources.specs.declared.config.Config.{Config}
+use Rattle.edit_store.specs.Store.{Files}
+use Rattle.edit_steps.specs.Named.{AreGathered, Pair}
 use Rattle.edit_steps.specs.declared.upgrade_read.shared.SharedConfigs.{SharedConfigs}
-
--- the paths of the files of these configurations (own)
-abbrev pub paths_of : List Config → List (List ℕ)
-paths_of configs = map (λ c. string_bytes c.path) configs
 
 -- the list of each input (own)
 abbrev pub lists_for : SharedConfigs → List (Vec Config)
@@ -17,10 +16,27 @@ lists_for shared = filter_map (slice_get shared.lists.items) shared.which.items
 abbrev pub HasLists : SharedConfigs → Type 0
 HasLists shared = All (λ j. j < length shared.lists.items) shared.which.items
 
--- the list of the next input: an existing one of the same files, or its own, which is new (own)
-pub data AddsList (own : Vec Config) (old new : SharedConfigs) : Type 0 where
-  again : (list : Vec Config) → Contains old.lists.items list → paths_of list.items ≡ paths_of own.items
-      → new.lists.items ≡ old.lists.items → lists_for new ≡ lists_for old ++ list ∷ []
-      → AddsList own old new
-  first : new.lists.items ≡ old.lists.items ++ own ∷ [] → lists_for new ≡ lists_for old ++ own ∷ []
-      → AddsList own old new
+-- the next input has a list that exists, whose files have these paths (own)
+pub record SharesList (paths : List (List ℕ)) (old new : SharedConfigs) : Type 0 where
+  pub list : Vec Config
+  pub has : Contains old.lists.items list
+  pub same : paths_of list.items ≡ paths
+  pub lists : new.lists.items ≡ old.lists.items
+  pub chosen : lists_for new ≡ lists_for old ++ list ∷ []
+
+-- the next input has a list of its own, which is new (own)
+pub record AddsList (own : Vec Config) (old new : SharedConfigs) : Type 0 where
+  pub lists : new.lists.items ≡ old.lists.items ++ own ∷ []
+  pub chosen : lists_for new ≡ lists_for old ++ own ∷ []
+
+-- the list is that of a manifest (own)
+abbrev pub IsOfSome : Files → Option (List ℕ) → Pair → Vec Config → Type 0
+IsOfSome files home pair list = (manifest : List ℕ) × AreGathered files home pair manifest list.items
+
+-- the next input has the list of its manifest, and each other list stays that of a manifest (own)
+pub record IsListed (files : Files) (home : Option (List ℕ)) (pair : Pair) (manifest : List ℕ)
+    (old new : SharedConfigs) : Type 0 where
+  pub list : Vec Config
+  pub is : lists_for new ≡ lists_for old ++ list ∷ []
+  pub gathered : AreGathered files home pair manifest list.items
+  pub others : All (IsOfSome files home pair) new.lists.items

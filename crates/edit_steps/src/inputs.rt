@@ -1,32 +1,46 @@
 //! The input that caused an error of a plan.
-ghost use Rattle.std.specs.Prelude.{◌≡◌};
+ghost use Rattle.std.specs.Prelude.{◌≡◌, IfOk, IfSome, false, string_bytes, true};
+ghost use Rattle.edit_base.specs.Errors.{number_of};
+ghost use Rattle.edit_steps.specs.Places.{FailsWith, IsPlaceOfFirst, PassesWith};
 
-use crate::refusal::{Refusal, at_byte};
+use crate::refusal::{Refusal, at_byte, error_alone};
 use edit_base::Error;
 use edit_manifest::Manifest;
 use edit_metadata::Input;
-use std::alloc::Global;
+use std::alloc::{AllocError, Global};
 
-/// Whether parsing the manifest of an input fails with this error.
-fn is_refused(alloc: Global, input: &Input, error: &Error) -> bool {
+/// Whether parsing the manifest of an input fails with an error of the same number.
+fn is_refused(alloc: Global, input: &Input, error: &Error) -> Result<bool, AllocError>
+    ensures fails { IfOk result (λ b. b ≡ true → FailsWith (number_of error.now) input.now) }
+    ensures passes { IfOk result (λ b. b ≡ false → PassesWith (number_of error.now) input.now) }
+{
     match Manifest::read_bytes(alloc, &input.bytes) {
-        Ok(_) => false,
-        Err(own) => own.number() == error.number(),
+        Ok(_) => Ok(false),
+        Err(own) => {
+            if own.number() == Error::Memory.number() {
+                return Err(AllocError);
+            }
+            Ok(own.number() == error.number())
+        }
     }
 }
 
 /// Adds to an error of a plan the place of the first input whose manifest cannot be parsed, where that is
 /// the error.
 pub fn at_input(alloc: Global, error: Error, inputs: &[Input]) -> Refusal
-    ensures { result.error ≡ error }
+    ensures error { result.error ≡ error }
+    // without a place where no input is the cause, or memory ran out
+    ensures place { IfSome result.place (λ s. IsPlaceOfFirst inputs.now error (string_bytes s)) }
 {
     if !matches!(&error, Error::NotToml { .. } | Error::NotUtf8) {
-        return Refusal::from(error);
+        return error_alone(error);
     }
-    for input in inputs {
-        if is_refused(alloc, input, &error) {
-            return at_byte(alloc, error, input.path.as_str(), &input.bytes);
+    'inputs: for input in inputs {
+        match is_refused(alloc, input, &error) {
+            Ok(false) => {}
+            Ok(true) => return at_byte(alloc, error, input.path.as_str(), &input.bytes),
+            Err(_) => return error_alone(error),
         }
     }
-    Refusal::from(error)
+    error_alone(error)
 }

@@ -1,8 +1,9 @@
 //! An error of the program, with its place, its cause and what a user can do about it.
-ghost use Rattle.std.specs.Prelude.{◌≡◌, ◌≢◌, IfSome, None, OnOk, option_map, string_bytes};
+ghost use Rattle.std.specs.Prelude.{◌≡◌, ◌≢◌, IfSome, None, OnOk, Some, option_map, string_bytes};
 ghost use Rattle.std.specs.Io.KnownBytes.{Appends};
 ghost use Rattle.edit_base.specs.Errors.{number_of};
 ghost use Rattle.edit_base.specs.declared.errors.Error.TheVariants.{Memory};
+ghost use Rattle.edit_steps.specs.Places.{IsPlaceIn, IsPlaceShown, file_place};
 ghost use Rattle.edit_steps.specs.Printed.{IsErrorPrinted, IsTitlePrinted, is_continuation_byte, known_line, known_lines, position_after, position_text, title_line};
 
 use crate::excerpt::excerpt;
@@ -28,16 +29,24 @@ pub struct Refusal {
 /// The result of a step of the program.
 pub type RunResult<T> = Result<T, Refusal>;
 
+/// An error of which nothing else is known.
+pub(crate) fn error_alone(error: Error) -> Refusal
+    ensures error { result.error ≡ error }
+    ensures place { result.place ≡ None }
+{
+    Refusal {
+        error,
+        place: None,
+        cause: None,
+        help: None,
+    }
+}
+
 impl From<Error> for Refusal {
     ghost from_gives = { λ e r. r.error ≡ e };
 
     fn from(error: Error) -> Refusal {
-        Refusal {
-            error,
-            place: None,
-            cause: None,
-            help: None,
-        }
+        error_alone(error)
     }
 }
 
@@ -97,7 +106,9 @@ pub fn print_error<E: io::Write>(alloc: Global, refusal: &Refusal, err: &mut E) 
 }
 
 /// The place of an error in the file at a path: the file, or a line of it. `None` where memory ran out.
-fn place_of(alloc: Global, error: &Error, path: &str) -> Option<String> {
+fn place_of(alloc: Global, error: &Error, path: &str) -> Option<String>
+    ensures { IfSome result (λ s. Some (string_bytes s) ≡ file_place path.now error.now) }
+{
     match error {
         Error::IndexLine { line } => format!(in alloc; "{path}:{line}").ok(),
         Error::NotUtf8 | Error::Device(_) | Error::NoManifest | Error::NoPath => String::from_str(
@@ -110,7 +121,9 @@ fn place_of(alloc: Global, error: &Error, path: &str) -> Option<String> {
 
 /// Adds to an error the file at a path, or a line of it, as its place.
 pub fn at_path(alloc: Global, error: Error, path: &str) -> Refusal
-    ensures { result.error ≡ error }
+    ensures error { result.error ≡ error }
+    // without a place where memory ran out
+    ensures place { IfSome result.place (λ s. Some (string_bytes s) ≡ file_place path.now error) }
 {
     let place = place_of(alloc, &error, path);
     Refusal {
@@ -136,6 +149,8 @@ fn cause_of(error: &Error, reason: Option<String>) -> Option<String>
 /// device failed.
 pub fn at_file(alloc: Global, error: Error, path: &str, reason: Option<String>) -> Refusal
     ensures error { result.error ≡ error }
+    // without a place where memory ran out
+    ensures place { IfSome result.place (λ s. Some (string_bytes s) ≡ file_place path.now error) }
     // the reason of a device error is its cause, and other errors have none
     ensures device { number_of error ≡ 3 → result.cause ≡ reason }
     ensures other { number_of error ≢ 3 → result.cause ≡ None }
@@ -156,7 +171,9 @@ pub fn position(alloc: Global, path: &str, bytes: &[u8], at: usize) -> Option<St
 }
 
 /// The place of a byte in a file, and an excerpt of its line.
-pub(crate) fn shown_position(alloc: Global, path: &str, bytes: &[u8], at: usize) -> Option<String> {
+pub(crate) fn shown_position(alloc: Global, path: &str, bytes: &[u8], at: usize) -> Option<String>
+    ensures { IfSome result (λ s. IsPlaceShown (position_text path.now bytes.now at) (string_bytes s)) }
+{
     let place = position(alloc, path, bytes, at)?;
     let behind = position_after(&bytes[..at.min(bytes.len())]);
     match excerpt(alloc, bytes, behind.line, behind.column) {
@@ -174,7 +191,9 @@ fn expected(alloc: Global, bytes: &[u8]) -> Option<String> {
 /// Adds a place to an error about the contents of a file: for a TOML syntax error with an excerpt of the
 /// line, and with what was expected.
 pub fn at_byte(alloc: Global, error: Error, path: &str, bytes: &[u8]) -> Refusal
-    ensures { result.error ≡ error }
+    ensures error { result.error ≡ error }
+    // without a place where memory ran out
+    ensures place { IfSome result.place (λ s. IsPlaceIn path.now bytes.now error (string_bytes s)) }
 {
     let Error::NotToml { at } = &error else {
         return at_path(alloc, error, path);

@@ -1,5 +1,5 @@
 //! Reads the configurations of the manifests.
-ghost use Rattle.std.specs.Prelude.{◌≡◌, ◌⊎◌, IfErr, IfOk, length, true};
+ghost use Rattle.std.specs.Prelude.{◌≡◌, ◌⊎◌, ◌+◌, All, IfErr, IfOk, IsFalse, IsTrue, OnOk, length, true};
 ghost use Rattle.edit_base.specs.Errors.{IsMemory};
 ghost use Rattle.edit_base.specs.declared.errors.DeviceCall.TheVariants as call;
 ghost use Rattle.edit_sources.specs.ConfigurationFiles.{ConfigsFail, HasFailed};
@@ -10,18 +10,17 @@ ghost use Rattle.edit_steps.specs.Causes.{IsUnconfigured, IsUngathered, StopsAtI
 ghost use Rattle.edit_steps.specs.Errors.{IsConfigError};
 ghost use Rattle.edit_steps.specs.Faults.{CountsFault};
 ghost use Rattle.edit_steps.specs.Named.{AreConfigured, AreGathered, IsUnreadFile, pair_of};
-ghost use Rattle.edit_steps.specs.Shared.{HasLists, lists_for};
+ghost use Rattle.edit_steps.specs.Shared.{HasLists, IsListed, IsOfSome, lists_for};
 
 use crate::RunResult;
 use crate::upgrade_read::config_faults::at_config;
-use crate::upgrade_read::named::{NamedFiles, configs_in};
-use crate::upgrade_read::shared::SharedConfigs;
+use crate::upgrade_read::named::{NamedFiles, configs_in, list_paths};
+use crate::upgrade_read::shared::{ListsByFiles, SharedConfigs};
 use edit_base::CargoResult;
 use edit_metadata::Input;
 use edit_sources::{Config, ConfigCache};
 use edit_store::Store;
 use std::alloc::Global;
-use std::collections::BTreeMap;
 
 /// The configurations of a manifest, in order of precedence, between those of the given files.
 fn gather<S: Store>(
@@ -60,6 +59,55 @@ fn gather<S: Store>(
     Ok(configs)
 }
 
+/// Gives the next input a list that exists, where one has the files of its manifest, and returns whether one
+/// has.
+fn share<S: Store>(
+    alloc: Global,
+    named: &NamedFiles,
+    manifest: &str,
+    cargo_home: Option<&str>,
+    cache: &mut ConfigCache,
+    lists: &mut ListsByFiles,
+    files: &mut S,
+) -> CargoResult<bool>
+    requires { HasLists lists.old.shared }
+    ensures store { OnlyReads (S.view files.old) (S.view files.new) }
+    ensures kept { AreCached (S.view files.old) cache.old → AreCached (S.view files.new) cache.new }
+    ensures lists { OnOk result (HasLists lists.new.shared) }
+    ensures each { IfOk result (λ found. IsTrue found
+        → length lists.new.shared.which.items ≡ length lists.old.shared.which.items + 1) }
+    ensures listed { IfOk result (λ found. IsTrue found → AreCached (S.view files.old) cache.old
+        → (S.view files.old).tells ≡ true
+        → All (IsOfSome (S.view files.old).file_at (given cargo_home.entry) (pair_of named.now))
+        lists.old.shared.lists.items
+        → IsListed (S.view files.old).file_at (given cargo_home.entry) (pair_of named.now) manifest.now
+        lists.old.shared lists.new.shared) }
+    ensures none { IfOk result (λ found. IsFalse found → lists.new.shared ≡ lists.old.shared) }
+    ensures refused { IfErr result (λ e. IsMemory e
+        ⊎ (HasFailed (S.view files.old).faults (S.view files.new).faults e
+        ⊎ ConfigsFail (S.view files.old).tells (S.view files.old).file_at manifest.now
+        (given cargo_home.entry) e)) }
+    // the file that is named first was read for the lists that exist
+    ensures first { IfErr result (λ e. IsMemory e
+        ⊎ (HasFailed (S.view files.old).faults (S.view files.new).faults e
+        ⊎ (AreCached (S.view files.old) cache.old → (S.view files.old).tells ≡ true
+        → All (IsOfSome (S.view files.old).file_at (given cargo_home.entry) (pair_of named.now))
+        lists.old.shared.lists.items
+        → IsUngathered (S.view files.old).file_at (given cargo_home.entry) (pair_of named.now)
+        manifest.now e))) }
+{
+    if lists.shared.lists.is_empty() {
+        return Ok(false);
+    }
+    let own = match cache.config_paths(alloc, files, manifest, cargo_home) {
+        Ok(own) => own,
+        Err(error) => return Err(error),
+    };
+    let paths = list_paths(alloc, named, own)?;
+    let found = lists.share(alloc, &paths)?;
+    Ok(found)
+}
+
 /// Reads the configurations of each of the inputs, in order, each file once.
 fn read_all<S: Store>(
     alloc: Global,
@@ -86,9 +134,21 @@ fn read_all<S: Store>(
         ⊎ IsConfigError e) }
 {
     let mut cache = ConfigCache::new(alloc);
-    let mut known = BTreeMap::new(alloc);
-    let mut shared = SharedConfigs::new(alloc);
+    let mut lists = ListsByFiles::new(alloc);
     'inputs: for input in inputs {
+        match share(
+            alloc,
+            named,
+            input.path.as_str(),
+            cargo_home,
+            &mut cache,
+            &mut lists,
+            files,
+        ) {
+            Ok(true) => continue 'inputs,
+            Ok(false) => {}
+            Err(cause) => return Err(cause),
+        }
         let configs = match gather(
             alloc,
             named,
@@ -100,9 +160,9 @@ fn read_all<S: Store>(
             Ok(configs) => configs,
             Err(error) => return Err(error),
         };
-        shared.add(alloc, configs, &mut known)?;
+        lists.add(alloc, configs)?;
     }
-    Ok(shared)
+    Ok(lists.shared)
 }
 
 /// Reads the configurations of each of the inputs; an error has the configuration file that caused it.

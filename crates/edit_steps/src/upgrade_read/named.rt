@@ -1,5 +1,5 @@
 //! The configuration files that the command line gives.
-ghost use Rattle.std.specs.Prelude.{◌≡◌, ◌⊎◌, IfErr, IfOk, option_map, true};
+ghost use Rattle.std.specs.Prelude.{◌≡◌, ◌⊎◌, IfErr, IfOk, map, option_map, string_bytes, true};
 ghost use Rattle.edit_base.specs.Errors.{IsMemory};
 ghost use Rattle.edit_base.specs.declared.errors.DeviceCall.TheVariants as call;
 ghost use Rattle.edit_sources.specs.Configured.{given};
@@ -8,6 +8,7 @@ ghost use Rattle.edit_steps.specs.RequestView.{request_view};
 ghost use Rattle.edit_steps.specs.Causes.{LacksNamed};
 ghost use Rattle.edit_steps.specs.Errors.{IsNamedError, IsPairError};
 ghost use Rattle.edit_steps.specs.Faults.{CountsFault};
+ghost use Rattle.edit_steps.specs.Named as paths;
 ghost use Rattle.edit_steps.specs.Named.{ArePairRead, AreConfigsIn, HasNoFile, IsNamedRead, IsUnreadFile, pair_of, path_and_bytes, seen};
 
 use crate::upgrade_read::asked::Asked;
@@ -15,7 +16,7 @@ use crate::{RunResult, absolute, at_file, at_path};
 use edit_base::{CargoResult, Error};
 use edit_sources::Config;
 use edit_store::Store;
-use std::alloc::Global;
+use std::alloc::{AllocError, Global};
 
 /// A configuration file that the command line gives, with its bytes.
 #[derive(Drop)]
@@ -97,4 +98,31 @@ pub(crate) fn configs_in(alloc: Global, file: Option<&NamedFile>) -> CargoResult
         }
     }
     Ok(configs)
+}
+
+/// The path of a file, where there is one.
+fn path_in(alloc: Global, file: Option<&NamedFile>) -> Result<Vec<String>, AllocError>
+    ensures { IfOk result (λ v. map string_bytes v.items ≡ paths.path_in (seen file.entry)) }
+{
+    let mut paths = Vec::new(alloc);
+    if let Some(file) = file {
+        paths.push(file.path.clone()?)?;
+    }
+    Ok(paths)
+}
+
+/// The paths of all configuration files of a manifest, in order of precedence, given those of its own.
+pub(crate) fn list_paths(
+    alloc: Global,
+    named: &NamedFiles,
+    mut own: Vec<String>,
+) -> Result<Vec<String>, AllocError>
+    ensures { IfOk result (λ v. map string_bytes v.items
+        ≡ paths.list_paths (pair_of named.now) (map string_bytes own.items)) }
+{
+    let mut paths = path_in(alloc, named.first.as_ref())?;
+    paths.append(&mut own)?;
+    let mut last = path_in(alloc, named.last.as_ref())?;
+    paths.append(&mut last)?;
+    Ok(paths)
 }

@@ -9,12 +9,13 @@ use Rattle.edit_set_version.specs.Bumps.{bump, target_of}
 use Rattle.edit_set_version.specs.Chosen.{Member}
 use Rattle.edit_set_version.specs.Crates.{bumps_view, member_of, members_of}
 use Rattle.edit_set_version.specs.Admitted.{AreVersions}
-use Rattle.edit_set_version.specs.PlanRefused.{IsBumpable}
+use Rattle.edit_set_version.specs.BumpCauses.{IsBumpable}
 use Rattle.edit_set_version.specs.Selections.{selection_view}
 use Rattle.edit_set_version.specs.SetVersioned.{bump_of}
 use Rattle.edit_set_version.specs.declared.crates.Bump.{Bump as Bumping}
 use Rattle.edit_set_version.specs.declared.crates.Crate.{Crate}
 use Rattle.edit_set_version.proofs.ChoiceLemmas.{among_all, some_more}
+use Rattle.edit_set_version.proofs.VersionLemmas.{unbumped_member}
 use Rattle.edit_set_version.proofs.bumps.bumps_of.Goals as goal
 
 pub crates-preserved : goal.crates-preserved
@@ -45,15 +46,16 @@ crates-preserved c =
 pub returns-in_err-push_bump-clause-refused : goal.returns-in_err-push_bump-clause-refused
 returns-in_err-push_bump-clause-refused c =
     let p = err_from_is_err_and c.from_residual.result c.from_residual.ensures.1 in
-    let own = member_of c.found-item.result in
+    let t = target_of c.args.target.now in
+    let a = selection_view c.args.selection.now in
+    let e = c.in_err-push_bump.field-0.0 in
+    let all = c.args.crates.now in
+    let i = c.crates.found-index in
+    let x = c.found-item.result in
     rw (p.1, p.2) (elim c.in_err-push_bump.ensures.refused [
       | inl none ↦ inl none
-      | inr why ↦ inr (
-        own,
-        among_all member_of c.args.crates.now c.crates.found-index c.found-item.result
-            c.crates-test.true c.found-item.is,
-        why,
-      )
+      | inr why ↦ inr (unbumped_member t a all i x e c.crates-test.true c.found-item.is
+          c.crates.invariant.bumpable why)
     ])
 
 pub crates-init : goal.crates-init

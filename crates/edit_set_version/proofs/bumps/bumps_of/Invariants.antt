@@ -5,7 +5,7 @@ use Rattle.edit_version.specs.Laws.{IsReadable}
 use Rattle.edit_set_version.specs.Bumps.{IsReadableTarget, bump, target_of}
 use Rattle.edit_set_version.specs.Crates.{bumps_view, members_of}
 use Rattle.edit_set_version.specs.Admitted.{AreVersions}
-use Rattle.edit_set_version.specs.PlanRefused.{IsBumpable}
+use Rattle.edit_set_version.specs.BumpCauses.{IsBumpable}
 use Rattle.edit_set_version.specs.Selections.{selection_view}
 use Rattle.edit_set_version.specs.SetVersioned.{bump_of}
 use Rattle.edit_set_version.proofs.bumps.bumps_of.Given as goal

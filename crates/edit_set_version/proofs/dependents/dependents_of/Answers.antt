@@ -1,8 +1,8 @@
-use Rattle.std.proofs.Common.{◌∙◌, ◌++◌, ◌∷◌, [], ap, sym, subst, map, append_assoc, arith}
+use Rattle.std.proofs.Common.{◌∙◌, ◌++◌, ◌∷◌, [], ap, inl, sym, subst, map, append_assoc, arith}
 use Rattle.std.specs.Prelude.{All, option_to_list}
 use Rattle.std.proofs.lemmas.Result.{err_from_is_err_and}
 use Rattle.edit_tree.specs.DocumentViews.{tree_of}
-use Rattle.edit_set_version.specs.Dependents.{HasRaisedText, numbered_dependent_view, memory, with_bump_index}
+use Rattle.edit_set_version.specs.Dependents.{HasRaisedText, numbered_dependent_view, with_bump_index}
 use Rattle.edit_set_version.specs.PathDependency.{path_dependency_view, path_dependency_views}
 use Rattle.edit_set_version.proofs.DependentLemmas.{numbered_more, unraised}
 use Rattle.edit_set_version.proofs.dependents.dependents_of.Goals as goal
@@ -27,9 +27,10 @@ returns-in_err-push_dependent-clause-refused c =
     let p = err_from_is_err_and c.from_residual-in_err-push_dependent.result
     c.from_residual-in_err-push_dependent.ensures.1 in
     rw (p.1, p.2) (λ bs tells. unraised bs c.args.file.now (tree_of c.args.document.now) c.entries.yielded
-    c.in-Some.entry c.next.new.self.rest.items c.in_err-push_dependent.field-0.0
+    c.in-Some.entry c.next.new.self.rest.items c.entries.dependents.items c.in_err-push_dependent.field-0.0
     (ap (λ xs. path_dependency_views (c.entries.yielded ++ xs)) (sym c.in-Some.ensures.steps.0)
     ∙ c.entries.invariant.rest)
+    (c.entries.invariant.seen bs tells) c.entries.invariant.risen
     (c.in_err-push_dependent.ensures.refused bs tells))
 
 pub entries-init : goal.entries-init
@@ -45,4 +46,4 @@ pub returns-in_err-entries-clause-refused : goal.returns-in_err-entries-clause-r
 returns-in_err-entries-clause-refused c =
     let r = err_from_is_err_and c.from_residual.result
     c.from_residual.ensures.1 in
-    rw (r.1, r.2) (λ bs tells. memory c.in_err-entries.ensures.refused)
+    rw (r.1, r.2) (λ bs tells. inl c.in_err-entries.ensures.refused)

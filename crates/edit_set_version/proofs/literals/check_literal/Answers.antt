@@ -1,4 +1,4 @@
-use Rattle.std.proofs.Common.{◌≡◌, ◌≢◌, ◌⊎◌, List, ℕ, [], subst, true}
+use Rattle.std.proofs.Common.{◌≡◌, ◌≢◌, ◌⊎◌, [], subst, true}
 use Rattle.std.specs.List.{filter}
 use Rattle.std.proofs.lemmas.Result.{err_from_is_err_and}
 use Rattle.edit_base.specs.Errors.{IsMemory}
@@ -9,7 +9,7 @@ use Rattle.edit_tree.specs.Assertions.{IsDocument}
 use Rattle.edit_tree.specs.Tree.{is_value_at}
 use Rattle.edit_set_version.specs.Crates.{bumps_view}
 use Rattle.edit_set_version.specs.SetVersioned.{writes_own}
-use Rattle.edit_set_version.proofs.EditsStand.{has_literal, unvalued_stands}
+use Rattle.edit_set_version.proofs.EditsStand.{has_literal, lacks_literal}
 use Rattle.edit_set_version.proofs.literals.check_literal.Goals as goal
 
 pub returns-in_err-push_own-clause-refused : goal.returns-in_err-push_own-clause-refused
@@ -18,7 +18,7 @@ returns-in_err-push_own-clause-refused c =
     let m = c.args.manifest.now in
     let e = c.in_err-push_own.field-0.0 in
     let p = err_from_is_err_and c.from_residual.result c.from_residual.ensures.1 in
-    rw (p.1, p.2) (unvalued_stands bs c.args.input.now m e c.requires.read
+    rw (p.1, p.2) (lacks_literal bs c.args.input.now m e c.requires.read
     (subst (λ path. IsMemory e ⊎ ((e ≡ NoVersionPlace) × (filter (writes_own path) bs ≢ [])
     × IsNoValue m.document package_version)) c.as_str-path.ensures.value c.in_err-push_own.ensures.refused))
 

@@ -4,8 +4,8 @@ use Rattle.std.proofs.lemmas.List.Elements.{All-more, All-nil}
 use Rattle.std.proofs.lemmas.Result.{err_from_is_err_and}
 use Rattle.std.proofs.lemmas.Slice.Zip.{AllZip-long}
 use Rattle.edit_set_version.specs.Crates.{IsReadOf, bumps_view}
-use Rattle.edit_set_version.specs.PlanRefused.{HasLiteral}
-use Rattle.edit_set_version.proofs.ChoiceLemmas.{element_among}
+use Rattle.edit_set_version.specs.PlanCauses.{HasLiteral, LacksLiteral}
+use Rattle.edit_set_version.proofs.FirstCauseLemmas.{first_at}
 use Rattle.edit_set_version.proofs.ProjectRoot.{read_beside}
 use Rattle.edit_set_version.proofs.literals.check_literals.Goals as goal
 
@@ -26,17 +26,14 @@ check_literal-requires-clause-read c =
 
 pub returns-in_err-check_literal-clause-refused : goal.returns-in_err-check_literal-clause-refused
 returns-in_err-check_literal-clause-refused c =
+    let bs = bumps_view c.args.writing.now.bumps.now in
     let p = err_from_is_err_and c.from_residual.result c.from_residual.ensures.1 in
     rw (p.1, p.2) (elim c.in_err-check_literal.ensures.refused [
       | inl none ↦ inl none
       | inr why ↦ inr (
         why.0,
-        record {
-          input = c.index-inputs-i.result;
-          among = element_among c.args.inputs.now c.inputs.i c.index-inputs-i.result c.inputs-test.true
-              c.index-inputs-i.is;
-          stands = why.1;
-        },
+        first_at (HasLiteral bs) (LacksLiteral bs) c.args.inputs.now c.inputs.i c.index-inputs-i.result
+            c.inputs-test.true c.index-inputs-i.is c.inputs.invariant why.1,
       )
     ])
 

@@ -1,6 +1,6 @@
 use Rattle.std.proofs.Common.{All, take}
 use Rattle.edit_set_version.specs.Crates.{bumps_view}
-use Rattle.edit_set_version.specs.PlanRefused.{HasLiteral}
+use Rattle.edit_set_version.specs.PlanCauses.{HasLiteral}
 use Rattle.edit_set_version.proofs.literals.check_literals.Given as goal
 
 abbrev pub invariant-inputs : goal.invariant-inputs

@@ -6,7 +6,10 @@ use Rattle.edit_tree.specs.Assertions.{IsDocument}
 use Rattle.edit_set_version.specs.Crates.{IsReadOf}
 use Rattle.std.proofs.lemmas.Result.{err_from_is_err_and}
 use Rattle.edit_manifest.specs.Loaded.{IsBadManifest}
-use Rattle.edit_set_version.proofs.ChoiceLemmas.{element_among}
+use Rattle.edit_metadata.specs.declared.input.Input.{Input}
+use Rattle.edit_set_version.specs.PlanRefused.{IsManifest}
+use Rattle.edit_set_version.proofs.FirstCauseLemmas.{first_at}
+use Rattle.edit_set_version.proofs.ProjectRoot.{all_manifests}
 use Rattle.edit_set_version.proofs.manifests.manifests_of.Goals as goal
 
 pub inputs-preserved : goal.inputs-preserved
@@ -31,13 +34,12 @@ pub returns-in_err-manifest-clause-refused : goal.returns-in_err-manifest-clause
 returns-in_err-manifest-clause-refused c =
     let p = err_from_is_err_and c.from_residual-in_err-manifest.result
     c.from_residual-in_err-manifest.ensures.1 in
-    rw (p.1, p.2) (inr (
-      c.input-item.result,
-      element_among c.args.inputs.now c.inputs.input-index c.input-item.result c.inputs-test.true
-          c.input-item.is,
-      subst (λ bs. IsBadManifest bs c.in_err-manifest.field-0.0) c.deref.ensures.value
-          c.in_err-manifest.ensures.refused,
-    ))
+    let e = c.in_err-manifest.field-0.0 in
+    let i = c.inputs.input-index in
+    rw (p.1, p.2) (inr (first_at IsManifest (λ (x : Input). IsBadManifest x.bytes.items e) c.args.inputs.now i
+    c.input-item.result c.inputs-test.true c.input-item.is
+    (all_manifests (take i c.args.inputs.now) c.inputs.manifests.items c.inputs.invariant)
+    (subst (λ bs. IsBadManifest bs e) c.deref.ensures.value c.in_err-manifest.ensures.refused)))
 
 pub returns-in_err-manifests-clause-refused : goal.returns-in_err-manifests-clause-refused
 returns-in_err-manifests-clause-refused c =

@@ -1,27 +1,41 @@
-use Rattle.std.proofs.Common.{◌≡◌, ◌≢◌, List, ℕ, [], subst, true}
+use Rattle.std.proofs.Common.{◌≡◌, ◌≢◌, ◌⊎◌, [], subst, true}
 use Rattle.std.specs.List.{filter}
 use Rattle.std.proofs.lemmas.Result.{err_from_is_err_and}
-use Rattle.edit_manifest.specs.Versions.{package_version}
+use Rattle.edit_base.specs.Errors.{IsMemory}
+use Rattle.edit_base.specs.declared.errors.Error.TheVariants.{NoVersionPlace}
+use Rattle.edit_manifest.specs.Versions.{IsNoValue, package_version}
 use Rattle.edit_syntax.specs.Grammar.{Text}
 use Rattle.edit_tree.specs.Assertions.{IsDocument}
 use Rattle.edit_tree.specs.DocumentViews.{tree_of}
 use Rattle.edit_tree.specs.Tree.{is_value_at}
 use Rattle.edit_set_version.specs.Crates.{bumps_view}
-use Rattle.edit_set_version.specs.Dependents.{IsUnraised}
+use Rattle.edit_set_version.specs.PlanCauses.{IsUnraised}
 use Rattle.edit_set_version.specs.Admitted.{AllRise}
 use Rattle.edit_set_version.specs.SetVersioned.{writes_own}
-use Rattle.edit_set_version.proofs.EditsStand.{unraised_stands, written_clear}
+use Rattle.edit_set_version.proofs.EditsStand.{unraised_memory, unvalued_memory, written_clear}
 use Rattle.edit_set_version.proofs.outputs.edits_of.Goals as goal
+
+pub returns-in_err-push_own-clause-refused : goal.returns-in_err-push_own-clause-refused
+returns-in_err-push_own-clause-refused c =
+    let bs = bumps_view c.args.writing.now.bumps.now in
+    let m = c.args.manifest.now in
+    let e = c.in_err-push_own.field-0.0 in
+    let p = err_from_is_err_and c.from_residual-in_err-push_own.result
+    c.from_residual-in_err-push_own.ensures.1 in
+    rw (p.1, p.2) (unvalued_memory bs c.args.input.now m e c.requires.read
+    (subst (λ path. IsMemory e ⊎ ((e ≡ NoVersionPlace) × (filter (writes_own path) bs ≢ [])
+    × IsNoValue m.document package_version)) c.as_str-path.ensures.value c.in_err-push_own.ensures.refused))
 
 pub returns-in_err-push_dependents-clause-refused : goal.returns-in_err-push_dependents-clause-refused
 returns-in_err-push_dependents-clause-refused c =
     let bs = bumps_view c.args.writing.now.bumps.now in
     let m = c.args.manifest.now in
+    let e = c.in_err-push_dependents.field-0.0 in
     let p = err_from_is_err_and c.from_residual-in_err-push_dependents.result
     c.from_residual-in_err-push_dependents.ensures.1 in
-    rw (p.1, p.2) (unraised_stands bs c.args.input.now m c.in_err-push_dependents.field-0.0 c.requires.read
-    (subst (λ path. IsUnraised bs path (tree_of m.document) c.in_err-push_dependents.field-0.0)
-    c.as_str-path.ensures.value c.in_err-push_dependents.ensures.refused))
+    rw (p.1, p.2) (unraised_memory bs c.args.input.now m e c.requires.read
+    (subst (λ path. IsMemory e ⊎ IsUnraised bs path (tree_of m.document) e) c.as_str-path.ensures.value
+    c.in_err-push_dependents.ensures.refused))
 
 pub returns-clause-clear : goal.returns-clause-clear
 returns-clause-clear c =

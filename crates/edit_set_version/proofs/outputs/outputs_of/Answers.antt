@@ -1,14 +1,13 @@
-use Rattle.std.proofs.Common.{◌≡◌, All, arith, inl, inr, rules, subst, sym, take}
+use Rattle.std.proofs.Common.{◌≡◌, All, arith, rules, subst, take}
 use Rattle.std.proofs.Math.Seq.{take-length}
-use Rattle.std.proofs.lemmas.List.Elements.{All-more, All-nil}
+use Rattle.std.proofs.lemmas.List.Elements.{All-contains, All-more, All-nil}
 use Rattle.std.proofs.lemmas.Result.{err_from_is_err_and}
 use Rattle.std.proofs.lemmas.Slice.Zip.{AllZip-long}
 use Rattle.edit_set_version.specs.Crates.{IsReadOf, bumps_view}
 use Rattle.edit_set_version.specs.PlanRefused.{IsInputClearBy}
 use Rattle.edit_set_version.specs.Written.{shared_version_view}
-use Rattle.edit_set_version.proofs.ChoiceLemmas.{element_among}
 use Rattle.edit_set_version.proofs.DistinctInputs.{can_share}
-use Rattle.edit_set_version.proofs.EditsStand.{stands_among}
+use Rattle.edit_set_version.proofs.ChoiceLemmas.{element_among}
 use Rattle.edit_set_version.proofs.OutputLists.{AreInARow, no_outputs, outputs_more, row_has, row_in_order}
 use Rattle.edit_set_version.proofs.ProjectRoot.{read_beside}
 use Rattle.edit_set_version.proofs.outputs.outputs_of.Goals as goal
@@ -43,10 +42,11 @@ push_output-requires-clause-shared c =
 pub returns-in_err-push_output-clause-refused : goal.returns-in_err-push_output-clause-refused
 returns-in_err-push_output-clause-refused c =
     let p = err_from_is_err_and c.from_residual.result c.from_residual.ensures.1 in
-    rw (p.1, p.2) (stands_among (bumps_view c.args.writing.now.bumps.now) c.args.inputs.now
-    c.index-inputs-i.result c.in_err-push_output.field-0.0
-    (element_among c.args.inputs.now c.inputs.i c.index-inputs-i.result c.inputs-test.true c.index-inputs-i.is)
-    c.in_err-push_output.ensures.refused)
+    let bs = bumps_view c.args.writing.now.bumps.now in
+    let input = c.index-inputs-i.result in
+    rw (p.1, p.2) (λ clear. c.in_err-push_output.ensures.refused
+    (All-contains (IsInputClearBy bs) c.args.inputs.now input clear
+    (element_among c.args.inputs.now c.inputs.i input c.inputs-test.true c.index-inputs-i.is)))
 
 pub inputs-preserved : goal.inputs-preserved
 inputs-preserved c =

@@ -1,18 +1,14 @@
-use Rattle.std.proofs.Common.{◌≡◌, ◌∙◌, ◌++◌, ◌∷◌, [], List, ℕ, ap, map, refl, subst, sym}
+use Rattle.std.proofs.Common.{◌≡◌, ◌∙◌, ◌++◌, List, ℕ, ap, map, subst, sym}
 use Rattle.std.specs.Prelude.{All}
-use Rattle.std.proofs.lemmas.List.Elements.{All-map, All-weaker}
-use Rattle.edit_version.specs.Requirement.{raise}
-use Rattle.edit_set_version.specs.Admitted.{CanRise}
-use Rattle.edit_set_version.specs.Dependents.{HasRaisedText, numbered_dependent_view, dependent_of}
+use Rattle.edit_set_version.specs.Dependents.{HasRaisedText, dependent_of}
 use Rattle.edit_set_version.specs.declared.dependents.DependentEntry.{DependentEntry}
 use Rattle.std.specs.List.{filter_map}
 use Rattle.std.proofs.lemmas.Result.{err_from_is_err_and}
 use Rattle.edit_tree.specs.DocumentViews.{tree_of}
-use Rattle.edit_tree.specs.Replaces.{Edits}
 use Rattle.edit_document.specs.Ranges.{edit_views}
 use Rattle.edit_set_version.specs.Crates.{bumps_view}
 use Rattle.edit_set_version.specs.SetVersioned.{Dependent, dependents, requirement_edit}
-use Rattle.edit_set_version.proofs.DependentLemmas.{dependents_numbered}
+use Rattle.edit_set_version.proofs.DependentLemmas.{all_rise, dependents_numbered, without_indices}
 use Rattle.edit_set_version.proofs.outputs.push_dependents.Goals as goal
 
 pub returns-in_err-dependents-clause-refused : goal.returns-in_err-dependents-clause-refused
@@ -27,14 +23,9 @@ same : (c : goal.After-drop-dependents-2)
     ≡ dependents (bumps_view c.args.writing.now.bumps.now) c.args.path.now (tree_of c.args.document.now)
 same c =
     let bs = bumps_view c.args.writing.now.bumps.now in
-    without c.in_ok-dependents.dependents.items
+    without_indices c.in_ok-dependents.dependents.items
     ∙ ap (map (λ (n : ℕ × Dependent). n.1)) (c.in_ok-dependents.ensures.ok bs c.requires.numbers)
     ∙ sym (dependents_numbered bs c.args.path.now (tree_of c.args.document.now))
-  where
-    without : (fs : List DependentEntry)
-        → map dependent_of fs ≡ map (λ (n : ℕ × Dependent). n.1) (map numbered_dependent_view fs)
-    without [] = refl
-    without (f ∷ fs) = ap (λ (xs : List Dependent). dependent_of f ∷ xs) (without fs)
 
 pub returns-clause-ok : goal.returns-clause-ok
 returns-clause-ok c =
@@ -47,7 +38,6 @@ returns-clause-ok c =
 
 pub returns-clause-rise : goal.returns-clause-rise
 returns-clause-rise c =
-    subst (All (λ f. CanRise (raise f.text f.next))) (same c)
-    (All-map (λ f. CanRise (raise f.text f.next)) dependent_of c.in_ok-dependents.dependents.items
-    (All-weaker HasRaisedText (λ f. CanRise (raise (dependent_of f).text (dependent_of f).next)) (λ f h. h.can)
-    c.in_ok-dependents.dependents.items c.in_ok-dependents.ensures.risen))
+    let bs = bumps_view c.args.writing.now.bumps.now in
+    all_rise bs c.args.path.now (tree_of c.args.document.now) c.in_ok-dependents.dependents.items
+    (c.in_ok-dependents.ensures.ok bs c.requires.numbers) c.in_ok-dependents.ensures.risen

@@ -1,4 +1,4 @@
-use Rattle.std.proofs.Common.{◌≡◌, ◌⊎◌, ◌∙◌, ◌++◌, ap, inl, inr, option_map, subst, sym}
+use Rattle.std.proofs.Common.{◌≡◌, ◌⊎◌, ◌∙◌, ◌++◌, List, ap, inl, inr, option_map, subst, sym}
 use Rattle.std.specs.List.{AllZip, flat_map}
 use Rattle.std.specs.Prelude.{All}
 use Rattle.std.proofs.lemmas.Result.{err_from_is_err_and}
@@ -14,19 +14,20 @@ use Rattle.edit_set_version.specs.Chosen.{Member, missing}
 use Rattle.edit_set_version.specs.Crates.{IsReadOf, bumps_view, project_view}
 use Rattle.edit_set_version.specs.Admitted.{AreVersions}
 use Rattle.edit_set_version.specs.Plan.{IsPlan}
-use Rattle.edit_set_version.specs.PlanLines.{lines_of, manifests, shared_lines}
-use Rattle.edit_set_version.specs.PlanRefused.{HasBadInputBy, IsBehindLiterals, IsCauseOf, IsInputClearBy}
-use Rattle.edit_set_version.specs.PlanRefused.IsCauseOf.{memory as of_memory, no_manifest as of_input, no_package as of_package, project as of_project}
+use Rattle.edit_set_version.specs.PlanCauses.{IsManifestError}
+use Rattle.edit_set_version.specs.PlanLines.{lines_of, shared_lines}
+use Rattle.edit_set_version.specs.PlanRefused.{IsCauseOf, IsInputClearBy}
+use Rattle.edit_set_version.specs.PlanRefused.IsCauseOf.{manifest as of_manifest, memory as of_memory, no_manifest as of_input, no_package as of_package, project as of_project}
 use Rattle.edit_set_version.specs.Planned.{HasOutputsBy, OutputsInOrder, has_lines, plan_lines_view}
 use Rattle.edit_set_version.specs.Projects.{HasProject}
 use Rattle.edit_set_version.specs.Selections.{selection_view}
-use Rattle.edit_set_version.specs.SetVersioned.{bumps, workspace_current, workspace_next}
-use Rattle.edit_set_version.specs.ToldLines.{HasUnraised}
+use Rattle.edit_set_version.specs.SetVersioned.{Bump, bumps, workspace_current, workspace_next}
 use Rattle.edit_set_version.specs.Written.{HasSharedVersion}
 use Rattle.edit_set_version.specs.declared.plan.SetVersionPlan.{SetVersionPlan}
 use Rattle.edit_set_version.proofs.ApartBumps.{bumps_apart}
+use Rattle.edit_set_version.proofs.InputManifests.{inputs_among}
 use Rattle.edit_set_version.proofs.InputPaths.{inputs_apart}
-use Rattle.edit_set_version.proofs.PlanLemmas.{all_admitted, all_chosen, cause_given, clear_given, lines_for, names_told, outputs_given, tells_shared, where_all, where_err}
+use Rattle.edit_set_version.proofs.PlanLemmas.{all_admitted, all_chosen, clear_given, lines_for, names_told, outputs_given, tells_shared, where_all, where_err}
 use Rattle.edit_set_version.proofs.planned.plan_set_version.Goals as goal
 
 pub returns-in_err-manifests-clause-refused : goal.returns-in_err-manifests-clause-refused
@@ -35,7 +36,7 @@ returns-in_err-manifests-clause-refused c =
     c.from_residual-in_err-manifests.ensures.1 in
     rw (r.1, r.2) (elim c.in_err-manifests.ensures.refused [
       | inl none ↦ of_memory none
-      | inr why ↦ of_input c.in_ok-check_names.ensures.found why.0 why.1 why.2
+      | inr why ↦ of_input c.in_ok-check_names.ensures.found why
     ])
 
 pub returns-in_err-versions-clause-refused : goal.returns-in_err-versions-clause-refused
@@ -122,16 +123,24 @@ returns-clause-refused c =
     let is = c.args.inputs.now in
     let p = project_view c.in_ok-project.project in
     let bs = bumps_view c.in_ok-versions.versions.bumps.items in
-    where_err c.plan_with.result
-    (λ (e : Error). IsMemory e ⊎ (IsBehindLiterals bs is e
-    × (HasUnraised bs (manifests p) e ⊎ HasBadInputBy bs is e)))
-    (IsCauseOf t a w is)
-    (λ e why. cause_given t a w is p bs e c.in_ok-check_names.ensures.found c.in_ok-project.ensures.ok
-    (record {
-      excluded = c.in_ok-versions.ensures.excluded;
-      versions = c.in_ok-versions.ensures.bumpable;
-    }) c.in_ok-versions.ensures.bumps why)
+    where_err c.plan_with.result (λ (e : Error). IsMemory e ⊎ IsManifestError bs is p e) (IsCauseOf t a w is)
+    (λ e why. elim why [
+      | inl none ↦ of_memory none
+      | inr fault ↦ of_manifest c.in_ok-check_names.ensures.found p c.in_ok-project.ensures.ok
+          (record {
+            excluded = c.in_ok-versions.ensures.excluded;
+            versions = c.in_ok-versions.ensures.bumpable;
+          })
+          (subst (λ (cs : List Bump). IsManifestError cs is p e) c.in_ok-versions.ensures.bumps fault)
+    ])
     c.plan_with.ensures.refused
+
+pub plan_with-requires-clause-among : goal.plan_with-requires-clause-among
+plan_with-requires-clause-among c =
+    let w = workspace_view c.args.workspace.now in
+    let is = c.args.inputs.now in
+    inputs_among w is (project_view c.in_ok-project.project) c.requires.inputs
+    (inputs_apart w is c.requires.folders c.requires.inputs) c.in_ok-project.ensures.ok
 
 pub returns-in_err-check_names-clause-refused : goal.returns-in_err-check_names-clause-refused
 returns-in_err-check_names-clause-refused c =

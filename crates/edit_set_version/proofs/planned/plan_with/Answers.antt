@@ -6,10 +6,12 @@ use Rattle.edit_set_version.specs.Apart.{AreApart}
 use Rattle.edit_set_version.specs.Crates.{bumps_view, project_view}
 use Rattle.edit_set_version.specs.BumpsByFolder.{HasFirstBumps}
 use Rattle.edit_set_version.specs.PlanLines.{manifests}
-use Rattle.edit_set_version.specs.PlanRefused.{HasBadInputBy, HasLiteral, IsInputClearBy}
-use Rattle.edit_set_version.specs.ToldLines.{HasUnraised}
+use Rattle.edit_set_version.specs.PlanCauses.{AllRiseIn, AreUnraised, HasLiteral, LackLiterals}
+use Rattle.edit_set_version.specs.PlanCauses.IsManifestError.{literal as of_literal, requirement as of_requirement}
+use Rattle.edit_set_version.specs.PlanRefused.{IsInputClearBy}
 use Rattle.edit_set_version.specs.Written.{HasSharedVersion, shared_version_view}
 use Rattle.edit_set_version.specs.declared.crates.Bump.{Bump as Bumping}
+use Rattle.edit_set_version.proofs.EditsStand.{all_clear}
 use Rattle.edit_set_version.proofs.PlanLemmas.{lines_for, seen_copied, set_for}
 use Rattle.edit_set_version.proofs.planned.plan_with.Goals as goal
 
@@ -48,14 +50,11 @@ pub returns-in_err-check_literals-clause-refused : goal.returns-in_err-check_lit
 returns-in_err-check_literals-clause-refused c =
     let r = err_from_is_err_and c.from_residual-in_err-check_literals.result
     c.from_residual-in_err-check_literals.ensures.1 in
-    let e = c.in_err-check_literals.field-0.0 in
     rw (r.1, r.2) (elim c.in_err-check_literals.ensures.refused [
       | inl none ↦ inl none
-      | inr why ↦ inr (
-        inl why.0,
-        inr (subst (λ (bs : List Bumping). HasBadInputBy (bumps_view bs) c.args.inputs.now e)
-            c.deref-2.ensures.value why.1),
-      )
+      | inr why ↦ inr (of_literal why.0
+          (subst (λ (bs : List Bumping). LackLiterals (bumps_view bs) c.args.inputs.now)
+          c.deref-2.ensures.value why.1))
     ])
 
 pub returns-in_err-lines-clause-refused : goal.returns-in_err-lines-clause-refused
@@ -66,11 +65,10 @@ returns-in_err-lines-clause-refused c =
     let e = c.in_err-lines.field-0.0 in
     rw (r.1, r.2) (elim c.in_err-lines.ensures.refused [
       | inl none ↦ inl none
-      | inr why ↦ inr (
-        inr (subst (λ (bs : List Bumping). All (HasLiteral (bumps_view bs)) c.args.inputs.now)
-            c.deref-2.ensures.value c.in_ok-check_literals.ensures.literals),
-        inl (subst (λ (bs : List Bumping). HasUnraised (bumps_view bs) all e) c.deref-3.ensures.value why),
-      )
+      | inr why ↦ inr (of_requirement
+          (subst (λ (bs : List Bumping). All (HasLiteral (bumps_view bs)) c.args.inputs.now)
+          c.deref-2.ensures.value c.in_ok-check_literals.ensures.literals)
+          (subst (λ (bs : List Bumping). AreUnraised (bumps_view bs) all e) c.deref-3.ensures.value why))
     ])
 
 pub outputs_of-requires-clause-apart : goal.outputs_of-requires-clause-apart
@@ -95,16 +93,12 @@ pub returns-in_err-outputs-clause-refused : goal.returns-in_err-outputs-clause-r
 returns-in_err-outputs-clause-refused c =
     let r = err_from_is_err_and c.from_residual-in_err-outputs.result
     c.from_residual-in_err-outputs.ensures.1 in
-    let e = c.in_err-outputs.field-0.0 in
-    rw (r.1, r.2) (elim c.in_err-outputs.ensures.refused [
-      | inl none ↦ inl none
-      | inr why ↦ inr (
-        inr (subst (λ (bs : List Bumping). All (HasLiteral (bumps_view bs)) c.args.inputs.now)
-            c.deref-2.ensures.value c.in_ok-check_literals.ensures.literals),
-        inr (subst (λ (bs : List Bumping). HasBadInputBy (bumps_view bs) c.args.inputs.now e)
-            c.deref-2.ensures.value why),
-      )
-    ])
+    let all = manifests (project_view c.args.project.now) in
+    let rise = subst (λ (bs : List Bumping). All (AllRiseIn (bumps_view bs)) all)
+    (c.deref-3.ensures.value ∙ sym c.deref-2.ensures.value) c.in_ok-lines.ensures.rise in
+    rw (r.1, r.2) (inl (c.in_err-outputs.ensures.refused
+    (all_clear (bumps_view c.deref-2.result.now) all c.args.inputs.now c.in_ok-check_literals.ensures.literals
+    rise c.requires.among)))
 
 pub returns-clause-outputs : goal.returns-clause-outputs
 returns-clause-outputs c =

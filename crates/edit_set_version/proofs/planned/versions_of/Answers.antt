@@ -1,6 +1,6 @@
-use Rattle.std.proofs.Common.{◌≡◌, ◌∙◌, None, List, [], ap, inl, inr, option_map, subst, sym}
+use Rattle.std.proofs.Common.{◌≡◌, ◌∙◌, None, List, [], ap, inl, inr, map, option_map, subst, sym}
 use Rattle.std.specs.List.{filter_map}
-use Rattle.std.specs.Prelude.{All, Contains, if◌then◌else◌, option_and_then}
+use Rattle.std.specs.Prelude.{All, if◌then◌else◌, option_and_then}
 use Rattle.std.proofs.lemmas.Result.{err_from_is_err_and}
 use Rattle.semver.specs.Identifiers.{parts_of}
 use Rattle.semver.specs.Parse.{Parts}
@@ -10,13 +10,14 @@ use Rattle.edit_version.specs.Laws.{IsReadable}
 use Rattle.edit_set_version.specs.Bumps.{bump, next_of, target_of}
 use Rattle.edit_set_version.specs.Chosen.{Member, bumps_workspace, chosen, held_back, inheriting}
 use Rattle.edit_set_version.specs.Crates.{members_of, project_view}
-use Rattle.edit_set_version.specs.PlanCauses.{IsExcludeError, excluded, version}
-use Rattle.edit_set_version.specs.PlanRefused.{IsBumpable}
+use Rattle.edit_set_version.specs.BumpCauses.{IsBumpable}
+use Rattle.edit_set_version.specs.PlanCauses.{AreUnbumped, IsExcludeError, excluded, version}
 use Rattle.edit_set_version.specs.Selections.{selection_view}
 use Rattle.edit_set_version.specs.SetVersioned.{bump_of, workspace_current}
 use Rattle.edit_set_version.specs.Written.{shared_version_view}
 use Rattle.edit_set_version.specs.declared.crates.Crate.{Crate}
-use Rattle.edit_set_version.proofs.PlanLemmas.{all_currents, all_shared, current_among, member_current, seen_copied}
+use Rattle.edit_set_version.proofs.PlanLemmas.{seen_copied}
+use Rattle.edit_set_version.proofs.VersionLemmas.{all_currents, all_shared, unbumped_chosen, unbumped_shared}
 use Rattle.edit_set_version.proofs.planned.versions_of.Goals as goal
 
 pub returns-in_err-next-clause-refused : goal.returns-in_err-next-clause-refused
@@ -34,31 +35,35 @@ returns-in_err-next-clause-refused c =
     let r = err_from_is_err_and c.from_residual-in_err-next.result c.from_residual-in_err-next.ensures.1 in
     let none : held_back a p.members ≡ []
     = ap (λ cs. held_back a (members_of cs)) (sym c.deref.ensures.value) ∙ c.in_ok-choice.ensures.excluded in
-    rw (r.1, r.2) (inr (version none (record {
-      current = why.0;
-      among = current_among a p why.0 (sym seen ∙ why.1);
-      refused = why.2;
-    })))
+    rw (r.1, r.2) (inr (version none (unbumped_shared (target_of c.args.target.now) a p why.0
+    c.in_err-next.field-0.0 (sym seen ∙ why.1) why.2)))
 
 pub returns-in_err-bumps-clause-refused : goal.returns-in_err-bumps-clause-refused
 returns-in_err-bumps-clause-refused c =
+    let t = target_of c.args.target.now in
     let a = selection_view c.args.selection.now in
     let p = project_view c.args.project.now in
+    let e = c.in_err-bumps.field-0.0 in
+    let tree = tree_of c.args.project.now.root.manifest.now.document in
     let these : members_of c.deref-2.result.now ≡ chosen a p.members
     = ap members_of c.deref-2.ensures.value ∙ c.in_ok-choice.ensures.chosen
     ∙ ap (λ cs. chosen a (members_of cs)) c.deref.ensures.value in
+    let is : option_map parts_of c.in_ok-current.current ≡ workspace_current a p
+    = c.in_ok-current.ensures.ok
+    ∙ ap (λ b. if b then workspace_version tree else None) (c.in_ok-choice.ensures.workspace
+    ∙ ap (λ cs. bumps_workspace a (members_of cs)) c.deref.ensures.value) in
+    let seen : shared_version_view c.as_ref.result ≡ workspace_current a p
+    = seen_copied c.as_ref.result ∙ ap (option_map parts_of) c.as_ref.ensures.value ∙ is in
+    let shared = all_shared (λ (v : Parts). IsBumpable (bump t a.metadata v)) c.as_ref.result
+    (workspace_current a p) seen c.in_ok-next.ensures.bumpable in
     let r = err_from_is_err_and c.from_residual-in_err-bumps.result
     c.from_residual-in_err-bumps.ensures.1 in
     let kept : held_back a p.members ≡ []
     = ap (λ cs. held_back a (members_of cs)) (sym c.deref.ensures.value) ∙ c.in_ok-choice.ensures.excluded in
     rw (r.1, r.2) (elim c.in_err-bumps.ensures.refused [
       | inl none ↦ inl none
-      | inr why ↦ inr (version kept (record {
-        current = why.0.version;
-        among = member_current a p why.0
-            (subst (λ (ms : List Member). Contains ms why.0) these why.1);
-        refused = why.2;
-      }))
+      | inr why ↦ inr (version kept (unbumped_chosen t a p e shared
+          (subst (λ (ms : List Member). AreUnbumped t a (map (λ (m : Member). m.version) ms) e) these why)))
     ])
 
 pub returns-clause-bumpable : goal.returns-clause-bumpable

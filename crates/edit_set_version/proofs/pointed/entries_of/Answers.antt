@@ -4,7 +4,7 @@ use Rattle.std.specs.List.{flat_map}
 use Rattle.std.proofs.lemmas.List.{take_all}
 use Rattle.std.proofs.lemmas.Result.{err_from_is_err_and}
 use Rattle.edit_document.specs.Items.{place_view}
-use Rattle.edit_document.specs.declared.place.Step.{Step}
+use Rattle.edit_tree.specs.declared.place.Step.{Step}
 use Rattle.edit_manifest.specs.Places.{places_view}
 use Rattle.edit_tree.specs.DocumentViews.{tree_of}
 use Rattle.edit_set_version.specs.PathDependency.{path_dependencies_in, path_dependency_views}

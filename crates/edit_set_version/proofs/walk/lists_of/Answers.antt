@@ -1,4 +1,4 @@
-use Rattle.std.proofs.Common.{◌∙◌, ap, inr}
+use Rattle.std.proofs.Common.{◌∙◌, ap}
 use Rattle.std.proofs.lemmas.Result.{err_from_is_err_and}
 use Rattle.edit_set_version.specs.Crates.{bumps_view, project_view}
 use Rattle.edit_set_version.specs.PlanLines.{manifests}
@@ -9,11 +9,13 @@ pub returns-in_err-push_project-clause-refused : goal.returns-in_err-push_projec
 returns-in_err-push_project-clause-refused c =
     let p = err_from_is_err_and c.from_residual-in_err-push_project.result
     c.from_residual-in_err-push_project.ensures.1 in
-    rw (p.1, p.2) (inr (c.in_err-push_project.ensures.refused (bumps_view c.args.bumps.now)
-    c.requires.numbers))
+    rw (p.1, p.2) (c.in_err-push_project.ensures.refused (bumps_view c.args.bumps.now) c.requires.numbers)
 
 pub returns-clause-ok : goal.returns-clause-ok
 returns-clause-ok c =
     let bs = bumps_view c.args.bumps.now in
     c.in_ok-push_project.ensures.ok bs c.requires.numbers
     ∙ ap (with_manifests bs (manifests (project_view c.args.project.now)) 0) c.in_ok-lists.ensures.ok
+
+pub returns-clause-rise : goal.returns-clause-rise
+returns-clause-rise c = c.in_ok-push_project.ensures.rise (bumps_view c.args.bumps.now) c.requires.numbers

@@ -1,7 +1,8 @@
 use Rattle.edit_sources.specs.Configured.{given}
 use Rattle.edit_steps.proofs.NamedLemmas.{gathered, seen_of}
+use Rattle.edit_steps.proofs.ReadLemmas.{own_fails}
 use Rattle.edit_steps.specs.Named.{pair_of, seen}
-use Rattle.std.proofs.Common.{refl, inl, inr, ⊎_elim}
+use Rattle.std.proofs.Common.{refl}
 use Rattle.edit_sources.specs.CachedConfigs.{AreCached}
 use Rattle.edit_steps.proofs.FirstLemmas.{error_has, last_ungathered, own_ungathered}
 use Rattle.edit_steps.proofs.upgrade_read.configs.gather.Goals as goal
@@ -18,8 +19,9 @@ returns-clause-read g c = λ kept t.
 
 pub returns-in-Err-clause-refused : goal.returns-in-Err-clause-refused
 returns-in-Err-clause-refused g c =
-    ⊎_elim (λ memory. inl memory) (λ other. inr (⊎_elim (λ failed. inl failed)
-    (λ fails. inr (inr (inr fails))) other)) c.in-Err.ensures.refused
+    let old = g.S.Store.view c.args.files.now in
+    own_fails _ (pair_of c.args.named.now) old.tells old.file_at c.args.manifest.now (given c.args.cargo_home)
+    c.in-Err.error c.in-Err.ensures.refused
 
 pub returns-in-Err-clause-first : goal.returns-in-Err-clause-first
 returns-in-Err-clause-first g c =

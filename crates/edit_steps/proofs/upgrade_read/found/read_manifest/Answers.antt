@@ -10,7 +10,7 @@ returns-in-Ok-None-clause-refused g c =
     let none = rw c.in-Ok-None.field-0-is at c.in-Ok-None.ensures.bytes in
     inr (folder_there (g.S.Store.view c.args.files.now) (g.S.Store.view c.manifest_path.new.files)
     c.args.current.now (given c.args.named) (string_bytes c.in_ok-path.path) c.as_str.result.now _
-    c.in_ok-path.ensures.store c.at_path.ensures c.as_str.ensures.value c.in_ok-path.ensures.found none)
+    c.in_ok-path.ensures.store c.at_path.ensures.error c.as_str.ensures.value c.in_ok-path.ensures.found none)
 
 pub returns-in_err-path-clause-refused : goal.returns-in_err-path-clause-refused
 returns-in_err-path-clause-refused g c =
