@@ -7,3 +7,4 @@ pub mod LineLaws
 pub mod LineLemmas
 pub mod MarkLemmas
 pub mod FloatLemmas
+pub mod MarkdownLemmas

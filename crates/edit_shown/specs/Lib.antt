@@ -8,3 +8,4 @@ pub mod ShownLines
 pub mod Unified
 pub mod Fields
 pub mod JsonMessages
+pub mod Markdown

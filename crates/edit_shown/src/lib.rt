@@ -1,15 +1,17 @@
-//! The output of a plan in forms other than tables: JSON, and unified diffs.
+//! The output of a plan in forms other than aligned tables: JSON, Markdown, and unified diffs.
 #![tactic(auto)]
 
 mod changes;
 pub mod diff;
 mod diffs;
 pub mod json;
+mod markdown;
 mod messages;
 mod paths;
 mod presentation;
 
 pub use changes::print_changes;
 pub use diffs::print_diffs;
+pub use markdown::print_markdown;
 pub use messages::print_messages;
 pub use presentation::{MessageFormat, Presentation};

@@ -5,6 +5,8 @@
 pub enum MessageFormat {
     Human,
     Json,
+    /// One table of GitHub Flavored Markdown.
+    Markdown,
 }
 
 /// What is printed of a plan on standard output.

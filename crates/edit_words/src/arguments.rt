@@ -150,6 +150,9 @@ fn selections<'a>() -> [ArgSpec<'a>; 2]
     ]
 }
 
+/// What help says of the formats of an upgrade's report.
+const FORMATS: &str = "How the report is printed [possible values: human, json, markdown]";
+
 /// A subcommand with the words of `upgrade`.
 fn upgrade_command<'a>(
     alloc: Global,
@@ -162,7 +165,7 @@ fn upgrade_command<'a>(
     let command = with_args(alloc, command, &files());
     let command = with_args(alloc, command, &configurations());
     let command = with_args(alloc, command, &switches());
-    let command = with_args(alloc, command, &reports());
+    let command = with_args(alloc, command, &reports("FORMAT", FORMATS));
     let command = with_args(alloc, command, &choices());
     with_args(alloc, command, &selections())
 }

@@ -5,8 +5,9 @@ ghost use Rattle.edit_words.specs.Tables.{arg_rule};
 
 use crate::rules::{ArgSpec, Form, plain};
 
-/// What says how a plan is printed, and whether it is only checked.
-pub(crate) fn reports<'a>() -> [ArgSpec<'a>; 3]
+/// What says how a plan is printed, and whether it is only checked; with what help calls the value of
+/// `--message-format`, and what it says of it.
+pub(crate) fn reports<'a>(value: &'a str, about: &'a str) -> [ArgSpec<'a>; 3]
     ensures { map arg_rule result ≡ reports }
 {
     [
@@ -15,12 +16,7 @@ pub(crate) fn reports<'a>() -> [ArgSpec<'a>; 3]
             Form::Flag,
             "Like `--dry-run`, with status 1 where something would change",
         ),
-        plain(
-            "message-format",
-            Form::Choice("human|json"),
-            "How the report is printed",
-        )
-        .default_value("human"),
+        plain("message-format", Form::Choice(value), about).default_value("human"),
         plain(
             "diff",
             Form::Flag,

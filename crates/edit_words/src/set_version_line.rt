@@ -92,6 +92,10 @@ pub(crate) fn set_version_command<'a>(alloc: Global) -> Result<Command<'a>, Allo
     ));
     let command = with_args(alloc, command, &targets());
     let command = with_args(alloc, command, &members());
-    let command = with_args(alloc, command, &reports());
+    let command = with_args(
+        alloc,
+        command,
+        &reports("human|json", "How the report is printed"),
+    );
     with_args(alloc, command, &ignored())
 }

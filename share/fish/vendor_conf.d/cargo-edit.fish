@@ -10,7 +10,7 @@ complete -c cargo -n '__fish_seen_subcommand_from upgrade' -s v -l verbose -d 'R
 complete -c cargo -n '__fish_seen_subcommand_from upgrade' -s q -l quiet -d 'Reports less'
 complete -c cargo -n '__fish_seen_subcommand_from upgrade' -l never-lower -d 'Lowers no requirement'
 complete -c cargo -n '__fish_seen_subcommand_from upgrade' -l check -d 'Like `--dry-run`, with status 1 where something would change'
-complete -c cargo -n '__fish_seen_subcommand_from upgrade' -l message-format -a 'human json' -d 'How the report is printed [default: human]'
+complete -c cargo -n '__fish_seen_subcommand_from upgrade' -l message-format -a 'human json markdown' -d 'How the report is printed [possible values: human, json, markdown] [default: human]'
 complete -c cargo -n '__fish_seen_subcommand_from upgrade' -l diff -d 'Prints the changes of manifests as diffs'
 complete -c cargo -n '__fish_seen_subcommand_from upgrade' -l compatible -a 'allow ignore' -d 'Upgrades to the latest compatible version [default: allow]'
 complete -c cargo -n '__fish_seen_subcommand_from upgrade' -s i -l incompatible -a 'allow ignore' -d 'Upgrades to the latest incompatible version [default: ignore]'
