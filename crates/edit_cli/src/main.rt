@@ -8,6 +8,7 @@ mod fetch_store;
 mod machine;
 mod next_call;
 mod parsing;
+mod plan;
 mod shell_options;
 mod streams;
 
@@ -81,7 +82,8 @@ fn print_usage_error(rt: &HostRuntime, fault: &str) -> CargoResult<u8> {
     Ok(2)
 }
 
-/// Runs the program with its arguments, and returns the exit status.
+/// Runs the program with its arguments, and returns the exit status. Arguments that need no file, as `--help`,
+/// need no current folder and no environment.
 fn start(rt: &HostRuntime) -> CargoResult<u8> {
     let words = match env::args(rt) {
         Ok(words) => words,
@@ -92,24 +94,15 @@ fn start(rt: &HostRuntime) -> CargoResult<u8> {
     };
     let words: Vec<String> = words.skip(1).collect(rt.alloc())?;
     let texts: Vec<&str> = words.iter().map(|word| word.as_str()).collect(rt.alloc())?;
-    start_with(rt, &texts)
-}
-
-/// Runs these arguments. Those that need no file, as `--help`, need no current folder and no environment.
-fn start_with(rt: &HostRuntime, words: &[&str]) -> CargoResult<u8> {
+    let words = texts.as_slice();
     match words.first().copied() {
-        Some("check-curl" | "shell-options") => return run_fileless(rt, words),
+        Some("check-curl" | "plan" | "shell-options") => return run_fileless(rt, words),
         Some("fetch-plan" | "fetch-store" | "next-call") => return start_in(rt, words, None),
         _ => {}
     }
     let filled = filled_words(rt.alloc(), words)?;
-    start_parsed(rt, words, filled.as_slice())
-}
-
-/// Runs a subcommand of `edit_program`. `filled` are the arguments with defaults inserted.
-fn start_parsed(rt: &HostRuntime, words: &[&str], filled: &[&str]) -> CargoResult<u8> {
     let command = command(rt.alloc())?;
-    let matches = match command.try_get_matches_from(filled) {
+    let matches = match command.try_get_matches_from(filled.as_slice()) {
         Ok(matches) => matches,
         Err(_) => return run_at(rt, words, NO_FOLDERS, true),
     };
@@ -180,16 +173,19 @@ fn run_checked(
     run_at(rt, words, folders, is_for_people)
 }
 
-/// Runs a subcommand for the scripts that needs no file. The first argument is its name.
+/// Runs a subcommand that needs no file. The first argument is its name.
 fn run_fileless(rt: &HostRuntime, words: &[&str]) -> CargoResult<u8> {
     let Some((first, arguments)) = words.split_first() else {
         return Ok(2);
     };
-    let mut out = output(rt, false)?;
     let mut err = errors(rt)?;
     match *first {
         "check-curl" => Ok(check_curl(arguments, &mut err)),
-        _ => Ok(shell_options(rt.alloc(), arguments, &mut out, &mut err)),
+        "plan" => plan::plan(rt, arguments, &mut err),
+        _ => {
+            let mut out = output(rt, false)?;
+            Ok(shell_options(rt.alloc(), arguments, &mut out, &mut err))
+        }
     }
 }
 

@@ -16,12 +16,12 @@ use Rattle.edit_metadata.specs.declared.input.Input.{Input}
 use Rattle.edit_set_version.specs.BumpCauses.{IsUnbumped}
 use Rattle.edit_set_version.specs.Bumps.{Bumped, Target}
 use Rattle.edit_set_version.specs.Chosen.{Asked, Member}
-use Rattle.edit_set_version.specs.PlanCauses.{IsExcludeError, IsMissing, IsVersionError}
-use Rattle.edit_set_version.specs.PlanCauses.ManifestStandsAgainst.{literal as no_literal, requirement as no_rise}
+use Rattle.edit_set_version.specs.PlanCauses.{IsExcludeError, IsManifestError, IsMissing, IsVersionError}
+use Rattle.edit_set_version.specs.PlanCauses.IsManifestError.{literal as no_literal, requirement as no_rise}
 use Rattle.edit_set_version.specs.PlanCauses.IsVersionError.{excluded as is_excluded, version as is_unbumped}
-use Rattle.edit_set_version.specs.PlanRefused.{IsCauseOf, IsInputError}
+use Rattle.edit_set_version.specs.PlanRefused.{IsCauseOf}
 use Rattle.edit_set_version.specs.PlanRefused.IsCauseOf.{manifest as of_input, memory as of_memory, no_manifest as of_manifest, no_package as of_package, project as of_project}
-use Rattle.edit_set_version.specs.SetVersioned.{Bump, Project}
+use Rattle.edit_set_version.specs.SetVersioned.{Bump, Project, bumps}
 use Rattle.edit_sources.specs.Configured.{HasNoUrl}
 use Rattle.edit_sources.specs.Configured.HasNoUrl.{breaks, no_address, no_head, no_url}
 use Rattle.edit_sources.specs.Index.{IndexView, Outcomes}
@@ -190,25 +190,24 @@ project_counts : {P : Type 0} (t : Target) (a : Asked) (p : Project) (e : Error)
     → IsVersionError t a p e
     → number_of e ≡ 3 → P
 project_counts t a p e (is_excluded held) = held_counts _ _ e held
-project_counts t a p e (is_unbumped none unbumped) = unbumped_counts _ unbumped.current e unbumped.refused
+project_counts t a p e (is_unbumped none unbumped) = unbumped_counts _ unbumped.first e unbumped.cause
 
-input_counts : {P : Type 0} (bs : List Bump) (input : Input) (e : Error) → IsInputError bs input e
-    → number_of e ≡ 3 → P
-input_counts bs input e stands = elim stands.against [
-  | no_literal none ↦ error_counts e error.NoVersionPlace none.told (λ h. cc h)
-  | no_rise fixed ↦ raise_counts _ _ e fixed.fixed
-]
+manifests_count : {P : Type 0} (bs : List Bump) (inputs : List Input) (p : Project) (e : Error)
+    → IsManifestError bs inputs p e → number_of e ≡ 3 → P
+manifests_count bs inputs p e (no_literal is lacking) = error_counts e error.NoVersionPlace is (λ h. cc h)
+manifests_count bs inputs p e (no_rise literals unraised) =
+    raise_counts _ unraised.cause.first.text e unraised.cause.cause
 
 -- why a plan of versions is refused is no error of the device
 pub versions_count : {P : Type 0} (t : Target) (a : Asked) (w : WorkspaceModel) (inputs : List Input)
     (e : Error) → IsCauseOf t a w inputs e → number_of e ≡ 3 → P
 versions_count t a w inputs e (of_memory memory) = memory_counts e memory
 versions_count t a w inputs e (of_package none) = missing_counts _ e none
-versions_count t a w inputs e (of_manifest known input among bad) =
-    manifest_counts input.bytes.items e bad
+versions_count t a w inputs e (of_manifest known malformed) =
+    manifest_counts malformed.first.bytes.items e malformed.cause
 versions_count t a w inputs e (of_project known p is against) = project_counts t a p e against
-versions_count t a w inputs e (of_input known p is versions behind bad) =
-    input_counts _ bad.input e bad.stands
+versions_count t a w inputs e (of_input known p is versions fault) =
+    manifests_count (bumps t a p) inputs p e fault
 
 -- ---- files
 

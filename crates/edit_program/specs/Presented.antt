@@ -2,21 +2,38 @@
 use Rattle.std.specs.Prelude.{◌&&◌, ℕ, Bool, List, [], Option, Some, None, codes, false, if◌then◌else◌}
 use Rattle.std.specs.Str.{bytes_eq}
 use Rattle.clap.specs.Words.{Row, Text}
-use Rattle.edit_shown.specs.declared.presentation.MessageFormat.TheVariants.{Human, Json}
+use Rattle.edit_shown.specs.declared.presentation.MessageFormat.{MessageFormat}
+use Rattle.edit_shown.specs.declared.presentation.MessageFormat.TheVariants.{Human, Json, Markdown}
 use Rattle.edit_shown.specs.declared.presentation.Presentation.{Presentation}
 use Rattle.edit_program.specs.ParsedOptions.{is_given, value_of}
+use Rattle.edit_program.specs.declared.output_format.PlanCommand.{PlanCommand}
+use Rattle.edit_program.specs.declared.output_format.PlanCommand.TheVariants.{Upgrade, SetVersion}
 
--- the output format, from `--message-format` and `--diff`, which exclude each other for JSON
-abbrev pub format_of_options : Text → Bool → Option Presentation
-format_of_options format diff =
+-- a format that excludes `--diff`
+abbrev pub without_diffs : MessageFormat → Bool → Option Presentation
+without_diffs format diff = if diff then None else Some (record { format = format; diff = false })
+
+-- a format that only an upgrade has, from `--message-format` and `--diff`
+abbrev pub upgrade_format : Text → Bool → Option Presentation
+upgrade_format format diff =
+    if bytes_eq format (codes "markdown") then without_diffs Markdown diff else None
+
+-- a format beside the two that each command has
+abbrev pub other_format : PlanCommand → Text → Bool → Option Presentation
+other_format Upgrade format diff = upgrade_format format diff
+other_format SetVersion format diff = None
+
+-- the output format of a command, from `--message-format` and `--diff`
+abbrev pub format_of_options : PlanCommand → Text → Bool → Option Presentation
+format_of_options command format diff =
     if bytes_eq format (codes "human") then Some (record { format = Human; diff = diff })
-    else (if bytes_eq format (codes "json")
-    then (if diff then None else Some (record { format = Json; diff = false })) else None)
+    else (if bytes_eq format (codes "json") then without_diffs Json diff
+    else other_format command format diff)
 
--- the output format that parsed arguments give
-abbrev pub presentation_of : List Row → Option Presentation
-presentation_of rows =
-    format_of_options (value_of (codes "message-format") [] rows) (is_given (codes "diff") rows)
+-- the output format that parsed arguments of a command give
+abbrev pub presentation_of : PlanCommand → List Row → Option Presentation
+presentation_of command rows =
+    format_of_options command (value_of (codes "message-format") [] rows) (is_given (codes "diff") rows)
 
 -- the exit status after a plan: 1 where `--check` is given and the plan has an output, else 0
 abbrev pub status_after : List Row → Bool → ℕ

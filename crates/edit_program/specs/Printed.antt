@@ -10,7 +10,7 @@ use Rattle.edit_set_version.specs.declared.plan.SetVersionPlan.{SetVersionPlan}
 use Rattle.edit_shown.specs.Diffs.{diffs}
 use Rattle.edit_shown.specs.Messages.{changes}
 use Rattle.edit_shown.specs.declared.presentation.MessageFormat.{MessageFormat}
-use Rattle.edit_shown.specs.declared.presentation.MessageFormat.TheVariants.{Human, Json}
+use Rattle.edit_shown.specs.declared.presentation.MessageFormat.TheVariants.{Human, Json, Markdown}
 use Rattle.edit_program.specs.declared.set_version_run.words.SetVersionWords.{SetVersionWords}
 
 -- a warning, where it is due
@@ -25,6 +25,7 @@ statuses lines = flat_map (λ line. message_text true line.0 line.1) lines
 abbrev pub statuses_in : MessageFormat → List ReportLine → List ℕ
 statuses_in Human lines = statuses lines
 statuses_in Json lines = []
+statuses_in Markdown lines = statuses lines
 
 -- on standard error: the warning for `--all`, the lines, and the warning of a dry run
 abbrev pub printed : SetVersionWords → List ReportLine → List ℕ
@@ -37,6 +38,7 @@ printed words lines =
 abbrev pub messages_in : MessageFormat → List ReportLine → List ℕ
 messages_in Human lines = []
 messages_in Json lines = changes lines
+messages_in Markdown lines = []
 
 -- the diffs of the manifests, where they are requested
 abbrev pub diffs_if : Bool → List ℕ → List Input → List Output → List ℕ

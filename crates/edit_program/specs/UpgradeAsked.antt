@@ -9,6 +9,7 @@ use Rattle.edit_version.specs.RustVersions.{numbers_of, rust_of}
 use Rattle.edit_version.specs.declared.rust_version.RustVersion.{RustVersion}
 use Rattle.edit_program.specs.ParsedOptions.{HasOptions, HasBadStatus, is_given}
 use Rattle.edit_program.specs.Presented.{presentation_of}
+use Rattle.edit_program.specs.declared.output_format.PlanCommand.TheVariants.{Upgrade}
 
 -- the Rust versions to plan for, from `--rust-version` and `--ignore-rust-version`: those of the manifests,
 -- none, or the given one
@@ -42,7 +43,7 @@ pub record HasUpgradeArgs (rows : List Row) (w : UpgradeWords) : Type 0 where
   pub rust : IsRust (first_of (codes "rust-version") rows)
       (is_given (codes "ignore-rust-version") rows) w.rust
   pub options : HasOptions rows w.options
-  pub presentation : presentation_of rows ≡ Some w.presentation
+  pub presentation : presentation_of Upgrade rows ≡ Some w.presentation
   pub calls : given w.update_calls ≡ first_of (codes "update-calls") rows
   pub lock : given w.lock_file ≡ first_of (codes "lock-file") rows
   pub offline : w.offline ≡ is_given (codes "offline") rows
@@ -54,4 +55,4 @@ HaveUpgradeFault rows =
     (has_two_indexes rows ≡ true)
     ⊎ (HasBadStatus rows
     ⊎ (HasNoRust (first_of (codes "rust-version") rows) (is_given (codes "ignore-rust-version") rows)
-    ⊎ (presentation_of rows ≡ None)))
+    ⊎ (presentation_of Upgrade rows ≡ None)))

@@ -1,5 +1,5 @@
 -- The arguments of `set-version`.
-use Rattle.std.specs.Prelude.{◌≡◌, ◌≢◌, ◌⊎◌, ◌&&◌, ◌||◌, List, Bool, Option, Some, None, Ok, Err, codes, is_some, map, option_map, string_bytes, true, false}
+use Rattle.std.specs.Prelude.{◌≡◌, ◌≢◌, ◌⊎◌, ◌&&◌, ◌||◌, List, Bool, Option, Some, None, Ok, Err, codes, if◌then◌else◌, is_some, map, option_map, string_bytes, true, false}
 use Rattle.clap.specs.Words.{Row, Text, first_of}
 use Rattle.semver.specs.Parse.{Parts, version_parts}
 use Rattle.semver.specs.declared.error.Error.{Error}
@@ -10,6 +10,7 @@ use Rattle.edit_set_version.specs.declared.set_version.BumpLevel.TheVariants.{Re
 use Rattle.edit_program.specs.declared.set_version_run.words.SetVersionWords.{SetVersionWords}
 use Rattle.edit_program.specs.ParsedOptions.{is_dry, is_given, value_of, values_of}
 use Rattle.edit_program.specs.Presented.{presentation_of}
+use Rattle.edit_program.specs.declared.output_format.PlanCommand.TheVariants.{SetVersion}
 
 -- the target, from the arguments for a version and a level: one of the two alone, or with neither the level
 -- `release`
@@ -35,6 +36,20 @@ has_conflicting_selections rows =
     || (is_some (first_of (codes "package") rows)
     && (is_given (codes "all") rows || is_given (codes "workspace") rows))
 
+-- the arguments that select members in two ways, of all, the whole workspace and single packages: of several
+-- such pairs the first in this order
+abbrev pub conflict_among : Bool → Bool → Bool → Option (Text × Text)
+conflict_among all workspace single =
+    if all && workspace then Some (codes "--all", codes "--workspace")
+    else (if single && all then Some (codes "--package <PKGID>", codes "--all")
+    else (if single && workspace then Some (codes "--package <PKGID>", codes "--workspace") else None))
+
+-- the two of `--package`, `--all` and `--workspace` that an error names, where two are given
+abbrev pub conflicting_selections : List Row → Option (Text × Text)
+conflicting_selections rows =
+    conflict_among (is_given (codes "all") rows) (is_given (codes "workspace") rows)
+    (is_some (first_of (codes "package") rows))
+
 -- the options and paths that parsed arguments of `set-version` give
 pub record HasSetVersionArgs (rows : List Row) (w : SetVersionWords) : Type 0 where
   pub metadata_json : w.metadata_json.now
@@ -47,7 +62,7 @@ pub record HasSetVersionArgs (rows : List Row) (w : SetVersionWords) : Type 0 wh
   pub metadata : option_map string_bytes w.selection.metadata ≡ first_of (codes "metadata") rows
   pub all : w.all ≡ is_given (codes "all") rows
   pub dry_run : w.dry_run ≡ is_dry rows
-  pub presentation : presentation_of rows ≡ Some w.presentation
+  pub presentation : presentation_of SetVersion rows ≡ Some w.presentation
   pub named_once : has_conflicting_selections rows ≡ false
 
 -- the arguments select members in two ways, give no target, or no valid output format
@@ -55,4 +70,4 @@ abbrev pub HaveVersionFault : List Row → Type 0
 HaveVersionFault rows =
     (has_conflicting_selections rows ≡ true)
     ⊎ (HaveNoTarget (first_of (codes "target") rows) (first_of (codes "bump") rows)
-    ⊎ (presentation_of rows ≡ None))
+    ⊎ (presentation_of SetVersion rows ≡ None))

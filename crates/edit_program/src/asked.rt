@@ -8,7 +8,7 @@ ghost use Rattle.edit_program.specs.UpgradeAsked.{HasUpgradeArgs, HasNoRust, Hav
 
 use crate::args_error::{ArgsError, ArgsFault};
 use crate::lookups::{is_given, values_of};
-use crate::output_format::{is_dry, presentation};
+use crate::output_format::{PlanCommand, is_dry, presentation};
 use crate::upgrade_run::UpgradeWords;
 use clap::ArgMatches;
 use edit_base::Error;
@@ -140,7 +140,7 @@ pub(crate) fn parse_upgrade_args<'a>(
     }
     let ignored = is_given(matches, "ignore-rust-version");
     let rust = rust_choice(alloc, matches.get_str("rust-version"), ignored)?;
-    let presentation = presentation(matches)?;
+    let presentation = presentation(matches, PlanCommand::Upgrade)?;
     Ok(UpgradeWords {
         manifest_path: matches.get_str("manifest-path"),
         metadata_json: matches.get_str("metadata-json"),

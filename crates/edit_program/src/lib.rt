@@ -16,4 +16,5 @@ mod upgrade_output;
 mod upgrade_run;
 mod version_words;
 
-pub use program::run;
+pub use place::Place;
+pub use program::{run, try_run};

@@ -2,46 +2,87 @@
 ghost use Rattle.std.specs.Prelude.{◌≡◌, IfErr, IfOk, None, Some};
 ghost use Rattle.clap.specs.Words.{found_of, rows_of};
 ghost use Rattle.edit_program.specs.ParsedOptions.{is_dry};
-ghost use Rattle.edit_program.specs.Presented.{presentation_of, format_of_options, status_after};
+ghost use Rattle.edit_program.specs.Presented.{presentation_of, format_of_options, status_after, upgrade_format, without_diffs};
 
 use crate::args_error::{ArgsError, ArgsFault};
 use crate::lookups::is_given;
 use clap::ArgMatches;
 use edit_shown::{MessageFormat, Presentation};
 
-/// The output format of a plan, from the values of `--message-format` and `--diff`.
-fn format_of_options<'a>(format: &'a str, diff: bool) -> Result<Presentation, ArgsError<'a>>
-    ensures ok { IfOk result (λ p. format_of_options format.now diff ≡ Some p) }
-    ensures refused { IfErr result (λ _. format_of_options format.now diff ≡ None) }
+/// A command that prints a plan.
+#[derive(Clone, Copy)]
+pub(crate) enum PlanCommand {
+    Upgrade,
+    SetVersion,
+}
+
+/// A format that has no place for diffs: an error where they are requested.
+fn without_diffs<'a>(
+    format: MessageFormat,
+    option: &'static str,
+    diff: bool,
+) -> Result<Presentation, ArgsError<'a>>
+    ensures ok { IfOk result (λ p. without_diffs format diff ≡ Some p) }
+    ensures refused { IfErr result (λ _. without_diffs format diff ≡ None) }
+{
+    if diff {
+        return Err(ArgsError::Fault(ArgsFault::Together(option, "--diff")));
+    }
+    Ok(Presentation {
+        format,
+        diff: false,
+    })
+}
+
+/// The error of a value that `--message-format` has not.
+fn format_fault<'a>(formats: &'static str, format: &'a str) -> ArgsError<'a> {
+    ArgsError::Fault(ArgsFault::Value("message-format", formats, format))
+}
+
+/// A format that only an upgrade has.
+fn upgrade_format<'a>(format: &'a str, diff: bool) -> Result<Presentation, ArgsError<'a>>
+    ensures ok { IfOk result (λ p. upgrade_format format.now diff ≡ Some p) }
+    ensures refused { IfErr result (λ _. upgrade_format format.now diff ≡ None) }
+{
+    match format {
+        "markdown" => without_diffs(MessageFormat::Markdown, "--message-format markdown", diff),
+        _ => Err(format_fault("human|json|markdown", format)),
+    }
+}
+
+/// The output format of a command's plan, from the values of `--message-format` and `--diff`.
+fn format_of_options<'a>(
+    command: PlanCommand,
+    format: &'a str,
+    diff: bool,
+) -> Result<Presentation, ArgsError<'a>>
+    ensures ok { IfOk result (λ p. format_of_options command format.now diff ≡ Some p) }
+    ensures refused { IfErr result (λ _. format_of_options command format.now diff ≡ None) }
 {
     match format {
         "human" => Ok(Presentation {
             format: MessageFormat::Human,
             diff,
         }),
-        "json" => {
-            if diff {
-                return Err(ArgsError::Fault(ArgsFault::Together(
-                    "--message-format json",
-                    "--diff",
-                )));
-            }
-            Ok(Presentation {
-                format: MessageFormat::Json,
-                diff: false,
-            })
-        }
-        _ => Err(ArgsError::Fault(ArgsFault::Value("message-format", "human|json", format))),
+        "json" => without_diffs(MessageFormat::Json, "--message-format json", diff),
+        _ => match command {
+            PlanCommand::Upgrade => upgrade_format(format, diff),
+            PlanCommand::SetVersion => Err(format_fault("human|json", format)),
+        },
     }
 }
 
-/// The output format of a plan, from parsed arguments.
-pub(crate) fn presentation<'a>(matches: &ArgMatches<'a>) -> Result<Presentation, ArgsError<'a>>
-    ensures ok { IfOk result (λ p. presentation_of (rows_of (found_of matches.now)) ≡ Some p) }
-    ensures refused { IfErr result (λ _. presentation_of (rows_of (found_of matches.now)) ≡ None) }
+/// The output format of a command's plan, from parsed arguments.
+pub(crate) fn presentation<'a>(
+    matches: &ArgMatches<'a>,
+    command: PlanCommand,
+) -> Result<Presentation, ArgsError<'a>>
+    ensures ok { IfOk result (λ p. presentation_of command (rows_of (found_of matches.now)) ≡ Some p) }
+    ensures refused { IfErr result (λ _.
+        presentation_of command (rows_of (found_of matches.now)) ≡ None) }
 {
     let format = matches.get_str("message-format").unwrap_or("");
-    format_of_options(format, is_given(matches, "diff"))
+    format_of_options(command, format, is_given(matches, "diff"))
 }
 
 /// Whether no file is written, because of `--dry-run` or `--check`.

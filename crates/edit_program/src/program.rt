@@ -69,8 +69,8 @@ fn answer<S: Store, T: Store + Drop, O: io::Write, E: io::Write>(
     }
 }
 
-/// Runs arguments in which options may lack their values, for which defaults are inserted.
-fn insert_defaults_and_run<S: Store, T: Store + Drop, O: io::Write, E: io::Write>(
+/// Runs the program as `run` does, but returns an error in place of printing it.
+pub fn try_run<S: Store, T: Store + Drop, O: io::Write, E: io::Write>(
     alloc: Global,
     words: &[&str],
     place: &Place<'_>,
@@ -157,7 +157,7 @@ pub fn run<S: Store, T: Store + Drop, O: io::Write, E: io::Write>(
         current,
         cargo_home,
     };
-    match insert_defaults_and_run(alloc, words, &place, files, index_files, out, err) {
+    match try_run(alloc, words, &place, files, index_files, out, err) {
         Ok(status) => status,
         Err(refusal) => print_failure(alloc, refusal, err),
     }

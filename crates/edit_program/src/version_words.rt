@@ -4,11 +4,11 @@ ghost use Rattle.clap.specs.Words.{first_of, found_of, rows_of};
 ghost use Rattle.edit_set_version.specs.Bumps.{target_of};
 ghost use Rattle.edit_program.specs.declared.args_error.ArgsError.TheVariants as words;
 ghost use Rattle.edit_program.specs.ParsedOptions.{is_given, values_of};
-ghost use Rattle.edit_program.specs.VersionWords.{HasSetVersionArgs, HaveNoTarget, HaveVersionFault, IsTarget, has_conflicting_selections};
+ghost use Rattle.edit_program.specs.VersionWords.{HasSetVersionArgs, HaveNoTarget, HaveVersionFault, IsTarget, conflicting_selections, has_conflicting_selections};
 
 use crate::args_error::{ArgsError, ArgsFault};
 use crate::lookups::{is_given, values_of};
-use crate::output_format::{is_dry, presentation};
+use crate::output_format::{PlanCommand, is_dry, presentation};
 use crate::set_version_run::SetVersionWords;
 use clap::ArgMatches;
 use edit_set_version::{BumpLevel, Selection, TargetVersion};
@@ -16,9 +16,12 @@ use semver::Version;
 use std::alloc::{AllocError, Global};
 use std::str::FromStr;
 
-/// Two of `--package`, `--all` and `--workspace` that are both given.
+/// Two of `--package`, `--all` and `--workspace` that are both given: of several such pairs the first of `--all`
+/// and `--workspace`, `--package` and `--all`, `--package` and `--workspace`.
 fn conflicting_selections(matches: &ArgMatches<'_>) -> Option<(&'static str, &'static str)>
-    ensures { is_some result ≡ has_conflicting_selections (rows_of (found_of matches.now)) }
+    ensures found { is_some result ≡ has_conflicting_selections (rows_of (found_of matches.now)) }
+    ensures named { option_map (λ pair. (pair.0.now, pair.1.now)) result
+        ≡ conflicting_selections (rows_of (found_of matches.now)) }
 {
     let all = is_given(matches, "all");
     let workspace = is_given(matches, "workspace");
@@ -131,7 +134,7 @@ pub(crate) fn version_words<'a>(
         return Err(ArgsError::Fault(ArgsFault::Together(one, other)));
     }
     let target = target(alloc, matches.get_str("target"), matches.get_str("bump"))?;
-    let presentation = presentation(matches)?;
+    let presentation = presentation(matches, PlanCommand::SetVersion)?;
     Ok(SetVersionWords {
         metadata_json: matches.get_str("metadata-json").unwrap_or("metadata.json"),
         target,

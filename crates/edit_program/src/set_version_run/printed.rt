@@ -56,7 +56,7 @@ fn print_lines_in<O: io::Write, E: io::Write>(
     ensures refused { IfErr result (λ e. IsMemory e ⊎ (e ≡ Output)) }
 {
     match format {
-        MessageFormat::Human => print_lines(lines, err),
+        MessageFormat::Human | MessageFormat::Markdown => print_lines(lines, err),
         MessageFormat::Json => print_changes(alloc, lines, out),
     }
 }

@@ -13,12 +13,12 @@ use crate::upgrade_output::task::DeliveryTask;
 use edit_base::CargoResult;
 use edit_metadata::Input;
 use edit_report::Output;
-use edit_shown::{MessageFormat, print_diffs, print_messages};
+use edit_shown::{MessageFormat, print_diffs, print_markdown, print_messages};
 use edit_upgrade::{Options, UpgradePlan};
 use std::alloc::Global;
 use std::io;
 
-/// Prints a plan as JSON, where that is requested.
+/// Prints a plan as JSON or as one table of Markdown, where that is requested.
 fn print_as<O: io::Write>(
     alloc: Global,
     format: MessageFormat,
@@ -35,6 +35,9 @@ fn print_as<O: io::Write>(
     match format {
         MessageFormat::Human => Ok(()),
         MessageFormat::Json => print_messages(alloc, plan, inputs, options, calls, out),
+        MessageFormat::Markdown => {
+            print_markdown(alloc, plan.rows.as_slice(), options.verbosity, inputs, out)
+        }
     }
 }
 
@@ -58,7 +61,8 @@ fn print_diffs_if<O: io::Write>(
     }
 }
 
-/// Prints a plan: the report on each input, the plan as JSON, and the diffs of manifests, as requested.
+/// Prints a plan: the report on each input, the plan as JSON or as one table, and the diffs of manifests, as
+/// requested.
 pub(crate) fn print_plan<O: io::Write, E: io::Write>(
     alloc: Global,
     task: &DeliveryTask<'_>,

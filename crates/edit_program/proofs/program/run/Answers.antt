@@ -18,6 +18,6 @@ returns-in-Err-clause-failed g c one = inr (record {
   error = c.in-Err.refusal.error;
   cause = c.in-Err.ensures.why;
   counted = c.in-Err.ensures.counted;
-  printed = g.E.Write.contents c.insert_defaults_and_run.new.err;
+  printed = g.E.Write.contents c.try_run.new.err;
   left = c.in-Err.ensures.refused;
 })

@@ -18,4 +18,4 @@ returns-clause-refused g c =
     let bad = subst (λ (bs : List ℕ). IsMemory e ⊎ ((e ≡ Metadata) × IsNoLock bs)) c.deref.ensures.value
     c.in-Err-read.ensures.refused in
     bad_lock old (g.S.Store.view c.read.new.self) c.args.current.now c.args.named.now path bytes e
-    c.at_path.result.error at stands bad c.at_path.ensures
+    c.at_path.result.error at stands bad c.at_path.ensures.error

@@ -5,7 +5,7 @@ use Rattle.edit_sources.specs.Configured.{given}
 use Rattle.edit_words.specs.Filled.{filled}
 use Rattle.edit_program.specs.Run.{run_at}
 use Rattle.edit_program.specs.Runs.{HasUsageError, HasCheckFlag, IsEnded, IsRunFailure, IsRunCause}
-use Rattle.edit_program.proofs.program.insert_defaults_and_run.Goals as goal
+use Rattle.edit_program.proofs.program.try_run.Goals as goal
 
 pub returns-clause-fault : goal.returns-clause-fault
 returns-clause-fault g c =

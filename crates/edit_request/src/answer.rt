@@ -1,0 +1,135 @@
+//! Answers a request.
+ghost use Rattle.std.specs.Prelude.{◌≤◌, IfOk};
+
+use crate::error::RequestError;
+use crate::fields::{put, put_changes, put_error, put_lookups, put_message, put_messages};
+use crate::request::{Request, read_request};
+use edit_program::{Place, try_run};
+use edit_steps::RunResult;
+use edit_store::MemoryStore;
+use serde_json::{Map, Value};
+use std::alloc::{AllocError, Global};
+
+/// The response to a request.
+#[derive(Drop)]
+pub struct Response {
+    /// The exit status: 0 where the request was carried out, 1 for an error of the plan, 2 for a malformed
+    /// request or wrong options.
+    pub status: u8,
+    /// One line of JSON.
+    pub text: String,
+}
+
+/// What a run of the program printed, and its result.
+#[derive(Drop)]
+struct Run {
+    result: RunResult<u8>,
+    out: Vec<u8>,
+    err: Vec<u8>,
+}
+
+/// Runs the program over the files of a request.
+fn run_over(alloc: Global, request: &mut Request) -> Result<Run, AllocError> {
+    let words: Vec<&str> = request
+        .words
+        .iter()
+        .map(|word| word.as_str())
+        .collect(alloc)?;
+    let place = Place {
+        current: request.root.as_str(),
+        cargo_home: None,
+    };
+    let mut out = Vec::new(alloc);
+    let mut err = Vec::new(alloc);
+    let result = try_run(
+        alloc,
+        &words,
+        &place,
+        &mut request.store,
+        MemoryStore::new(alloc),
+        &mut out,
+        &mut err,
+    );
+    Ok(Run { result, out, err })
+}
+
+/// The text of bytes that were printed.
+fn text_of(bytes: &[u8]) -> &str {
+    std::str::from_utf8(bytes).unwrap_or("")
+}
+
+/// The exit status of a run: at most 2.
+fn status_of(run: &Run) -> u8
+    ensures { result ≤ 2 }
+{
+    match run.result {
+        Ok(0) => 0,
+        Ok(2) => 2,
+        Ok(_) | Err(_) => 1,
+    }
+}
+
+/// The response to a request that was run.
+fn respond(
+    alloc: Global,
+    request: &mut Request,
+    run: &Run,
+    status: u8,
+) -> Result<String, AllocError> {
+    let mut members = Map::new(alloc);
+    put(alloc, &mut members, "version", Value::from(1u8))?;
+    put(alloc, &mut members, "status", Value::from(status))?;
+    put(alloc, &mut members, "error", Value::Null)?;
+    let printed = text_of(&run.err);
+    match &run.result {
+        Err(refusal) => put_error(alloc, &mut members, refusal)?,
+        Ok(2) => put_message(alloc, &mut members, printed)?,
+        Ok(_) => {}
+    }
+    put(
+        alloc,
+        &mut members,
+        "log",
+        Value::try_from_str(alloc, printed)?,
+    )?;
+    let is_lookup = request
+        .words
+        .first()
+        .is_some_and(|word| word.as_str() == "looks");
+    if is_lookup {
+        put_lookups(alloc, &mut members, text_of(&run.out))?;
+    } else {
+        put_messages(alloc, &mut members, text_of(&run.out))?;
+        put_changes(alloc, &mut members, &mut request.store, &request.manifests)?;
+    }
+    Value::Object(members).to_string(alloc)
+}
+
+/// The response to a malformed request.
+fn respond_malformed(alloc: Global, message: &str) -> Result<String, AllocError> {
+    let mut members = Map::new(alloc);
+    put(alloc, &mut members, "version", Value::from(1u8))?;
+    put(alloc, &mut members, "status", Value::from(2u8))?;
+    put_message(alloc, &mut members, message)?;
+    Value::Object(members).to_string(alloc)
+}
+
+/// Answers a request, a JSON document of this form (docs/PLAN.md has all members): the texts of manifests,
+/// configurations and an index, with the options of `upgrade`, `looks` or `set-version`. The response has the
+/// new texts and the messages of the run, or the error. No file is read or written.
+pub fn answer_request(alloc: Global, request: &[u8]) -> Result<Response, AllocError>
+    ensures status { IfOk result (λ a. a.status ≤ 2) }
+{
+    let mut request = match read_request(alloc, request) {
+        Ok(request) => request,
+        Err(RequestError::Memory) => return Err(AllocError),
+        Err(RequestError::Malformed(message)) => {
+            let text = respond_malformed(alloc, message.as_str())?;
+            return Ok(Response { status: 2, text });
+        }
+    };
+    let run = run_over(alloc, &mut request)?;
+    let status = status_of(&run);
+    let text = respond(alloc, &mut request, &run, status)?;
+    Ok(Response { status, text })
+}

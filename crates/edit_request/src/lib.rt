@@ -1,0 +1,13 @@
+//! Answers a request in JSON: plans an upgrade or new versions over texts, and touches no file.
+#![tactic(auto)]
+
+mod answer;
+mod edits;
+mod error;
+mod fields;
+mod files;
+mod members;
+mod options;
+mod request;
+
+pub use answer::{Response, answer_request};
