@@ -62,7 +62,7 @@ fn no_answers<'a>(alloc: Global, count: usize) -> Result<Vec<Option<Answer<'a>>>
 fn put<'a>(table: &mut Vec<Option<Answer<'a>>>, number: usize, answer: Answer<'a>)
     ensures put { (k : ℕ) (a : Answer) → slice_get table.new.items k ≡ Some (Some a)
         → (slice_get table.old.items k ≡ Some (Some a)) ⊎ ((k + 1 ≡ number) × (a ≡ answer.entry)) }
-    ensures kept { (k : ℕ) (a : Answer) → slice_get table.old.items k ≡ Some (Some a)
+    ensures preserved { (k : ℕ) (a : Answer) → slice_get table.old.items k ≡ Some (Some a)
         → slice_get table.new.items k ≡ Some (Some a) }
     ensures has { (k : ℕ) → k + 1 ≡ number → k < length table.old.items → HasAnswerAt table.new.items k }
     ensures count { length table.new.items ≡ length table.old.items }

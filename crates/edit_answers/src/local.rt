@@ -92,7 +92,7 @@ fn existing_folder<S: Store>(
     ensures folder { IfOk result (λ o. (S.view files.old).tells ≡ true → MatchOption o
         (HasNoFolder address.now (S.view files.old).file_at)
         (λ s. HasExistingFolder address.now (S.view files.old).file_at (string_bytes s))) }
-    ensures refused { IfErr result (Fails (S.view files.old).faults (S.view files.new).faults) }
+    ensures error { IfErr result (Fails (S.view files.old).faults (S.view files.new).faults) }
 {
     let Some(folder) = local_folder(alloc, address)? else {
         return Ok(None);
@@ -127,7 +127,7 @@ fn put_local<'a, S: Store>(
     ensures changes { Changes (Puts places.now (lookup_text lookup.now))
         (Puts places.now (lookup_text lookup.now) Outcome.Fetched)
         (S.view files.old) (S.view files.new) result }
-    ensures told { IfOk result (λ o. IsLocalFile bytes.now o) }
+    ensures outcome { IfOk result (λ o. IsLocalFile bytes.now o) }
 {
     match read_lines(alloc, bytes) {
         Ok(_) => {}
@@ -151,7 +151,7 @@ pub fn settle_local<'a, S: Store>(
     ensures changes { Changes (Puts places.now (lookup_text lookup.now))
         (Puts places.now (lookup_text lookup.now) Outcome.Fetched)
         (S.view files.old) (S.view files.new) result }
-    ensures told { IfOk result (λ o. (S.view files.old).tells ≡ true
+    ensures outcome { IfOk result (λ o. (S.view files.old).tells ≡ true
         → SettlesLocal (lookup_text lookup.now) (S.view files.old).file_at o) }
 {
     let folder = match existing_folder(alloc, files, lookup.address) {

@@ -31,7 +31,7 @@ fn read_body<S: Store>(
         ((b : List ℕ) → (S.view files.old).file_at path.now ≡ Some b → IsWholeIndex name.now b → ⊥)
         (λ v. (S.view files.old).file_at path.now ≡ Some v.items)) }
     ensures whole { IfOk result (λ o. IfSome o (λ v. IsWholeIndex name.now v.items)) }
-    ensures refused { IfErr result (Fails (S.view files.old).faults (S.view files.new).faults) }
+    ensures error { IfErr result (Fails (S.view files.old).faults (S.view files.new).faults) }
 {
     let body = match files.read(alloc, path) {
         Ok(Some(body)) => body,
@@ -66,7 +66,7 @@ fn cached_damage<S: Store>(
     ensures reads { OnlyReads (S.view files.old) (S.view files.new) }
     ensures damage { IfOk result (λ o. (S.view files.old).tells ≡ true
         → HasDamage name.now ((S.view files.old).file_at path.now) o) }
-    ensures refused { IfErr result (Fails (S.view files.old).faults (S.view files.new).faults) }
+    ensures error { IfErr result (Fails (S.view files.old).faults (S.view files.new).faults) }
 {
     match files.read(alloc, path) {
         Ok(Some(bytes)) => Ok(damage_of(alloc, name, &bytes)?),
@@ -87,7 +87,7 @@ fn link_cached<'a, S: LinkStore>(
 ) -> CargoResult<Outcome<'a>>
     ensures changes { Changes (λ _. PutsIndexed places.now (lookup_text lookup.now))
         (PutsIndexed places.now (lookup_text lookup.now)) (S.view files.old) (S.view files.new) result }
-    ensures told { IfOk result (λ o. (S.view files.old).tells ≡ true → o ≡ by_cached
+    ensures outcome { IfOk result (λ o. (S.view files.old).tells ≡ true → o ≡ by_cached
         ((S.view files.old).file_at (cached_path places.now.cache.now (lookup_text lookup.now)))
         had.entry lost.entry) }
     ensures linked { IfOk result (λ _. (S.view files.old).tells ≡ true → (bytes : List ℕ)
@@ -114,7 +114,7 @@ fn from_cache<'a, S: LinkStore>(
 ) -> CargoResult<Outcome<'a>>
     ensures changes { Changes (λ _. PutsIndexed places.now (lookup_text lookup.now))
         (PutsIndexed places.now (lookup_text lookup.now)) (S.view files.old) (S.view files.new) result }
-    ensures told { IfOk result (λ o. (S.view files.old).tells ≡ true
+    ensures outcome { IfOk result (λ o. (S.view files.old).tells ≡ true
         → FromCache lookup.now.name.now had.entry lost.entry
         ((S.view files.old).file_at (cached_path places.now.cache.now (lookup_text lookup.now))) o) }
 {
@@ -139,7 +139,7 @@ fn settle_new<'a, S: LinkStore>(
     ensures changes { Changes (Puts places.now (lookup_text lookup.now))
         (Puts places.now (lookup_text lookup.now) Outcome.Fetched)
         (S.view files.old) (S.view files.new) result }
-    ensures told { IfOk result (λ o. (S.view files.old).tells ≡ true
+    ensures outcome { IfOk result (λ o. (S.view files.old).tells ≡ true
         → Settles places.now (lookup_text lookup.now) number (S.view files.old).file_at
         (new_meaning is_direct) o) }
 {
@@ -195,7 +195,7 @@ fn store_body<'a, S: LinkStore>(
     ensures changes { Changes (Puts places.now (lookup_text lookup.now))
         (Puts places.now (lookup_text lookup.now) Outcome.Fetched)
         (S.view files.old) (S.view files.new) result }
-    ensures told { IfOk result (λ o. (S.view files.old).tells ≡ true → o ≡ stored is_direct) }
+    ensures outcome { IfOk result (λ o. (S.view files.old).tells ≡ true → o ≡ stored is_direct) }
 {
     let entry = cached_path(alloc, places.cache, lookup)?;
     let etag_path = validator_path(alloc, body_path)?;
@@ -237,7 +237,7 @@ fn settle_current<'a, S: LinkStore>(
     ensures changes { Changes (Puts places.now (lookup_text lookup.now))
         (Puts places.now (lookup_text lookup.now) Outcome.Fetched)
         (S.view files.old) (S.view files.new) result }
-    ensures told { IfOk result (λ o. (S.view files.old).tells ≡ true → (number : ℕ)
+    ensures outcome { IfOk result (λ o. (S.view files.old).tells ≡ true → (number : ℕ)
         → Settles places.now (lookup_text lookup.now) number (S.view files.old).file_at
         Meaning.NotModified o) }
 {
@@ -271,7 +271,7 @@ pub fn settle<'a, S: LinkStore>(
     ensures changes { Changes (Puts places.now (lookup_text lookup.now))
         (Puts places.now (lookup_text lookup.now) Outcome.Fetched)
         (S.view files.old) (S.view files.new) result }
-    ensures told { IfOk result (λ o. (S.view files.old).tells ≡ true
+    ensures outcome { IfOk result (λ o. (S.view files.old).tells ≡ true
         → Settles places.now (lookup_text lookup.now) number (S.view files.old).file_at meaning.entry o) }
 {
     match meaning {

@@ -21,7 +21,7 @@ fn read_text<S: Store>(alloc: Global, files: &mut S, path: &str) -> CargoResult<
     ensures reads { OnlyReads (S.view files.old) (S.view files.new) }
     ensures text { IfOk result (λ s. (S.view files.old).tells ≡ true
         → string_bytes s ≡ text_of ((S.view files.old).file_at path.now)) }
-    ensures refused { IfErr result (Fails (S.view files.old).faults (S.view files.new).faults) }
+    ensures error { IfErr result (Fails (S.view files.old).faults (S.view files.new).faults) }
 {
     match files.read(alloc, path) {
         Ok(Some(bytes)) => Ok(String::from_utf8_lossy(alloc, &bytes)?),
@@ -40,7 +40,7 @@ fn read_from_room<S: Store>(
     ensures reads { OnlyReads (S.view files.old) (S.view files.new) }
     ensures text { IfOk result (λ s. (S.view files.old).tells ≡ true
         → string_bytes s ≡ text_of ((S.view files.old).file_at (room.now ++ 47 ∷ name.now))) }
-    ensures refused { IfErr result (Fails (S.view files.old).faults (S.view files.new).faults) }
+    ensures error { IfErr result (Fails (S.view files.old).faults (S.view files.new).faults) }
 {
     let path = format!(in alloc; "{room}/{name}")?;
     read_text(alloc, files, path.as_str())

@@ -11,7 +11,7 @@ use std::alloc::{AllocError, Global};
 /// No slash is added where `base` is empty or ends in one.
 pub fn join(alloc: Global, base: &str, path: &str) -> CargoResult<String>
     ensures text { IfOk result (λ s. string_bytes s ≡ joined base.now path.now) }
-    ensures refused { IfErr result IsMemory }
+    ensures error { IfErr result IsMemory }
 {
     if path.starts_with('/') {
         return Ok(String::from_str(alloc, path)?);
@@ -73,7 +73,7 @@ fn absolute_text(alloc: Global, names: &[&str]) -> Result<String, AllocError>
 /// none at the root.
 pub fn normal(alloc: Global, path: &str) -> CargoResult<String>
     ensures text { IfOk result (λ s. IsNormalOf path.now (string_bytes s)) }
-    ensures refused { IfErr result IsMemory }
+    ensures error { IfErr result IsMemory }
 {
     let parts = parts(alloc, path)?;
     let names = collapsed_names(alloc, &parts)?;
@@ -153,7 +153,7 @@ fn relative_text(alloc: Global, up: usize, down: &[&str]) -> Result<String, Allo
 /// The result is empty where both name the same place. A part `..` of `to` is a part like others.
 pub fn relative(alloc: Global, to: &str, from: &str) -> CargoResult<String>
     ensures text { IfOk result (λ s. IsRelative to.now from.now (string_bytes s)) }
-    ensures refused { IfErr result IsMemory }
+    ensures error { IfErr result IsMemory }
 {
     let to_parts = parts(alloc, to)?;
     let to_names = named_parts(alloc, &to_parts)?;

@@ -42,7 +42,7 @@ impl<I: Index> IndexCache<I> {
     pub fn replace_index(&mut self, index: I) -> I
         ensures was { result ≡ index_of self.old }
         ensures is { index_of self.new ≡ index }
-        ensures kept { HasSameCache self.old self.new }
+        ensures preserved { HasSameCache self.old self.new }
     {
         mem::replace(&mut self.index, index)
     }
@@ -96,9 +96,9 @@ impl<I: Index> IndexCache<I> {
         answer: Option<IndexKrate>,
     ) -> CargoResult<()>
         ensures index { self.new.index ≡ self.old.index }
-        ensures kept { OnOk result (cached_answer_at self.new address.now name.now ≡ Some answer) }
+        ensures preserved { OnOk result (cached_answer_at self.new address.now name.now ≡ Some answer) }
         ensures others { HasSameCacheBut address.now name.now self.old self.new }
-        ensures refused { OnErr result (HasSameCache self.old self.new) }
+        ensures error { OnErr result (HasSameCache self.old self.new) }
         ensures memory { IfErr result IsMemory }
     {
         let key = String::from_str(alloc, name)?;
@@ -141,14 +141,14 @@ impl<I: Index> IndexCache<I> {
         registry: &Url,
         name: &str,
     ) -> CargoResult<Option<&IndexKrate>>
-        ensures kept { IfOk result (λ o. IfSome (cached_answer_at self.old (serialize registry.now) name.now)
+        ensures preserved { IfOk result (λ o. IfSome (cached_answer_at self.old (serialize registry.now) name.now)
             (λ k. option_copied o ≡ k)) }
         ensures given { cached_answer_at self.old (serialize registry.now) name.now ≡ None → IfOk result
             (λ o. (I.view (index_of self.old)).gives registry.now name.now (Ok (answer_of
             (option_copied o)))) }
         // a cached result is returned without an error
         ensures kept_answers { IsSome (cached_answer_at self.old (serialize registry.now) name.now) → IsOk result }
-        ensures refused { IfErr result (IsMissError (I.view (index_of self.old)).gives registry.now name.now
+        ensures error { IfErr result (IsMissError (I.view (index_of self.old)).gives registry.now name.now
             (cached_answer_at self.old (serialize registry.now) name.now)) }
     {
         match self.fetch(alloc, registry, name) {
@@ -211,10 +211,10 @@ impl<I: Index> IndexCache<I> {
     /// lookup.
     pub fn rank_cached(&mut self, alloc: Global, registry: &Url, name: &str) -> CargoResult<()>
         ensures index { index_of self.new ≡ index_of self.old }
-        ensures kept { HasSameCache self.old self.new }
+        ensures preserved { HasSameCache self.old self.new }
         ensures ranked { OnOk result (IsRankedAt (cached_answer_at self.new (serialize registry.now) name.now)
             (ranking_at self.new (serialize registry.now) name.now)) }
-        ensures refused { IfErr result IsMemory }
+        ensures error { IfErr result IsMemory }
     {
         self.rank_at(alloc, registry.as_str(), name)
     }
@@ -222,10 +222,10 @@ impl<I: Index> IndexCache<I> {
     /// `rank_cached`, with the address as text.
     fn rank_at(&mut self, alloc: Global, address: &str, name: &str) -> CargoResult<()>
         ensures index { self.new.index ≡ self.old.index }
-        ensures kept { HasSameCache self.old self.new }
+        ensures preserved { HasSameCache self.old self.new }
         ensures ranked { OnOk result (IsRankedAt (cached_answer_at self.new address.now name.now)
             (ranking_at self.new address.now name.now)) }
-        ensures refused { IfErr result IsMemory }
+        ensures error { IfErr result IsMemory }
     {
         let Some(names) = self.answers.get_mut(address) else {
             return Ok(());
@@ -257,7 +257,7 @@ impl<I: Index> IndexCache<I> {
         registry: &Url,
         name: &str,
     ) -> CargoResult<Option<&Ranked>>
-        ensures kept { IfOk result (λ o. IfSome (cached_answer_at self.old (serialize registry.now) name.now)
+        ensures preserved { IfOk result (λ o. IfSome (cached_answer_at self.old (serialize registry.now) name.now)
             (λ k. IsRanked k (option_copied o))) }
         ensures given { cached_answer_at self.old (serialize registry.now) name.now ≡ None → IfOk result
             (λ o. (k : Option IndexKrate)
@@ -266,7 +266,7 @@ impl<I: Index> IndexCache<I> {
         // with a cached result the only error is lack of memory during the ranking
         ensures kept_answers { IsSome (cached_answer_at self.old (serialize registry.now) name.now)
             → IfErr result IsMemory }
-        ensures refused { IfErr result (IsMissError (I.view (index_of self.old)).gives registry.now name.now
+        ensures error { IfErr result (IsMissError (I.view (index_of self.old)).gives registry.now name.now
             (cached_answer_at self.old (serialize registry.now) name.now)) }
     {
         match self.rank(alloc, registry, name) {

@@ -24,7 +24,7 @@ pub(crate) type Choices = BTreeMap<String, Vec<Choice>>;
 
 /// The first choice for a Rust version.
 fn choice_for(known: &[Choice], rust_version: Option<RustVersion>) -> Option<Choice>
-    ensures asked { IfSome result (λ c. c.rust_version ≡ rust_version) }
+    ensures requested { IfSome result (λ c. c.rust_version ≡ rust_version) }
     ensures among { (ranks : List Ranking) (text : List ℕ) → All (IsChoice ranks text) known.now
         → IfSome result (IsChoice ranks text) }
 {
@@ -42,7 +42,7 @@ pub(crate) fn known_choice(
     text: &str,
     rust_version: Option<RustVersion>,
 ) -> Option<Choice>
-    ensures asked { IfSome result (λ c. c.rust_version ≡ rust_version) }
+    ensures requested { IfSome result (λ c. c.rust_version ≡ rust_version) }
     ensures known { (ranks : List Ranking) → AreChoices ranks choices.now
         → IfSome result (IsChoice ranks text.now) }
 {

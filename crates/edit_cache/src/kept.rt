@@ -32,7 +32,7 @@ impl CachedAnswer {
     pub(crate) fn rank(&mut self, alloc: Global) -> CargoResult<()>
         ensures answer { self.new.answer ≡ self.old.answer }
         ensures ranked { OnOk result (IsRanked self.new.answer self.new.ranked) }
-        ensures refused { IfErr result IsMemory }
+        ensures error { IfErr result IsMemory }
     {
         if self.ranked.is_some() {
             return Ok(());
@@ -53,7 +53,7 @@ impl CachedAnswer {
     ) -> CargoResult<()>
         ensures answer { self.new.answer ≡ self.old.answer }
         ensures ranked { OnOk result (IsRanked self.new.answer self.new.ranked) }
-        ensures refused { IfErr result IsMemory }
+        ensures error { IfErr result IsMemory }
     {
         self.rank(alloc)?;
         if let Some(ranked) = &mut self.ranked {

@@ -47,7 +47,7 @@ fn push_rank(
 ) -> CargoResult<()>
     ensures ok { OnOk result (map rank_of ranks.new.items
         ≡ map rank_of ranks.old.items ++ rank_at place (entry_of told.now)) }
-    ensures refused { IfErr result IsMemory }
+    ensures error { IfErr result IsMemory }
 {
     let Some(candidate) = read_candidate(alloc, told)? else {
         return Ok(());
@@ -64,7 +64,7 @@ fn push_rank(
 /// The ranks of entries, in the order of the entries.
 pub(crate) fn read_ranks(alloc: Global, entries: &[IndexVersion]) -> CargoResult<Vec<Rank>>
     ensures ok { IfOk result (λ v. map rank_of v.items ≡ ranks_from 0 (map entry_of entries.now)) }
-    ensures refused { IfErr result IsMemory }
+    ensures error { IfErr result IsMemory }
 {
     let mut ranks = Vec::with_capacity(alloc, entries.len())?;
     for (place, told) in entries.iter().enumerate() {
@@ -77,7 +77,7 @@ pub(crate) fn read_ranks(alloc: Global, entries: &[IndexVersion]) -> CargoResult
 pub(crate) fn dependency_of(alloc: Global, rank: &Rank) -> CargoResult<Dependency>
     ensures ok { IfOk result
         (IsRegistryDependency (rank_of rank.now).name (parts_text (rank_of rank.now).version)) }
-    ensures refused { IfErr result IsMemory }
+    ensures error { IfErr result IsMemory }
 {
     let version = &rank.version.0;
     let told = IndexVersion {
@@ -168,7 +168,7 @@ pub(crate) fn choose(
     old: &Requirement<'_>,
     rust_version: Option<RustVersion>,
 ) -> Choice
-    ensures asked { result.rust_version ≡ rust_version }
+    ensures requested { result.rust_version ≡ rust_version }
     ensures is { IsChoice (map rank_of ranks.now) (text_in old.now) result }
 {
     Choice {

@@ -52,7 +52,7 @@ impl Ranked {
     /// Ranks the entries of a crate.
     pub fn new(alloc: Global, entries: &[IndexVersion]) -> CargoResult<Ranked>
         ensures ok { IfOk result (λ r. IsRanking (map entry_of entries.now) (ranks_of r)) }
-        ensures refused { IfErr result IsMemory }
+        ensures error { IfErr result IsMemory }
     {
         let mut ranks = read_ranks(alloc, entries)?;
         ranks.sort_unstable();
@@ -84,7 +84,7 @@ impl Ranked {
 
     /// The choice for a requirement and a Rust version: the cached one, or else a new search.
     fn choice(&self, old: &Requirement<'_>, rust_version: Option<RustVersion>) -> Choice
-        ensures asked { result.rust_version ≡ rust_version }
+        ensures requested { result.rust_version ≡ rust_version }
         ensures is { IsChoice (ranks_of self.now) (text_in old.now) result }
     {
         match known_choice(&self.choices, old.text(), rust_version) {
@@ -143,7 +143,7 @@ impl Ranked {
     ) -> CargoResult<Option<Dependency>>
         ensures found { OfEntries self.now (λ entries.
             IfOk result (IsFound (numbers_in rust_version) (wants allow_prerelease req.entry) entries)) }
-        ensures refused { IfErr result IsMemory }
+        ensures error { IfErr result IsMemory }
     {
         match first_wanted(&self.ranks, allow_prerelease, req, rust_version) {
             Some(rank) => Ok(Some(dependency_of(alloc, rank)?)),
@@ -166,7 +166,7 @@ impl Ranked {
             (req : List ℕ) → (IsTrue (holds_dash req) → IsTrue allow_prerelease) → (e : IndexEntry)
             → IsGreatestKept (is_kept (numbers_in rust_version) (is_admitted req)) entry_order entries e
             → IsFoundAtLeast (numbers_in rust_version) (is_allowed allow_prerelease) entries e o)) }
-        ensures refused { IfErr result IsMemory }
+        ensures error { IfErr result IsMemory }
     {
         self.best(alloc, allow_prerelease, None, rust_version)
     }
@@ -181,7 +181,7 @@ impl Ranked {
         ensures found { OfEntries self.now (λ entries.
             IfOk result (IsFound (numbers_in rust_version) (admits (comparators_of version_req.now))
             entries)) }
-        ensures refused { IfErr result IsMemory }
+        ensures error { IfErr result IsMemory }
     {
         self.best(alloc, false, Some(version_req), rust_version)
     }

@@ -95,7 +95,7 @@ impl DocumentExt for Document {
             (tree_of self.old) (tree_of self.new)) }
         ensures pieces { IfOk result (λ _. length self.new.pieces ≤ length self.old.pieces + 2) }
         ensures err { IfErr result (λ _. self.new ≡ self.old) }
-        ensures refused { IfErr result (λ e. IsMemory e ⊎ ((e ≡ EditRefused)
+        ensures error { IfErr result (λ e. IsMemory e ⊎ ((e ≡ EditRefused)
             × InsertFails (place_view place.now) key.now (new_value_view value.now) self.old.bytes)) }
     {
         let text = with_member(self, alloc, place, key, value)?;
@@ -113,7 +113,7 @@ impl DocumentExt for Document {
             (place_view place.now) (tree_of self.old) (tree_of self.new))) }
         ensures err { IfErr result (λ _. self.new ≡ self.old) }
         // Where memory does not run out, an error means that the text without the item has another tree.
-        ensures refused { IfErr result (λ e. IsMemory e ⊎ ((e ≡ EditRefused)
+        ensures error { IfErr result (λ e. IsMemory e ⊎ ((e ≡ EditRefused)
             × RemoveFails (place_view place.now) self.old.bytes)) }
     {
         let text = without(self, alloc, place)?;
@@ -131,7 +131,7 @@ impl DocumentExt for Document {
             (tree_of self.old) (tree_of self.new)) }
         ensures pieces { IfOk result (λ _. length self.new.pieces ≤ length self.old.pieces + 2) }
         ensures err { IfErr result (λ _. self.new ≡ self.old) }
-        ensures refused { IfErr result (λ e. IsMemory e ⊎ ((e ≡ EditRefused)
+        ensures error { IfErr result (λ e. IsMemory e ⊎ ((e ≡ EditRefused)
             × ReplaceFails (place_view place.now) (new_item_view item.now) self.old.bytes)) }
     {
         let text = with_entry(self, alloc, place, item)?;
@@ -148,7 +148,7 @@ impl DocumentExt for Document {
             HasSet (place_view place.now) (new_value_view value.now) (tree_of self.old) (tree_of self.new)) }
         ensures pieces { IfOk result (λ _. length self.new.pieces ≤ length self.old.pieces + 2) }
         ensures err { IfErr result (λ _. self.new ≡ self.old) }
-        ensures refused { IfErr result IsMemory }
+        ensures error { IfErr result IsMemory }
     {
         self.lemma_form();
         let text = with_value(self, alloc, place, value)?;

@@ -22,7 +22,7 @@ pub(crate) fn read_edited(alloc: Global, text: &str) -> CargoResult<Document>
     ensures bytes { IfOk result (λ d. d.bytes ≡ text.now) }
     ensures shows { IfOk result (λ d. IfDocument text.now (λ form. ShowsTree d form)) }
     ensures pieces { IfOk result (λ d. length d.pieces ≤ 1) }
-    ensures refused { IfErr result (λ e. IsMemory e
+    ensures error { IfErr result (λ e. IsMemory e
         ⊎ ((e ≡ EditRefused) × ((form : Text) → IsDocument text.now form → ⊥))) }
 {
     match Document::read(alloc, text) {
@@ -54,7 +54,7 @@ pub(crate) fn accept_inserted(
         (tree_of document.old) (tree_of document.new)) }
     ensures pieces { IfOk result (λ _. length document.new.pieces ≤ length document.old.pieces + 2) }
     ensures err { IfErr result (λ _. document.new ≡ document.old) }
-    ensures refused { IfErr result (λ e. IsMemory e ⊎ ((e ≡ EditRefused)
+    ensures error { IfErr result (λ e. IsMemory e ⊎ ((e ≡ EditRefused)
         × InsertFails (place_view place.now) key.now (new_value_view value.now) document.old.bytes)) }
 {
     document.lemma_form();
@@ -83,7 +83,7 @@ pub(crate) fn accept_replaced(
         (tree_of document.old) (tree_of document.new)) }
     ensures pieces { IfOk result (λ _. length document.new.pieces ≤ length document.old.pieces + 2) }
     ensures err { IfErr result (λ _. document.new ≡ document.old) }
-    ensures refused { IfErr result (λ e. IsMemory e ⊎ ((e ≡ EditRefused)
+    ensures error { IfErr result (λ e. IsMemory e ⊎ ((e ≡ EditRefused)
         × ReplaceFails (place_view place.now) (new_item_view item.now) document.old.bytes)) }
 {
     document.lemma_form();
@@ -111,7 +111,7 @@ pub(crate) fn accept_removed(
     ensures tree { IfOk result (λ _. IfDocument document.old.bytes (λ form. Removed form
         (place_view place.now) (tree_of document.old) (tree_of document.new))) }
     ensures err { IfErr result (λ _. document.new ≡ document.old) }
-    ensures refused { IfErr result (λ e. IsMemory e ⊎ ((e ≡ EditRefused)
+    ensures error { IfErr result (λ e. IsMemory e ⊎ ((e ≡ EditRefused)
         × RemoveFails (place_view place.now) document.old.bytes)) }
 {
     document.lemma_form();

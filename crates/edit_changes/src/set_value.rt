@@ -28,7 +28,7 @@ fn with_range(
     requires { AreInOrder text.now 0 ((start, end, []) ∷ []) }
     ensures text { IfOk result (λ s. string_bytes s
         ≡ take start text.now ++ (value_text (new_value (new_value_view value.now)) [] ++ drop end text.now)) }
-    ensures refused { IfErr result IsMemory }
+    ensures error { IfErr result IsMemory }
 {
     let mut out = String::with_capacity(alloc, text.len())?;
     out.push_str(&text[..start])?;
@@ -47,7 +47,7 @@ pub(crate) fn with_value(
     requires { IfDocument document.now.bytes (λ form. is_value_at form (place_view place.now) ≡ true) }
     ensures bytes { IfOk result (λ s. Becomes document.now.bytes (set_text (place_view place.now)
         (new_value_view value.now)) (string_bytes s)) }
-    ensures refused { IfErr result IsMemory }
+    ensures error { IfErr result IsMemory }
 {
     document.lemma_form();
     match document.value_range(place) {

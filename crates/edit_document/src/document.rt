@@ -66,7 +66,7 @@ impl Document {
         // Every text that is a document is read, whichever form it is spelled from, unless memory runs out.
         ensures only { IfDocument text.now (λ form. MatchResult result (λ d. ShowsTree d form) IsMemory) }
         ensures pieces { IfOk result (λ d. length d.pieces ≤ 1) }
-        ensures refused { IfErr result (IsTokenizeError (length text.now)) }
+        ensures error { IfErr result (IsTokenizeError (length text.now)) }
     {
         let marks = read_marks(alloc, text.as_bytes())?;
         let nodes = nodes_of(alloc, text, marks.as_slice())?;
@@ -253,7 +253,7 @@ impl Document {
     /// A copy with the same text, tree and pieces.
     pub fn try_clone(&self, alloc: Global) -> CargoResult<Document>
         ensures same { IfOk result (λ d. d ≡ self.now) }
-        ensures refused { IfErr result IsMemory }
+        ensures error { IfErr result IsMemory }
     {
         self.lemma_form();
         self.lemma_text();
@@ -265,7 +265,7 @@ impl Document {
     /// A copy of the text, with all edits so far.
     pub fn text(&self, alloc: Global) -> CargoResult<String>
         ensures text { IfOk result (λ s. string_bytes s ≡ self.now.bytes) }
-        ensures refused { IfErr result IsMemory }
+        ensures error { IfErr result IsMemory }
     {
         Ok(String::from_str(alloc, self.as_str())?)
     }

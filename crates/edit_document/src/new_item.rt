@@ -51,7 +51,7 @@ impl NewItem {
     /// Table").
     pub fn text(&self, alloc: Global) -> CargoResult<String>
         ensures text { IfOk result (λ s. string_bytes s ≡ item_text (new_item_view self.now)) }
-        ensures refused { IfErr result IsMemory }
+        ensures error { IfErr result IsMemory }
     {
         let mut out = String::new(alloc);
         push_item(&mut out, self)?;

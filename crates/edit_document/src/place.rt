@@ -11,7 +11,7 @@ use std::alloc::Global;
 /// A copy of a step.
 fn clone_step(alloc: Global, step: &Step) -> CargoResult<Step>
     ensures ok { IfOk result (λ s. step_view s ≡ step_view step.now) }
-    ensures refused { IfErr result IsMemory }
+    ensures error { IfErr result IsMemory }
 {
     match step {
         Step::Key(name) => {
@@ -25,7 +25,7 @@ fn clone_step(alloc: Global, step: &Step) -> CargoResult<Step>
 /// A copy of a place.
 pub fn copied_place(alloc: Global, steps: &[Step]) -> CargoResult<Place>
     ensures ok { IfOk result (λ p. place_view p.items ≡ place_view steps.now) }
-    ensures refused { IfErr result IsMemory }
+    ensures error { IfErr result IsMemory }
 {
     let mut place = Vec::with_capacity(alloc, steps.len())?;
     'steps: for step in steps {
@@ -38,7 +38,7 @@ pub fn copied_place(alloc: Global, steps: &[Step]) -> CargoResult<Place>
 /// The place of a member of the table at a place.
 pub fn member_place(alloc: Global, steps: &[Step], name: &str) -> CargoResult<Place>
     ensures ok { IfOk result (λ p. place_view p.items ≡ at (place_view steps.now) (key name.now)) }
-    ensures refused { IfErr result IsMemory }
+    ensures error { IfErr result IsMemory }
 {
     let mut place = copied_place(alloc, steps)?;
     let name = String::from_str(alloc, name)?;

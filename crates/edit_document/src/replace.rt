@@ -31,7 +31,7 @@ pub(crate) struct Rewrite<'a> {
 pub(crate) fn splice(alloc: Global, text: &str, rewrites: &[Rewrite<'_>]) -> CargoResult<String>
     requires { AreInOrder text.now 0 (map range_of rewrites.now) }
     ensures text { IfOk result (λ s. string_bytes s ≡ spliced text.now 0 (map range_of rewrites.now)) }
-    ensures refused { IfErr result IsMemory }
+    ensures error { IfErr result IsMemory }
 {
     let mut out = String::with_capacity(alloc, text.len())?;
     let mut at = 0;
@@ -54,7 +54,7 @@ pub(crate) fn splice_unordered(
     ensures text { (form : Text) → (edits : Edits)
         → Locates source.now form edits (map range_of rewrites.old)
         → IfOk result (λ s. string_bytes s ≡ text_of (replaced edits form)) }
-    ensures refused { IfErr result IsMemory }
+    ensures error { IfErr result IsMemory }
 {
     rewrites.sort_unstable_by_key(|rewrite| rewrite.start);
     splice(alloc, source, rewrites)
@@ -95,7 +95,7 @@ impl Document {
             Replaces (one_edit (place_view place.now) text.now) self.now.bytes (string_bytes r.0)) }
         ensures swapped { IfOk result (λ r.
             IsSwapped self.now.bytes (literal_bytes text.now) (string_bytes r.0) r.1) }
-        ensures refused { IfErr result IsMemory }
+        ensures error { IfErr result IsMemory }
     {
         self.lemma_form();
         match self.value_range(place) {
@@ -122,7 +122,7 @@ impl Document {
         ensures tree { IfOk result (λ s. IfDocument (string_bytes s) (λ form. (at : PlaceSeen)
             → let edits = edit_views edits.now in
             view_at form at ≡ written edits (tree_without_below edits (tree_of self.now)) at)) }
-        ensures refused { IfErr result IsMemory }
+        ensures error { IfErr result IsMemory }
     {
         self.lemma_form();
         let mut rewrites = Vec::with_capacity(alloc, edits.len())?;
@@ -145,7 +145,7 @@ impl Document {
         ensures piece { IfOk result (λ _. IsAmong (literal_bytes text.now) self.new.pieces) }
         ensures pieces { IfOk result (λ _. length self.new.pieces ≤ length self.old.pieces + 2) }
         ensures err { IfErr result (λ _. self.new ≡ self.old) }
-        ensures refused { IfErr result IsMemory }
+        ensures error { IfErr result IsMemory }
     {
         self.lemma_form();
         self.lemma_pieces();

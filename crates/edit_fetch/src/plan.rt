@@ -38,7 +38,7 @@ fn write_working_file<S: Store>(
         (S.view store.new).file_at }
     ensures tells { (S.view store.new).tells ≡ (S.view store.old).tells }
     ensures later { (S.view store.old).faults ≤ (S.view store.new).faults }
-    ensures refused { IfErr result (λ e. IsMemory e
+    ensures error { IfErr result (λ e. IsMemory e
         ⊎ HasFailedIn (S.view store.old).faults (S.view store.new).faults e) }
 {
     let path = format!(in alloc; "{room}/{name}")?;
@@ -63,7 +63,7 @@ fn write_plan<S: Store>(
     ensures others { HasSameFilesElsewhere room.now (S.view store.old).file_at (S.view store.new).file_at }
     ensures tells { (S.view store.new).tells ≡ (S.view store.old).tells }
     ensures later { (S.view store.old).faults ≤ (S.view store.new).faults }
-    ensures refused { IfErr result (λ e. IsMemory e
+    ensures error { IfErr result (λ e. IsMemory e
         ⊎ HasFailedIn (S.view store.old).faults (S.view store.new).faults e) }
 {
     match write_working_file(alloc, store, room, "lookups", text) {
@@ -93,7 +93,7 @@ pub fn fetch_plan<S: Store>(
         (S.view store.new).file_at plan.now text.now n)) }
     ensures others { HasSameFilesElsewhere plan.now.room.now (S.view store.old).file_at (S.view store.new).file_at }
     ensures tells { (S.view store.new).tells ≡ (S.view store.old).tells }
-    ensures refused { IfErr result (λ e. IsMemory e
+    ensures error { IfErr result (λ e. IsMemory e
         ⊎ HasFailedIn (S.view store.old).faults (S.view store.new).faults e) }
 {
     let Some(lookups) = read_lookups(alloc, text)? else {

@@ -61,7 +61,7 @@ fn cached_etag<S: Store>(alloc: Global, store: &mut S, entry: &str) -> CargoResu
     ensures etag { IfOk result (λ e. (S.view store.old).tells ≡ true
         → IsCachedEtag ((S.view store.old).file_at entry.now)
         ((S.view store.old).file_at (validator_path entry.now)) (option_map string_bytes e)) }
-    ensures refused { IfErr result (λ e. IsMemory e
+    ensures error { IfErr result (λ e. IsMemory e
         ⊎ HasFailed (S.view store.old).faults (S.view store.new).faults e) }
 {
     let validator = validator_path(alloc, entry)?;
@@ -88,7 +88,7 @@ fn request<'a, S: Store>(
     ensures store { OnlyReads (S.view store.old) (S.view store.new) }
     ensures request { IfOk result (λ r. (S.view store.old).tells ≡ true
         → IsRequest (S.view store.old).file_at plan.now number (lookup_text lookup.now) r) }
-    ensures refused { IfErr result (λ e. IsMemory e
+    ensures error { IfErr result (λ e. IsMemory e
         ⊎ HasFailed (S.view store.old).faults (S.view store.new).faults e) }
 {
     let url = fetched_url(alloc, lookup)?;
@@ -116,7 +116,7 @@ pub(crate) fn requests<'a, S: Store>(
     ensures store { OnlyReads (S.view store.old) (S.view store.new) }
     ensures requests { IfOk result (λ v. (S.view store.old).tells ≡ true
         → AreRequests (S.view store.old).file_at plan.now (map lookup_text lookups.now) v.items) }
-    ensures refused { IfErr result (λ e. IsMemory e
+    ensures error { IfErr result (λ e. IsMemory e
         ⊎ HasFailed (S.view store.old).faults (S.view store.new).faults e) }
 {
     let mut requests = Vec::new(alloc);
@@ -142,7 +142,7 @@ pub(crate) fn effective_requests<'a, S: Store>(
     ensures store { OnlyReads (S.view store.old) (S.view store.new) }
     ensures requests { IfOk result (λ v. (S.view store.old).tells ≡ true
         → AreEffectiveRequests (S.view store.old).file_at plan.now (map lookup_text lookups.now) v.items) }
-    ensures refused { IfErr result (λ e. IsMemory e
+    ensures error { IfErr result (λ e. IsMemory e
         ⊎ HasFailed (S.view store.old).faults (S.view store.new).faults e) }
 {
     if plan.settings.offline {

@@ -91,7 +91,7 @@ pub fn net_settings<S: Store>(
     ensures store { OnlyReads (S.view store.old) (S.view store.new) }
     ensures read { IfOk result (λ s. (S.view store.old).tells ≡ true
         → AreSettings (S.view store.old).file_at environment.now configs.now (settings_view s)) }
-    ensures refused { IfErr result (λ e. IsMemory e
+    ensures error { IfErr result (λ e. IsMemory e
         ⊎ HasFailed (S.view store.old).faults (S.view store.new).faults e) }
 {
     let mut values = environment.values(alloc)?;

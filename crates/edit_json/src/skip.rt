@@ -22,7 +22,7 @@ pub fn skip_value(reader: &mut Reader<'_>, depth: usize) -> Option<()>
     ensures shorter { IfSome result (λ _. length reader.new < length reader.old) }
     ensures value { IfSome result
         (λ _. (d : Data) × ReadsValue depth reader.old d reader.new) }
-    ensures refused { result ≡ None → ReadsNoValue depth reader.old }
+    ensures error { result ≡ None → ReadsNoValue depth reader.old }
 {
     match reader.next() {
         Some(Token::String(_text)) => Some(()),
@@ -59,7 +59,7 @@ pub fn skip_value(reader: &mut Reader<'_>, depth: usize) -> Option<()>
 fn skip_items(reader: &mut Reader<'_>, depth: usize) -> Option<()>
     ensures shorter { IfSome result (λ _. length reader.new < length reader.old) }
     ensures value { IfSome result (λ _. (ds : Items) × ReadsItems depth reader.old ds reader.new) }
-    ensures refused { result ≡ None → ReadsNoItems depth reader.old }
+    ensures error { result ≡ None → ReadsNoItems depth reader.old }
 {
     while !reader.take_end_array() {
         skip_value(reader, depth)?;
@@ -73,7 +73,7 @@ fn skip_items(reader: &mut Reader<'_>, depth: usize) -> Option<()>
 fn skip_members(reader: &mut Reader<'_>, depth: usize) -> Option<()>
     ensures shorter { IfSome result (λ _. length reader.new < length reader.old) }
     ensures value { IfSome result (λ _. (ms : Members) × ReadsMembers depth reader.old ms reader.new) }
-    ensures refused { result ≡ None → ReadsNoMembers depth reader.old }
+    ensures error { result ≡ None → ReadsNoMembers depth reader.old }
 {
     while let Some(_) = reader.next_key().ok()? {
         skip_value(reader, depth)?;

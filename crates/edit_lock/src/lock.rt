@@ -103,8 +103,8 @@ impl Lock {
     /// all else is ignored. `Metadata` where that is not so, where the bytes are not UTF-8 and where `toml`
     /// does not read the text.
     pub fn read(alloc: Global, bytes: &[u8]) -> CargoResult<Lock>
-        ensures said { IfOk result (λ l. LocksPackages bytes.now (lock_view l)) }
-        ensures refused { IfErr result (λ e. IsMemory e ⊎ ((e ≡ Metadata) × IsNoLock bytes.now)) }
+        ensures content { IfOk result (λ l. LocksPackages bytes.now (lock_view l)) }
+        ensures error { IfErr result (λ e. IsMemory e ⊎ ((e ≡ Metadata) × IsNoLock bytes.now)) }
     {
         let Ok(text) = std::str::from_utf8(bytes) else {
             return Err(Error::Metadata);

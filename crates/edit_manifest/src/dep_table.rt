@@ -61,7 +61,7 @@ impl DepTable {
     /// Returns the table with its target set.
     pub fn set_target(self, alloc: Global, target: &str) -> CargoResult<DepTable>
         ensures ok { IfOk result (λ t. table_view t ≡ (self.kind, Some target.now)) }
-        ensures refused { IfErr result IsMemory }
+        ensures error { IfErr result IsMemory }
     {
         let target = String::from_str(alloc, target)?;
         Ok(DepTable {
@@ -84,7 +84,7 @@ impl DepTable {
     /// Returns a deep copy of the table.
     pub fn try_clone(&self, _alloc: Global) -> CargoResult<DepTable>
         ensures same { IfOk result (λ t. table_view t ≡ table_view self.now) }
-        ensures refused { IfErr result IsMemory }
+        ensures error { IfErr result IsMemory }
     {
         let target = match &self.target {
             Some(target) => Some(target.clone()?),

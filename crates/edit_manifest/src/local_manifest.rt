@@ -37,7 +37,7 @@ fn load<S: Store>(alloc: Global, store: &mut S, path: String) -> CargoResult<Loc
     ensures path { IfOk result (λ m. m.path ≡ path) }
     ensures read { IfOk result (λ m. (S.view store.old).tells ≡ true
         → (S.view store.old).file_at (string_bytes path) ≡ Some m.manifest.document.bytes) }
-    ensures refused { IfErr result (λ e.
+    ensures error { IfErr result (λ e.
         IsFault call.Read (S.view store.old).faults (S.view store.new).faults e
         ⊎ ((S.view store.old).tells ≡ true
         → IsBadFile ((S.view store.old).file_at (string_bytes path)) e)) }
@@ -67,7 +67,7 @@ impl LocalManifest {
         ensures found { IfOk result (λ m. (S.view store.old).tells ≡ true
             → IsFound (S.view store.old).file_at current.now
             (option_map (λ s. s.now) specified.entry) (string_bytes m.path) m.manifest.document.bytes) }
-        ensures refused { IfErr result (IsUnfoundOrUnread (S.view store.old) (S.view store.new)
+        ensures error { IfErr result (IsUnfoundOrUnread (S.view store.old) (S.view store.new)
             current.now (option_map (λ s. s.now) specified.entry)) }
         // for any store
         ensures only { IfErr result (λ e.
@@ -88,7 +88,7 @@ impl LocalManifest {
         ensures absolute { OnOk result (is_absolute path.now ≡ true) }
         ensures read { IfOk result (λ m. (S.view store.old).tells ≡ true
             → (S.view store.old).file_at path.now ≡ Some m.manifest.document.bytes) }
-        ensures refused { IfErr result (IsUnloaded (S.view store.old) (S.view store.new) path.now) }
+        ensures error { IfErr result (IsUnloaded (S.view store.old) (S.view store.new) path.now) }
         // for any store
         ensures only { IfErr result (λ e.
             IsFault call.Read (S.view store.old).faults (S.view store.new).faults e

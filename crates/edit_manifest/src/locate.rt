@@ -17,7 +17,7 @@ fn is_there<S: Store>(alloc: Global, store: &mut S, path: &str) -> CargoResult<b
     ensures there { IfOk result (λ b. (S.view store.old).tells ≡ true
         → MatchBool b (IsThere (S.view store.old).file_at path.now)
         (IsMissing (S.view store.old).file_at path.now)) }
-    ensures refused { IfErr result
+    ensures error { IfErr result
         (IsFault call.Kind (S.view store.old).faults (S.view store.new).faults) }
 {
     match store.kind(alloc, path) {
@@ -35,7 +35,7 @@ fn manifest_at<S: Store>(alloc: Global, store: &mut S, dir: &str) -> CargoResult
         → MatchOption o (IsMissing (S.view store.old).file_at (manifest_in dir.now))
         (λ p. (string_bytes p ≡ manifest_in dir.now)
         × IsThere (S.view store.old).file_at (manifest_in dir.now))) }
-    ensures refused { IfErr result
+    ensures error { IfErr result
         (IsFault call.Kind (S.view store.old).faults (S.view store.new).faults) }
 {
     let path = join(alloc, dir, "Cargo.toml")?;
@@ -61,7 +61,7 @@ fn search<S: Store>(alloc: Global, store: &mut S, start: &str) -> CargoResult<St
     ensures store { OnlyReads (S.view store.old) (S.view store.new) }
     ensures found { IfOk result (λ p. (S.view store.old).tells ≡ true
         → IsNearest (S.view store.old).file_at start.now (string_bytes p)) }
-    ensures refused { IfErr result (λ e.
+    ensures error { IfErr result (λ e.
         IsFault call.Kind (S.view store.old).faults (S.view store.new).faults e
         ⊎ ((S.view store.old).tells ≡ true → IsNotFound (S.view store.old).file_at start.now e)) }
     // for any store
@@ -86,7 +86,7 @@ fn find_at<S: Store>(alloc: Global, store: &mut S, path: String) -> CargoResult<
     ensures store { OnlyReads (S.view store.old) (S.view store.new) }
     ensures found { IfOk result (λ p. (S.view store.old).tells ≡ true
         → IsManifestAt (S.view store.old).file_at (string_bytes path) (string_bytes p)) }
-    ensures refused { IfErr result (λ e.
+    ensures error { IfErr result (λ e.
         IsFault call.Kind (S.view store.old).faults (S.view store.new).faults e
         ⊎ ((S.view store.old).tells ≡ true
         → IsSearchError (S.view store.old).file_at (string_bytes path) e)) }
@@ -116,7 +116,7 @@ pub fn find<S: Store>(
     ensures found { IfOk result (λ p. (S.view store.old).tells ≡ true
         → IsManifestPath (S.view store.old).file_at current.now
         (option_map (λ s. s.now) specified.entry) (string_bytes p)) }
-    ensures refused { IfErr result (λ e.
+    ensures error { IfErr result (λ e.
         IsFault call.Kind (S.view store.old).faults (S.view store.new).faults e
         ⊎ ((S.view store.old).tells ≡ true → HasNoManifest (S.view store.old).file_at current.now e
         (option_map (λ s. s.now) specified.entry))) }

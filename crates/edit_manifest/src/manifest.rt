@@ -27,7 +27,7 @@ impl Manifest {
             (λ m. (form : Text) × IsDocument text.now form × ShowsTree m.document form) }
         ensures only { IfDocument text.now (λ form. MatchResult result (λ m. ShowsTree m.document form)
             IsMemory) }
-        ensures refused { IfErr result (IsTokenizeError (length text.now)) }
+        ensures error { IfErr result (IsTokenizeError (length text.now)) }
     {
         let document = Document::read(alloc, text)?;
         Ok(Manifest { document })
@@ -40,7 +40,7 @@ impl Manifest {
         ensures utf8 { OnOk result (IsUtf8 bytes.now) }
         ensures found { IfOk result
             (λ m. (form : Text) × IsDocument bytes.now form × ShowsTree m.document form) }
-        ensures refused { IfErr result (IsBadManifest bytes.now) }
+        ensures error { IfErr result (IsBadManifest bytes.now) }
     {
         let Ok(text) = str::from_utf8(bytes) else {
             return Err(Error::NotUtf8);
@@ -51,7 +51,7 @@ impl Manifest {
     /// Returns a deep copy of the manifest.
     pub fn try_clone(&self, alloc: Global) -> CargoResult<Manifest>
         ensures same { IfOk result (λ m. m ≡ self.now) }
-        ensures refused { IfErr result IsMemory }
+        ensures error { IfErr result IsMemory }
     {
         let document = self.document.try_clone(alloc)?;
         Ok(Manifest { document })

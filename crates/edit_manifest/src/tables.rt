@@ -129,7 +129,7 @@ fn push_under(
 /// tables of the three kinds, `workspace.dependencies`, and the tables of the three kinds of each target.
 pub fn dependency_tables(alloc: Global, document: &Document) -> CargoResult<Vec<Place>>
     ensures ok { IfOk result (λ ps. places_view ps.items ≡ dependency_tables (tree_of document.now)) }
-    ensures refused { IfErr result IsMemory }
+    ensures error { IfErr result IsMemory }
 {
     let mut tables = Vec::new(alloc);
     let Some(root) = document.item(&[]) else {
@@ -148,7 +148,7 @@ impl Manifest {
     pub fn get_dependency_tables_mut(&self, alloc: Global) -> CargoResult<Vec<Place>>
         ensures ok { IfOk result
             (λ ps. places_view ps.items ≡ dependency_tables (tree_of self.now.document)) }
-        ensures refused { IfErr result IsMemory }
+        ensures error { IfErr result IsMemory }
     {
         dependency_tables(alloc, &self.document)
     }
@@ -157,7 +157,7 @@ impl Manifest {
     pub fn get_workspace_dependency_table_mut(&self, alloc: Global) -> CargoResult<Option<Place>>
         ensures ok { IfOk result (λ o. option_map (λ p. place_view p.items) o
             ≡ table_at (tree_of self.now.document) shared) }
-        ensures refused { IfErr result IsMemory }
+        ensures error { IfErr result IsMemory }
     {
         let names = ["workspace", NORMAL];
         Ok(table_at(alloc, &self.document, &names)?)

@@ -27,7 +27,7 @@ fn set_version_at(
     ensures set { OnOk result (SetsVersion (keyed (texts names.now)) (version_text version.now)
         document.old document.new) }
     ensures err { IfErr result (λ _. document.new ≡ document.old) }
-    ensures refused { IfErr result (IsUnset document.old (keyed (texts names.now))) }
+    ensures error { IfErr result (IsUnset document.old (keyed (texts names.now))) }
 {
     let place = place_of(alloc, names)?;
     let text = format!(in alloc; "{version}")?;
@@ -49,7 +49,7 @@ impl Manifest {
     pub fn get_workspace_version(&self, alloc: Global) -> CargoResult<Option<Version>>
         ensures ok { IfOk result (λ o. option_map parts_of o
             ≡ workspace_version (tree_of self.now.document)) }
-        ensures refused { IfErr result IsMemory }
+        ensures error { IfErr result IsMemory }
     {
         match string_at(&self.document, "workspace", "package", "version") {
             Some(text) => read_version(alloc, text),
@@ -63,7 +63,7 @@ impl Manifest {
         ensures set { OnOk result (SetsVersion package_version (version_text version.now)
             self.old.document self.new.document) }
         ensures err { IfErr result (λ _. self.new ≡ self.old) }
-        ensures refused { IfErr result (IsUnset self.old.document package_version) }
+        ensures error { IfErr result (IsUnset self.old.document package_version) }
     {
         set_version_at(alloc, &mut self.document, &["package", "version"], version)
     }
@@ -74,7 +74,7 @@ impl Manifest {
         ensures set { OnOk result (SetsVersion shared_version (version_text version.now)
             self.old.document self.new.document) }
         ensures err { IfErr result (λ _. self.new ≡ self.old) }
-        ensures refused { IfErr result (IsUnset self.old.document shared_version) }
+        ensures error { IfErr result (IsUnset self.old.document shared_version) }
     {
         let names = ["workspace", "package", "version"];
         set_version_at(alloc, &mut self.document, &names, version)
@@ -87,7 +87,7 @@ impl Manifest {
 pub fn get_dep_version<'a>(item: Item<'a>) -> CargoResult<&'a str>
     ensures ok { IfOk result
         (λ s. dep_version (tree_of (document_of item.entry)) (item_place item.entry) ≡ Ok s.now) }
-    ensures refused { IfErr result
+    ensures error { IfErr result
         (λ e. dep_version (tree_of (document_of item.entry)) (item_place item.entry) ≡ Err e) }
 {
     item.stands();
@@ -110,7 +110,7 @@ pub fn get_dep_version<'a>(item: Item<'a>) -> CargoResult<&'a str>
 fn version_place(alloc: Global, document: &Document, place: &[Step]) -> CargoResult<Place>
     ensures ok { IfOk result (λ p. version_place (tree_of document.now) (place_view place.now)
         ≡ Ok (place_view p.items)) }
-    ensures refused { IfErr result (λ e. IsMemory e
+    ensures error { IfErr result (λ e. IsMemory e
         ⊎ (version_place (tree_of document.now) (place_view place.now) ≡ Err e)) }
 {
     let Some(item) = document.item(place) else {
@@ -141,7 +141,7 @@ pub fn set_dep_version(
     ensures answered { OnOk result
         (dep_version (tree_of document.new) (place_view place.now) ≡ Ok text.now) }
     ensures err { IfErr result (λ _. document.new ≡ document.old) }
-    ensures refused { IfErr result (IsUnsetDependency document.old (place_view place.now)) }
+    ensures error { IfErr result (IsUnsetDependency document.old (place_view place.now)) }
 {
     let literal = version_place(alloc, document, place)?;
     if !document.is_value(&literal) {

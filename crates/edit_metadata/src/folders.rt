@@ -14,7 +14,7 @@ use std::collections::BTreeSet;
 /// The folder of a manifest, whose path is normalised first.
 fn manifest_folder(alloc: Global, path: &str) -> CargoResult<String>
     ensures ok { IfOk result (λ s. IsManifestFolder path.now (string_bytes s)) }
-    ensures refused { IfErr result IsMemory }
+    ensures error { IfErr result IsMemory }
 {
     let path = normal(alloc, path)?;
     let folder = folder(path.as_str());
@@ -25,7 +25,7 @@ fn manifest_folder(alloc: Global, path: &str) -> CargoResult<String>
 fn member_folders(alloc: Global, packages: &[Package]) -> CargoResult<Vec<String>>
     ensures ok { IfOk result (λ v. AllZip IsManifestFolder (member_paths (packages_view packages.now))
         (map string_bytes v.items)) }
-    ensures refused { IfErr result IsMemory }
+    ensures error { IfErr result IsMemory }
 {
     let mut folders = Vec::new(alloc);
     'packages: for package in packages {
@@ -66,7 +66,7 @@ fn shared(alloc: Global, folder: &str) -> Error
 /// Returns `Error::FolderTwice` where the manifests of two members are in one folder.
 pub(crate) fn check_folders(alloc: Global, packages: &[Package]) -> CargoResult<()>
     ensures own { OnOk result (HaveOwnFolders (member_paths (packages_view packages.now))) }
-    ensures refused { IfErr result (λ e. IsMemory e
+    ensures error { IfErr result (λ e. IsMemory e
         ⊎ ShareNamed (member_paths (packages_view packages.now)) e) }
 {
     let folders = member_folders(alloc, packages)?;

@@ -44,7 +44,7 @@ fn copy_text(alloc: Global, text: Option<&str>) -> Result<Option<String>, AllocE
 fn rust_version_of(alloc: Global, text: Option<&str>) -> CargoResult<Option<RustVersion>>
     ensures ok { IfOk result (λ v. option_map numbers_of v
         ≡ option_and_then rust_of (option_map (λ s. s.now) text.entry)) }
-    ensures refused { IfErr result IsMemory }
+    ensures error { IfErr result IsMemory }
 {
     match text {
         Some(text) => read_rust_version(alloc, text),
@@ -60,7 +60,7 @@ fn package_of(
 ) -> CargoResult<Option<Package>>
     ensures ok { IfOk result (λ o. IfSome o (λ p. (d : Data) → HasPackageTexts d texts.now
         → IsPackageValue (holds ids.now) d (package_view p))) }
-    ensures refused { IfErr result IsMemory }
+    ensures error { IfErr result IsMemory }
 {
     let Some(name) = texts.name else {
         return Ok(None);
@@ -100,7 +100,7 @@ fn packages_of(
 ) -> CargoResult<Option<Vec<Package>>>
     ensures ok { IfOk result (λ o. IfSome o (λ v. (ds : List Data) → AllZip HasPackageTexts ds texts.now
         → AllZip (IsPackageValue (holds ids.now)) ds (map package_view v.items))) }
-    ensures refused { IfErr result IsMemory }
+    ensures error { IfErr result IsMemory }
 {
     let mut packages = Vec::with_capacity(alloc, texts.len())?;
     'texts: for package in texts {
@@ -116,7 +116,7 @@ fn packages_of(
 fn workspace_of(alloc: Global, texts: &WorkspaceTexts<'_>) -> CargoResult<Option<Workspace>>
     ensures ok { IfOk result (λ o. IfSome o (λ w. (d : Data) → HasWorkspaceTexts d texts.now
         → IsWorkspaceValue d (workspace_view w))) }
-    ensures refused { IfErr result IsMemory }
+    ensures error { IfErr result IsMemory }
 {
     let Some(root) = texts.root else {
         return Ok(None);
@@ -144,7 +144,7 @@ fn workspace_of(alloc: Global, texts: &WorkspaceTexts<'_>) -> CargoResult<Option
 /// a tree.
 pub(crate) fn read_without_tree(alloc: Global, json: &[u8]) -> CargoResult<Option<Workspace>>
     ensures ok { IfOk result (λ o. IfSome o (λ w. AreMetadata json.now (workspace_view w))) }
-    ensures refused { IfErr result IsMemory }
+    ensures error { IfErr result IsMemory }
 {
     let Ok(text) = simdutf8::compat::from_utf8(json) else {
         return Ok(None);

@@ -66,7 +66,7 @@ fn read_manifest<S: Store>(alloc: Global, store: &mut S, path: &str) -> CargoRes
     ensures reads { OnlyReads (S.view store.old) (S.view store.new) }
     ensures bytes { IfOk result (λ v. (S.view store.old).tells ≡ true
         → (S.view store.old).file_at path.now ≡ Some v.items) }
-    ensures refused { IfErr result (λ e. IsCallError call.Read (S.view store.old) (S.view store.new) e
+    ensures error { IfErr result (λ e. IsCallError call.Read (S.view store.old) (S.view store.new) e
         ⊎ ((e ≡ NoManifest) × ((S.view store.old).tells ≡ true
         → (S.view store.old).file_at path.now ≡ None))) }
 {
@@ -90,7 +90,7 @@ fn member_input<S: Store>(
         (manifest_of (package_view member.now))) }
     ensures bytes { IfOk result (λ i. (S.view store.old).tells ≡ true
         → IsReadFrom (S.view store.old).file_at i) }
-    ensures refused { IfErr result (IsNoInput (S.view store.old) (S.view store.new)
+    ensures error { IfErr result (IsNoInput (S.view store.old) (S.view store.new)
         (manifest_of (package_view member.now) ∷ [])) }
 {
     let name = String::from_str(alloc, member.name.as_str())?;
@@ -119,7 +119,7 @@ fn member_inputs<S: Store>(
         (member_manifests (packages_view packages.now)) v.items) }
     ensures bytes { IfOk result (λ v. (S.view store.old).tells ≡ true
         → All (IsReadFrom (S.view store.old).file_at) v.items) }
-    ensures refused { IfErr result (IsNoInput (S.view store.old) (S.view store.new)
+    ensures error { IfErr result (IsNoInput (S.view store.old) (S.view store.new)
         (member_manifests (packages_view packages.now))) }
 {
     let mut inputs = Vec::new(alloc);
@@ -148,7 +148,7 @@ fn has_path(inputs: &[Input], path: &str) -> bool
 fn root_path(alloc: Global, workspace: &Workspace) -> CargoResult<String>
     ensures path { IfOk result (λ s. IsNormalOf (root_manifest (workspace_view workspace.now)).path
         (string_bytes s)) }
-    ensures refused { IfErr result IsMemory }
+    ensures error { IfErr result IsMemory }
 {
     let path = join(alloc, workspace.root.as_str(), "Cargo.toml")?;
     normal(alloc, path.as_str())
@@ -167,7 +167,7 @@ fn root_input<S: Store>(
     ensures rust_version { IfOk result (λ i. i.rust_version ≡ rust_version) }
     ensures bytes { IfOk result (λ i. (S.view store.old).tells ≡ true
         → IsReadFrom (S.view store.old).file_at i) }
-    ensures refused { IfErr result (λ e. IsCallError call.Read (S.view store.old) (S.view store.new) e
+    ensures error { IfErr result (λ e. IsCallError call.Read (S.view store.old) (S.view store.new) e
         ⊎ ((e ≡ NoManifest) × ((S.view store.old).tells ≡ true
         → (S.view store.old).file_at (string_bytes path) ≡ None))) }
 {
@@ -200,7 +200,7 @@ pub fn workspace_inputs<S: Store>(
         (workspace_view workspace.now) v.items) }
     ensures bytes { IfOk result (λ v. (S.view store.old).tells ≡ true
         → All (IsReadFrom (S.view store.old).file_at) v.items) }
-    ensures refused { IfErr result (IsNoInput (S.view store.old) (S.view store.new)
+    ensures error { IfErr result (IsNoInput (S.view store.old) (S.view store.new)
         (manifests (workspace_view workspace.now))) }
 {
     let mut inputs = member_inputs(alloc, store, &workspace.packages, rust_version, ignore)?;

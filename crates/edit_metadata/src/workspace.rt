@@ -63,8 +63,8 @@ fn workspace_from_value(alloc: Global, value: &Value) -> CargoResult<Workspace>
 
 /// Parses the output of `cargo metadata` by way of a tree.
 fn read_by_tree(alloc: Global, json: &[u8]) -> CargoResult<Workspace>
-    ensures said { IfOk result (λ w. AreMetadata json.now (workspace_view w)) }
-    ensures refused { IfErr result (λ e. IsMemory e ⊎ ((e ≡ Metadata) × HaveNoWorkspace json.now)) }
+    ensures content { IfOk result (λ w. AreMetadata json.now (workspace_view w)) }
+    ensures error { IfErr result (λ e. IsMemory e ⊎ ((e ≡ Metadata) × HaveNoWorkspace json.now)) }
 {
     match Value::from_slice(alloc, json) {
         Ok(value) => workspace_from_value(alloc, &value),
@@ -75,8 +75,8 @@ fn read_by_tree(alloc: Global, json: &[u8]) -> CargoResult<Workspace>
 
 /// Parses the output of `cargo metadata`: token by token, or else by way of a tree.
 fn read_json(alloc: Global, json: &[u8]) -> CargoResult<Workspace>
-    ensures said { IfOk result (λ w. AreMetadata json.now (workspace_view w)) }
-    ensures refused { IfErr result (λ e. IsMemory e ⊎ ((e ≡ Metadata) × HaveNoWorkspace json.now)) }
+    ensures content { IfOk result (λ w. AreMetadata json.now (workspace_view w)) }
+    ensures error { IfErr result (λ e. IsMemory e ⊎ ((e ≡ Metadata) × HaveNoWorkspace json.now)) }
 {
     match read_without_tree(alloc, json) {
         Ok(Some(workspace)) => Ok(workspace),
@@ -97,7 +97,7 @@ impl Workspace {
         ensures workspace { IfOk result (λ w. AreMetadata json.now (workspace_view w)) }
         ensures folders { IfOk result (λ w. HasOwnFolders (workspace_view w)) }
         ensures readable { IfOk result (λ w. All (λ p. IsReadable (parts_of p.version)) w.packages.items) }
-        ensures refused { IfErr result (IsNoWorkspace json.now) }
+        ensures error { IfErr result (IsNoWorkspace json.now) }
     {
         let workspace = read_json(alloc, json)?;
         check_folders(alloc, &workspace.packages)?;
@@ -116,7 +116,7 @@ fn is_member_named(found: &Package, name: &str) -> bool
 pub fn manifest_from_pkgid<'a>(workspace: &'a Workspace, name: &str) -> CargoResult<&'a Package>
     ensures found { IfOk result (λ p. find (is_member_named name.now) workspace.now.packages.items
         ≡ Some p.now) }
-    ensures refused { IfErr result (λ e. (e ≡ VirtualManifest)
+    ensures error { IfErr result (λ e. (e ≡ VirtualManifest)
         × (find (is_member_named name.now) workspace.now.packages.items ≡ None)) }
 {
     'packages: for package in &workspace.packages {

@@ -31,7 +31,7 @@ fn status_of_value(value: &str) -> Option<bool>
 /// Whether the value of an option allows or ignores a kind of upgrade; any other value is an error.
 fn status_of<'a>(matches: &ArgMatches<'a>, option: &'static str) -> Result<bool, ArgsError<'a>>
     ensures ok { IfOk result (λ s. status_of option.now (rows_of (found_of matches.now)) ≡ Some s) }
-    ensures refused { IfErr result (λ _. status_of option.now (rows_of (found_of matches.now)) ≡ None) }
+    ensures error { IfErr result (λ _. status_of option.now (rows_of (found_of matches.now)) ≡ None) }
 {
     let value = matches.get_str(option).unwrap_or("");
     match status_of_value(value) {
@@ -65,7 +65,7 @@ fn verbosity(more: u8, less: u8) -> i8
 /// Parses a version of Rust.
 fn named_rust<'a>(alloc: Global, text: &'a str) -> Result<RustChoice, ArgsError<'a>>
     ensures ok { IfOk result (IsRust (Some text.now) false) }
-    ensures refused { IfErr result (λ e. e ≢ words.Memory → HasNoRust (Some text.now) false) }
+    ensures error { IfErr result (λ e. e ≢ words.Memory → HasNoRust (Some text.now) false) }
 {
     match RustVersion::from_str(alloc, text) {
         Ok(version) => Ok(RustChoice::Given(version)),
@@ -81,7 +81,7 @@ fn rust_choice<'a>(
     ignored: bool,
 ) -> Result<RustChoice, ArgsError<'a>>
     ensures ok { IfOk result (IsRust (option_map (λ s. s.now) named.entry) ignored) }
-    ensures refused { IfErr result (λ e. e ≢ words.Memory
+    ensures error { IfErr result (λ e. e ≢ words.Memory
         → HasNoRust (option_map (λ s. s.now) named.entry) ignored) }
 {
     match (named, ignored) {
@@ -98,7 +98,7 @@ fn rust_choice<'a>(
 /// The options of an upgrade, from parsed arguments of `upgrade`.
 fn options_of<'a>(alloc: Global, matches: &ArgMatches<'a>) -> Result<Options, ArgsError<'a>>
     ensures options { IfOk result (HasOptions (rows_of (found_of matches.now))) }
-    ensures refused { IfErr result (λ e. e ≢ words.Memory → HasBadStatus (rows_of (found_of matches.now))) }
+    ensures error { IfErr result (λ e. e ≢ words.Memory → HasBadStatus (rows_of (found_of matches.now))) }
 {
     Ok(Options {
         compatible: status_of(matches, "compatible")?,
@@ -129,7 +129,7 @@ pub(crate) fn parse_upgrade_args<'a>(
     matches: &ArgMatches<'a>,
 ) -> Result<UpgradeWords<'a>, ArgsError<'a>>
     ensures asks { IfOk result (HasUpgradeArgs (rows_of (found_of matches.now))) }
-    ensures refused { IfErr result (λ e. e ≢ words.Memory
+    ensures error { IfErr result (λ e. e ≢ words.Memory
         → HaveUpgradeFault (rows_of (found_of matches.now))) }
 {
     if has_two_indexes(matches) {

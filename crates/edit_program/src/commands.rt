@@ -48,7 +48,7 @@ fn run_upgrade<S: Store, T: Store + Drop, O: io::Write, E: io::Write>(
         (Appends (E.contents err.old) (E.contents err.new))
         (run_at place.now.current.now (given place.now.cargo_home)
         (T.view index_files) (S.view files.old) (S.view files.new))) }
-    ensures refused { OnErr result ((S.view files.old).tells ≡ true
+    ensures error { OnErr result ((S.view files.old).tells ≡ true
         → SameFiles (S.view files.old).file_at (S.view files.new).file_at
         ⊎ HasBroken (rows_of (found_of matches.now)) (Appends (O.contents out.old) (O.contents out.new))
         (run_at place.now.current.now (given place.now.cargo_home)
@@ -59,7 +59,7 @@ fn run_upgrade<S: Store, T: Store + Drop, O: io::Write, E: io::Write>(
         (T.view index_files) (S.view files.old) (S.view files.new)) r.error) }
     ensures counted { IfErr result (λ r. CountsEitherFault T.view index_files
         (S.view files.old) (S.view files.new) r.error) }
-    ensures asked { IfOk result (λ s. s ≡ 1
+    ensures requested { IfOk result (λ s. s ≡ 1
         → is_given (codes "check") (rows_of (found_of matches.now)) ≡ true) }
 {
     let words = match parse_upgrade_args(alloc, matches) {
@@ -83,7 +83,7 @@ fn run_looks<S: Store, O: io::Write, E: io::Write>(
 ) -> RunResult<u8>
     ensures status { IfOk result (λ s. s ≤ 2) }
     ensures answered { IfOk result (λ s. s ≡ 2 → files.new ≡ files.old) }
-    ensures kept { SameFiles (S.view files.old).file_at (S.view files.new).file_at }
+    ensures preserved { SameFiles (S.view files.old).file_at (S.view files.new).file_at }
     ensures fault { IfOk result (λ s. s ≡ 2 → HaveUpgradeFault (rows_of (found_of matches.now))) }
     ensures done { IfOk result (λ s. s ≢ 2 → (S.view files.old).tells ≡ true
         → (s ≡ 0) × HasPrintedLookups (rows_of (found_of matches.now))
@@ -92,7 +92,7 @@ fn run_looks<S: Store, O: io::Write, E: io::Write>(
     ensures why { IfErr result (λ r. IsMemory r.error ⊎ HasLookupsCause (rows_of (found_of matches.now))
         current.now (given cargo_home.entry) (S.view files.old) (S.view files.new) r.error) }
     ensures counted { IfErr result (λ r. CountsFault (S.view files.old) (S.view files.new) r.error) }
-    ensures asked { IfOk result (λ s. s ≢ 1) }
+    ensures requested { IfOk result (λ s. s ≢ 1) }
 {
     let words = match parse_upgrade_args(alloc, matches) {
         Ok(words) => words,
@@ -122,7 +122,7 @@ fn run_set_version<S: Store, O: io::Write, E: io::Write>(
         (Appends (O.contents out.old) (O.contents out.new))
         (Appends (E.contents err.old) (E.contents err.new))
         current.now (S.view files.old) (S.view files.new)) }
-    ensures refused { OnErr result ((S.view files.old).tells ≡ true
+    ensures error { OnErr result ((S.view files.old).tells ≡ true
         → SameFiles (S.view files.old).file_at (S.view files.new).file_at
         ⊎ HasStoppedSetting (rows_of (found_of matches.now))
         (Appends (O.contents out.old) (O.contents out.new))
@@ -131,7 +131,7 @@ fn run_set_version<S: Store, O: io::Write, E: io::Write>(
     ensures why { IfErr result (λ r. IsMemory r.error ⊎ HasSetVersionCause (rows_of (found_of matches.now))
         current.now (S.view files.old) (S.view files.new) r.error) }
     ensures counted { IfErr result (λ r. CountsFault (S.view files.old) (S.view files.new) r.error) }
-    ensures asked { IfOk result (λ s. s ≡ 1
+    ensures requested { IfOk result (λ s. s ≡ 1
         → is_given (codes "check") (rows_of (found_of matches.now)) ≡ true) }
 {
     let words = match version_words(alloc, matches) {
@@ -165,7 +165,7 @@ pub(crate) fn run_subcommand<S: Store, T: Store + Drop, O: io::Write, E: io::Wri
         (Appends (E.contents err.old) (E.contents err.new))
         (run_at place.now.current.now (given place.now.cargo_home)
         (T.view index_files) (S.view files.old) (S.view files.new))) }
-    ensures refused { OnErr result ((S.view files.old).tells ≡ true
+    ensures error { OnErr result ((S.view files.old).tells ≡ true
         → SameFiles (S.view files.old).file_at (S.view files.new).file_at
         ⊎ IsBrokenBy subcommand.entry.0.now (rows_of (found_of subcommand.entry.1.now))
         (Appends (O.contents out.old) (O.contents out.new))
@@ -179,7 +179,7 @@ pub(crate) fn run_subcommand<S: Store, T: Store + Drop, O: io::Write, E: io::Wri
         (T.view index_files) (S.view files.old) (S.view files.new)) r.error) }
     ensures counted { IfErr result (λ r. CountsEitherFault T.view index_files
         (S.view files.old) (S.view files.new) r.error) }
-    ensures asked { IfOk result (λ s. s ≡ 1
+    ensures requested { IfOk result (λ s. s ≡ 1
         → is_given (codes "check") (rows_of (found_of subcommand.entry.1.now)) ≡ true) }
 {
     let (name, matches) = subcommand;

@@ -43,7 +43,7 @@ pub(crate) fn shown<O: io::Write, E: io::Write>(
     ensures ok { IfOk result (λ s. s ≡ status_of (kind_of error.now)) }
     ensures small { IfOk result (λ s. (s ≡ 0) ⊎ (s ≡ 2)) }
     ensures memory { kind_of error.now ≡ ErrorKind.OutOfMemory → IsErrAnd result (λ r. IsMemory r.error) }
-    ensures refused { IfErr result (λ r. IsMemory r.error
+    ensures error { IfErr result (λ r. IsMemory r.error
         ⊎ ((r.error ≡ Output) × (status_of (kind_of error.now) ≡ 0))) }
 {
     if error.kind() == ErrorKind::OutOfMemory {

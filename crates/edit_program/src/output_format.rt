@@ -23,7 +23,7 @@ fn without_diffs<'a>(
     diff: bool,
 ) -> Result<Presentation, ArgsError<'a>>
     ensures ok { IfOk result (λ p. without_diffs format diff ≡ Some p) }
-    ensures refused { IfErr result (λ _. without_diffs format diff ≡ None) }
+    ensures error { IfErr result (λ _. without_diffs format diff ≡ None) }
 {
     if diff {
         return Err(ArgsError::Fault(ArgsFault::Together(option, "--diff")));
@@ -42,7 +42,7 @@ fn format_fault<'a>(formats: &'static str, format: &'a str) -> ArgsError<'a> {
 /// A format that only an upgrade has.
 fn upgrade_format<'a>(format: &'a str, diff: bool) -> Result<Presentation, ArgsError<'a>>
     ensures ok { IfOk result (λ p. upgrade_format format.now diff ≡ Some p) }
-    ensures refused { IfErr result (λ _. upgrade_format format.now diff ≡ None) }
+    ensures error { IfErr result (λ _. upgrade_format format.now diff ≡ None) }
 {
     match format {
         "markdown" => without_diffs(MessageFormat::Markdown, "--message-format markdown", diff),
@@ -57,7 +57,7 @@ fn format_of_options<'a>(
     diff: bool,
 ) -> Result<Presentation, ArgsError<'a>>
     ensures ok { IfOk result (λ p. format_of_options command format.now diff ≡ Some p) }
-    ensures refused { IfErr result (λ _. format_of_options command format.now diff ≡ None) }
+    ensures error { IfErr result (λ _. format_of_options command format.now diff ≡ None) }
 {
     match format {
         "human" => Ok(Presentation {
@@ -78,7 +78,7 @@ pub(crate) fn presentation<'a>(
     command: PlanCommand,
 ) -> Result<Presentation, ArgsError<'a>>
     ensures ok { IfOk result (λ p. presentation_of command (rows_of (found_of matches.now)) ≡ Some p) }
-    ensures refused { IfErr result (λ _.
+    ensures error { IfErr result (λ _.
         presentation_of command (rows_of (found_of matches.now)) ≡ None) }
 {
     let format = matches.get_str("message-format").unwrap_or("");

@@ -40,7 +40,7 @@ fn answer<S: Store, T: Store + Drop, O: io::Write, E: io::Write>(
         (Appends (E.contents err.old) (E.contents err.new))
         (run_at place.now.current.now (given place.now.cargo_home)
         (T.view index_files) (S.view files.old) (S.view files.new))) }
-    ensures refused { OnErr result ((S.view files.old).tells ≡ true
+    ensures error { OnErr result ((S.view files.old).tells ≡ true
         → IsRunFailure (map (λ w. w.now) words.now) (Appends (O.contents out.old) (O.contents out.new))
         (Appends (E.contents err.old) (E.contents err.new))
         (run_at place.now.current.now (given place.now.cargo_home)
@@ -51,7 +51,7 @@ fn answer<S: Store, T: Store + Drop, O: io::Write, E: io::Write>(
         (T.view index_files) (S.view files.old) (S.view files.new)) r.error) }
     ensures counted { IfErr result (λ r. CountsEitherFault T.view index_files
         (S.view files.old) (S.view files.new) r.error) }
-    ensures asked { IfOk result (λ s. s ≡ 1 → HasCheckFlag (map (λ w. w.now) words.now)) }
+    ensures requested { IfOk result (λ s. s ≡ 1 → HasCheckFlag (map (λ w. w.now) words.now)) }
 {
     if let Some(command) = first_builtin(words) {
         return Err(Refusal::from(Error::Merged(command)));
@@ -90,7 +90,7 @@ pub fn try_run<S: Store, T: Store + Drop, O: io::Write, E: io::Write>(
         (Appends (E.contents err.old) (E.contents err.new))
         (run_at place.now.current.now (given place.now.cargo_home)
         (T.view index_files) (S.view files.old) (S.view files.new))) }
-    ensures refused { OnErr result ((S.view files.old).tells ≡ true
+    ensures error { OnErr result ((S.view files.old).tells ≡ true
         → IsRunFailure (filled (map (λ w. w.now) words.now)) (Appends (O.contents out.old) (O.contents out.new))
         (Appends (E.contents err.old) (E.contents err.new))
         (run_at place.now.current.now (given place.now.cargo_home)
@@ -101,7 +101,7 @@ pub fn try_run<S: Store, T: Store + Drop, O: io::Write, E: io::Write>(
         (T.view index_files) (S.view files.old) (S.view files.new)) r.error) }
     ensures counted { IfErr result (λ r. CountsEitherFault T.view index_files
         (S.view files.old) (S.view files.new) r.error) }
-    ensures asked { IfOk result (λ s. s ≡ 1 → HasCheckFlag (filled (map (λ w. w.now) words.now))) }
+    ensures requested { IfOk result (λ s. s ≡ 1 → HasCheckFlag (filled (map (λ w. w.now) words.now))) }
 {
     let words = filled_words(alloc, words)?;
     answer(alloc, words.as_slice(), place, files, index_files, out, err)

@@ -40,7 +40,7 @@ fn conflicting_selections(matches: &ArgMatches<'_>) -> Option<(&'static str, &'s
 /// The target for a level.
 fn target_by_level<'a>(word: &'a str) -> Result<TargetVersion, ArgsError<'a>>
     ensures ok { IfOk result (λ t. IsTarget None (Some word.now) (target_of t)) }
-    ensures refused { IfErr result (λ _. HaveNoTarget None (Some word.now)) }
+    ensures error { IfErr result (λ _. HaveNoTarget None (Some word.now)) }
 {
     match BumpLevel::from_str(word) {
         Ok(level) => Ok(TargetVersion::Relative(level)),
@@ -51,7 +51,7 @@ fn target_by_level<'a>(word: &'a str) -> Result<TargetVersion, ArgsError<'a>>
 /// The target for a version.
 fn target_by_version<'a>(alloc: Global, text: &'a str) -> Result<TargetVersion, ArgsError<'a>>
     ensures ok { IfOk result (λ t. IsTarget (Some text.now) None (target_of t)) }
-    ensures refused { IfErr result (λ e. e ≢ words.Memory → HaveNoTarget (Some text.now) None) }
+    ensures error { IfErr result (λ e. e ≢ words.Memory → HaveNoTarget (Some text.now) None) }
 {
     match Version::parse(alloc, text) {
         Ok(version) => Ok(TargetVersion::Absolute(version)),
@@ -72,7 +72,7 @@ fn target<'a>(
 ) -> Result<TargetVersion, ArgsError<'a>>
     ensures ok { IfOk result (λ t. IsTarget (option_map (λ s. s.now) version.entry)
         (option_map (λ s. s.now) level.entry) (target_of t)) }
-    ensures refused { IfErr result (λ e. e ≢ words.Memory
+    ensures error { IfErr result (λ e. e ≢ words.Memory
         → HaveNoTarget (option_map (λ s. s.now) version.entry) (option_map (λ s. s.now) level.entry)) }
 {
     match (version, level) {
@@ -127,7 +127,7 @@ pub(crate) fn version_words<'a>(
     matches: &ArgMatches<'a>,
 ) -> Result<SetVersionWords<'a>, ArgsError<'a>>
     ensures asks { IfOk result (HasSetVersionArgs (rows_of (found_of matches.now))) }
-    ensures refused { IfErr result (λ e. e ≢ words.Memory
+    ensures error { IfErr result (λ e. e ≢ words.Memory
         → HaveVersionFault (rows_of (found_of matches.now))) }
 {
     if let Some((one, other)) = conflicting_selections(matches) {

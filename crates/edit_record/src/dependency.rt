@@ -45,7 +45,7 @@ impl Dependency {
     /// Returns a dependency with this name and nothing else set.
     pub fn new(alloc: Global, name: &str) -> CargoResult<Dependency>
         ensures ok { IfOk result (λ d. IsBare name.now d × (d.source ≡ None)) }
-        ensures refused { IfErr result IsMemory }
+        ensures error { IfErr result IsMemory }
     {
         Ok(Dependency {
             name: String::from_str(alloc, name)?,
@@ -103,8 +103,8 @@ impl Dependency {
         ensures ok { IfOk result (λ d. record_view d ≡ record (record_view self) {
           features = Some (unwrap_or (record_view self).features [] ++ texts_view features);
         }) }
-        ensures kept { IfOk result (λ d. d.available_features ≡ self.available_features) }
-        ensures refused { IfErr result IsMemory }
+        ensures preserved { IfOk result (λ d. d.available_features ≡ self.available_features) }
+        ensures error { IfErr result IsMemory }
     {
         let features = joined(self.features, features)?;
         Ok(Dependency {
@@ -137,8 +137,8 @@ impl Dependency {
     pub fn set_rename(self, alloc: Global, rename: &str) -> CargoResult<Dependency>
         ensures ok { IfOk result (λ d. record_view d
             ≡ record (record_view self) { rename = Some rename.now }) }
-        ensures kept { IfOk result (λ d. d.available_features ≡ self.available_features) }
-        ensures refused { IfErr result IsMemory }
+        ensures preserved { IfOk result (λ d. d.available_features ≡ self.available_features) }
+        ensures error { IfErr result IsMemory }
     {
         let rename = String::from_str(alloc, rename)?;
         Ok(Dependency {
@@ -151,8 +151,8 @@ impl Dependency {
     pub fn set_registry(self, alloc: Global, registry: &str) -> CargoResult<Dependency>
         ensures ok { IfOk result (λ d. record_view d
             ≡ record (record_view self) { registry = Some registry.now }) }
-        ensures kept { IfOk result (λ d. d.available_features ≡ self.available_features) }
-        ensures refused { IfErr result IsMemory }
+        ensures preserved { IfOk result (λ d. d.available_features ≡ self.available_features) }
+        ensures error { IfErr result IsMemory }
     {
         let registry = String::from_str(alloc, registry)?;
         Ok(Dependency {
@@ -164,8 +164,8 @@ impl Dependency {
     /// Returns a deep copy of the dependency.
     pub fn try_clone(&self, alloc: Global) -> CargoResult<Dependency>
         ensures ok { IfOk result (λ d. record_view d ≡ record_view self.now) }
-        ensures kept { IfOk result (λ d. available_view d ≡ available_view self.now) }
-        ensures refused { IfErr result IsMemory }
+        ensures preserved { IfOk result (λ d. available_view d ≡ available_view self.now) }
+        ensures error { IfErr result IsMemory }
     {
         let (registry, rename) = copied_pair(self.registry.as_ref(), self.rename.as_ref())?;
         let (features, inherited_features) = copied_lists(

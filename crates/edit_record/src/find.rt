@@ -24,7 +24,7 @@ use std::alloc::Global;
 pub fn dependency_on(alloc: Global, told: &IndexVersion) -> CargoResult<Dependency>
     ensures ok { IfOk result
         (IsRegistryDependency (string_bytes told.now.name) (string_bytes told.now.version)) }
-    ensures refused { IfErr result IsMemory }
+    ensures error { IfErr result IsMemory }
 {
     let source = RegistrySource::new(alloc, told.version.as_str())?;
     let dependency = Dependency::new(alloc, told.name.as_str())?;
@@ -43,7 +43,7 @@ fn find_version(
     ensures ok { IfOk result (λ o. IsFound (numbers_in rust_version)
         (wants allow_prerelease req.entry)
         (map entry_of versions.now) o) }
-    ensures refused { IfErr result IsMemory }
+    ensures error { IfErr result IsMemory }
 {
     match greatest_entry(alloc, versions, allow_prerelease, req, rust_version)? {
         Some(told) => Ok(Some(dependency_on(alloc, told)?)),
@@ -69,7 +69,7 @@ pub fn find_latest_version(
         (map entry_of versions.now) e
         → IsFoundAtLeast (numbers_in rust_version) (is_allowed allow_prerelease)
         (map entry_of versions.now) e o) }
-    ensures refused { IfErr result IsMemory }
+    ensures error { IfErr result IsMemory }
 {
     find_version(alloc, versions, allow_prerelease, None, rust_version)
 }
@@ -84,7 +84,7 @@ pub fn find_compatible_version(
 ) -> CargoResult<Option<Dependency>>
     ensures ok { IfOk result (IsFound (numbers_in rust_version) (admits (comparators_of version_req.now))
         (map entry_of versions.now)) }
-    ensures refused { IfErr result IsMemory }
+    ensures error { IfErr result IsMemory }
 {
     find_version(alloc, versions, false, Some(version_req), rust_version)
 }

@@ -150,7 +150,7 @@ fn write_sized<W: io::Write>(
 ) -> CargoResult<()>
     ensures bytes { OnOk result (Appends (W.contents out.old) (W.contents out.new)
         (flat_map (λ line. sized_line columns.now (cells_of line)) lines.now)) }
-    ensures refused { IfErr result (λ e. IsMemory e ⊎ (e ≡ Output)) }
+    ensures error { IfErr result (λ e. IsMemory e ⊎ (e ≡ Output)) }
 {
     let mut text = String::new(alloc);
     for line in lines {
@@ -170,7 +170,7 @@ pub(crate) fn write_lines<W: io::Write>(
 ) -> CargoResult<()>
     ensures bytes { OnOk result (Appends (W.contents out.old) (W.contents out.new)
         (lines_text (columns noted) (map cells_of lines.now))) }
-    ensures refused { IfErr result (λ e. IsMemory e ⊎ (e ≡ Output)) }
+    ensures error { IfErr result (λ e. IsMemory e ⊎ (e ≡ Output)) }
 {
     let columns = measure_columns(alloc, columns(noted), lines)?;
     write_sized(alloc, columns.as_slice(), lines, out)

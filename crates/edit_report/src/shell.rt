@@ -10,7 +10,7 @@ use std::io;
 /// Writes a text.
 fn write_text<W: io::Write>(out: &mut W, text: &str) -> CargoResult<()>
     ensures bytes { OnOk result (Appends (W.contents out.old) (W.contents out.new) text.now) }
-    ensures refused { IfErr result (λ e. e ≡ Output) }
+    ensures error { IfErr result (λ e. e ≡ Output) }
 {
     match out.write_all(text.as_bytes()) {
         Ok(()) => Ok(()),
@@ -22,7 +22,7 @@ fn write_text<W: io::Write>(out: &mut W, text: &str) -> CargoResult<()>
 fn print_justified<W: io::Write>(out: &mut W, status: &str, message: &str) -> CargoResult<()>
     ensures bytes { OnOk result (Appends (W.contents out.old) (W.contents out.new)
         (message_text true status.now message.now)) }
-    ensures refused { IfErr result (λ e. e ≡ Output) }
+    ensures error { IfErr result (λ e. e ≡ Output) }
 {
     match writeln!(out, "{status:>12} {message}") {
         Ok(()) => Ok(()),
@@ -34,7 +34,7 @@ fn print_justified<W: io::Write>(out: &mut W, status: &str, message: &str) -> Ca
 fn print_plain<W: io::Write>(out: &mut W, status: &str, message: &str) -> CargoResult<()>
     ensures bytes { OnOk result (Appends (W.contents out.old) (W.contents out.new)
         (message_text false status.now message.now)) }
-    ensures refused { IfErr result (λ e. e ≡ Output) }
+    ensures error { IfErr result (λ e. e ≡ Output) }
 {
     match writeln!(out, "{status}: {message}") {
         Ok(()) => Ok(()),
@@ -51,7 +51,7 @@ pub fn shell_print<W: io::Write>(
 ) -> CargoResult<()>
     ensures bytes { OnOk result (Appends (W.contents out.old) (W.contents out.new)
         (message_text justified status.now message.now)) }
-    ensures refused { IfErr result (λ e. e ≡ Output) }
+    ensures error { IfErr result (λ e. e ≡ Output) }
 {
     if justified {
         print_justified(out, status, message)
@@ -64,7 +64,7 @@ pub fn shell_print<W: io::Write>(
 pub fn shell_status<W: io::Write>(out: &mut W, action: &str, message: &str) -> CargoResult<()>
     ensures bytes { OnOk result (Appends (W.contents out.old) (W.contents out.new)
         (message_text true action.now message.now)) }
-    ensures refused { IfErr result (λ e. e ≡ Output) }
+    ensures error { IfErr result (λ e. e ≡ Output) }
 {
     shell_print(out, action, message, true)
 }
@@ -73,7 +73,7 @@ pub fn shell_status<W: io::Write>(out: &mut W, action: &str, message: &str) -> C
 pub fn shell_warn<W: io::Write>(out: &mut W, message: &str) -> CargoResult<()>
     ensures bytes { OnOk result (Appends (W.contents out.old) (W.contents out.new)
         (message_text false (codes "warning") message.now)) }
-    ensures refused { IfErr result (λ e. e ≡ Output) }
+    ensures error { IfErr result (λ e. e ≡ Output) }
 {
     shell_print(out, "warning", message, false)
 }
@@ -82,7 +82,7 @@ pub fn shell_warn<W: io::Write>(out: &mut W, message: &str) -> CargoResult<()>
 pub fn shell_note<W: io::Write>(out: &mut W, message: &str) -> CargoResult<()>
     ensures bytes { OnOk result (Appends (W.contents out.old) (W.contents out.new)
         (message_text false (codes "note") message.now)) }
-    ensures refused { IfErr result (λ e. e ≡ Output) }
+    ensures error { IfErr result (λ e. e ≡ Output) }
 {
     shell_print(out, "note", message, false)
 }
@@ -90,7 +90,7 @@ pub fn shell_note<W: io::Write>(out: &mut W, message: &str) -> CargoResult<()>
 /// Writes a fragment unchanged to `out`, the standard error of the caller.
 pub fn shell_write_stderr<W: io::Write>(out: &mut W, fragment: &str) -> CargoResult<()>
     ensures bytes { OnOk result (Appends (W.contents out.old) (W.contents out.new) fragment.now) }
-    ensures refused { IfErr result (λ e. e ≡ Output) }
+    ensures error { IfErr result (λ e. e ≡ Output) }
 {
     write_text(out, fragment)
 }
@@ -98,7 +98,7 @@ pub fn shell_write_stderr<W: io::Write>(out: &mut W, fragment: &str) -> CargoRes
 /// Writes a fragment unchanged to `out`, the standard output of the caller.
 pub fn shell_write_stdout<W: io::Write>(out: &mut W, fragment: &str) -> CargoResult<()>
     ensures bytes { OnOk result (Appends (W.contents out.old) (W.contents out.new) fragment.now) }
-    ensures refused { IfErr result (λ e. e ≡ Output) }
+    ensures error { IfErr result (λ e. e ≡ Output) }
 {
     write_text(out, fragment)
 }

@@ -26,7 +26,7 @@ fn is_held_back(reason: Option<Reason>) -> bool
 fn misses(alloc: Global, req: &str, version: &str) -> CargoResult<bool>
     ensures ok { IfOk result (λ b. b
         ≡ misses (requirement_read req.now) (result_ok (version_parts version.now))) }
-    ensures refused { IfErr result IsMemory }
+    ensures error { IfErr result IsMemory }
 {
     let Some(req) = read_requirement(alloc, req)? else {
         return Ok(false);
@@ -45,7 +45,7 @@ fn misses(alloc: Global, req: &str, version: &str) -> CargoResult<bool>
 /// Whether the old requirement can be parsed and does not admit the latest version.
 fn is_outgrown(alloc: Global, row: &Row) -> CargoResult<bool>
     ensures ok { IfOk result (λ b. b ≡ is_outgrown row.now) }
-    ensures refused { IfErr result IsMemory }
+    ensures error { IfErr result IsMemory }
 {
     match (&row.old, &row.latest) {
         (Some(old), Some(latest)) => misses(alloc, old.as_str(), latest.as_str()),
@@ -56,7 +56,7 @@ fn is_outgrown(alloc: Global, row: &Row) -> CargoResult<bool>
 /// Whether a report of this verbosity shows a row.
 pub fn shown(alloc: Global, row: &Row, verbosity: i8) -> CargoResult<bool>
     ensures ok { IfOk result (λ b. b ≡ is_shown verbosity row.now) }
-    ensures refused { IfErr result IsMemory }
+    ensures error { IfErr result IsMemory }
 {
     if verbosity >= 2 || row.old != row.new {
         return Ok(true);

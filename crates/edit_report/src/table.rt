@@ -100,7 +100,7 @@ fn row_line(alloc: Global, row: &Row) -> Result<Line<'_>, AllocError>
 /// The rows that a report of this verbosity shows.
 fn shown_rows<'a>(alloc: Global, rows: &'a [Row], verbosity: i8) -> CargoResult<Vec<&'a Row>>
     ensures ok { IfOk result (λ v. map (λ r. r.now) v.items ≡ filter (is_shown verbosity) rows.now) }
-    ensures refused { IfErr result IsMemory }
+    ensures error { IfErr result IsMemory }
 {
     let mut kept = Vec::new(alloc);
     for row in rows {
@@ -135,7 +135,7 @@ fn has_any_note(rows: &[&Row]) -> bool
 /// The table of a report of this verbosity; empty where no row is shown.
 pub fn table_text(alloc: Global, rows: &[Row], verbosity: i8) -> CargoResult<String>
     ensures text { IfOk result (λ s. string_bytes s ≡ report_text verbosity rows.now) }
-    ensures refused { IfErr result IsMemory }
+    ensures error { IfErr result IsMemory }
 {
     let rows = shown_rows(alloc, rows, verbosity)?;
     if rows.is_empty() {
@@ -158,7 +158,7 @@ pub fn write_table<W: io::Write>(
 ) -> CargoResult<()>
     ensures text { OnOk result (Appends (W.contents out.old) (W.contents out.new)
         (report_text verbosity rows.now)) }
-    ensures refused { IfErr result (λ e. IsMemory e ⊎ (e ≡ Output)) }
+    ensures error { IfErr result (λ e. IsMemory e ⊎ (e ≡ Output)) }
 {
     let rows = shown_rows(alloc, rows, verbosity)?;
     if rows.is_empty() {

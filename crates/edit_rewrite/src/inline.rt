@@ -54,7 +54,7 @@ pub(crate) fn with_lead(
     ensures text { (rest : List ℕ) → IsSpot text.now rest → spot ≡ length rest
         → IfOk result (λ s. string_bytes s
         ≡ with_splice text.now (put_before rest (lead.now ++ member.now))) }
-    ensures refused { IfErr result IsMemory }
+    ensures error { IfErr result IsMemory }
 {
     let mut now = String::from_str(alloc, lead)?;
     now.push_str(member)?;
@@ -72,7 +72,7 @@ fn with_alone(
     ensures text { (s t : List ℕ) → IsSpot text.now s → IsSpot text.now t → from ≡ length s → to ≡ length t
         → IfOk result (λ r. string_bytes r ≡ with_splice text.now
         (record { from = s; to = t; now = codes " " ++ (member.now ++ codes " ") })) }
-    ensures refused { IfErr result IsMemory }
+    ensures error { IfErr result IsMemory }
 {
     let mut now = String::from_str(alloc, " ")?;
     now.push_str(member)?;
@@ -87,7 +87,7 @@ fn with_first_member(alloc: Global, text: &str, table: &[u8], member: &str) -> C
         → TableAt text.now table.now g no_members after
         → inline_grown member.now (inline g no_members) after ≡ Some s
         → IfOk result (λ t. string_bytes t ≡ with_splice text.now s) }
-    ensures refused { IfErr result IsMemory }
+    ensures error { IfErr result IsMemory }
 {
     let inner = behind_one(table);
     let close = past_blanks(inner);
@@ -151,7 +151,7 @@ pub(crate) fn with_inline_member(
         → pair.now ≡ new_pair name v [] → IfOk result (λ o. MatchOption o
         (in_inline (place_view place.now) pair.now form ≡ None)
         (λ t. string_bytes t ≡ inserted_text (place_view place.now) name v form)) }
-    ensures refused { IfErr result IsMemory }
+    ensures error { IfErr result IsMemory }
 {
     document.lemma_form();
     let Some(start) = table_start(document, place) else {

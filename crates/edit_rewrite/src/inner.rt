@@ -106,7 +106,7 @@ pub(crate) fn with_inner(alloc: Global, text: &str, inner: Inner, pair: &str) ->
         → front_to place p ≡ Some spot → inner_seen.inner_of place p ≡ Some inner
         → IfOk result (λ t. string_bytes t
         ≡ with_splice text.now (put_before p.behind (codes ", " ++ dotted_pair p spot pair.now))) }
-    ensures refused { IfErr result IsMemory }
+    ensures error { IfErr result IsMemory }
 {
     let mut member = String::from_str(alloc, between(text, inner.from, inner.front))?;
     member.push_str(".")?;
@@ -136,7 +136,7 @@ pub(crate) fn last_inner_of(
 ) -> CargoResult<Option<Inner>>
     ensures found { IfDocument document.now.bytes (λ form. IfOk result (λ o. o ≡ last_result
         (inner_seen.inner_of (place_view place.now)) (inner_pairs form))) }
-    ensures refused { IfErr result IsMemory }
+    ensures error { IfErr result IsMemory }
 {
     document.lemma_form();
     let Some((steps, start)) = table_above(document, place) else {

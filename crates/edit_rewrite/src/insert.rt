@@ -94,7 +94,7 @@ fn with_dotted(alloc: Global, text: &str, entry: Entry, pair: &str) -> CargoResu
         → entry ≡ entry_of place s → front_of place s ≡ Some spot
         → IfOk result (λ t. string_bytes t
         ≡ with_splice text.now (new_line s.after (key_to s spot · codes "." · pair.now))) }
-    ensures refused { IfErr result IsMemory }
+    ensures error { IfErr result IsMemory }
 {
     let mut line = String::from_str(alloc, name_of(text, entry))?;
     line.push_str(".")?;
@@ -109,7 +109,7 @@ fn with_header(alloc: Global, text: &str, entry: Entry, pair: &str) -> CargoResu
         → entry ≡ entry_of place s → front_of place s ≡ Some spot
         → IfOk result (λ t. string_bytes t
         ≡ with_splice text.now (put_before s.line (section_text (key_to s spot) pair.now))) }
-    ensures refused { IfErr result IsMemory }
+    ensures error { IfErr result IsMemory }
 {
     with_section(alloc, text, entry.line, name_of(text, entry), pair)
 }
@@ -118,7 +118,7 @@ fn with_header(alloc: Global, text: &str, entry: Entry, pair: &str) -> CargoResu
 fn with_first(alloc: Global, text: &str, pair: &str) -> CargoResult<String>
     ensures text { IfDocument text.now (λ form. IfOk result (λ t. string_bytes t ≡ with_splice text.now
         (at_start pair.now form))) }
-    ensures refused { IfErr result IsMemory }
+    ensures error { IfErr result IsMemory }
 {
     let mut line = String::from_str(alloc, pair)?;
     line.push_str("\n")?;
@@ -139,7 +139,7 @@ fn with_pair(
         → inner ≡ last_result (inner_of (place_view place.now)) (inner_pairs form)
         → pair.now ≡ new_pair name v []
         → IfOk result (λ t. string_bytes t ≡ inserted_text (place_view place.now) name v form) }
-    ensures refused { IfErr result IsMemory }
+    ensures error { IfErr result IsMemory }
 {
     let all = entries(alloc, text, place)?;
     let found = all.as_slice();
@@ -161,7 +161,7 @@ fn with_pair(
 /// The pair `name = literal`.
 fn pair_text(alloc: Global, name: &str, value: &NewValue) -> CargoResult<String>
     ensures text { IfOk result (λ t. string_bytes t ≡ new_pair name.now (new_value_view value.now) []) }
-    ensures refused { IfErr result IsMemory }
+    ensures error { IfErr result IsMemory }
 {
     let mut out = String::new(alloc);
     push_member(&mut out, name, value)?;
@@ -178,7 +178,7 @@ pub fn with_member(
 ) -> CargoResult<String>
     ensures text { IfOk result (λ t. Becomes document.now.bytes (inserted_text (place_view place.now) key.now
         (new_value_view value.now)) (string_bytes t)) }
-    ensures refused { IfErr result IsMemory }
+    ensures error { IfErr result IsMemory }
 {
     let written = pair_text(alloc, key, value)?;
     let pair = written.as_str();

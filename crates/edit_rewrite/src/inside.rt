@@ -111,7 +111,7 @@ impl Remainder {
         next: &[u8],
     ) -> Result<(), AllocError>
         ensures gone { OnOk result (is_gone ≡ true → SkipsItem self.old self.new after.now stop.now next.now) }
-        ensures kept { OnOk result (is_gone ≡ false → AppendsItem self.old self.new rest.now stop.now next.now) }
+        ensures preserved { OnOk result (is_gone ≡ false → AppendsItem self.old self.new rest.now stop.now next.now) }
     {
         if is_gone {
             self.leave(

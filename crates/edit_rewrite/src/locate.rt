@@ -38,7 +38,7 @@ pub(crate) struct Entry {
 /// Counts one more element in the array of tables that a path has reached.
 fn count_more(counts: &mut Vec<usize>, way: PathMatch) -> CargoResult<()>
     ensures counted { IfOk result (λ _. counts.new.items ≡ entries_seen.counted way counts.old.items) }
-    ensures refused { IfErr result IsMemory }
+    ensures error { IfErr result IsMemory }
 {
     let PathMatch::On(done) = way else {
         return Ok(());
@@ -102,7 +102,7 @@ impl SearchState {
     /// The state before the first statement.
     fn new(alloc: Global, place: &[Step]) -> CargoResult<SearchState>
         ensures none { IfOk result (λ s. IsSearchState (place_view place.now) [] [] s) }
-        ensures refused { IfErr result IsMemory }
+        ensures error { IfErr result IsMemory }
     {
         let mut counts = Vec::new(alloc);
         'steps: for _step in 0..place.len() + 1 {
@@ -128,7 +128,7 @@ impl SearchState {
             → IfOk result (λ e. (e ≡ entries_seen.entry_of (place_view place.now) s)
             × IsSearchState (place_view place.now) (s.earlier ++ of_statement s.earlier s.prefix s.statement)
             (prefix_after s.earlier s.prefix s.statement) self.now) }
-        ensures refused { IfErr result IsMemory }
+        ensures error { IfErr result IsMemory }
     {
         let (named, front) = follow_key(alloc, text, place, marks, self.prefix, &[])?;
         Ok(spots.entry(
@@ -154,7 +154,7 @@ impl SearchState {
             → IfOk result (λ e. (e ≡ entries_seen.entry_of (place_view place.now) s)
             × IsSearchState (place_view place.now) (s.earlier ++ of_statement s.earlier s.prefix s.statement)
             (prefix_after s.earlier s.prefix s.statement) self.new) }
-        ensures refused { IfErr result IsMemory }
+        ensures error { IfErr result IsMemory }
     {
         let (named, front) = follow_key(alloc, text, place, marks, PathMatch::On(0), &self.counts)?;
         self.prefix = named;
@@ -181,7 +181,7 @@ impl SearchState {
             → IfOk result (λ e. (e ≡ entries_seen.entry_of (place_view place.now) s)
             × IsSearchState (place_view place.now) (s.earlier ++ of_statement s.earlier s.prefix s.statement)
             (prefix_after s.earlier s.prefix s.statement) self.new) }
-        ensures refused { IfErr result IsMemory }
+        ensures error { IfErr result IsMemory }
     {
         let (named, front) = follow_key(alloc, text, place, marks, PathMatch::On(0), &self.counts)?;
         let element = step_by_index(named, place, count_on(named, &self.counts));
@@ -209,7 +209,7 @@ impl SearchState {
             → IfOk result (λ e. (e ≡ entries_seen.entry_of (place_view place.now) s)
             × IsSearchState (place_view place.now) (s.earlier ++ of_statement s.earlier s.prefix s.statement)
             (prefix_after s.earlier s.prefix s.statement) self.new) }
-        ensures refused { IfErr result IsMemory }
+        ensures error { IfErr result IsMemory }
     {
         if is_table_header_next(marks) {
             return self.take_header(alloc, text, place, marks, spots);
@@ -225,7 +225,7 @@ impl SearchState {
 pub(crate) fn entries(alloc: Global, text: &str, place: &[Step]) -> CargoResult<Vec<Entry>>
     ensures found { IfDocument text.now (λ form. IfOk result (λ v. v.items ≡ map (entries_seen.entry_of
         (place_view place.now)) (placed_statements form))) }
-    ensures refused { IfErr result IsMemory }
+    ensures error { IfErr result IsMemory }
 {
     let mut found = Vec::new(alloc);
     let mut standing = SearchState::new(alloc, place)?;

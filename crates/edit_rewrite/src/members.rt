@@ -45,12 +45,12 @@ fn past_member<'a>(
     place: &[Step],
     start: PathMatch,
 ) -> CargoResult<(Option<usize>, &'a [u8])>
-    ensures told { (table : Place) (k : Key) (a b : List ℕ) (v : Value) (c : List Between) (rest : List ℕ)
+    ensures outcome { (table : Place) (k : Key) (a b : List ℕ) (v : Value) (c : List Between) (rest : List ℕ)
         → StandsAt text.now s.now true (of_pair k a b v) c rest → start ≡ way (place_view place.now) table
         → IfOk result (λ r.
         (r.0 ≡ option_map length (part_to (place_view place.now) (paired table k a b v (gap c rest))))
         × (r.1.now ≡ gap c rest)) }
-    ensures refused { IfErr result IsMemory }
+    ensures error { IfErr result IsMemory }
 {
     let mut marks = Vec::new(alloc);
     let Ok(value) = past_name(&mut marks, s) else {
@@ -73,10 +73,10 @@ pub(crate) fn table_offsets(
     place: &[Step],
     start: PathMatch,
 ) -> CargoResult<Option<(usize, usize)>>
-    ensures told { (w : PlacedValue) → StandsIn text.now w → s.now ≡ value_text w.value w.after
+    ensures outcome { (w : PlacedValue) → StandsIn text.now w → s.now ≡ value_text w.value w.after
         → start ≡ way (place_view place.now) w.place
         → IfOk result (HasPairOffsets (place_view place.now) (paired_value w)) }
-    ensures refused { IfErr result IsMemory }
+    ensures error { IfErr result IsMemory }
 {
     if !begins(s, b'{') {
         return Ok(None);

@@ -25,7 +25,7 @@ use std::alloc::Global;
 fn without_lines(alloc: Global, text: &str, place: &[Step]) -> CargoResult<String>
     ensures text { IfDocument text.now (λ form. IfOk result (λ t. string_bytes t
         ≡ byte_order_mark form.marked (lines_left (place_view place.now) (lines form.lines) (placed_statements form)))) }
-    ensures refused { IfErr result IsMemory }
+    ensures error { IfErr result IsMemory }
 {
     let all = entries(alloc, text, place)?;
     let found = all.as_slice();
@@ -54,7 +54,7 @@ fn with_part(alloc: Global, text: &str, from: usize, to: usize, now: &str) -> Ca
     ensures text { (w : PlacedValue) → StandsBetween text.now w from to
         → IfOk result (λ t. string_bytes t ≡ with_splice text.now
         (record { from = value w.value w.after; to = w.after; now = now.now })) }
-    ensures refused { IfErr result IsMemory }
+    ensures error { IfErr result IsMemory }
 {
     let mut out = String::new(alloc);
     out.push_str(between(text, text.len(), from))?;
@@ -86,7 +86,7 @@ fn without_members(
           to = w.after;
           now = value_left (w.place ++ place_view below.now) w.place w.value [];
         })) }
-    ensures refused { IfErr result IsMemory }
+    ensures error { IfErr result IsMemory }
 {
     let old = between(text, from, to);
     if !is_container(old.as_bytes()) {
@@ -119,7 +119,7 @@ fn value_around(document: &Document, place: &[Step]) -> Option<Around>
 pub fn without(document: &Document, alloc: Global, place: &[Step]) -> CargoResult<String>
     ensures text { IfOk result (λ t. Becomes document.now.bytes (removed_text (place_view place.now))
         (string_bytes t)) }
-    ensures refused { IfErr result IsMemory }
+    ensures error { IfErr result IsMemory }
 {
     document.lemma_form();
     match value_around(document, place) {

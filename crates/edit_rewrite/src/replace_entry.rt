@@ -62,7 +62,7 @@ fn pair_offsets(alloc: Global, text: &str, entry: Entry) -> CargoResult<(usize, 
     ensures around { (form : Text) (place : Place) (s : PlacedStatement) → IsDocument text.now form
         → is_one_statement form place ≡ true → Contains (placed_statements form) s → entry ≡ entry_of place s
         → within_entry entry ≡ Some entry → IfOk result (IsAround place (line_pairs form)) }
-    ensures refused { IfErr result IsMemory }
+    ensures error { IfErr result IsMemory }
 {
     let mut marks = Vec::new(alloc);
     let Ok(_) = first_line(&mut marks, between(text, entry.line, 0).as_bytes()) else {
@@ -74,9 +74,9 @@ fn pair_offsets(alloc: Global, text: &str, entry: Entry) -> CargoResult<(usize, 
 
 /// The offsets of the pair, written as a statement, that names the place, if there is one.
 fn line_offsets(alloc: Global, text: &str, place: &[Step]) -> CargoResult<Option<(usize, usize)>>
-    ensures told { IfDocument text.now (λ form. is_one_statement form (place_view place.now) ≡ true
+    ensures outcome { IfDocument text.now (λ form. is_one_statement form (place_view place.now) ≡ true
         → IfOk result (HasPairOffsets (place_view place.now) (line_pairs form))) }
-    ensures refused { IfErr result IsMemory }
+    ensures error { IfErr result IsMemory }
 {
     let all = entries(alloc, text, place)?;
     match first_within(all.as_slice()) {
@@ -89,7 +89,7 @@ fn line_offsets(alloc: Global, text: &str, place: &[Step]) -> CargoResult<Option
 fn swapped(alloc: Global, text: &str, from: usize, to: usize, now: &str) -> CargoResult<String>
     ensures text { (s : Splice) → IsSpot text.now s.from → IsSpot text.now s.to → from ≡ length s.from
         → to ≡ length s.to → now.now ≡ s.now → IfOk result (λ r. string_bytes r ≡ with_splice text.now s) }
-    ensures refused { IfErr result IsMemory }
+    ensures error { IfErr result IsMemory }
 {
     let mut out = String::new(alloc);
     out.push_str(between(text, text.len(), from))?;
@@ -107,9 +107,9 @@ fn spots_in(
     end: usize,
 ) -> CargoResult<Option<(usize, usize)>>
     requires { end ≤ length place.now }
-    ensures told { IfDocument document.now.bytes (λ form. IfOk result (HasPairOffsetsIn form
+    ensures outcome { IfDocument document.now.bytes (λ form. IfOk result (HasPairOffsetsIn form
         (place_view place.now) end)) }
-    ensures refused { IfErr result IsMemory }
+    ensures error { IfErr result IsMemory }
 {
     document.lemma_form();
     let text = document.as_str();
@@ -128,9 +128,9 @@ fn inline_offsets(
     alloc: Global,
     place: &[Step],
 ) -> CargoResult<Option<(usize, usize)>>
-    ensures told { IfDocument document.now.bytes (λ form. IfOk result (HasPairOffsets (place_view place.now)
+    ensures outcome { IfDocument document.now.bytes (λ form. IfOk result (HasPairOffsets (place_view place.now)
         (inner_pairs form))) }
-    ensures refused { IfErr result IsMemory }
+    ensures error { IfErr result IsMemory }
 {
     'ends: for end in 0..place.len() + 1 {
         let spots = spots_in(document, alloc, place, end)?;
@@ -147,7 +147,7 @@ fn entry_offsets(document: &Document, alloc: Global, place: &[Step]) -> CargoRes
         ≡ true) }
     ensures around { IfDocument document.now.bytes (λ form. IfOk result (IsAround (place_view place.now)
         (line_pairs form ++ inner_pairs form))) }
-    ensures refused { IfErr result IsMemory }
+    ensures error { IfErr result IsMemory }
 {
     document.lemma_form();
     if let Some(spots) = line_offsets(alloc, document.as_str(), place)? {
@@ -170,7 +170,7 @@ pub fn with_entry(
         ≡ true) }
     ensures text { IfOk result (λ t. Becomes document.now.bytes (replaced_text (place_view place.now)
         (new_item_view item.now)) (string_bytes t)) }
-    ensures refused { IfErr result IsMemory }
+    ensures error { IfErr result IsMemory }
 {
     let (from, to) = entry_offsets(document, alloc, place)?;
     let mut now = String::new(alloc);

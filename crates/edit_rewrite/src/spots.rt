@@ -32,7 +32,7 @@ pub(crate) fn with_swap(
     ensures text { (s t : List ℕ) → IsSpot text.now s → IsSpot text.now t → from ≡ length s → to ≡ length t
         → IfOk result (λ r. string_bytes r
         ≡ with_splice text.now (record { from = s; to = t; now = now.now })) }
-    ensures refused { IfErr result IsMemory }
+    ensures error { IfErr result IsMemory }
 {
     let mut out = String::new(alloc);
     out.push_str(between(text, text.len(), from))?;
@@ -45,7 +45,7 @@ pub(crate) fn with_swap(
 pub(crate) fn with_text(alloc: Global, text: &str, spot: usize, now: &str) -> CargoResult<String>
     ensures text { (rest : List ℕ) → IsSpot text.now rest → spot ≡ length rest
         → IfOk result (λ s. string_bytes s ≡ with_splice text.now (put_before rest now.now)) }
-    ensures refused { IfErr result IsMemory }
+    ensures error { IfErr result IsMemory }
 {
     with_swap(alloc, text, spot, spot, now)
 }
@@ -54,7 +54,7 @@ pub(crate) fn with_text(alloc: Global, text: &str, spot: usize, now: &str) -> Ca
 pub(crate) fn with_line(alloc: Global, text: &str, after: usize, line: &str) -> CargoResult<String>
     ensures text { (rest : List ℕ) → IsSpot text.now rest → after ≡ length rest
         → IfOk result (λ s. string_bytes s ≡ with_splice text.now (new_line rest line.now)) }
-    ensures refused { IfErr result IsMemory }
+    ensures error { IfErr result IsMemory }
 {
     let mut now = String::from_str(alloc, newline_like(between(text, after, 0)))?;
     now.push_str(line)?;
@@ -72,7 +72,7 @@ pub(crate) fn with_section(
     ensures text { (rest : List ℕ) → IsSpot text.now rest → before ≡ length rest
         → IfOk result (λ s. string_bytes s
         ≡ with_splice text.now (put_before rest (section_text name.now line.now))) }
-    ensures refused { IfErr result IsMemory }
+    ensures error { IfErr result IsMemory }
 {
     let mut now = String::from_str(alloc, "[")?;
     now.push_str(name)?;

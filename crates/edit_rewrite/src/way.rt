@@ -152,7 +152,7 @@ pub(crate) fn follow_key(
         → entries_seen.Follows (place_view place.now) counts.now resolve
         → start ≡ entries_seen.way (place_view place.now) table
         → IfOk result (entries_seen.FollowsKey (place_view place.now) resolve table (n ∷ ns)) }
-    ensures refused { IfErr result IsMemory }
+    ensures error { IfErr result IsMemory }
 {
     if marks.is_empty() {
         return Ok((start, None));

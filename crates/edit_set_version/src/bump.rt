@@ -117,7 +117,7 @@ pub(crate) fn raised(
 ) -> CargoResult<Option<Version>>
     ensures bumped { IfOk result (λ next. bump (by_level level) (option_copied metadata.entry)
         (parts_of current.now) ≡ bumped_to next) }
-    ensures refused { IfErr result (λ e. IsUnbumped (bump (by_level level) (option_copied metadata.entry)
+    ensures error { IfErr result (λ e. IsUnbumped (bump (by_level level) (option_copied metadata.entry)
         (parts_of current.now)) (parts_of current.now) e) }
     ensures readable { IfOk result (λ next. IfSome next (λ v. IsReadable (parts_of v))) }
 {
@@ -194,7 +194,7 @@ pub(crate) fn bump_to_version(
 ) -> CargoResult<Option<Version>>
     ensures bumped { IfOk result (λ next. bump (exactly (parts_of requested.now))
         (option_copied metadata.entry) (parts_of current.now) ≡ bumped_to next) }
-    ensures refused { IfErr result (λ e. IsUnbumped (bump (exactly (parts_of requested.now))
+    ensures error { IfErr result (λ e. IsUnbumped (bump (exactly (parts_of requested.now))
         (option_copied metadata.entry) (parts_of current.now)) (parts_of current.now) e) }
     ensures greater { IfOk result (λ next. IfSome next (λ v. full_order (parts_of v) (parts_of current.now)
         ≡ Greater)) }

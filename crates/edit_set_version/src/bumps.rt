@@ -56,7 +56,7 @@ fn bump_of<'a>(
         (selection_view selection.now).metadata (member_of found.entry).version)) }
     ensures versions { IsReadableTarget (target_of target.now) → IsReadable (member_of found.entry).version
         → IfOk result (λ o. IfSome o (λ b. IsVersion (bump_view b).next)) }
-    ensures refused { IfErr result (IsUnbumped (bump (target_of target.now)
+    ensures error { IfErr result (IsUnbumped (bump (target_of target.now)
         (selection_view selection.now).metadata (member_of found.entry).version) (member_of found.entry).version) }
 {
     let metadata = metadata_of(selection);
@@ -88,7 +88,7 @@ fn push_bump<'a>(
     ensures versions { OnOk result (IsReadableTarget (target_of target.now)
         → IsReadable (member_of found.entry).version → AreVersions (bumps_view bumps.old.items)
         → AreVersions (bumps_view bumps.new.items)) }
-    ensures refused { IfErr result (λ e. IsMemory e ⊎ IsUnbumped (bump (target_of target.now)
+    ensures error { IfErr result (λ e. IsMemory e ⊎ IsUnbumped (bump (target_of target.now)
         (selection_view selection.now).metadata (member_of found.entry).version)
         (member_of found.entry).version e) }
 {
@@ -116,7 +116,7 @@ pub(crate) fn bumps_of<'a>(
     ensures versions { IsReadableTarget (target_of target.now)
         → All (λ m. IsReadable m.version) (members_of crates.now)
         → IfOk result (λ bs. AreVersions (bumps_view bs.items)) }
-    ensures refused { IfErr result (λ e. IsMemory e ⊎ AreUnbumped (target_of target.now)
+    ensures error { IfErr result (λ e. IsMemory e ⊎ AreUnbumped (target_of target.now)
         (selection_view selection.now) (map (λ m. m.version) (members_of crates.now)) e) }
 {
     let mut bumps = Vec::new(alloc);

@@ -137,7 +137,7 @@ fn check_excluded(
 ) -> CargoResult<()>
     ensures none { OnOk result (filter (λ m. is_among (selection_view selection.now).exclude m.name)
         (members_of added.now) ≡ []) }
-    ensures refused { IfErr result (λ e. IsMemory e
+    ensures error { IfErr result (λ e. IsMemory e
         ⊎ IsExcludeError (filter (λ m. is_among (selection_view selection.now).exclude m.name) (members_of added.now))
         (members_of inheriting.now) e) }
 {
@@ -207,7 +207,7 @@ pub(crate) fn choose<'a>(
     ensures workspace { IfOk result (λ c. c.workspace
         ≡ bumps_workspace (selection_view selection.now) (members_of crates.now)) }
     ensures excluded { OnOk result (held_back (selection_view selection.now) (members_of crates.now) ≡ []) }
-    ensures refused { IfErr result (λ e. IsMemory e
+    ensures error { IfErr result (λ e. IsMemory e
         ⊎ IsExcludeError (held_back (selection_view selection.now) (members_of crates.now))
         (inheriting (selection_view selection.now) (members_of crates.now)) e) }
 {

@@ -41,7 +41,7 @@ fn raised_dependent<'a>(
       next = (numbered_view bump.entry).1;
     }) }
     ensures risen { IfOk result HasRaisedText }
-    ensures refused { IfErr result (IsUpgradeError (raise (string_bytes entry.text) (numbered_view bump.entry).1)
+    ensures error { IfErr result (IsUpgradeError (raise (string_bytes entry.text) (numbered_view bump.entry).1)
         (string_bytes entry.text)) }
 {
     let risen = upgrade_requirement(alloc, entry.text.as_str(), bump.next)?;
@@ -66,7 +66,7 @@ fn push_dependent<'a>(
         → map numbered_dependent_view dependents.new.items ≡ map numbered_dependent_view dependents.old.items
         ++ option_to_list (with_bump_index bs file.now (path_dependency_view entry))) }
     ensures risen { OnOk result (All HasRaisedText dependents.old.items → All HasRaisedText dependents.new.items) }
-    ensures refused { IfErr result (λ e. (bs : List Bump) → HasFirstBumps bs numbers.now
+    ensures error { IfErr result (λ e. (bs : List Bump) → HasFirstBumps bs numbers.now
         → IsEntryUnraised bs file.now (path_dependency_view entry) e) }
 {
     let bump = bump_at(alloc, numbers, file, entry.path.as_str())?;
@@ -91,7 +91,7 @@ pub(crate) fn dependents_of<'a>(
     ensures ok { IfOk result (λ fs. (bs : List Bump) → HasFirstBumps bs numbers.now
         → map numbered_dependent_view fs.items ≡ all_numbered bs file.now (tree_of document.now)) }
     ensures risen { IfOk result (λ fs. All HasRaisedText fs.items) }
-    ensures refused { IfErr result (λ e. (bs : List Bump) → HasFirstBumps bs numbers.now
+    ensures error { IfErr result (λ e. (bs : List Bump) → HasFirstBumps bs numbers.now
         → IsMemory e ⊎ IsUnraised bs file.now (tree_of document.now) e) }
 {
     let entries = path_entries(alloc, document)?;

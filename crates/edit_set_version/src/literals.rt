@@ -26,7 +26,7 @@ fn check_literal(
     requires apart { AreApart (bumps_view writing.now.bumps.now) }
     requires read { IsReadOf input.now manifest.now }
     ensures literal { OnOk result (HasLiteral (bumps_view writing.now.bumps.now) input.now) }
-    ensures refused { IfErr result (λ e. IsMemory e ⊎ ((e ≡ NoVersionPlace)
+    ensures error { IfErr result (λ e. IsMemory e ⊎ ((e ≡ NoVersionPlace)
         × LacksLiteral (bumps_view writing.now.bumps.now) input.now)) }
 {
     let path = input.path.as_str();
@@ -47,7 +47,7 @@ pub(crate) fn check_literals(
     requires apart { AreApart (bumps_view writing.now.bumps.now) }
     requires read { AllZip IsReadOf inputs.now manifests.now }
     ensures literals { OnOk result (All (HasLiteral (bumps_view writing.now.bumps.now)) inputs.now) }
-    ensures refused { IfErr result (λ e. IsMemory e ⊎ ((e ≡ NoVersionPlace)
+    ensures error { IfErr result (λ e. IsMemory e ⊎ ((e ≡ NoVersionPlace)
         × LackLiterals (bumps_view writing.now.bumps.now) inputs.now)) }
 {
     'inputs: for i in 0..inputs.len() {

@@ -15,7 +15,7 @@ use std::alloc::Global;
 /// Parses the manifests of inputs, in order.
 pub(crate) fn manifests_of(alloc: Global, inputs: &[Input]) -> CargoResult<Vec<Manifest>>
     ensures ok { IfOk result (λ ms. AllZip IsReadOf inputs.now ms.items) }
-    ensures refused { IfErr result (λ e. IsMemory e
+    ensures error { IfErr result (λ e. IsMemory e
         ⊎ HasFirstCause IsManifest (λ i. IsBadManifest i.bytes.items e) inputs.now) }
 {
     let mut manifests = Vec::with_capacity(alloc, inputs.len())?;

@@ -33,7 +33,7 @@ fn add_bump<'a>(
     ensures ok { OnOk result ((q : List ℕ) → numbered_at numbers.new (names_of q)
         ≡ option_or (numbered_at numbers.old (names_of q))
         (if same_folder (folder_of path.now) (names_of q) then Some (numbered_view bump.entry) else None)) }
-    ensures refused { IfErr result IsMemory }
+    ensures error { IfErr result IsMemory }
 {
     let folder = folder_of(alloc, path)?;
     if numbers.contains_key(folder.as_str()) {
@@ -49,7 +49,7 @@ pub(crate) fn index_bumps<'a>(
     bumps: &'a [Bump<'_>],
 ) -> CargoResult<BumpsByFolder<'a>>
     ensures ok { IfOk result (HasFirstBumps (bumps_view bumps.entry.now)) }
-    ensures refused { IfErr result IsMemory }
+    ensures error { IfErr result IsMemory }
 {
     let mut numbers = BTreeMap::new(alloc);
     'bumps: for (number, bump) in bumps.iter().enumerate() {
@@ -69,7 +69,7 @@ pub(crate) fn bump_at<'a>(
 ) -> CargoResult<Option<Numbered<'a>>>
     ensures ok { IfOk result (λ o. option_map numbered_view o
         ≡ numbered_at numbers.now (reached file.now path.now)) }
-    ensures refused { IfErr result IsMemory }
+    ensures error { IfErr result IsMemory }
 {
     let folder = reached(alloc, file, path)?;
     Ok(numbers.get(folder.as_str()).copied())
@@ -83,7 +83,7 @@ pub(crate) fn bump_beside<'a>(
 ) -> CargoResult<Option<Numbered<'a>>>
     ensures ok { IfOk result (λ o. option_map numbered_view o
         ≡ numbered_at numbers.now (folder_of file.now)) }
-    ensures refused { IfErr result IsMemory }
+    ensures error { IfErr result IsMemory }
 {
     let folder = folder_of(alloc, file)?;
     Ok(numbers.get(folder.as_str()).copied())

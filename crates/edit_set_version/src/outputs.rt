@@ -69,7 +69,7 @@ fn own_bump<'a>(
     requires apart { AreApart (bumps_view writing.now.bumps.now) }
     ensures ok { IfOk result (λ o. filter (writes_own path.now) (bumps_view writing.entry.now.bumps.now)
         ≡ option_to_list (option_map (λ b. bump_view b.now) o)) }
-    ensures refused { IfErr result IsMemory }
+    ensures error { IfErr result IsMemory }
 {
     let Some(told) = bump_beside(alloc, writing.numbers, path)? else {
         return Ok(None);
@@ -90,7 +90,7 @@ fn push_shared(
 ) -> CargoResult<()>
     ensures ok { OnOk result (edit_views edits.new.items ≡ edit_views edits.old.items
         ++ shared_edits (same_bytes path.now writing.now.root.now) (shared_version_view writing.now.shared)) }
-    ensures refused { IfErr result IsMemory }
+    ensures error { IfErr result IsMemory }
 {
     if path != writing.root {
         return Ok(());
@@ -118,7 +118,7 @@ pub(crate) fn push_own(
         ++ filter_map (own_edit path.now) (bumps_view writing.now.bumps.now)) }
     ensures literal { OnOk result (filter (writes_own path.now) (bumps_view writing.now.bumps.now) ≢ []
         → (form : Text) → IsDocument document.now.bytes form → is_value_at form package_version ≡ true) }
-    ensures refused { IfErr result (λ e. IsMemory e ⊎ ((e ≡ NoVersionPlace)
+    ensures error { IfErr result (λ e. IsMemory e ⊎ ((e ≡ NoVersionPlace)
         × (filter (writes_own path.now) (bumps_view writing.now.bumps.now) ≢ [])
         × IsNoValue document.now package_version)) }
 {
@@ -147,7 +147,7 @@ fn push_dependents(
         (dependents (bumps_view writing.now.bumps.now) path.now (tree_of document.now))) }
     ensures rise { OnOk result
         (AllRise (bumps_view writing.now.bumps.now) path.now (tree_of document.now)) }
-    ensures refused { IfErr result (λ e. IsMemory e
+    ensures error { IfErr result (λ e. IsMemory e
         ⊎ IsUnraised (bumps_view writing.now.bumps.now) path.now (tree_of document.now) e) }
 {
     let dependents = dependents_of(alloc, writing.numbers, path, document)?;
@@ -169,7 +169,7 @@ fn edits_of(
         ≡ edits_by writing.now.root.now (shared_version_view writing.now.shared)
         (bumps_view writing.now.bumps.now) (path_of input.now) (tree_of manifest.now.document)) }
     ensures clear { OnOk result (IsInputClearBy (bumps_view writing.now.bumps.now) input.now) }
-    ensures refused { IfErr result (λ e. IsInputClearBy (bumps_view writing.now.bumps.now) input.now
+    ensures error { IfErr result (λ e. IsInputClearBy (bumps_view writing.now.bumps.now) input.now
         → IsMemory e) }
 {
     let path = input.path.as_str();
@@ -196,7 +196,7 @@ fn output_of(
     ensures output { IfOk result (λ o. AreOutputsOf writing.now.root.now (shared_version_view writing.now.shared)
         (bumps_view writing.now.bumps.now) input.now (option_to_list o)) }
     ensures clear { OnOk result (IsInputClearBy (bumps_view writing.now.bumps.now) input.now) }
-    ensures refused { IfErr result (λ e. IsInputClearBy (bumps_view writing.now.bumps.now) input.now
+    ensures error { IfErr result (λ e. IsInputClearBy (bumps_view writing.now.bumps.now) input.now
         → IsMemory e) }
 {
     let edits = edits_of(alloc, writing, input, manifest)?;
@@ -231,7 +231,7 @@ fn push_output(
         × AreOutputsOf writing.now.root.now (shared_version_view writing.now.shared)
         (bumps_view writing.now.bumps.now) input.now own) }
     ensures clear { OnOk result (IsInputClearBy (bumps_view writing.now.bumps.now) input.now) }
-    ensures refused { IfErr result (λ e. IsInputClearBy (bumps_view writing.now.bumps.now) input.now
+    ensures error { IfErr result (λ e. IsInputClearBy (bumps_view writing.now.bumps.now) input.now
         → IsMemory e) }
 {
     let output = output_of(alloc, writing, input, manifest)?;
@@ -262,7 +262,7 @@ pub(crate) fn outputs_of(
     ensures in_order { IfOk result (λ os. OutputsInOrder inputs.now os.items) }
     ensures clear { OnOk result (All (IsInputClearBy (bumps_view writing.now.bumps.now)) inputs.now) }
     // an input in which a literal or a requirement is at fault was an error before
-    ensures refused { IfErr result (λ e. All (IsInputClearBy (bumps_view writing.now.bumps.now)) inputs.now
+    ensures error { IfErr result (λ e. All (IsInputClearBy (bumps_view writing.now.bumps.now)) inputs.now
         → IsMemory e) }
 {
     let mut outputs = Vec::new(alloc);

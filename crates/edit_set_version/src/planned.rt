@@ -70,7 +70,7 @@ fn versions_of<'a>(
     ensures versions { IsReadableTarget (target_of target.now)
         → All (λ m. IsReadable m.version) (chosen (selection_view selection.now) (project_view project.now).members)
         → IfOk result (λ v. AreVersions (bumps_view v.bumps.items)) }
-    ensures refused { IfErr result (λ e. IsMemory e
+    ensures error { IfErr result (λ e. IsMemory e
         ⊎ IsVersionError (target_of target.now) (selection_view selection.now) (project_view project.now) e) }
 {
     let choice = choose(alloc, selection, &project.members)?;
@@ -107,7 +107,7 @@ fn plan_with(
         ++ flat_map (lines_of (project_view project.now)) (bumps_view versions.now.bumps.items)) }
     ensures changed { IfOk result (λ plan. plan.changed ≡ has_lines plan) }
     ensures clear { OnOk result (All (IsInputClearBy (bumps_view versions.now.bumps.items)) inputs.now) }
-    ensures refused { IfErr result (λ e. IsMemory e ⊎ IsManifestError (bumps_view versions.now.bumps.items)
+    ensures error { IfErr result (λ e. IsMemory e ⊎ IsManifestError (bumps_view versions.now.bumps.items)
         inputs.now (project_view project.now) e) }
 {
     let numbers = index_bumps(alloc, &versions.bumps)?;
@@ -159,7 +159,7 @@ pub fn plan_set_version(
     ensures planned { IfOk result (λ plan. HasProject (workspace_view workspace.now) inputs.now
         (IsPlan (target_of target.now) (selection_view selection.now) inputs.now plan)) }
     // the first cause in the input, or out of memory
-    ensures refused { IfErr result (IsCauseOf (target_of target.now) (selection_view selection.now)
+    ensures error { IfErr result (IsCauseOf (target_of target.now) (selection_view selection.now)
         (workspace_view workspace.now) inputs.now) }
 {
     selection.check_names(alloc, workspace)?;

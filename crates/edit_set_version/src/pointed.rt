@@ -78,7 +78,7 @@ fn entry_named(
     requires { place_of table ≡ place_view place.now }
     ensures ok { IfOk result (λ o. option_map path_dependency_view o
         ≡ path_dependency_at (tree_of (document_of table.entry)) (at (place_view place.now) (key name.now))) }
-    ensures refused { IfErr result IsMemory }
+    ensures error { IfErr result IsMemory }
 {
     let Some(item) = table.get(name) else {
         return Ok(None);
@@ -98,7 +98,7 @@ fn push_named(
     requires { place_of table ≡ place_view place.now }
     ensures ok { OnOk result (path_dependency_views entries.new.items ≡ path_dependency_views entries.old.items
         ++ path_dependency_named (tree_of (document_of table.entry)) (place_view place.now) name.now) }
-    ensures refused { IfErr result IsMemory }
+    ensures error { IfErr result IsMemory }
 {
     let entry = entry_named(alloc, place, table, name)?;
     match entry {
@@ -119,7 +119,7 @@ fn push_table(
 ) -> CargoResult<()>
     ensures ok { OnOk result (path_dependency_views entries.new.items ≡ path_dependency_views entries.old.items
         ++ path_dependencies_in (tree_of document.now) (place_view place.now)) }
-    ensures refused { IfErr result IsMemory }
+    ensures error { IfErr result IsMemory }
 {
     let Some(table) = document.item(place) else {
         return Ok(());
@@ -133,7 +133,7 @@ fn push_table(
 /// The entries of a document that have both a requirement and a path.
 fn entries_of(alloc: Global, document: &Document) -> CargoResult<Vec<PathEntry>>
     ensures ok { IfOk result (λ es. path_dependency_views es.items ≡ pointed (tree_of document.now)) }
-    ensures refused { IfErr result IsMemory }
+    ensures error { IfErr result IsMemory }
 {
     let tables = dependency_tables(alloc, document)?;
     let mut entries = Vec::new(alloc);
@@ -151,7 +151,7 @@ pub fn path_entries(alloc: Global, document: &Document) -> CargoResult<Vec<PathE
     ensures dependents { IfOk result (λ es. (bumps : List Bump) (file : List ℕ)
         → dependents bumps file (tree_of document.now)
         ≡ filter_map (dependent_by_path bumps file) (path_dependency_views es.items)) }
-    ensures refused { IfErr result IsMemory }
+    ensures error { IfErr result IsMemory }
 {
     let entries = entries_of(alloc, document)?;
     Ok(entries)

@@ -34,7 +34,7 @@ pub(crate) struct ProjectRead<'a> {
 fn root_path(alloc: Global, workspace: &Workspace) -> CargoResult<String>
     ensures path { IfOk result (λ s. IsNormalOf (root_manifest (workspace_view workspace.now)).path
         (string_bytes s)) }
-    ensures refused { IfErr result IsMemory }
+    ensures error { IfErr result IsMemory }
 {
     let path = join(alloc, workspace.root.as_str(), "Cargo.toml")?;
     normal(alloc, path.as_str())
@@ -70,7 +70,7 @@ pub(crate) fn project_of<'a>(
     requires manifests { AllZip IsReadOf inputs.now manifests.now }
     ensures ok { IfOk result (λ p. IsProject (workspace_view workspace.entry.now) inputs.entry.now
         (project_view p)) }
-    ensures refused { IfErr result IsMemory }
+    ensures error { IfErr result IsMemory }
 {
     let path = root_path(alloc, workspace)?;
     let root = root_at(inputs, manifests, path.as_str());

@@ -11,7 +11,7 @@ use std::alloc::Global;
 /// The normalized folder of the file at an absolute path.
 pub(crate) fn folder_of(alloc: Global, file: &str) -> CargoResult<String>
     ensures ok { IfOk result (λ s. string_bytes s ≡ folder_text (folder_of file.now)) }
-    ensures refused { IfErr result IsMemory }
+    ensures error { IfErr result IsMemory }
 {
     let way = format!(in alloc; "{file}/..")?;
     normal(alloc, way.as_str())
@@ -21,7 +21,7 @@ pub(crate) fn folder_of(alloc: Global, file: &str) -> CargoResult<String>
 /// it is absolute, else relative to the manifest's folder.
 pub(crate) fn reached(alloc: Global, file: &str, path: &str) -> CargoResult<String>
     ensures ok { IfOk result (λ s. string_bytes s ≡ folder_text (reached file.now path.now)) }
-    ensures refused { IfErr result IsMemory }
+    ensures error { IfErr result IsMemory }
 {
     if path.starts_with('/') {
         return normal(alloc, path);

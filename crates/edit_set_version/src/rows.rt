@@ -83,7 +83,7 @@ pub(crate) fn plan_lines(
         (option_map (λ v. parts_of v.now) old.entry) (option_map (λ v. parts_of v.now) new.entry)
         ++ flat_map (lines_of (project_view project.now)) (bumps_view bumps.now)) }
     ensures rise { OnOk result (All (AllRiseIn (bumps_view bumps.now)) (manifests (project_view project.now))) }
-    ensures refused { IfErr result (λ e. IsMemory e
+    ensures error { IfErr result (λ e. IsMemory e
         ⊎ AreUnraised (bumps_view bumps.now) (manifests (project_view project.now)) e) }
 {
     let lists = lists_of(alloc, numbers, project, bumps)?;

@@ -71,7 +71,7 @@ impl TargetVersion {
     /// Copies the target into newly allocated memory.
     pub fn try_clone(&self, _alloc: Global) -> CargoResult<TargetVersion>
         ensures same { IfOk result (λ t. target_of t ≡ target_of self.now) }
-        ensures refused { IfErr result IsMemory }
+        ensures error { IfErr result IsMemory }
     {
         match self {
             TargetVersion::Relative(level) => Ok(TargetVersion::Relative(*level)),
@@ -97,7 +97,7 @@ impl TargetVersion {
     ) -> CargoResult<Option<Version>>
         ensures bumped { IfOk result (λ next. bump (target_of self.now) (option_copied metadata.entry)
             (parts_of current.now) ≡ bumped_to next) }
-        ensures refused { IfErr result (λ e. IsUnbumped (bump (target_of self.now)
+        ensures error { IfErr result (λ e. IsUnbumped (bump (target_of self.now)
             (option_copied metadata.entry) (parts_of current.now)) (parts_of current.now) e) }
         // an absolute version is never lower than the current one
         ensures greater { IfOk result (λ next. IfSome next (λ v. IsGreaterUnlessRelative

@@ -25,7 +25,7 @@ pub(crate) fn current_workspace_version(
 ) -> CargoResult<Option<Version>>
     ensures ok { IfOk result (λ o. option_map parts_of o
         ≡ (if bumps then workspace_version (tree_of root.now.document) else None)) }
-    ensures refused { IfErr result IsMemory }
+    ensures error { IfErr result IsMemory }
 {
     if !bumps {
         return Ok(None);
@@ -45,7 +45,7 @@ pub(crate) fn next_workspace_version(
         (option_map (λ v. parts_of v.now) current.entry)) }
     ensures bumpable { OnOk result (IfSome current.entry (λ v. IsBumpable (bump (target_of target.now)
         (selection_view selection.now).metadata (parts_of v.now)))) }
-    ensures refused { IfErr result (λ e. (v : Parts)
+    ensures error { IfErr result (λ e. (v : Parts)
         × (option_map (λ v. parts_of v.now) current.entry ≡ Some v)
         × IsUnbumped (bump (target_of target.now) (selection_view selection.now).metadata v) v e) }
 {

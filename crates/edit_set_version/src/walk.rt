@@ -39,7 +39,7 @@ fn push_manifest(
         } ∷ []) 0 (line_lists_view lists.old.items)) }
     ensures rise { OnOk result ((bs : List Bumped) → HasFirstBumps bs numbers.now
         → AllRise bs (path_of input.now) (tree_of manifest.now.document)) }
-    ensures refused { IfErr result (λ e. (bs : List Bumped) → HasFirstBumps bs numbers.now
+    ensures error { IfErr result (λ e. (bs : List Bumped) → HasFirstBumps bs numbers.now
         → IsMemory e ⊎ IsUnraised bs (path_of input.now) (tree_of manifest.now.document) e) }
 {
     let dependents = dependents_of(alloc, numbers, input.path.as_str(), &manifest.document)?;
@@ -60,7 +60,7 @@ fn push_member(
         (other_manifests root.now (member_of found.entry ∷ [])) 0 (line_lists_view lists.old.items)) }
     ensures rise { OnOk result ((bs : List Bumped) → HasFirstBumps bs numbers.now
         → All (AllRiseIn bs) (other_manifests root.now (member_of found.entry ∷ []))) }
-    ensures refused { IfErr result (λ e. (bs : List Bumped) → HasFirstBumps bs numbers.now
+    ensures error { IfErr result (λ e. (bs : List Bumped) → HasFirstBumps bs numbers.now
         → IsMemory e ⊎ AreUnraised bs (other_manifests root.now (member_of found.entry ∷ [])) e) }
 {
     if found.input.path.as_str() == root {
@@ -90,7 +90,7 @@ fn push_members(
         (other_manifests root.now (members_of crates.now)) 0 (line_lists_view lists.old.items)) }
     ensures rise { OnOk result ((bs : List Bumped) → HasFirstBumps bs numbers.now
         → All (AllRiseIn bs) (other_manifests root.now (members_of crates.now))) }
-    ensures refused { IfErr result (λ e. (bs : List Bumped) → HasFirstBumps bs numbers.now
+    ensures error { IfErr result (λ e. (bs : List Bumped) → HasFirstBumps bs numbers.now
         → IsMemory e ⊎ AreUnraised bs (other_manifests root.now (members_of crates.now)) e) }
 {
     'members: for found in crates {
@@ -111,7 +111,7 @@ fn push_project(
         ≡ with_manifests bs (manifests (project_view project.now)) 0 (line_lists_view lists.old.items)) }
     ensures rise { OnOk result ((bs : List Bumped) → HasFirstBumps bs numbers.now
         → All (AllRiseIn bs) (manifests (project_view project.now))) }
-    ensures refused { IfErr result (λ e. (bs : List Bumped) → HasFirstBumps bs numbers.now
+    ensures error { IfErr result (λ e. (bs : List Bumped) → HasFirstBumps bs numbers.now
         → IsMemory e ⊎ AreUnraised bs (manifests (project_view project.now)) e) }
 {
     let root = project.root;
@@ -146,7 +146,7 @@ pub(crate) fn lists_of(
         ≡ with_manifests (bumps_view bumps.now) (manifests (project_view project.now)) 0
         (map (λ b. bump_line_view b ∷ []) (bumps_view bumps.now))) }
     ensures rise { OnOk result (All (AllRiseIn (bumps_view bumps.now)) (manifests (project_view project.now))) }
-    ensures refused { IfErr result (λ e. IsMemory e
+    ensures error { IfErr result (λ e. IsMemory e
         ⊎ AreUnraised (bumps_view bumps.now) (manifests (project_view project.now)) e) }
 {
     let mut lists = bump_lists(alloc, bumps)?;

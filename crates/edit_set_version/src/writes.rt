@@ -23,7 +23,7 @@ pub(crate) type Edit = (Place, String);
 fn requirement_edit(alloc: Global, dependent: &DependentEntry<'_>) -> CargoResult<Option<Edit>>
     ensures ok { IfOk result (λ o. HasRaisedText dependent.now → edit_views (option_to_list o)
         ≡ option_to_list (requirement_edit (dependent_of dependent.now))) }
-    ensures refused { IfErr result IsMemory }
+    ensures error { IfErr result IsMemory }
 {
     match &dependent.risen {
         Some(text) => {
@@ -43,7 +43,7 @@ fn push_requirement(
 ) -> CargoResult<()>
     ensures ok { OnOk result (HasRaisedText dependent.now → edit_views edits.new.items
         ≡ edit_views edits.old.items ++ option_to_list (requirement_edit (dependent_of dependent.now))) }
-    ensures refused { IfErr result IsMemory }
+    ensures error { IfErr result IsMemory }
 {
     let edit = requirement_edit(alloc, dependent)?;
     match edit {
@@ -63,7 +63,7 @@ pub(crate) fn push_requirements(
 ) -> CargoResult<()>
     ensures ok { OnOk result (All HasRaisedText dependents.now → edit_views edits.new.items
         ≡ edit_views edits.old.items ++ filter_map requirement_edit (map dependent_of dependents.now)) }
-    ensures refused { IfErr result IsMemory }
+    ensures error { IfErr result IsMemory }
 {
     'dependents: for dependent in dependents {
         push_requirement(alloc, dependent, edits)?;

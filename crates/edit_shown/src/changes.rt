@@ -19,7 +19,7 @@ fn print_change<O: io::Write>(
 ) -> CargoResult<()>
     ensures text { OnOk result (Appends (O.contents out.old) (O.contents out.new)
         (change_message (line_texts line.now))) }
-    ensures refused { IfErr result (λ e. IsMemory e ⊎ (e ≡ Output)) }
+    ensures error { IfErr result (λ e. IsMemory e ⊎ (e ≡ Output)) }
 {
     let text = change_message(alloc, line.0.as_str(), line.1.as_str())?;
     shell_write_stdout(out, text.as_str())
@@ -33,7 +33,7 @@ pub fn print_changes<O: io::Write>(
 ) -> CargoResult<()>
     ensures text { OnOk result (Appends (O.contents out.old) (O.contents out.new)
         (changes (map line_texts lines.now))) }
-    ensures refused { IfErr result (λ e. IsMemory e ⊎ (e ≡ Output)) }
+    ensures error { IfErr result (λ e. IsMemory e ⊎ (e ≡ Output)) }
 {
     for line in lines {
         print_change(alloc, line, out)?;

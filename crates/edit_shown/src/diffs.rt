@@ -30,7 +30,7 @@ fn print_diff<O: io::Write>(
 ) -> CargoResult<()>
     ensures text { OnOk result (Appends (O.contents out.old) (O.contents out.new)
         (diff_of root.now input.now output.now)) }
-    ensures refused { IfErr result (λ e. IsMemory e ⊎ (e ≡ error.Output)) }
+    ensures error { IfErr result (λ e. IsMemory e ⊎ (e ≡ error.Output)) }
 {
     let path = shown_path(alloc, root, input.path.as_str())?;
     write_diff(alloc, out, path, &input.bytes, &output.bytes)
@@ -47,7 +47,7 @@ fn print_next<'a, O: io::Write>(
     ensures text { OnOk result (Appends (O.contents out.old) (O.contents out.new)
         (next_diff root.now input.now outputs.now)) }
     ensures others { IfOk result (λ others. others.now ≡ other_outputs input.now outputs.now) }
-    ensures refused { IfErr result (λ e. IsMemory e ⊎ (e ≡ error.Output)) }
+    ensures error { IfErr result (λ e. IsMemory e ⊎ (e ≡ error.Output)) }
 {
     let [output, others @ ..] = outputs else {
         return Ok(outputs);
@@ -71,7 +71,7 @@ pub fn print_diffs<O: io::Write>(
 ) -> CargoResult<()>
     ensures text { OnOk result (Appends (O.contents out.old) (O.contents out.new)
         (diffs root.now inputs.now outputs.now)) }
-    ensures refused { IfErr result (λ e. IsMemory e ⊎ (e ≡ error.Output)) }
+    ensures error { IfErr result (λ e. IsMemory e ⊎ (e ≡ error.Output)) }
 {
     let mut rest = outputs;
     for input in inputs {

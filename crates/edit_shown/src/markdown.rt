@@ -33,7 +33,7 @@ pub fn print_markdown<O: io::Write>(
 ) -> CargoResult<()>
     ensures text { OnOk result (Appends (O.contents out.old) (O.contents out.new)
         (markdown verbosity rows.now inputs.now)) }
-    ensures refused { IfErr result (λ e. IsMemory e ⊎ (e ≡ Output)) }
+    ensures error { IfErr result (λ e. IsMemory e ⊎ (e ≡ Output)) }
 {
     let lines = shown_lines(alloc, rows, verbosity)?;
     if lines.is_empty() {

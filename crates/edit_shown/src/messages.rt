@@ -34,7 +34,7 @@ fn print_row<O: io::Write>(
 ) -> CargoResult<()>
     ensures text { OnOk result (Appends (O.contents out.old) (O.contents out.new)
         (spec.row_message inputs.now row.now)) }
-    ensures refused { IfErr result (λ e. IsMemory e ⊎ (e ≡ error.Output)) }
+    ensures error { IfErr result (λ e. IsMemory e ⊎ (e ≡ error.Output)) }
 {
     let line = row_message(alloc, path_at(inputs, row.input), row)?;
     shell_write_stdout(out, line.as_str())
@@ -49,7 +49,7 @@ fn print_rows<O: io::Write>(
 ) -> CargoResult<()>
     ensures text { OnOk result (Appends (O.contents out.old) (O.contents out.new)
         (flat_map (spec.row_message inputs.now) rows.now)) }
-    ensures refused { IfErr result (λ e. IsMemory e ⊎ (e ≡ error.Output)) }
+    ensures error { IfErr result (λ e. IsMemory e ⊎ (e ≡ error.Output)) }
 {
     for row in rows {
         print_row(alloc, inputs, row, out)?;
@@ -66,7 +66,7 @@ fn print_warning<O: io::Write>(
 ) -> CargoResult<()>
     ensures text { OnOk result (Appends (O.contents out.old) (O.contents out.new)
         (spec.warning_message inputs.now warning.now)) }
-    ensures refused { IfErr result (λ e. IsMemory e ⊎ (e ≡ error.Output)) }
+    ensures error { IfErr result (λ e. IsMemory e ⊎ (e ≡ error.Output)) }
 {
     let manifest = path_at(inputs, warning.input);
     let line = warning_message(alloc, manifest, warning.text.as_str())?;
@@ -82,7 +82,7 @@ fn print_warnings<O: io::Write>(
 ) -> CargoResult<()>
     ensures text { OnOk result (Appends (O.contents out.old) (O.contents out.new)
         (flat_map (spec.warning_message inputs.now) warnings.now)) }
-    ensures refused { IfErr result (λ e. IsMemory e ⊎ (e ≡ error.Output)) }
+    ensures error { IfErr result (λ e. IsMemory e ⊎ (e ≡ error.Output)) }
 {
     for warning in warnings {
         print_warning(alloc, inputs, warning, out)?;
@@ -99,7 +99,7 @@ fn print_file<O: io::Write>(
 ) -> CargoResult<()>
     ensures text { OnOk result (Appends (O.contents out.old) (O.contents out.new)
         (spec.file_message options.now output.now)) }
-    ensures refused { IfErr result (λ e. IsMemory e ⊎ (e ≡ error.Output)) }
+    ensures error { IfErr result (λ e. IsMemory e ⊎ (e ≡ error.Output)) }
 {
     let written = !(options.dry_run || options.locked);
     let line = file_message(alloc, output.path.as_str(), written)?;
@@ -115,7 +115,7 @@ fn print_files<O: io::Write>(
 ) -> CargoResult<()>
     ensures text { OnOk result (Appends (O.contents out.old) (O.contents out.new)
         (flat_map (spec.file_message options.now) outputs.now)) }
-    ensures refused { IfErr result (λ e. IsMemory e ⊎ (e ≡ error.Output)) }
+    ensures error { IfErr result (λ e. IsMemory e ⊎ (e ≡ error.Output)) }
 {
     for output in outputs {
         print_file(alloc, options, output, out)?;
@@ -149,7 +149,7 @@ fn print_summary<O: io::Write>(
 ) -> CargoResult<()>
     ensures text { OnOk result (Appends (O.contents out.old) (O.contents out.new)
         (spec.summary_message plan.now options.now (spec.call_texts calls.now))) }
-    ensures refused { IfErr result (λ e. IsMemory e ⊎ (e ≡ error.Output)) }
+    ensures error { IfErr result (λ e. IsMemory e ⊎ (e ≡ error.Output)) }
 {
     let line = summary_message(alloc, summary_of(plan, options, calls))?;
     shell_write_stdout(out, line.as_str())
@@ -167,7 +167,7 @@ pub fn print_messages<O: io::Write>(
 ) -> CargoResult<()>
     ensures text { OnOk result (Appends (O.contents out.old) (O.contents out.new)
         (spec.messages plan.now inputs.now options.now (spec.call_texts calls.now))) }
-    ensures refused { IfErr result (λ e. IsMemory e ⊎ (e ≡ error.Output)) }
+    ensures error { IfErr result (λ e. IsMemory e ⊎ (e ≡ error.Output)) }
 {
     print_rows(alloc, inputs, plan.rows.as_slice(), out)?;
     print_warnings(alloc, inputs, plan.warnings.as_slice(), out)?;

@@ -9,7 +9,7 @@ use std::alloc::Global;
 /// A folder's path with a `/` at its end.
 fn folder_text(alloc: Global, folder: &str) -> CargoResult<String>
     ensures text { IfOk result (λ s. string_bytes s ≡ folder_text folder.now) }
-    ensures refused { IfErr result IsMemory }
+    ensures error { IfErr result IsMemory }
 {
     if folder.ends_with('/') {
         return Ok(String::from_str(alloc, folder)?);
@@ -33,7 +33,7 @@ fn below<'a>(folder: &str, path: &'a str) -> &'a str
 /// The path of a file in a diff whose paths are relative to a folder.
 pub(crate) fn shown_path<'a>(alloc: Global, folder: &str, path: &'a str) -> CargoResult<&'a str>
     ensures text { IfOk result (λ s. s.now ≡ shown_path folder.now path.now) }
-    ensures refused { IfErr result IsMemory }
+    ensures error { IfErr result IsMemory }
 {
     let folder = folder_text(alloc, folder)?;
     Ok(below(folder.as_str(), path))

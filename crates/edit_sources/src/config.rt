@@ -167,7 +167,7 @@ fn sources_in(
 /// The configuration of a document; `None` where `registries` or `source` is malformed.
 fn configuration_in(alloc: Global, path: &str, table: &Table) -> Result<Option<Config>, AllocError>
     ensures named { IfOk result (λ found. IfSome found (λ c. string_bytes c.path ≡ path.now)) }
-    ensures said { IfOk result (λ found. option_map configuration found
+    ensures content { IfOk result (λ found. option_map configuration found
         ≡ configuration_of (table_view table.now)) }
 {
     let Some(registries) = registries_in(alloc, table)? else {
@@ -192,12 +192,12 @@ impl Config {
     /// the bytes are not UTF-8, or the text is not TOML.
     pub fn read(alloc: Global, path: &str, bytes: &[u8]) -> CargoResult<Config>
         ensures named { IfOk result (λ c. string_bytes c.path ≡ path.now) }
-        ensures said { IfOk result (λ c. Says bytes.now (configuration c)) }
+        ensures content { IfOk result (λ c. Says bytes.now (configuration c)) }
         // the bytes have no other configuration, and never both a configuration and none
         ensures only { IfOk result (λ c. (other : Configuration) → Says bytes.now other
             → other ≡ configuration c) }
         ensures something { IfOk result (λ c. IsMalformedConfig bytes.now → ⊥) }
-        ensures refused { IfErr result (λ e. IsMemory e
+        ensures error { IfErr result (λ e. IsMemory e
             ⊎ (IsConfigRefusal path.now e × IsMalformedConfig bytes.now)) }
     {
         let Ok(text) = std::str::from_utf8(bytes) else {

@@ -25,7 +25,7 @@ impl FileIndex {
     /// Parses the lines of an index; `Error::IndexLine` with the number of the first malformed line.
     pub fn read(alloc: Global, bytes: &[u8]) -> CargoResult<FileIndex>
         ensures entries { IfOk result (λ i. HoldsLines i bytes.now) }
-        ensures refused { IfErr result (IsLinesError (lines_of bytes.now)) }
+        ensures error { IfErr result (IsLinesError (lines_of bytes.now)) }
     {
         let entries = read_lines(alloc, bytes)?;
         Ok(FileIndex {

@@ -19,7 +19,7 @@ impl IndexKrate {
     /// Returns a deep copy of the entries.
     pub fn try_clone(&self, alloc: Global) -> CargoResult<IndexKrate>
         ensures ok { IfOk result (λ k. entries_of k ≡ entries_of self.now) }
-        ensures refused { IfErr result IsMemory }
+        ensures error { IfErr result IsMemory }
     {
         Ok(IndexKrate {
             versions: copied(alloc, &self.versions)?,
@@ -30,7 +30,7 @@ impl IndexKrate {
 /// Returns deep copies of the entries.
 pub(crate) fn copied(alloc: Global, entries: &[IndexVersion]) -> CargoResult<Vec<IndexVersion>>
     ensures ok { IfOk result (λ v. map entry_of v.items ≡ map entry_of entries.now) }
-    ensures refused { IfErr result IsMemory }
+    ensures error { IfErr result IsMemory }
 {
     let mut all = Vec::with_capacity(alloc, entries.len())?;
     for entry in entries {

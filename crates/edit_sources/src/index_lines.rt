@@ -72,7 +72,7 @@ fn entry_from_tokens(
     scratch: &mut Scratch,
 ) -> CargoResult<Option<IndexVersion>>
     ensures ok { IfOk result (λ o. IfSome o (λ v. IsIndexLine bytes.now (entry_of v))) }
-    ensures refused { IfErr result IsMemory }
+    ensures error { IfErr result IsMemory }
 {
     let Ok(text) = simdutf8::compat::from_utf8(bytes) else {
         return Ok(None);
@@ -166,7 +166,7 @@ fn split_line(text: &[u8]) -> (&[u8], Option<&[u8]>)
 /// `rust_version` absent, null or a string. `Error::IndexLine` with the number of the first malformed line.
 pub fn read_lines(alloc: Global, bytes: &[u8]) -> CargoResult<Vec<IndexVersion>>
     ensures entries { IfOk result (λ v. HaveEntriesInOrder (lines_of bytes.now) (map entry_of v.items)) }
-    ensures refused { IfErr result (IsLinesError (lines_of bytes.now)) }
+    ensures error { IfErr result (IsLinesError (lines_of bytes.now)) }
 {
     let mut scratch = Scratch::new(alloc);
     let mut entries = Vec::new(alloc);

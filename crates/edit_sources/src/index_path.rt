@@ -19,7 +19,7 @@ use url::Url;
 /// `Error::IndexPath` where the URL names no folder, else `Error::BadCrateName`.
 pub(crate) fn index_path(alloc: Global, registry: &Url, name: &str) -> CargoResult<String>
     ensures ok { IfOk result (λ p. IsIndexPath registry.now name.now (string_bytes p)) }
-    ensures refused { IfErr result (λ e. IsMemory e ⊎ (IsLookupErrorNumber (number_of e)
+    ensures error { IfErr result (λ e. IsMemory e ⊎ (IsLookupErrorNumber (number_of e)
         × HasNoIndexPath registry.now name.now (lookup_error e))) }
 {
     if registry.scheme() != "file" {

@@ -31,7 +31,7 @@ pub fn resolve(alloc: Global, configs: &[Config], registry: Option<&str>) -> Car
     // the registry has no other URL
     ensures only { IfOk result (λ url. (other : Parts)
         → HasAddress configs.now (given registry.entry) other → other ≡ url) }
-    ensures refused { IfErr result (λ e. IsMemory e ⊎ HasNoUrl configs.now (given registry.entry) e) }
+    ensures error { IfErr result (λ e. IsMemory e ⊎ HasNoUrl configs.now (given registry.entry) e) }
 {
     let mut definitions = Definitions::read(alloc, configs)?;
     definitions.resolve(alloc, registry)
@@ -49,7 +49,7 @@ pub fn registry_url<S: Store>(
     ensures address { IfOk result (λ url. (S.view store.old).tells ≡ true
         → ConfiguredUrl (S.view store.old).file_at manifest_path.now (given cargo_home.entry)
         (given registry.entry) url) }
-    ensures refused { IfErr result (λ e. IsMemory e
+    ensures error { IfErr result (λ e. IsMemory e
         ⊎ (HasFailed (S.view store.old).faults (S.view store.new).faults e
         ⊎ (ConfigsFail (S.view store.old).tells (S.view store.old).file_at manifest_path.now
         (given cargo_home.entry) e

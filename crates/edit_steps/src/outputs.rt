@@ -16,7 +16,7 @@ fn stage_output<S: Store>(alloc: Global, output: &Output, files: &mut S) -> RunR
     ensures files { SameFiles (S.view files.old).file_at (S.view files.new).file_at }
     ensures writes { (S.view files.new).writes ≡ (S.view files.old).writes }
     ensures ready { OnOk result ((S.view files.new).stage_errors ≡ (S.view files.old).stage_errors) }
-    ensures refused { IfErr result
+    ensures error { IfErr result
         (λ r. IsCallError call.Write (S.view files.old) (S.view files.new) r.error) }
 {
     let path = output.path.as_str();
@@ -33,7 +33,7 @@ fn flush_output<S: Store>(alloc: Global, output: &Output, files: &mut S) -> RunR
     ensures files { SameFiles (S.view files.old).file_at (S.view files.new).file_at }
     ensures writes { (S.view files.new).writes ≡ (S.view files.old).writes }
     ensures ready { OnOk result ((S.view files.new).stage_errors ≡ (S.view files.old).stage_errors) }
-    ensures refused { IfErr result
+    ensures error { IfErr result
         (λ r. IsCallError call.Write (S.view files.old) (S.view files.new) r.error) }
 {
     let path = output.path.as_str();
@@ -50,7 +50,7 @@ fn verify_output<S: Store>(alloc: Global, output: &Output, files: &mut S) -> Run
     ensures files { SameFiles (S.view files.old).file_at (S.view files.new).file_at }
     ensures writes { (S.view files.new).writes ≡ (S.view files.old).writes }
     ensures ready { OnOk result ((S.view files.new).stage_errors ≡ (S.view files.old).stage_errors) }
-    ensures refused { IfErr result
+    ensures error { IfErr result
         (λ r. IsCallError call.Write (S.view files.old) (S.view files.new) r.error) }
 {
     let path = output.path.as_str();
@@ -68,7 +68,7 @@ fn stage_all<S: Store>(alloc: Global, outputs: &[Output], files: &mut S) -> RunR
     ensures writes { (S.view files.new).writes ≡ (S.view files.old).writes }
     ensures ready { OnOk result ((S.view files.new).stage_errors ≡ (S.view files.old).stage_errors) }
     ensures some { OnErr result (0 < length outputs.now) }
-    ensures refused { IfErr result
+    ensures error { IfErr result
         (λ r. IsCallError call.Write (S.view files.old) (S.view files.new) r.error) }
 {
     for output in outputs {
@@ -85,7 +85,7 @@ fn flush_all<S: Store>(alloc: Global, outputs: &[Output], files: &mut S) -> RunR
     ensures writes { (S.view files.new).writes ≡ (S.view files.old).writes }
     ensures ready { OnOk result ((S.view files.new).stage_errors ≡ (S.view files.old).stage_errors) }
     ensures some { OnErr result (0 < length outputs.now) }
-    ensures refused { IfErr result
+    ensures error { IfErr result
         (λ r. IsCallError call.Write (S.view files.old) (S.view files.new) r.error) }
 {
     for output in outputs {
@@ -102,7 +102,7 @@ fn make_ready<S: Store>(alloc: Global, outputs: &[Output], files: &mut S) -> Run
     ensures writes { (S.view files.new).writes ≡ (S.view files.old).writes }
     ensures ready { OnOk result ((S.view files.new).stage_errors ≡ (S.view files.old).stage_errors) }
     ensures some { OnErr result (0 < length outputs.now) }
-    ensures refused { IfErr result
+    ensures error { IfErr result
         (λ r. IsCallError call.Write (S.view files.old) (S.view files.new) r.error) }
 {
     stage_all(alloc, outputs, files)?;
@@ -117,7 +117,7 @@ fn verify_all<S: Store>(alloc: Global, outputs: &[Output], files: &mut S) -> Run
     ensures writes { (S.view files.new).writes ≡ (S.view files.old).writes }
     ensures ready { OnOk result ((S.view files.new).stage_errors ≡ (S.view files.old).stage_errors) }
     ensures some { OnErr result (0 < length outputs.now) }
-    ensures refused { IfErr result
+    ensures error { IfErr result
         (λ r. IsCallError call.Write (S.view files.old) (S.view files.new) r.error) }
 {
     for output in outputs {
@@ -137,7 +137,7 @@ fn write_output<S: Store>(alloc: Global, output: &Output, files: &mut S) -> RunR
     ensures at_most_once { OnErr result
         (IsWrittenAtMostOnce (path_of output.now) (S.view files.old) (S.view files.new)) }
     ensures ready { (S.view files.new).stage_errors ≡ (S.view files.old).stage_errors }
-    ensures refused { IfErr result
+    ensures error { IfErr result
         (λ r. IsCallError call.Write (S.view files.old) (S.view files.new) r.error) }
 {
     let path = output.path.as_str();
@@ -200,7 +200,7 @@ fn write_all<S: Store>(alloc: Global, outputs: &[Output], files: &mut S) -> RunR
     ensures written { OnOk result (AreWritten outputs.now (S.view files.old) (S.view files.new)) }
     ensures stopped { OnErr result (HasStopped outputs.now (S.view files.old) (S.view files.new)) }
     ensures ready { (S.view files.new).stage_errors ≡ (S.view files.old).stage_errors }
-    ensures refused { IfErr result
+    ensures error { IfErr result
         (λ r. IsCallError call.Write (S.view files.old) (S.view files.new) r.error) }
 {
     let mut done = 0usize;
@@ -222,7 +222,7 @@ fn stage_and_write<S: Store>(alloc: Global, outputs: &[Output], files: &mut S) -
     ensures stopped { OnErr result (HasStopped outputs.now (S.view files.old) (S.view files.new)) }
     ensures staged { OnErr result ((S.view files.new).stage_errors ≢ (S.view files.old).stage_errors
         → SameFiles (S.view files.old).file_at (S.view files.new).file_at) }
-    ensures refused { IfErr result
+    ensures error { IfErr result
         (λ r. IsCallError call.Write (S.view files.old) (S.view files.new) r.error) }
 {
     make_ready(alloc, outputs, files)?;
@@ -240,7 +240,7 @@ pub fn write_outputs<S: Store>(alloc: Global, outputs: &[Output], files: &mut S)
     ensures stopped { OnErr result (HasStopped outputs.now (S.view files.old) (S.view files.new)) }
     ensures staged { OnErr result ((S.view files.new).stage_errors ≢ (S.view files.old).stage_errors
         → SameFiles (S.view files.old).file_at (S.view files.new).file_at) }
-    ensures refused { IfErr result
+    ensures error { IfErr result
         (λ r. IsCallError call.Write (S.view files.old) (S.view files.new) r.error) }
 {
     match stage_and_write(alloc, outputs, files) {
@@ -256,7 +256,7 @@ pub fn write_outputs<S: Store>(alloc: Global, outputs: &[Output], files: &mut S)
 pub fn stage_outputs<S: Store>(alloc: Global, outputs: &[Output], files: &mut S) -> RunResult<()>
     ensures reads { OnlyReads (S.view files.old) (S.view files.new) }
     ensures ready { OnOk result ((S.view files.new).stage_errors ≡ (S.view files.old).stage_errors) }
-    ensures refused { IfErr result
+    ensures error { IfErr result
         (λ r. IsCallError call.Write (S.view files.old) (S.view files.new) r.error) }
 {
     match make_ready(alloc, outputs, files) {

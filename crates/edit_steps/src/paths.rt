@@ -10,7 +10,7 @@ use std::alloc::Global;
 /// The absolute, normalized form of `path`, which is relative to `current` where it is not absolute.
 pub fn absolute(alloc: Global, current: &str, path: &str) -> CargoResult<String>
     ensures text { IfOk result (λ s. IsAbsoluteOf current.now path.now (string_bytes s)) }
-    ensures refused { IfErr result IsMemory }
+    ensures error { IfErr result IsMemory }
 {
     let joined = join(alloc, current, path)?;
     normal(alloc, joined.as_str())

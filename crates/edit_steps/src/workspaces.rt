@@ -43,7 +43,7 @@ fn read_metadata<S: Store>(
         → AreMetadataRead (S.view files.old).file_at current.now named.now (workspace_view w)) }
     ensures folders { IfOk result (λ w. HasOwnFolders (workspace_view w)) }
     ensures readable { IfOk result (λ w. All (λ p. IsReadable (parts_of p.version)) w.packages.items) }
-    ensures refused { IfErr result (λ r. IsCallError call.Read (S.view files.old) (S.view files.new) r.error
+    ensures error { IfErr result (λ r. IsCallError call.Read (S.view files.old) (S.view files.new) r.error
         ⊎ ((S.view files.old).tells ≡ true
         → HasNoMetadata (S.view files.old).file_at current.now named.now r.error)) }
     ensures counted { IfErr result (λ r. CountsFault (S.view files.old) (S.view files.new) r.error) }
@@ -132,7 +132,7 @@ pub fn read_workspace<S: Store>(
     ensures folders { IfOk result (λ r. HasOwnFolders (workspace_view r.workspace)) }
     ensures readable { IfOk result (λ r.
         All (λ p. IsReadable (parts_of p.version)) r.workspace.packages.items) }
-    ensures refused { IfErr result (λ r. IsCallError call.Read (S.view files.old) (S.view files.new) r.error
+    ensures error { IfErr result (λ r. IsCallError call.Read (S.view files.old) (S.view files.new) r.error
         ⊎ ((S.view files.old).tells ≡ true
         → HasNoWorkspace (S.view files.old).file_at current.now named.now r.error)) }
     ensures counted { IfErr result (λ r. CountsFault (S.view files.old) (S.view files.new) r.error) }

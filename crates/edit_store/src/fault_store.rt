@@ -58,7 +58,7 @@ impl FaultStore {
     fn fault(&mut self, call: DeviceCall) -> Error
         ensures error { result ≡ Error.Device call }
         ensures raised { raised self.old.failed self.new.failed }
-        ensures kept { self.new ≡ record self.old { failed = self.new.failed } }
+        ensures preserved { self.new ≡ record self.old { failed = self.new.failed } }
     {
         self.failed = self.failed.saturating_add(1);
         Error::Device(call)

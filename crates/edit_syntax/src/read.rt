@@ -50,7 +50,7 @@ pub fn read_marks(alloc: Global, text: &[u8]) -> CargoResult<Vec<Mark>>
     ensures only { (form : Text) → Spells text.now form → text_depth form ≤ 80 →
         MatchResult result (λ v. v.items ≡ tokens_of_text form) IsMemory }
     // The offset in an error is at most the length of the text.
-    ensures refused { IfErr result (IsTokenizeError (length text.now)) }
+    ensures error { IfErr result (IsTokenizeError (length text.now)) }
 {
     let body = past_mark(text);
     match lines(alloc, body) {

@@ -25,7 +25,7 @@ impl Walk {
     pub(crate) fn head(&mut self, alloc: Global, text: &str) -> CargoResult<bool>
         ensures goes { (st : State) → Walks text.now self.old st
             → IfOk result (HasNextState text.now self.new (headed st)) }
-        ensures refused { IfErr result IsMemory }
+        ensures error { IfErr result IsMemory }
     {
         let Some(number) = self.settle(
             alloc,
@@ -48,7 +48,7 @@ impl Walk {
     pub(crate) fn open_array_table(&mut self, alloc: Global, text: &str) -> CargoResult<bool>
         ensures goes { (st : State) → Walks text.now self.old st
             → IfOk result (HasNextState text.now self.new (array_table_opened st)) }
-        ensures refused { IfErr result IsMemory }
+        ensures error { IfErr result IsMemory }
     {
         let Some(number) = self.settle(
             alloc,

@@ -169,7 +169,7 @@ impl Walk {
     ) -> CargoResult<bool>
         ensures goes { (st : State) → Walks text.now self.old st
             → IfOk result (HasNextState text.now self.new (value_added st (shape_of text.now content) span)) }
-        ensures refused { IfErr result IsMemory }
+        ensures error { IfErr result IsMemory }
     {
         Ok(self.add_value_at(alloc, text, content, span)?.is_some())
     }
@@ -178,7 +178,7 @@ impl Walk {
     fn open(&mut self, alloc: Global, text: &str, content: Content, span: Span) -> CargoResult<bool>
         ensures goes { (st : State) → Walks text.now self.old st
             → IfOk result (HasNextState text.now self.new (opened st (shape_of text.now content) (Some span))) }
-        ensures refused { IfErr result IsMemory }
+        ensures error { IfErr result IsMemory }
     {
         let Some(number) = self.add_value_at(alloc, text, content, Some(span))? else {
             return Ok(false);
@@ -213,7 +213,7 @@ impl Walk {
     fn take(&mut self, alloc: Global, text: &str, mark: Mark) -> CargoResult<bool>
         ensures goes { (st : State) → Walks text.now self.old st → IsToken text.now mark
             → IfOk result (HasNextState text.now self.new (step text.now mark st)) }
-        ensures refused { IfErr result IsMemory }
+        ensures error { IfErr result IsMemory }
     {
         let span = Span {
             from: mark.from,
@@ -251,7 +251,7 @@ pub fn nodes_of(alloc: Global, text: &str, marks: &[Mark]) -> CargoResult<Vec<No
     ensures nodes { AllByRecursion (IsToken text.now) marks.now
         → MatchResult result (λ v. KeepsState text.now v.items (walked text.now marks.now start))
         (λ e. (IsMemory e → ⊥) → walked text.now marks.now start ≡ None) }
-    ensures refused { IfErr result (IsTokenizeError (length text.now)) }
+    ensures error { IfErr result (IsTokenizeError (length text.now)) }
 {
     let mut walk = Walk::new(alloc, marks.len())?;
     'marks: for mark in marks {

@@ -15,7 +15,7 @@ use std::alloc::Global;
 fn decode_delimited(alloc: Global, text: &str, mark: Mark) -> CargoResult<Words>
     ensures says { (name : List ℕ) → IsDecodedAt text.now mark name
         → IfOk result (λ w. bytes_of text.now w ≡ name) }
-    ensures refused { IfErr result IsMemory }
+    ensures error { IfErr result IsMemory }
 {
     let written = content(text, mark);
     if is_plain(mark.kind, written) {
@@ -29,7 +29,7 @@ fn decode_delimited(alloc: Global, text: &str, mark: Mark) -> CargoResult<Words>
 pub fn words_of(alloc: Global, text: &str, mark: Mark) -> CargoResult<Words>
     ensures says { (name : List ℕ) → IsDecodedAt text.now mark name
         → IfOk result (λ w. bytes_of text.now w ≡ name) }
-    ensures refused { IfErr result IsMemory }
+    ensures error { IfErr result IsMemory }
 {
     match mark.kind {
         MarkKind::BarePart => Ok(Words::Kept(content_span(mark))),
@@ -41,7 +41,7 @@ pub fn words_of(alloc: Global, text: &str, mark: Mark) -> CargoResult<Words>
 pub(crate) fn worded(alloc: Global, text: &str, mark: Mark) -> CargoResult<Content>
     ensures shows { (name : List ℕ) → IsDecodedAt text.now mark name
         → IfOk result (λ c. shape_of text.now c ≡ scalar_shape mark.kind name) }
-    ensures refused { IfErr result IsMemory }
+    ensures error { IfErr result IsMemory }
 {
     match mark.kind {
         MarkKind::Integer => Ok(Content::Integer(content_span(mark))),

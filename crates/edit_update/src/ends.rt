@@ -87,7 +87,7 @@ fn push_path(
 ) -> CargoResult<()>
     ensures ok { OnOk result (final_values_view ends.new.items
         ≡ final_values_view ends.old.items ++ source_values root.now (path_view source.now)) }
-    ensures refused { IfErr result IsMemory }
+    ensures error { IfErr result IsMemory }
 {
     let path = path_field(alloc, root, source.path.as_str())?;
     push_final_value(ends, "path", Some(NewValue::Str(path)))?;
@@ -116,7 +116,7 @@ fn push_own(
 ) -> CargoResult<()>
     ensures ok { OnOk result (final_values_view ends.new.items
         ≡ final_values_view ends.old.items ++ source_values root.now (source_view source.now)) }
-    ensures refused { IfErr result IsMemory }
+    ensures error { IfErr result IsMemory }
 {
     match source {
         Source::Registry(source) => push_text(ends, "version", Some(&source.version))?,
@@ -155,7 +155,7 @@ fn push_sources(
 ) -> CargoResult<()>
     ensures ok { OnOk result (final_values_view ends.new.items
         ≡ final_values_view ends.old.items ++ all_source_values root.now (record_view dependency.now).origin) }
-    ensures refused { IfErr result IsMemory }
+    ensures error { IfErr result IsMemory }
 {
     if let Some(source) = &dependency.source {
         push_own(alloc, root, ends, source)?;
@@ -233,7 +233,7 @@ fn push_features(
           option_map (joined_features (item_tree entry.entry))
               (record_view dependency.now).features,
         ) ∷ []) }
-    ensures refused { IfErr result IsMemory }
+    ensures error { IfErr result IsMemory }
 {
     let value = match &dependency.features {
         Some(new) => Some(joined_features(alloc, entry, new)?),
@@ -252,7 +252,7 @@ pub(crate) fn ends(
 ) -> CargoResult<Vec<FinalValue>>
     ensures ok { IfOk result (λ v. final_values_view v.items
         ≡ ends (item_tree entry.entry) root.now (record_view dependency.now)) }
-    ensures refused { IfErr result IsMemory }
+    ensures error { IfErr result IsMemory }
 {
     let mut ends = Vec::new(alloc);
     push_sources(dependency, alloc, root, &mut ends)?;

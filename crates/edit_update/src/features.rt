@@ -122,7 +122,7 @@ fn goes(item: Option<Item>, gone: RemovedDependency) -> bool
 /// The place of an element of an array.
 fn element_place(alloc: Global, array: &[Step], index: usize) -> CargoResult<Place>
     ensures ok { IfOk result (λ p. place_view p.items ≡ at (place_view array.now) (index_step index)) }
-    ensures refused { IfErr result IsMemory }
+    ensures error { IfErr result IsMemory }
 {
     let mut place = copied_place(alloc, array)?;
     place.push(Step::Index(index))?;
@@ -139,7 +139,7 @@ fn push_stale(
 ) -> CargoResult<()>
     ensures ok { OnOk result (places_view places.new.items ≡ places_view places.old.items
         ++ stale_in (tree_of document.now) gone.entry.is_held gone.entry.name.now (place_view array.now)) }
-    ensures refused { IfErr result IsMemory }
+    ensures error { IfErr result IsMemory }
 {
     let Some(item) = document.item(array) else {
         return Ok(());
@@ -166,7 +166,7 @@ fn stale_in_features(
 ) -> CargoResult<Vec<Place>>
     ensures ok { IfOk result (λ ps. places_view ps.items
         ≡ stale_in_features (tree_of document.now) gone.entry.is_held gone.entry.name.now) }
-    ensures refused { IfErr result IsMemory }
+    ensures error { IfErr result IsMemory }
 {
     let mut places = Vec::new(alloc);
     let features = place_of(alloc, &["features"])?;
@@ -187,7 +187,7 @@ fn stale_in_features(
 fn stale_strings(alloc: Global, document: &Document, name: &str) -> CargoResult<Vec<Place>>
     ensures ok { IfOk result (λ ps. places_view ps.items
         ≡ stale_strings (tree_of document.now) name.now) }
-    ensures refused { IfErr result IsMemory }
+    ensures error { IfErr result IsMemory }
 {
     let tables = dependency_tables(alloc, document)?;
     if has_any_optional_entry(document, &tables, name) {
@@ -207,7 +207,7 @@ fn without(alloc: Global, document: &Document, places: &[Place]) -> CargoResult<
     requires strings { AreStrings (tree_of document.now) (places_view places.now) }
     requires apart { AreInTurn (places_view places.now) }
     ensures without { IfOk result (λ d. IsTextWithout (places_view places.now) document.now.bytes d.bytes) }
-    ensures refused { IfErr result (λ e. IsMemory e ⊎ ((e ≡ EditRefused)
+    ensures error { IfErr result (λ e. IsMemory e ⊎ ((e ≡ EditRefused)
         × HasFailedRemoval (places_view places.now) document.now.bytes)) }
 {
     let mut left = document.try_clone(alloc)?;
@@ -227,7 +227,7 @@ pub(crate) fn remove_features(
 ) -> CargoResult<Document>
     ensures text { IfOk result (λ d. IsTextWithout (stale_strings (tree_of document.now) name.now)
         document.now.bytes d.bytes) }
-    ensures refused { IfErr result (IsFeatureError name.now document.now) }
+    ensures error { IfErr result (IsFeatureError name.now document.now) }
 {
     document.lemma_form();
     let places = stale_strings(alloc, document, name)?;

@@ -17,7 +17,7 @@ use std::collections::BTreeSet;
 fn old_features(alloc: Global, entry: Item<'_>) -> CargoResult<Option<Vec<String>>>
     ensures ok { IfOk result (λ o. unwrap_or (option_map texts_view o) []
         ≡ texts_or_none (features_at (item_tree entry.entry) [])) }
-    ensures refused { IfErr result IsMemory }
+    ensures error { IfErr result IsMemory }
 {
     match features_at(alloc, "", entry) {
         Ok(texts) => Ok(texts),
@@ -53,7 +53,7 @@ pub(crate) fn joined_features(
 ) -> CargoResult<NewValue>
     ensures ok { IfOk result (λ v. new_value_view v
         ≡ joined_features (item_tree entry.entry) (texts_view new.now)) }
-    ensures refused { IfErr result IsMemory }
+    ensures error { IfErr result IsMemory }
 {
     let old = old_features(alloc, entry)?;
     let all = joined(old, new.clone()?)?;

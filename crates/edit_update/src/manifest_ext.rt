@@ -43,7 +43,7 @@ impl ManifestExt for Manifest {
         ensures gone { OnOk result
             (tree_of self.new.document (entry_of (map string_bytes table_path.now) name.now) ≡ None) }
         ensures err { IfErr result (λ _. self.new ≡ self.old) }
-        ensures refused { IfErr result
+        ensures error { IfErr result
             (IsEntryRemovalError (map string_bytes table_path.now) name.now self.old.document) }
     {
         let document = taken_out(alloc, &self.document, table_path, name)?;
@@ -55,7 +55,7 @@ impl ManifestExt for Manifest {
         ensures text { OnOk result (IsTextWithout (stale_strings (tree_of self.old.document) dep_key.now)
             self.old.document.bytes self.new.document.bytes) }
         ensures err { IfErr result (λ _. self.new ≡ self.old) }
-        ensures refused { IfErr result (IsFeatureError dep_key.now self.old.document) }
+        ensures error { IfErr result (IsFeatureError dep_key.now self.old.document) }
     {
         let document = remove_features(alloc, &self.document, dep_key)?;
         self.document = document;

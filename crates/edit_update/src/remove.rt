@@ -85,7 +85,7 @@ fn remove_empty_table(alloc: Global, document: &mut Document, table: &[Step]) ->
         → place_view table.now ≡ keyed path
         → tree_of document.old (at (place_view table.now) (key name)) ≡ None
         → tree_of document.new (at (place_view table.now) (key name)) ≡ None) }
-    ensures refused { IfErr result (λ e. IsMemory e ⊎ ((e ≡ EditRefused)
+    ensures error { IfErr result (λ e. IsMemory e ⊎ ((e ≡ EditRefused)
         × HasFailedRemoval (empty_table_place (tree_of document.old) (place_view table.now)) document.old.bytes)) }
 {
     document.lemma_form();
@@ -121,7 +121,7 @@ pub(crate) fn taken_out(
     ensures text { IfOk result (λ d. RemovesEntry (map string_bytes table_path.now) name.now document.now d) }
     ensures gone { IfOk result
         (λ d. tree_of d (entry_of (map string_bytes table_path.now) name.now) ≡ None) }
-    ensures refused { IfErr result
+    ensures error { IfErr result
         (IsEntryRemovalError (map string_bytes table_path.now) name.now document.now) }
 {
     if let Some(step) = missing_table(document, table_path) {

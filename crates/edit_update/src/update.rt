@@ -34,7 +34,7 @@ fn write_member(
         (writes name.now (new_value_view value.now))) document.new.bytes) }
     ensures tree { IfOk result (λ _. IfDocument document.old.bytes (λ form. HasChanged (place_view entry.now)
         (writes name.now (new_value_view value.now)) form (tree_of document.old) (tree_of document.new))) }
-    ensures refused { IfErr result (λ e. IsMemory e ⊎ ((e ≡ EditRefused) × ChangeFails
+    ensures error { IfErr result (λ e. IsMemory e ⊎ ((e ≡ EditRefused) × ChangeFails
         (place_view entry.now) (writes name.now (new_value_view value.now)) document.old.bytes)) }
 {
     document.lemma_form();
@@ -59,7 +59,7 @@ fn remove_member(
         (removes name.now)) document.new.bytes) }
     ensures tree { IfOk result (λ _. IfDocument document.old.bytes (λ form. HasChanged (place_view entry.now)
         (removes name.now) form (tree_of document.old) (tree_of document.new))) }
-    ensures refused { IfErr result (λ e. IsMemory e ⊎ ((e ≡ EditRefused)
+    ensures error { IfErr result (λ e. IsMemory e ⊎ ((e ≡ EditRefused)
         × ChangeFails (place_view entry.now) (removes name.now) document.old.bytes)) }
 {
     document.lemma_form();
@@ -80,7 +80,7 @@ fn write_members(
     requires room { length entry.now ≤ 70 }
     ensures changed { IfOk result (λ _. Changed (place_view entry.now)
         (filter_map write_of (final_values_view ends.now)) document.old.bytes document.new.bytes) }
-    ensures refused { IfErr result (λ e. IsMemory e ⊎ ((e ≡ EditRefused) × OneFails
+    ensures error { IfErr result (λ e. IsMemory e ⊎ ((e ≡ EditRefused) × OneFails
         (place_view entry.now) (filter_map write_of (final_values_view ends.now)) document.old.bytes)) }
 {
     'ends: for end in ends {
@@ -102,7 +102,7 @@ fn remove_members(
 ) -> CargoResult<()>
     ensures changed { IfOk result (λ _. Changed (place_view entry.now)
         (filter_map removal_of (final_values_view ends.now)) document.old.bytes document.new.bytes) }
-    ensures refused { IfErr result (λ e. IsMemory e ⊎ ((e ≡ EditRefused) × OneFails
+    ensures error { IfErr result (λ e. IsMemory e ⊎ ((e ≡ EditRefused) × OneFails
         (place_view entry.now) (filter_map removal_of (final_values_view ends.now)) document.old.bytes)) }
 {
     'ends: for end in ends {
@@ -143,7 +143,7 @@ fn update_copy(
     requires room { length entry.now ≤ 70 }
     ensures text { IfOk result (λ _. Updated (place_view entry.now) crate_root.now (record_view dependency.now)
         document.old.bytes document.new.bytes) }
-    ensures refused { IfErr result (λ e. IsMemory e ⊎ ((e ≡ EditRefused) × UpdateFails
+    ensures error { IfErr result (λ e. IsMemory e ⊎ ((e ≡ EditRefused) × UpdateFails
         (place_view entry.now) crate_root.now (record_view dependency.now) document.old.bytes)) }
 {
     document.lemma_form();
@@ -199,7 +199,7 @@ impl DependencyExt for Dependency {
         ensures text { IfOk result (λ _. Updated (place_view entry.now) crate_root.now (record_view self.now)
             document.old.bytes document.new.bytes) }
         ensures err { IfErr result (λ _. document.new ≡ document.old) }
-        ensures refused { IfErr result (λ e. IsMemory e ⊎ ((e ≡ EditRefused) × UpdateFails
+        ensures error { IfErr result (λ e. IsMemory e ⊎ ((e ≡ EditRefused) × UpdateFails
             (place_view entry.now) crate_root.now (record_view self.now) document.old.bytes)) }
     {
         let mut copy = document.try_clone(alloc)?;

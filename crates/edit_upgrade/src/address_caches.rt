@@ -44,7 +44,7 @@ pub(crate) fn keep_addresses<'a>(
         → AreAddresses own.items addresses }
     requires caches { AreCaches configs.lists.now caches.old }
     ensures caches { OnOk result (AreCaches configs.entry.lists.now caches.new) }
-    ensures refused { IfErr result IsMemory }
+    ensures error { IfErr result IsMemory }
 {
     if configs.which.is_none() {
         return Ok(());

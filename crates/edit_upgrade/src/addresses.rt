@@ -49,7 +49,7 @@ impl<'a> Addresses<'a> {
 
     /// Stores the resolved address of a registry.
     fn keep(&mut self, alloc: Global, registry: Option<&str>, url: Url) -> Result<(), AllocError>
-        ensures kept { OnOk result ((named : Option (List ℕ)) → url_at self.new named
+        ensures preserved { OnOk result ((named : Option (List ℕ)) → url_at self.new named
             ≡ (if is_named (given registry.entry) named then Some url else url_at self.old named)) }
         ensures configs { self.new.configs ≡ self.old.configs }
         ensures definitions { self.new.definitions ≡ self.old.definitions }
@@ -74,7 +74,7 @@ impl<'a> Addresses<'a> {
         ensures configs { self.new.configs ≡ self.old.configs }
         ensures default { self.new.default ≡ self.old.default }
         ensures named { self.new.named ≡ self.old.named }
-        ensures refused { IfErr result IsMemory }
+        ensures error { IfErr result IsMemory }
     {
         match self.definitions.take() {
             Some(definitions) => Ok(definitions),
@@ -87,7 +87,7 @@ impl<'a> Addresses<'a> {
         ensures there { OnOk result (IsSome (url_at self.new (given registry.entry))) }
         ensures are { OnOk result
             ((configs : List Config) → AreAddresses configs self.old → AreAddresses configs self.new) }
-        ensures refused { IfErr result (λ e. IsMemory e ⊎ ((configs : List Config)
+        ensures error { IfErr result (λ e. IsMemory e ⊎ ((configs : List Config)
             → AreAddresses configs self.old → HasNoUrl configs (given registry.entry) e)) }
     {
         if self.url(registry).is_some() {

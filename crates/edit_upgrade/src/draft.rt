@@ -118,7 +118,7 @@ fn add_planned(
         × (draft.new.outputs.items ≡ draft.old.outputs.items ++ own)
         × HasOutputs (string_bytes input.now.path) input.now.bytes.items (map line_of planned.rows.items)
         own) }
-    ensures refused { IfErr result IsMemory }
+    ensures error { IfErr result IsMemory }
 {
     let text = written(alloc, document, &planned.entries, &planned.rows)?;
     let outputs = outputs_of(alloc, input.path.as_str(), text)?;
@@ -139,9 +139,9 @@ fn add_input<I: Index>(
 ) -> CargoResult<()>
     requires document { document.now.bytes ≡ job.input.now.bytes.items }
     requires addresses { AreAddresses addresses.old.configs.now addresses.old }
-    requires kept { AreAllCached (holds_pair draft.old.books.pairs) (cached_by index.old) }
+    requires preserved { AreAllCached (holds_pair draft.old.books.pairs) (cached_by index.old) }
     ensures addresses { OnOk result (AreAddresses addresses.old.configs.now addresses.new) }
-    ensures kept { OnOk result (AreAllCached (holds_pair draft.new.books.pairs) (cached_by index.new)) }
+    ensures preserved { OnOk result (AreAllCached (holds_pair draft.new.books.pairs) (cached_by index.new)) }
     ensures adds { OnOk result (AddsInput job.entry.number job.entry.asked.options.now job.entry.input.now
         addresses.old.configs.now
         (I.view (index_of index.old)).gives (cached_by index.old) (cached_by index.new) draft.old draft.new) }
@@ -149,7 +149,7 @@ fn add_input<I: Index>(
         (contains_text draft.old.known) (contains_text draft.new.known)) }
     ensures left { LeavesCache (IsNeededBy addresses.old.configs.now job.entry.input.now.bytes.items)
         (cache_view I.view index.old) (cache_view I.view index.new) }
-    ensures refused { IfErr result (λ e. IsMemory e
+    ensures error { IfErr result (λ e. IsMemory e
         ⊎ StopsManifest addresses.old.configs.now job.entry.input.now.bytes.items
         (cache_view I.view index.old) (cache_view I.view index.new) e) }
 {
@@ -171,9 +171,9 @@ pub(crate) fn add_read<I: Index>(
 ) -> CargoResult<()>
     requires document { IfSome (option_copied document) (λ d. d.bytes ≡ job.input.now.bytes.items) }
     requires addresses { AreAddresses addresses.old.configs.now addresses.old }
-    requires kept { AreAllCached (holds_pair draft.old.books.pairs) (cached_by index.old) }
+    requires preserved { AreAllCached (holds_pair draft.old.books.pairs) (cached_by index.old) }
     ensures addresses { OnOk result (AreAddresses addresses.old.configs.now addresses.new) }
-    ensures kept { OnOk result (AreAllCached (holds_pair draft.new.books.pairs) (cached_by index.new)) }
+    ensures preserved { OnOk result (AreAllCached (holds_pair draft.new.books.pairs) (cached_by index.new)) }
     ensures adds { OnOk result (AddsInput job.entry.number job.entry.asked.options.now job.entry.input.now
         addresses.old.configs.now
         (I.view (index_of index.old)).gives (cached_by index.old) (cached_by index.new) draft.old draft.new) }
@@ -236,7 +236,7 @@ pub(crate) fn finish_plan(
     ensures outputs { IfOk result (λ p. (p.outputs ≡ draft.outputs) × (p.warnings ≡ draft.warnings)) }
     ensures lists { IfOk result HasRowLists }
     ensures missing { IfOk result (λ p. p.missing ≡ missing) }
-    ensures refused { IfErr result (λ e. IsMemory e × (draft.rows.items ≢ [])) }
+    ensures error { IfErr result (λ e. IsMemory e × (draft.rows.items ≢ [])) }
 {
     if draft.rows.is_empty() {
         return Ok(finish_without_rows(alloc, draft, missing));

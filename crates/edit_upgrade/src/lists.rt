@@ -156,7 +156,7 @@ fn has_unparsed_requirement(
 ) -> CargoResult<bool>
     ensures ok { IfOk result (λ b. some_if b (Some old.now)
         ≡ unparsed_requirement asked.entry.options.now (record_view dependency.now) old.now) }
-    ensures refused { IfErr result IsMemory }
+    ensures error { IfErr result IsMemory }
 {
     let name = dependency.name.as_str();
     let pin = read_pin(alloc, dependency.rename.is_some(), old)?;
@@ -178,7 +178,7 @@ fn requirement_warning(
         ≡ option_map (λ old. warned input false (unreadable_text key.now old))
         (option_and_then (unparsed_requirement asked.entry.options.now (record_view dependency.now))
         (option_map (λ s. s.now) version.entry))) }
-    ensures refused { IfErr result IsMemory }
+    ensures error { IfErr result IsMemory }
 {
     let Some(old) = version else {
         return Ok(None);
@@ -204,7 +204,7 @@ fn record_warning(
     ensures ok { IfOk result (λ o. option_map warning_view o
         ≡ warning_by asked.entry.options.now input key.now (record_view dependency.now)
         (source_of (record_view dependency.now))) }
-    ensures refused { IfErr result IsMemory }
+    ensures error { IfErr result IsMemory }
 {
     let version = match &dependency.source {
         Some(Source::Registry(source)) => Some(source.version.as_str()),
@@ -240,7 +240,7 @@ fn entry_warning(
 ) -> CargoResult<Option<Warning>>
     ensures ok { IfOk result (λ o. IsWarningOn asked.entry.options.now input (entry_view entry.now)
         (option_map warning_view o)) }
-    ensures refused { IfErr result IsMemory }
+    ensures error { IfErr result IsMemory }
 {
     let key = entry.key.as_str();
     match &entry.said {
@@ -262,7 +262,7 @@ pub(crate) fn warnings_on(
 ) -> CargoResult<Vec<Warning>>
     ensures texts { IfOk result (λ v. AreWarnings asked.entry.options.now input (map entry_view entries.now)
         (map warning_view v.items)) }
-    ensures refused { IfErr result IsMemory }
+    ensures error { IfErr result IsMemory }
 {
     let mut warnings = Vec::new(alloc);
     'entries: for entry in entries {

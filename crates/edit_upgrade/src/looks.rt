@@ -24,7 +24,7 @@ pub(crate) type PairSet = BTreeMap<String, Names>;
 /// Copies an answer of the index into newly allocated memory.
 fn copied_answer(alloc: Global, answer: Option<&IndexKrate>) -> CargoResult<Option<IndexKrate>>
     ensures ok { IfOk result (λ o. answer_of o ≡ answer_of (option_copied answer.entry)) }
-    ensures refused { IfErr result IsMemory }
+    ensures error { IfErr result IsMemory }
 {
     match answer {
         Some(krate) => {
@@ -42,7 +42,7 @@ fn fetch_one<I: Index>(
     name: &str,
     index: &mut IndexCache<I>,
 ) -> CargoResult<()>
-    ensures kept { OnOk result (IsSome (cached_by index.new (serialize registry.now) name.now)) }
+    ensures preserved { OnOk result (IsSome (cached_by index.new (serialize registry.now) name.now)) }
     ensures given { OnOk result (IfSome (cached_by index.new (serialize registry.now) name.now)
         (λ a. (cached_by index.old (serialize registry.now) name.now ≡ Some a)
         ⊎ (I.view (index_of index.old)).gives registry.now name.now (Ok a))) }
@@ -52,7 +52,7 @@ fn fetch_one<I: Index>(
         (I.view (index_of index.old)).gives (I.view (index_of index.new)).gives
         (I.view (index_of index.old)).faults (I.view (index_of index.new)).faults
         (cached_by index.old) (cached_by index.new) }
-    ensures refused { IfErr result
+    ensures error { IfErr result
         (λ e. IsMemory e ⊎ ((cached_by index.old (serialize registry.now) name.now ≡ None)
         × IsLookupError (I.view (index_of index.old)).gives registry.now name.now
         (I.view (index_of index.old)).faults (I.view (index_of index.new)).faults e)) }
@@ -71,9 +71,9 @@ fn record_lookup<I: Index>(
     ensures at { IfOk result (λ l. serialize l.registry ≡ serialize registry.now) }
     ensures same { IfOk result (λ l. l.registry ≡ registry.now) }
     ensures name { IfOk result (λ l. string_bytes l.name ≡ name.now) }
-    ensures kept { IfOk result
+    ensures preserved { IfOk result
         (λ l. cached_by index.now (serialize registry.now) name.now ≡ Some (answer_of l.answer)) }
-    ensures refused { IfErr result IsMemory }
+    ensures error { IfErr result IsMemory }
 {
     let answer = copied_answer(alloc, index.shown(registry, name))?;
     Ok(Look {
@@ -96,7 +96,7 @@ fn perform_lookup<I: Index>(
         (I.view (index_of index.old)).gives (I.view (index_of index.new)).gives
         (I.view (index_of index.old)).faults (I.view (index_of index.new)).faults
         (cached_by index.old) (cached_by index.new) }
-    ensures refused { IfErr result
+    ensures error { IfErr result
         (λ e. IsMemory e ⊎ ((cached_by index.old (serialize registry.now) name.now ≡ None)
         × IsLookupError (I.view (index_of index.old)).gives registry.now name.now
         (I.view (index_of index.old)).faults (I.view (index_of index.new)).faults e)) }
@@ -143,7 +143,7 @@ pub(crate) fn lookup_once<I: Index>(
         (I.view (index_of index.old)).gives (I.view (index_of index.new)).gives
         (I.view (index_of index.old)).faults (I.view (index_of index.new)).faults
         (cached_by index.old) (cached_by index.new) }
-    ensures refused { IfErr result
+    ensures error { IfErr result
         (λ e. IsMemory e ⊎ ((cached_by index.old (serialize registry.now) name.now ≡ None)
         × IsLookupError (I.view (index_of index.old)).gives registry.now name.now
         (I.view (index_of index.old)).faults (I.view (index_of index.new)).faults e)) }

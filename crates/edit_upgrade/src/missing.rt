@@ -74,7 +74,7 @@ fn push_unknown(
 pub(crate) fn unknown(alloc: Global, names: &[String], known: &Names) -> CargoResult<Vec<String>>
     ensures ok { IfOk result (λ v. map string_bytes v.items
         ≡ filter (λ name. not (contains_text known.now name)) (map string_bytes names.now)) }
-    ensures refused { IfErr result (λ e. (e ≡ error.Memory) × (names.now ≢ [])) }
+    ensures error { IfErr result (λ e. (e ≡ error.Memory) × (names.now ≢ [])) }
 {
     let mut missing = Vec::new(alloc);
     'names: for name in names {

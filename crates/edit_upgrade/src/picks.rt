@@ -66,7 +66,7 @@ fn add_first(alloc: Global, words: &mut Words, name: &str) -> Result<(), AllocEr
 /// Parses one more `--package` argument.
 fn add_package_arg(alloc: Global, words: &mut Words, word: &str) -> CargoResult<()>
     ensures ok { OnOk result (AddsPackageArg word.now words.old words.new) }
-    ensures refused { IfErr result (IsInvalidSpec word.now) }
+    ensures error { IfErr result (IsInvalidSpec word.now) }
 {
     let CrateSpec { name, version_req } = CrateSpec::resolve(alloc, word)?;
     add_first(alloc, words, name.as_str())?;
@@ -77,7 +77,7 @@ fn add_package_arg(alloc: Global, words: &mut Words, word: &str) -> CargoResult<
 /// Parses `--package` arguments, in their order.
 fn parse_package_args(alloc: Global, words: &[String]) -> CargoResult<Words>
     ensures ok { IfOk result (ArePackageArgs (map string_bytes words.now)) }
-    ensures refused { IfErr result (FailsAtPackageArg (map string_bytes words.now)) }
+    ensures error { IfErr result (FailsAtPackageArg (map string_bytes words.now)) }
 {
     let mut read = Words {
         names: Vec::new(alloc),
@@ -93,7 +93,7 @@ fn parse_package_args(alloc: Global, words: &[String]) -> CargoResult<Words>
 fn name_set(alloc: Global, names: &[String]) -> CargoResult<Names>
     ensures ok { IfOk result (λ s. (name : List ℕ)
         → contains_text s name ≡ list_any (bytes_eq name) (map string_bytes names.now)) }
-    ensures refused { IfErr result (λ e. IsMemory e × (names.now ≢ [])) }
+    ensures error { IfErr result (λ e. IsMemory e × (names.now ≢ [])) }
 {
     let mut set = BTreeSet::new(alloc);
     'names: for name in names {
@@ -105,7 +105,7 @@ fn name_set(alloc: Global, names: &[String]) -> CargoResult<Names>
 /// Parses the `--package` arguments of the options, then collects the excluded names.
 pub(crate) fn parse_selection(alloc: Global, options: &Options) -> CargoResult<PackageSelection>
     ensures ok { IfOk result (IsPackageSelection options.now) }
-    ensures refused { IfErr result (IsOptionCause options.now) }
+    ensures error { IfErr result (IsOptionCause options.now) }
 {
     let words = parse_package_args(alloc, &options.package)?;
     let excluded = name_set(alloc, &options.exclude)?;

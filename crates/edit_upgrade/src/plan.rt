@@ -141,7 +141,7 @@ pub fn plan_documents<I: Index>(
     ensures left { LeavesCache (IsNeeded inputs.now configs.now)
         (cache_view I.view index.old) (cache_view I.view index.new) }
     // the first error: that of the options, else that of the first entry of the first input that has one
-    ensures refused { IfErr result (IsPlanError options.now (StopsDocuments inputs.now configs.now
+    ensures error { IfErr result (IsPlanError options.now (StopsDocuments inputs.now configs.now
         (cache_view I.view index.old) (cache_view I.view index.new))) }
 {
     let configs = ConfigLists {
@@ -237,12 +237,12 @@ pub fn plan_upgrade<I: Index>(
     ensures looks_in_order { IfOk result (AreLookupsInOrder inputs.now configs.now) }
     ensures lists { IfOk result HasRowLists }
     // also on an error the cache gains only answers that the plan needs, as the index gives them
-    ensures kept { AddsNeeded (IsNeeded inputs.now configs.now) (I.view (index_of index.old)).gives
+    ensures preserved { AddsNeeded (IsNeeded inputs.now configs.now) (I.view (index_of index.old)).gives
         (cached_by index.old) (cached_by index.new) }
     ensures index { SameOutcomes (I.view (index_of index.old)).gives (I.view (index_of index.new)).gives }
     ensures faults { (I.view (index_of index.old)).faults ≤ (I.view (index_of index.new)).faults }
     // the first error: that of the options, else that of the first entry of the first input that has one
-    ensures refused { IfErr result (IsPlanError options.now (StopsInputs inputs.now configs.now
+    ensures error { IfErr result (IsPlanError options.now (StopsInputs inputs.now configs.now
         (cache_view I.view index.old) (cache_view I.view index.new))) }
 {
     let documents = Vec::new(alloc);

@@ -50,9 +50,9 @@ pub(crate) fn plan_input<I: Index>(
 ) -> CargoResult<Planned>
     requires document { document.now.bytes ≡ job.input.now.bytes.items }
     requires addresses { AreAddresses addresses.old.configs.now addresses.old }
-    requires kept { AreAllCached (holds_pair books.old.pairs) (cached_by index.old) }
+    requires preserved { AreAllCached (holds_pair books.old.pairs) (cached_by index.old) }
     ensures addresses { OnOk result (AreAddresses addresses.old.configs.now addresses.new) }
-    ensures kept { OnOk result (AreAllCached (holds_pair books.new.pairs) (cached_by index.new)) }
+    ensures preserved { OnOk result (AreAllCached (holds_pair books.new.pairs) (cached_by index.new)) }
     ensures shown { IfOk result (IsPlannedView job.entry.input.now.bytes.items document.now) }
     ensures walked { IfOk result (λ p. IsWalked job.entry.number job.entry.asked.options.now job.entry.input.now
         addresses.old.configs.now (I.view (index_of index.old)).gives (cached_by index.old) (cached_by index.new)
@@ -63,7 +63,7 @@ pub(crate) fn plan_input<I: Index>(
         (contains_text known.old) (contains_text known.new)) }
     ensures left { LeavesCache (IsNeededBy addresses.old.configs.now job.entry.input.now.bytes.items)
         (cache_view I.view index.old) (cache_view I.view index.new) }
-    ensures refused { IfErr result (λ e. IsMemory e
+    ensures error { IfErr result (λ e. IsMemory e
         ⊎ StopsManifest addresses.old.configs.now job.entry.input.now.bytes.items
         (cache_view I.view index.old) (cache_view I.view index.new) e) }
 {

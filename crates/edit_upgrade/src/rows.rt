@@ -115,7 +115,7 @@ fn row_over(
         (parts_in compatible.entry) (parts_in latest.entry)
         (decision job.entry.asked.options.now (case_for job.entry.asked.options.now
         (seen_of entry.now) (text_in old.now) (parts_in compatible.entry) (parts_in latest.entry)))) }
-    ensures refused { IfErr result IsMemory }
+    ensures error { IfErr result IsMemory }
 {
     let near = offer_of(alloc, compatible)?;
     let far = offer_of(alloc, latest)?;
@@ -157,7 +157,7 @@ fn row_with(
         → IsDecided job.entry.number job.entry.asked.options.now
         (versions_in (numbers_in job.entry.input.now.rust_version) answer)
         (seen_of entry.now) (text_in old.now) (line_of r)) }
-    ensures refused { IfErr result IsMemory }
+    ensures error { IfErr result IsMemory }
 {
     let pair = version_pair(ranked, old, job.input.rust_version);
     let row = row_over(alloc, job, entry, old, pair.compatible, pair.latest)?;
@@ -181,7 +181,7 @@ fn dash_reason(excluded: bool, source: &Source) -> Reason
 fn dash_row(alloc: Global, job: Job<'_>, entry: &Entry) -> CargoResult<Row>
     ensures ok { IfOk result (λ r. line_of r
         ≡ dashes job.entry.number job.entry.asked.options.now (seen_of entry.now)) }
-    ensures refused { IfErr result IsMemory }
+    ensures error { IfErr result IsMemory }
 {
     let excluded = is_excluded(job.asked, entry.name.as_str());
     Ok(Row {
@@ -209,7 +209,7 @@ pub(crate) fn row_for(
         → IsRowOver job.entry.number job.entry.asked.options.now
         (versions_in (numbers_in job.entry.input.now.rust_version) answer)
         (seen_of entry.now) (seen_of entry.now).old (line_of r)) }
-    ensures refused { IfErr result IsMemory }
+    ensures error { IfErr result IsMemory }
 {
     match &entry.old {
         Some(old) => {
@@ -235,8 +235,8 @@ fn cached_requirement_row<I: Index>(
         (cached_by index.new (serialize registry.now) (seen_of entry.now).name))
         (seen_of entry.now) old.now (line_of r)) }
     ensures index { index_of index.new ≡ index_of index.old }
-    ensures kept { cached_by index.new ≡ cached_by index.old }
-    ensures refused { IfErr result IsMemory }
+    ensures preserved { cached_by index.new ≡ cached_by index.old }
+    ensures error { IfErr result IsMemory }
 {
     let name = entry.name.as_str();
     let old = Requirement::read(alloc, old)?;
@@ -258,8 +258,8 @@ pub(crate) fn cached_row<I: Index>(
         (cached_by index.new (serialize registry.now) (seen_of entry.now).name))
         (seen_of entry.now) (seen_of entry.now).old (line_of r)) }
     ensures index { index_of index.new ≡ index_of index.old }
-    ensures kept { cached_by index.new ≡ cached_by index.old }
-    ensures refused { IfErr result IsMemory }
+    ensures preserved { cached_by index.new ≡ cached_by index.old }
+    ensures error { IfErr result IsMemory }
 {
     match &entry.old {
         Some(old) => cached_requirement_row(alloc, job, registry, entry, old.as_str(), index),

@@ -106,7 +106,7 @@ pub(crate) fn with_rows(
 /// The place of the version literal of an entry.
 pub(crate) fn literal_of(alloc: Global, entry: &Entry) -> CargoResult<Place>
     ensures ok { IfOk result (λ p. place_view p.items ≡ (seen_of entry.now).literal) }
-    ensures refused { IfErr result IsMemory }
+    ensures error { IfErr result IsMemory }
 {
     literal_place(alloc, &entry.place, entry.bare)
 }

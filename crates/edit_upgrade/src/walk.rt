@@ -57,7 +57,7 @@ fn registry_row<I: Index>(
         (seen_of entry.now) (line_of r)) }
     ensures left { LeavesCache (IsNeededFor addresses.old.configs.now (seen_of entry.now))
         (cache_view I.view index.old) (cache_view I.view index.new) }
-    ensures refused { IfErr result (λ e. IsMemory e
+    ensures error { IfErr result (λ e. IsMemory e
         ⊎ StopsAt addresses.old.configs.now (I.view (index_of index.old)).gives (cached_by index.old)
         (I.view (index_of index.old)).faults (I.view (index_of index.new)).faults (seen_of entry.now) e) }
 {
@@ -91,7 +91,7 @@ fn entry_row<I: Index>(
         (seen_of entry.now) (line_of r)) }
     ensures left { LeavesCache (IsNeededFor addresses.old.configs.now (seen_of entry.now))
         (cache_view I.view index.old) (cache_view I.view index.new) }
-    ensures refused { IfErr result (λ e. IsMemory e
+    ensures error { IfErr result (λ e. IsMemory e
         ⊎ StopsAt addresses.old.configs.now (I.view (index_of index.old)).gives (cached_by index.old)
         (I.view (index_of index.old)).faults (I.view (index_of index.new)).faults (seen_of entry.now) e) }
 {
@@ -126,9 +126,9 @@ pub(crate) fn walk<I: Index>(
     index: &mut IndexCache<I>,
 ) -> CargoResult<Vec<Row>>
     requires addresses { AreAddresses addresses.old.configs.now addresses.old }
-    requires kept { AreAllCached (holds_pair books.old.pairs) (cached_by index.old) }
+    requires preserved { AreAllCached (holds_pair books.old.pairs) (cached_by index.old) }
     ensures addresses { OnOk result (AreAddresses addresses.old.configs.now addresses.new) }
-    ensures kept { OnOk result (AreAllCached (holds_pair books.new.pairs) (cached_by index.new)) }
+    ensures preserved { OnOk result (AreAllCached (holds_pair books.new.pairs) (cached_by index.new)) }
     ensures steps { OnOk result (AreSteps addresses.old.configs.now (I.view (index_of index.old)).gives
         (map seen_of entries.now) (cached_by index.old) (cached_by index.new)
         books.old.looks.items books.new.looks.items
@@ -140,7 +140,7 @@ pub(crate) fn walk<I: Index>(
         (map seen_of entries.now) (map line_of v.items)) }
     ensures left { LeavesCache (IsNeededIn addresses.old.configs.now (map seen_of entries.now))
         (cache_view I.view index.old) (cache_view I.view index.new) }
-    ensures refused { IfErr result (λ e. IsMemory e
+    ensures error { IfErr result (λ e. IsMemory e
         ⊎ StopsFirst addresses.old.configs.now (I.view (index_of index.old)).gives
         (cached_by index.old) (cached_by index.new)
         (I.view (index_of index.old)).faults (I.view (index_of index.new)).faults

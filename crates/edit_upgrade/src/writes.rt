@@ -21,7 +21,7 @@ use std::alloc::Global;
 fn edit_for(alloc: Global, entry: &Entry, row: &Row) -> CargoResult<Option<(Place, String)>>
     ensures ok { IfOk result (λ o. edit_views (option_to_list o)
         ≡ with_write (write_on (seen_of entry.now) (line_of row.now)) []) }
-    ensures refused { IfErr result IsMemory }
+    ensures error { IfErr result IsMemory }
 {
     if entry.old.is_none() || row.change.is_none() {
         return Ok(None);
@@ -46,7 +46,7 @@ fn push_edit(
     ensures ok { OnOk result (edit_views edits.new.items
         ≡ edit_views edits.old.items
         ++ with_write (write_on (seen_of entry.now) (line_of row.now)) []) }
-    ensures refused { IfErr result IsMemory }
+    ensures error { IfErr result IsMemory }
 {
     let edit = edit_for(alloc, entry, row)?;
     match edit {
@@ -67,7 +67,7 @@ pub(crate) fn edits_of(
     requires { length rows.now ≡ length entries.now }
     ensures ok { IfOk result
         (λ es. edit_views es.items ≡ writes (map seen_of entries.now) (map line_of rows.now)) }
-    ensures refused { IfErr result IsMemory }
+    ensures error { IfErr result IsMemory }
 {
     let mut edits = Vec::new(alloc);
     'rows: for (i, row) in rows.iter().enumerate() {
@@ -90,7 +90,7 @@ pub(crate) fn written(
         (λ o. MatchOption o (writes (map seen_of entries.now) (map line_of rows.now) ≡ [])
         (λ s. IsRewritten document.now (writes (map seen_of entries.now) (map line_of rows.now))
         (string_bytes s))) }
-    ensures refused { IfErr result IsMemory }
+    ensures error { IfErr result IsMemory }
 {
     let edits = edits_of(alloc, entries, rows)?;
     if edits.is_empty() {

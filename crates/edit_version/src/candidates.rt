@@ -48,7 +48,7 @@ pub fn is_for(asked: Option<RustVersion>, given: Option<RustVersion>) -> bool
 /// The Rust version that an entry asks for, none where it asks for none or for what is no Rust version.
 fn minimum_rust_version(alloc: Global, told: &IndexVersion) -> CargoResult<Option<RustVersion>>
     ensures ok { IfOk result (λ o. option_map numbers_of o ≡ minimum_rust (entry_of told.now)) }
-    ensures refused { IfErr result IsMemory }
+    ensures error { IfErr result IsMemory }
 {
     match &told.rust_version {
         Some(text) => read_rust_version(alloc, text.as_str()),
@@ -59,7 +59,7 @@ fn minimum_rust_version(alloc: Global, told: &IndexVersion) -> CargoResult<Optio
 /// What is read of an entry, none where it is yanked or its version is not readable.
 pub fn read_candidate(alloc: Global, told: &IndexVersion) -> CargoResult<Option<Candidate>>
     ensures ok { IfOk result (λ o. option_map candidate_view o ≡ candidate_in (entry_of told.now)) }
-    ensures refused { IfErr result IsMemory }
+    ensures error { IfErr result IsMemory }
 {
     if told.yanked {
         return Ok(None);
@@ -94,7 +94,7 @@ fn qualifying_version(
 ) -> CargoResult<Option<Version>>
     ensures ok { IfOk result (λ o. option_map parts_of o ≡ qualifying_in (numbers_in rust_version)
         (wants allow_prerelease req.entry) (entry_of told.now)) }
-    ensures refused { IfErr result IsMemory }
+    ensures error { IfErr result IsMemory }
 {
     let Some(candidate) = read_candidate(alloc, told)? else {
         return Ok(None);
@@ -117,7 +117,7 @@ pub fn greatest_entry<'a>(
         (is_kept (numbers_in rust_version)
         (wants allow_prerelease req.entry))
         entry_order (map entry_of versions.now) (option_map (λ t. entry_of t.now) o)) }
-    ensures refused { IfErr result IsMemory }
+    ensures error { IfErr result IsMemory }
 {
     let mut best: Option<Found> = None;
     'entries: for told in versions {
@@ -175,7 +175,7 @@ fn advanced<'a>(
         (is_kept (numbers_in rust_version)
         (wants allow_prerelease req.entry))
         entry_order (option_map (λ f. entry_of f.told.now) best.entry) (entry_of told.now)) }
-    ensures refused { IfErr result IsMemory }
+    ensures error { IfErr result IsMemory }
 {
     let kept = qualifying_version(alloc, told, allow_prerelease, req, rust_version)?;
     match kept {

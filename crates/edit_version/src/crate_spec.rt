@@ -53,7 +53,7 @@ fn listed(alloc: Global, characters: &[char]) -> Result<String, AllocError>
 /// Refuses a name with a character that no name may have.
 fn check_name(alloc: Global, name: &str) -> CargoResult<()>
     ensures ok { OnOk result (invalid_chars name.now ≡ []) }
-    ensures refused { IfErr result (λ e. IsInvalidName name.now e) }
+    ensures error { IfErr result (λ e. IsInvalidName name.now e) }
 {
     let characters = invalid_chars(alloc, name)?;
     if characters.is_empty() {
@@ -69,7 +69,7 @@ fn check_name(alloc: Global, name: &str) -> CargoResult<()>
 fn check_requirement(alloc: Global, req: Option<&str>) -> CargoResult<Option<String>>
     ensures ok { IfOk result (λ o. (option_map string_bytes o ≡ option_map (λ s. s.now) req.entry)
         × IsReadOrAbsent (option_map (λ s. s.now) req.entry)) }
-    ensures refused { IfErr result (λ e. IsInvalidSpecRequirement (option_map (λ s. s.now) req.entry) e) }
+    ensures error { IfErr result (λ e. IsInvalidSpecRequirement (option_map (λ s. s.now) req.entry) e) }
 {
     let Some(req) = req else {
         return Ok(None);
@@ -96,7 +96,7 @@ impl CrateSpec {
     /// no `_`, and with 14 where the text after the first `@` is no requirement.
     pub fn resolve(alloc: Global, word: &str) -> CargoResult<CrateSpec>
         ensures ok { IfOk result (λ s. IsNamedBy word.now s) }
-        ensures refused { IfErr result (λ e. IsInvalidSpec word.now e) }
+        ensures error { IfErr result (λ e. IsInvalidSpec word.now e) }
     {
         let (name, req) = split_word(word);
         check_name(alloc, name)?;
@@ -110,7 +110,7 @@ impl CrateSpec {
     /// The same as `resolve`.
     pub fn from_str(alloc: Global, word: &str) -> CargoResult<CrateSpec>
         ensures ok { IfOk result (λ s. IsNamedBy word.now s) }
-        ensures refused { IfErr result (λ e. IsInvalidSpec word.now e) }
+        ensures error { IfErr result (λ e. IsInvalidSpec word.now e) }
     {
         CrateSpec::resolve(alloc, word)
     }

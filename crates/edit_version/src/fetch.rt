@@ -20,7 +20,7 @@ impl IndexVersion {
     /// The same entry on memory of its own.
     pub fn try_clone(&self, _alloc: Global) -> CargoResult<IndexVersion>
         ensures ok { IfOk result (λ v. entry_of v ≡ entry_of self.now) }
-        ensures refused { IfErr result IsMemory }
+        ensures error { IfErr result IsMemory }
     {
         Ok(IndexVersion {
             name: self.name.clone()?,

@@ -16,7 +16,7 @@ use std::alloc::{AllocError, Global};
 /// The requirement that a text is; none where it is none.
 pub fn read_requirement(alloc: Global, text: &str) -> CargoResult<Option<VersionReq>>
     ensures read { IfOk result (λ o. option_map comparators_of o ≡ requirement_read text.now) }
-    ensures refused { IfErr result IsMemory }
+    ensures error { IfErr result IsMemory }
 {
     match VersionReq::parse(alloc, text) {
         Ok(req) => Ok(Some(req)),
@@ -43,7 +43,7 @@ fn unread(alloc: Global, text: &str) -> Error
 /// The requirement that a text is, refused with 14 where it is none.
 pub(crate) fn required(alloc: Global, text: &str) -> CargoResult<VersionReq>
     ensures ok { IfOk result (λ r. req_of text.now ≡ Ok (comparators_of r)) }
-    ensures refused { IfErr result (λ e. IsInvalidRequirement text.now e) }
+    ensures error { IfErr result (λ e. IsInvalidRequirement text.now e) }
 {
     match read_requirement(alloc, text)? {
         Some(req) => Ok(req),
@@ -65,7 +65,7 @@ impl<'a> Requirement<'a> {
     /// Reads a text; it need not be a requirement.
     pub fn read(alloc: Global, text: &'a str) -> CargoResult<Requirement<'a>>
         ensures text { IfOk result (λ r. text_in r ≡ text.now) }
-        ensures refused { IfErr result IsMemory }
+        ensures error { IfErr result IsMemory }
     {
         let read = read_requirement(alloc, text)?;
         Ok(Requirement { text, read })

@@ -38,7 +38,7 @@ impl RustVersion {
     /// requirement than one to three numbers.
     pub fn from_str(alloc: Global, text: &str) -> CargoResult<RustVersion>
         ensures ok { IfOk result (λ v. rust_of text.now ≡ Some (numbers_of v)) }
-        ensures refused { IfErr result (λ e. IsNoRustVersion text.now e) }
+        ensures error { IfErr result (λ e. IsNoRustVersion text.now e) }
     {
         let req = required(alloc, text)?;
         match rust_version_of(&req.comparators) {
@@ -74,7 +74,7 @@ impl From<&Version> for RustVersion {
 /// The Rust version that a text names as `1.32`, missing numbers being 0; none where it names none.
 pub fn read_rust_version(alloc: Global, text: &str) -> CargoResult<Option<RustVersion>>
     ensures read { IfOk result (λ o. option_map numbers_of o ≡ rust_of text.now) }
-    ensures refused { IfErr result IsMemory }
+    ensures error { IfErr result IsMemory }
 {
     match read_requirement(alloc, text)? {
         Some(req) => Ok(rust_version_of(&req.comparators)),

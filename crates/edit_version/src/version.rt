@@ -21,7 +21,7 @@ use std::alloc::{AllocError, Global};
 /// The version that a text is; none where it is none.
 pub fn read_version(alloc: Global, text: &str) -> CargoResult<Option<Version>>
     ensures read { IfOk result (λ o. option_map parts_of o ≡ version_read text.now) }
-    ensures refused { IfErr result IsMemory }
+    ensures error { IfErr result IsMemory }
 {
     match Version::parse(alloc, text) {
         Ok(version) => Ok(Some(version)),

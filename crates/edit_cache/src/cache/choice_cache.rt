@@ -24,10 +24,10 @@ impl<I: Index> IndexCache<I> {
         rust_version: Option<RustVersion>,
     ) -> CargoResult<()>
         ensures index { index_of self.new ≡ index_of self.old }
-        ensures kept { HasSameCache self.old self.new }
+        ensures preserved { HasSameCache self.old self.new }
         ensures ranked { OnOk result (IsRankedAt (cached_answer_at self.new (serialize registry.now) name.now)
             (ranking_at self.new (serialize registry.now) name.now)) }
-        ensures refused { IfErr result IsMemory }
+        ensures error { IfErr result IsMemory }
     {
         self.rank_for_at(alloc, registry.as_str(), name, old, rust_version)
     }
@@ -42,10 +42,10 @@ impl<I: Index> IndexCache<I> {
         rust_version: Option<RustVersion>,
     ) -> CargoResult<()>
         ensures index { self.new.index ≡ self.old.index }
-        ensures kept { HasSameCache self.old self.new }
+        ensures preserved { HasSameCache self.old self.new }
         ensures ranked { OnOk result (IsRankedAt (cached_answer_at self.new address.now name.now)
             (ranking_at self.new address.now name.now)) }
-        ensures refused { IfErr result IsMemory }
+        ensures error { IfErr result IsMemory }
     {
         let Some(names) = self.answers.get_mut(address) else {
             return Ok(());

@@ -74,7 +74,7 @@ fn copied(alloc: Global, text: Option<&str>) -> Result<Option<String>, AllocErro
 fn path_below(alloc: Global, base: &str, path: Option<&str>) -> CargoResult<Option<String>>
     ensures path { IfOk result (λ t. option_map string_bytes t
         ≡ option_map (λ p. joined base.now p.now) path.entry) }
-    ensures refused { IfErr result IsMemory }
+    ensures error { IfErr result IsMemory }
 {
     match path {
         Some(path) => Ok(Some(join(alloc, base, path)?)),
@@ -85,7 +85,7 @@ fn path_below(alloc: Global, base: &str, path: Option<&str>) -> CargoResult<Opti
 /// The network settings of a document; relative paths are joined to `base`.
 fn values_in(alloc: Global, base: &str, document: &Table) -> CargoResult<NetValues>
     ensures values { IfOk result (λ v. values_of v ≡ values_in base.now (table_view document.now)) }
-    ensures refused { IfErr result IsMemory }
+    ensures error { IfErr result IsMemory }
 {
     Ok(NetValues {
         offline: flag_in(document, "net", "offline"),
@@ -99,7 +99,7 @@ fn values_in(alloc: Global, base: &str, document: &Table) -> CargoResult<NetValu
 /// The network settings of the bytes of a file; none where they are not TOML.
 fn values_of_bytes(alloc: Global, base: &str, bytes: &[u8]) -> CargoResult<NetValues>
     ensures says { IfOk result (λ v. HasValues base.now bytes.now (values_of v)) }
-    ensures refused { IfErr result IsMemory }
+    ensures error { IfErr result IsMemory }
 {
     let Ok(text) = std::str::from_utf8(bytes) else {
         return Ok(no_values());
@@ -124,7 +124,7 @@ pub(super) fn values_at<S: Store>(
     ensures store { OnlyReads (S.view store.old) (S.view store.new) }
     ensures read { IfOk result (λ v. (S.view store.old).tells ≡ true
         → IsReadAt path.now ((S.view store.old).file_at path.now) (values_of v)) }
-    ensures refused { IfErr result (λ e. IsMemory e
+    ensures error { IfErr result (λ e. IsMemory e
         ⊎ HasFailed (S.view store.old).faults (S.view store.new).faults e) }
 {
     match store.read(alloc, path) {

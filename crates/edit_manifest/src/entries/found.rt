@@ -41,7 +41,7 @@ fn read_item(alloc: Global, root: &str, key: &str, item: Item<'_>) -> CargoResul
         (place_of item.entry) root.now key.now)) }
     ensures reason { IfOk result (IsReason (record_of (tree_of (document_of item.entry))
         (place_of item.entry) root.now key.now)) }
-    ensures refused { IfErr result IsMemory }
+    ensures error { IfErr result IsMemory }
 {
     match Dependency::from_toml(alloc, root, key, item) {
         Ok(dependency) => Ok(Said::Read(dependency)),
@@ -76,7 +76,7 @@ fn entry_of(
     ensures ok { IfOk result (λ e. entry_view e
         ≡ entry_at (tree_of (document_of table.entry)) root.now (place_view place.now) name.now) }
     ensures reason { IfOk result (HasReason (tree_of (document_of table.entry)) root.now) }
-    ensures refused { IfErr result IsMemory }
+    ensures error { IfErr result IsMemory }
 {
     let place = member_place(alloc, place, name)?;
     let key = String::from_str(alloc, name)?;
@@ -108,7 +108,7 @@ fn push_entries(
         ++ entries_of (tree_of document.now) root.now (place_view place.now)) }
     ensures reasons { OnOk result (All (HasReason (tree_of document.now) root.now) entries.old.items
         → All (HasReason (tree_of document.now) root.now) entries.new.items) }
-    ensures refused { IfErr result IsMemory }
+    ensures error { IfErr result IsMemory }
 {
     let Some(table) = document.item(place) else {
         return Ok(());
@@ -125,7 +125,7 @@ fn push_entries(
 pub fn entries(alloc: Global, root: &str, document: &Document) -> CargoResult<Vec<Entry>>
     ensures ok { IfOk result (λ es. map entry_view es.items ≡ entries (tree_of document.now) root.now) }
     ensures reasons { IfOk result (λ es. All (HasReason (tree_of document.now) root.now) es.items) }
-    ensures refused { IfErr result IsMemory }
+    ensures error { IfErr result IsMemory }
 {
     let tables = dependency_tables(alloc, document)?;
     let mut entries = Vec::new(alloc);

@@ -12,7 +12,7 @@ use std::alloc::Global;
 /// else its key `version`.
 pub fn literal_place(alloc: Global, steps: &[Step], bare: bool) -> CargoResult<Place>
     ensures ok { IfOk result (λ p. place_view p.items ≡ literal_by bare (place_view steps.now)) }
-    ensures refused { IfErr result IsMemory }
+    ensures error { IfErr result IsMemory }
 {
     if bare {
         return copied_place(alloc, steps);

@@ -26,7 +26,7 @@ fn push_line(text: &mut String, address: &str, name: &str, path: &str) -> Result
 /// Appends the line of a lookup.
 fn push_lookup(alloc: Global, text: &mut String, look: &Look) -> CargoResult<()>
     ensures ok { OnOk result (string_bytes text.new ≡ string_bytes text.old ++ look_as_line look.now) }
-    ensures refused { IfErr result
+    ensures error { IfErr result
         (λ e. IsMemory e ⊎ HasBadName (string_bytes look.now.name) (number_of e)) }
 {
     let path = layout_path(alloc, look.name.as_str())?;
@@ -43,7 +43,7 @@ fn push_lookup(alloc: Global, text: &mut String, look: &Look) -> CargoResult<()>
 /// tabs. Fails with `Error::BadCrateName` for a name that is not valid in an index.
 pub fn looks_text(alloc: Global, looks: &[Look]) -> CargoResult<String>
     ensures text { IfOk result (λ s. string_bytes s ≡ flat_map look_as_line looks.now) }
-    ensures refused { IfErr result (λ e. IsMemory e ⊎ HasBadLookup looks.now (number_of e)) }
+    ensures error { IfErr result (λ e. IsMemory e ⊎ HasBadLookup looks.now (number_of e)) }
 {
     let mut text = String::new(alloc);
     for look in looks {

@@ -34,7 +34,7 @@ pub fn set_version<S: Store, O: io::Write, E: io::Write>(
         (Appends (E.contents err.old) (E.contents err.new)) words.now current.now due
         (S.view files.old) (S.view files.new)) }
     // an error before the first write leaves each file as it was
-    ensures refused { OnErr result ((S.view files.old).tells ≡ true
+    ensures error { OnErr result ((S.view files.old).tells ≡ true
         → SameFiles (S.view files.old).file_at (S.view files.new).file_at
         ⊎ IsCutShort (Appends (O.contents out.old) (O.contents out.new))
         (Appends (E.contents err.old) (E.contents err.new)) words.now current.now

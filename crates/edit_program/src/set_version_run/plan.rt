@@ -29,7 +29,7 @@ pub(crate) fn plan_for(
     requires readable { All (λ p. IsReadable (parts_of p.version)) read.now.workspace.packages.items }
     ensures planned { IfOk result (IsVersionPlan (target_of words.now.target)
         (selection_view words.now.selection) (workspace_view read.now.workspace) read.now.inputs.items) }
-    ensures refused { IfErr result (λ r. IsCauseOf (target_of words.now.target)
+    ensures error { IfErr result (λ r. IsCauseOf (target_of words.now.target)
         (selection_view words.now.selection) (workspace_view read.now.workspace) read.now.inputs.items r.error) }
     ensures counted { IfErr result (λ r. number_of r.error ≢ 3) }
 {

@@ -20,7 +20,7 @@ use std::io;
 pub(crate) fn warn_if<E: io::Write>(due: bool, message: &str, err: &mut E) -> CargoResult<()>
     ensures text { OnOk result (Appends (E.contents err.old) (E.contents err.new)
         (warning_if due message.now)) }
-    ensures refused { IfErr result (λ e. e ≡ Output) }
+    ensures error { IfErr result (λ e. e ≡ Output) }
 {
     if due {
         shell_warn(err, message)
@@ -33,7 +33,7 @@ pub(crate) fn warn_if<E: io::Write>(due: bool, message: &str, err: &mut E) -> Ca
 fn print_lines<E: io::Write>(lines: &[(String, String)], err: &mut E) -> CargoResult<()>
     ensures text { OnOk result (Appends (E.contents err.old) (E.contents err.new)
         (statuses (map report_line_view lines.now))) }
-    ensures refused { IfErr result (λ e. e ≡ Output) }
+    ensures error { IfErr result (λ e. e ≡ Output) }
 {
     for line in lines {
         shell_status(err, line.0.as_str(), line.1.as_str())?;
@@ -51,9 +51,9 @@ fn print_lines_in<O: io::Write, E: io::Write>(
 ) -> CargoResult<()>
     ensures shown { OnOk result (Appends (O.contents out.old) (O.contents out.new)
         (messages_in format (map report_line_view lines.now))) }
-    ensures told { OnOk result (Appends (E.contents err.old) (E.contents err.new)
+    ensures outcome { OnOk result (Appends (E.contents err.old) (E.contents err.new)
         (statuses_in format (map report_line_view lines.now))) }
-    ensures refused { IfErr result (λ e. IsMemory e ⊎ (e ≡ Output)) }
+    ensures error { IfErr result (λ e. IsMemory e ⊎ (e ≡ Output)) }
 {
     match format {
         MessageFormat::Human | MessageFormat::Markdown => print_lines(lines, err),
@@ -72,7 +72,7 @@ fn print_diffs_if<O: io::Write>(
 ) -> CargoResult<()>
     ensures text { OnOk result (Appends (O.contents out.old) (O.contents out.new)
         (diffs_if asked root.now inputs.now plan.now.outputs.items)) }
-    ensures refused { IfErr result (λ e. IsMemory e ⊎ (e ≡ Output)) }
+    ensures error { IfErr result (λ e. IsMemory e ⊎ (e ≡ Output)) }
 {
     if asked {
         print_diffs(alloc, root, inputs, plan.outputs.as_slice(), out)
@@ -93,9 +93,9 @@ pub(crate) fn print_plan<O: io::Write, E: io::Write>(
 ) -> CargoResult<()>
     ensures shown { OnOk result (Appends (O.contents out.old) (O.contents out.new)
         (shown words.now root.now inputs.now plan.now)) }
-    ensures told { OnOk result (Appends (E.contents err.old) (E.contents err.new)
+    ensures outcome { OnOk result (Appends (E.contents err.old) (E.contents err.new)
         (statuses_in words.now.presentation.format (plan_lines_view plan.now))) }
-    ensures refused { IfErr result (λ e. IsMemory e ⊎ (e ≡ Output)) }
+    ensures error { IfErr result (λ e. IsMemory e ⊎ (e ≡ Output)) }
 {
     let format = words.presentation.format;
     print_lines_in(alloc, format, plan.lines.as_slice(), out, err)?;

@@ -119,7 +119,7 @@ pub(crate) fn print_absent<E: io::Write>(
 ) -> CargoResult<()>
     ensures text { OnOk result (Appends (E.contents err.old) (E.contents err.new)
         (spec.absent_note plan.now options.now offline)) }
-    ensures refused { IfErr result (λ e. IsMemory e ⊎ (e ≡ Output)) }
+    ensures error { IfErr result (λ e. IsMemory e ⊎ (e ≡ Output)) }
 {
     if offline {
         return Ok(());

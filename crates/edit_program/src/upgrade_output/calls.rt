@@ -30,7 +30,7 @@ pub(crate) fn calls_of(
 ) -> CargoResult<Vec<Vec<String>>>
     ensures calls { IfOk result (λ v. calls_view v.items
         ≡ calls_of plan.now options.now (option_map (λ w. workspace_view w.now) workspace.entry)) }
-    ensures refused { IfErr result (λ e. IsMemory e ⊎ ((is_due (call_options plan.now options.now) ≡ true)
+    ensures error { IfErr result (λ e. IsMemory e ⊎ ((is_due (call_options plan.now options.now) ≡ true)
         × FailsAtPackageArg (map string_bytes options.now.package.items) e)) }
 {
     match workspace {
@@ -67,7 +67,7 @@ fn join_args(alloc: Global, words: &[String]) -> Result<String, AllocError>
 fn print_call<E: io::Write>(alloc: Global, call: &[String], err: &mut E) -> CargoResult<()>
     ensures text { OnOk result (Appends (E.contents err.old) (E.contents err.new)
         (run (args_view call.now))) }
-    ensures refused { IfErr result (λ e. IsMemory e ⊎ (e ≡ Output)) }
+    ensures error { IfErr result (λ e. IsMemory e ⊎ (e ≡ Output)) }
 {
     let words = join_args(alloc, call)?;
     shell_status(err, "Run", words.as_str())
@@ -81,7 +81,7 @@ pub(crate) fn print_calls<E: io::Write>(
 ) -> CargoResult<()>
     ensures text { OnOk result (Appends (E.contents err.old) (E.contents err.new)
         (call_statuses (calls_view calls.now))) }
-    ensures refused { IfErr result (λ e. IsMemory e ⊎ (e ≡ Output)) }
+    ensures error { IfErr result (λ e. IsMemory e ⊎ (e ≡ Output)) }
 {
     for call in calls {
         print_call(alloc, call.as_slice(), err)?;

@@ -72,7 +72,7 @@ pub(crate) fn calls_outputs(
     ensures file { IfOk result (λ v. map file_of v.items
         ≡ calls_files (due_path options.now (option_map (λ p. p.now) path.entry)) (calls_view calls.now)) }
     ensures apart { IfOk result (λ v. HaveDistinctPaths v.items) }
-    ensures refused { IfErr result IsMemory }
+    ensures error { IfErr result IsMemory }
 {
     let Some(path) = due_path(options, path) else {
         return Ok(Vec::new(alloc));

@@ -42,7 +42,7 @@ pub(crate) fn carry_out<S: Store, E: io::Write>(
         (call_statuses (calls_view calls.now))) }
     ensures stopped { OnErr result
         (HaveStopped outputs.now file.now (S.view files.old) (S.view files.new)) }
-    ensures refused { IfErr result
+    ensures error { IfErr result
         (λ r. IsCallError call.Write (S.view files.old) (S.view files.new) r.error
         ⊎ (r.error ≡ Unwritten)) }
 {
@@ -66,7 +66,7 @@ pub(crate) fn conclude<E: io::Write>(
     ensures complete { OnOk result (map string_bytes plan.now.missing.items ≡ []) }
     ensures text { OnOk result (Appends (E.contents err.old) (E.contents err.new)
         (notes plan.now options.now offline)) }
-    ensures refused { IfErr result (λ r. IsMemory r.error ⊎ ((r.error ≡ Unwritten)
+    ensures error { IfErr result (λ r. IsMemory r.error ⊎ ((r.error ≡ Unwritten)
         ⊎ ((map string_bytes plan.now.missing.items ≢ [])
         × AreListedIn (map string_bytes plan.now.missing.items) r.error))) }
 {

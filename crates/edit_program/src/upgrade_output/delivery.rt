@@ -40,7 +40,7 @@ pub fn deliver<S: Store, O: io::Write, E: io::Write>(
     ensures later { (S.view files.old).faults ≤ (S.view files.new).faults }
     ensures done { OnOk result (IsDelivered (Appends (O.contents out.old) (O.contents out.new))
         (delivery_of task.now) (S.view files.old) (S.view files.new)) }
-    ensures said { OnOk result (Appends (E.contents err.old) (E.contents err.new)
+    ensures content { OnOk result (Appends (E.contents err.old) (E.contents err.new)
         (said (delivery_of task.now))) }
     // an error before the first write leaves each file as it was
     ensures stopped { OnErr result (SameFiles (S.view files.old).file_at (S.view files.new).file_at

@@ -13,7 +13,7 @@ use std::alloc::{AllocError, Global};
 /// Fails with `Error::Locked` where a plan has outputs and the manifests are locked.
 pub(crate) fn check_lock(options: &Options, plan: &UpgradePlan) -> CargoResult<()>
     ensures ok { OnOk result (options.now.locked ≡ true → plan.now.outputs.items ≡ []) }
-    ensures refused { IfErr result (λ e. (e ≡ Locked) × (options.now.locked ≡ true)
+    ensures error { IfErr result (λ e. (e ≡ Locked) × (options.now.locked ≡ true)
         × (plan.now.outputs.items ≢ [])) }
 {
     if options.locked && !plan.outputs.is_empty() {
@@ -36,7 +36,7 @@ fn copied_names(alloc: Global, names: &[String]) -> Result<Vec<String>, AllocErr
 /// Fails with `Error::DependenciesMissing` where `--package` arguments select names that no entry has.
 pub(crate) fn check_names(alloc: Global, plan: &UpgradePlan) -> CargoResult<()>
     ensures ok { OnOk result (map string_bytes plan.now.missing.items ≡ []) }
-    ensures refused { IfErr result (λ e. IsMemory e ⊎ ((map string_bytes plan.now.missing.items ≢ [])
+    ensures error { IfErr result (λ e. IsMemory e ⊎ ((map string_bytes plan.now.missing.items ≢ [])
         × AreListedIn (map string_bytes plan.now.missing.items) e)) }
 {
     if plan.missing.is_empty() {

@@ -34,7 +34,7 @@ pub(crate) fn hidden_rows<'a>(
     verbosity: i8,
 ) -> CargoResult<Vec<&'a Row>>
     ensures ok { IfOk result (λ v. map (λ r. r.now) v.items ≡ hidden verbosity rows.now) }
-    ensures refused { IfErr result IsMemory }
+    ensures error { IfErr result IsMemory }
 {
     let mut hidden = Vec::new(alloc);
     for row in rows {
@@ -49,7 +49,7 @@ pub(crate) fn hidden_rows<'a>(
 fn add_name(alloc: Global, reason: &str, row: &Row, names: &mut BTreeSet<String>) -> CargoResult<()>
     ensures ok { OnOk result (map string_bytes names.new.keys
         ≡ add_name reason.now (map string_bytes names.old.keys) row.now) }
-    ensures refused { IfErr result IsMemory }
+    ensures error { IfErr result IsMemory }
 {
     if reason_in_notes(row) == reason {
         names.insert(name_text(alloc, row)?)?;
@@ -61,7 +61,7 @@ fn add_name(alloc: Global, reason: &str, row: &Row, names: &mut BTreeSet<String>
 fn names_of(alloc: Global, reason: &str, rows: &[&Row]) -> CargoResult<Vec<String>>
     ensures ok { IfOk result (λ v.
         map string_bytes v.items ≡ names_of reason.now (map (λ r. r.now) rows.now)) }
-    ensures refused { IfErr result IsMemory }
+    ensures error { IfErr result IsMemory }
 {
     let mut names = BTreeSet::new(alloc);
     'rows: for row in rows {
@@ -98,7 +98,7 @@ fn push_line(text: &mut String, reason: &str, names: &str) -> Result<(), AllocEr
 fn add_line(alloc: Global, text: &mut String, rows: &[&Row], reason: &str) -> CargoResult<()>
     ensures ok { OnOk result (string_bytes text.new
         ≡ string_bytes text.old ++ reason_line (map (λ r. r.now) rows.now) reason.now) }
-    ensures refused { IfErr result IsMemory }
+    ensures error { IfErr result IsMemory }
 {
     let names = names_of(alloc, reason, rows)?;
     if names.is_empty() {
@@ -123,7 +123,7 @@ fn rerun(verbosity: i8) -> &'static str
 /// The note on rows that are not shown: which options show them, and a line for each reason.
 pub(crate) fn hidden_text(alloc: Global, rows: &[&Row], verbosity: i8) -> CargoResult<String>
     ensures ok { IfOk result (λ s. string_bytes s ≡ hidden_text verbosity (map (λ r. r.now) rows.now)) }
-    ensures refused { IfErr result IsMemory }
+    ensures error { IfErr result IsMemory }
 {
     let mut text = String::from_str(alloc, rerun(verbosity))?;
     'reasons: for reason in REASONS.as_slice() {

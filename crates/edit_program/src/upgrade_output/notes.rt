@@ -24,7 +24,7 @@ const DRY_RUN: &str = "aborting upgrade due to dry run";
 fn note_if<E: io::Write>(due: bool, message: &str, err: &mut E) -> CargoResult<()>
     ensures text { OnOk result (Appends (E.contents err.old) (E.contents err.new)
         (message_if due (note message.now))) }
-    ensures refused { IfErr result (λ e. e ≡ Output) }
+    ensures error { IfErr result (λ e. e ≡ Output) }
 {
     if due {
         shell_note(err, message)
@@ -37,7 +37,7 @@ fn note_if<E: io::Write>(due: bool, message: &str, err: &mut E) -> CargoResult<(
 fn warn_if<E: io::Write>(due: bool, message: &str, err: &mut E) -> CargoResult<()>
     ensures text { OnOk result (Appends (E.contents err.old) (E.contents err.new)
         (message_if due (warning message.now))) }
-    ensures refused { IfErr result (λ e. e ≡ Output) }
+    ensures error { IfErr result (λ e. e ≡ Output) }
 {
     if due {
         shell_warn(err, message)
@@ -55,7 +55,7 @@ fn print_hidden<E: io::Write>(
 ) -> CargoResult<()>
     ensures text { OnOk result (Appends (E.contents err.old) (E.contents err.new)
         (hidden_note verbosity (hidden verbosity rows.now))) }
-    ensures refused { IfErr result (λ e. IsMemory e ⊎ (e ≡ Output)) }
+    ensures error { IfErr result (λ e. IsMemory e ⊎ (e ≡ Output)) }
 {
     let hidden = hidden_rows(alloc, rows, verbosity)?;
     if hidden.is_empty() {
@@ -76,7 +76,7 @@ pub(crate) fn print_notes<E: io::Write>(
 ) -> CargoResult<()>
     ensures text { OnOk result (Appends (E.contents err.old) (E.contents err.new)
         (notes plan.now options.now offline)) }
-    ensures refused { IfErr result (λ e. IsMemory e ⊎ (e ≡ Output)) }
+    ensures error { IfErr result (λ e. IsMemory e ⊎ (e ≡ Output)) }
 {
     note_if(plan.pinned_present, PINNED, err)?;
     note_if(plan.incompatible_present, INCOMPATIBLE, err)?;

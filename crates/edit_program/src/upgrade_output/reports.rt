@@ -23,7 +23,7 @@ use std::io;
 fn print_status<E: io::Write>(alloc: Global, name: &str, err: &mut E) -> CargoResult<()>
     ensures text { OnOk result (Appends (E.contents err.old) (E.contents err.new)
         (message_text true (codes "Checking") (name.now ++ codes "'s dependencies"))) }
-    ensures refused { IfErr result (λ e. IsMemory e ⊎ (e ≡ Output)) }
+    ensures error { IfErr result (λ e. IsMemory e ⊎ (e ≡ Output)) }
 {
     let message = format!(in alloc; "{name}'s dependencies")?;
     shell_status(err, "Checking", message.as_str())
@@ -46,7 +46,7 @@ fn print_warning<E: io::Write>(
 ) -> CargoResult<()>
     ensures text { OnOk result (Appends (E.contents err.old) (E.contents err.new)
         (warning_on verbosity input warning.now)) }
-    ensures refused { IfErr result (λ e. e ≡ Output) }
+    ensures error { IfErr result (λ e. e ≡ Output) }
 {
     if is_warning_shown(warning, input, verbosity) {
         shell_warn(err, warning.text.as_str())
@@ -64,7 +64,7 @@ fn print_warnings<E: io::Write>(
 ) -> CargoResult<()>
     ensures text { OnOk result (Appends (E.contents err.old) (E.contents err.new)
         (flat_map (warning_on verbosity input) warnings.now)) }
-    ensures refused { IfErr result (λ e. e ≡ Output) }
+    ensures error { IfErr result (λ e. e ≡ Output) }
 {
     for warning in warnings {
         print_warning(warning, input, verbosity, err)?;
@@ -83,7 +83,7 @@ fn print_rows<O: io::Write>(
     requires { AreInOrder rows.now }
     ensures table { OnOk result (Appends (O.contents out.old) (O.contents out.new)
         (report_text verbosity (rows_at input rows.now))) }
-    ensures refused { IfErr result (λ e. IsMemory e ⊎ (e ≡ Output)) }
+    ensures error { IfErr result (λ e. IsMemory e ⊎ (e ≡ Output)) }
 {
     write_table(alloc, rows_at(rows, input), verbosity, out)
 }
@@ -100,7 +100,7 @@ fn print_table<O: io::Write>(
     requires { AreInOrder rows.now }
     ensures table { OnOk result (Appends (O.contents out.old) (O.contents out.new)
         (table format verbosity rows.now input)) }
-    ensures refused { IfErr result (λ e. IsMemory e ⊎ (e ≡ Output)) }
+    ensures error { IfErr result (λ e. IsMemory e ⊎ (e ≡ Output)) }
 {
     match format {
         MessageFormat::Human => print_rows(alloc, rows, input, verbosity, out),
@@ -120,7 +120,7 @@ fn print_check<E: io::Write>(
     requires { AreWarningsInOrder warnings.now }
     ensures text { OnOk result (Appends (E.contents err.old) (E.contents err.new)
         (input_report verbosity warnings.now input name.now)) }
-    ensures refused { IfErr result (λ e. IsMemory e ⊎ (e ≡ Output)) }
+    ensures error { IfErr result (λ e. IsMemory e ⊎ (e ≡ Output)) }
 {
     print_status(alloc, name, err)?;
     print_warnings(warnings_at(warnings, input), input, verbosity, err)
@@ -142,7 +142,7 @@ pub(crate) fn print_reports<O: io::Write, E: io::Write>(
         (tables format verbosity plan.now.rows.items (length inputs.now))) }
     ensures checks { OnOk result (Appends (E.contents err.old) (E.contents err.new)
         (checks verbosity plan.now.warnings.items inputs.now (length inputs.now))) }
-    ensures refused { IfErr result (λ e. IsMemory e ⊎ (e ≡ Output)) }
+    ensures error { IfErr result (λ e. IsMemory e ⊎ (e ≡ Output)) }
 {
     let UpgradePlan { rows, warnings, .. } = plan;
     'inputs: for (i, input) in inputs.iter().enumerate() {

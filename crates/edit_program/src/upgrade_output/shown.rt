@@ -30,7 +30,7 @@ fn print_as<O: io::Write>(
 ) -> CargoResult<()>
     ensures text { OnOk result (Appends (O.contents out.old) (O.contents out.new)
         (messages_as format plan.now inputs.now options.now (calls_view calls.now))) }
-    ensures refused { IfErr result (λ e. IsMemory e ⊎ (e ≡ Unwritten)) }
+    ensures error { IfErr result (λ e. IsMemory e ⊎ (e ≡ Unwritten)) }
 {
     match format {
         MessageFormat::Human => Ok(()),
@@ -52,7 +52,7 @@ fn print_diffs_if<O: io::Write>(
 ) -> CargoResult<()>
     ensures text { OnOk result (Appends (O.contents out.old) (O.contents out.new)
         (diffs_if due current.now inputs.now outputs.now)) }
-    ensures refused { IfErr result (λ e. IsMemory e ⊎ (e ≡ Unwritten)) }
+    ensures error { IfErr result (λ e. IsMemory e ⊎ (e ≡ Unwritten)) }
 {
     if due {
         print_diffs(alloc, current, inputs, outputs, out)
@@ -82,7 +82,7 @@ pub(crate) fn print_plan<O: io::Write, E: io::Write>(
     ensures checks { OnOk result (Appends (E.contents err.old) (E.contents err.new)
         (checks task.now.options.now.verbosity task.now.plan.now.warnings.items task.now.inputs.now
         (length task.now.inputs.now))) }
-    ensures refused { IfErr result (λ e. IsMemory e ⊎ (e ≡ Unwritten)) }
+    ensures error { IfErr result (λ e. IsMemory e ⊎ (e ≡ Unwritten)) }
 {
     let (plan, inputs, options) = (task.plan, task.inputs, task.options);
     let (format, diff) = (task.presentation.format, task.presentation.diff);

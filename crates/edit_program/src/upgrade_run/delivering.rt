@@ -25,7 +25,7 @@ pub(crate) fn path_of(
 ) -> CargoResult<Option<String>>
     ensures path { IfOk result
         (λ path. IsPathOf current.now (given named.entry) (option_map string_bytes path)) }
-    ensures refused { IfErr result IsMemory }
+    ensures error { IfErr result IsMemory }
 {
     let Some(named) = named else {
         return Ok(None);

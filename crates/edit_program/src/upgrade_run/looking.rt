@@ -39,7 +39,7 @@ fn lines_for(
     requires documents { AreDocuments target.now.documents.items target.now.inputs.items }
     ensures lines { IfOk result (λ text. AreLinesOf options.now target.now.inputs.items
         (lists_for configs.now) (string_bytes text)) }
-    ensures refused { IfErr result (λ e. IsMemory e
+    ensures error { IfErr result (λ e. IsMemory e
         ⊎ IsPlanCause options.now target.now.inputs.items (lists_for configs.now) no_view e) }
     ensures counted { IfErr result (λ e. number_of e ≢ 3) }
 {

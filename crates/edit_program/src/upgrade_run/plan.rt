@@ -30,7 +30,7 @@ pub(crate) fn plan_over<I: Index + Drop>(
     requires documents { AreDocuments target.now.documents.items target.now.inputs.items }
     ensures planned { IfOk result (IsPlanned options.now target.now.inputs.items (lists_for configs.now)
         (I.view index)) }
-    ensures refused { IfErr result (λ e. IsMemory e
+    ensures error { IfErr result (λ e. IsMemory e
         ⊎ IsPlanCause options.now target.now.inputs.items (lists_for configs.now) (I.view index) e) }
     ensures counted { IfErr result (CountsIndexFault I.view index) }
 {
@@ -60,7 +60,7 @@ pub(crate) fn plan_for<T: Store + Drop>(
     requires documents { AreDocuments target.now.documents.items target.now.inputs.items }
     ensures planned { IfOk result (IsPlanned options.now target.now.inputs.items (lists_for configs.now)
         (index_view index (T.view index_files))) }
-    ensures refused { IfErr result (λ e. IsMemory e
+    ensures error { IfErr result (λ e. IsMemory e
         ⊎ IsPlanCause options.now target.now.inputs.items (lists_for configs.now)
         (index_view index (T.view index_files)) e) }
     ensures counted { IfErr result (CountsStoreFault T.view index_files) }

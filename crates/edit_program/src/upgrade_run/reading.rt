@@ -34,7 +34,7 @@ fn read_lock_at<S: Store>(
     ensures store { OnlyReads (S.view files.old) (S.view files.new) }
     ensures read { IfOk result (λ lock. (S.view files.old).tells ≡ true
         → IsLockAt (S.view files.old).file_at current.now named.now (lock_view lock)) }
-    ensures refused { IfErr result (λ r. IsCallError call.Read (S.view files.old) (S.view files.new) r.error
+    ensures error { IfErr result (λ r. IsCallError call.Read (S.view files.old) (S.view files.new) r.error
         ⊎ ((S.view files.old).tells ≡ true
         → HasNoLock (S.view files.old).file_at current.now (Some named.now) r.error)) }
     ensures counted { IfErr result (λ r. CountsFault (S.view files.old) (S.view files.new) r.error) }
@@ -61,7 +61,7 @@ fn read_lock<S: Store>(
     ensures store { OnlyReads (S.view files.old) (S.view files.new) }
     ensures read { IfOk result (λ lock. (S.view files.old).tells ≡ true
         → IsLockRead (S.view files.old).file_at current.now (given named.entry) (option_map lock_view lock)) }
-    ensures refused { IfErr result (λ r. IsCallError call.Read (S.view files.old) (S.view files.new) r.error
+    ensures error { IfErr result (λ r. IsCallError call.Read (S.view files.old) (S.view files.new) r.error
         ⊎ ((S.view files.old).tells ≡ true
         → HasNoLock (S.view files.old).file_at current.now (given named.entry) r.error)) }
     ensures counted { IfErr result (λ r. CountsFault (S.view files.old) (S.view files.new) r.error) }
@@ -90,7 +90,7 @@ pub(crate) fn read<S: Store>(
         → IsLockRead (S.view files.old).file_at current.now (given words.now.lock_file)
         (option_map lock_view r.lock)) }
     ensures planned { IfOk result (λ r. MayBePlanned r.sources) }
-    ensures refused { IfErr result (λ r. IsReadCause current.now (given cargo_home.entry) (to_request words.now)
+    ensures error { IfErr result (λ r. IsReadCause current.now (given cargo_home.entry) (to_request words.now)
         (S.view files.old) (S.view files.new) r.error
         ⊎ ((S.view files.old).tells ≡ true
         → HasNoLock (S.view files.old).file_at current.now (given words.now.lock_file) r.error)) }

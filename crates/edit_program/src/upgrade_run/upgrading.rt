@@ -39,7 +39,7 @@ pub fn upgrade<S: Store, T: Store + Drop, O: io::Write, E: io::Write>(
         (run_at place.now.current.now (given place.now.cargo_home)
         (T.view index_files) (S.view files.old) (S.view files.new))) }
     // an error before the first write leaves each file as it was
-    ensures refused { OnErr result ((S.view files.old).tells ≡ true
+    ensures error { OnErr result ((S.view files.old).tells ≡ true
         → SameFiles (S.view files.old).file_at (S.view files.new).file_at
         ⊎ IsBroken (Appends (O.contents out.old) (O.contents out.new)) words.now
         (run_at place.now.current.now (given place.now.cargo_home)

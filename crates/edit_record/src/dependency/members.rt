@@ -40,7 +40,7 @@ pub(crate) fn text_of<'a>(
     item: Item<'a>,
 ) -> CargoResult<&'a str>
     ensures ok { IfOk result (λ s. text_of dep.now name.now (view_of item.entry) ≡ Ok s.now) }
-    ensures refused { IfErr result (IsErrorOfResult (text_of dep.now name.now (view_of item.entry))) }
+    ensures error { IfErr result (IsErrorOfResult (text_of dep.now name.now (view_of item.entry))) }
 {
     match item.as_str() {
         Some(text) => Ok(text),
@@ -57,7 +57,7 @@ pub(crate) fn text_at<'a>(
 ) -> CargoResult<Option<&'a str>>
     ensures ok { IfOk result (λ o. text_at (item_tree table.entry) dep.now name.now
         ≡ Ok (option_map (λ s. s.now) o)) }
-    ensures refused { IfErr result (IsErrorOfResult (text_at (item_tree table.entry) dep.now name.now)) }
+    ensures error { IfErr result (IsErrorOfResult (text_at (item_tree table.entry) dep.now name.now)) }
 {
     match table.get(name) {
         Some(item) => Ok(Some(text_of(alloc, dep, name, item)?)),
@@ -80,7 +80,7 @@ fn owned_version(alloc: Global, text: Option<&str>) -> Result<Option<String>, Al
 pub(crate) fn version_at(alloc: Global, dep: &str, table: Item<'_>) -> CargoResult<Option<String>>
     ensures ok { IfOk result (λ o. version_at (item_tree table.entry) dep.now
         ≡ Ok (option_map string_bytes o)) }
-    ensures refused { IfErr result (IsErrorOfResult (version_at (item_tree table.entry) dep.now)) }
+    ensures error { IfErr result (IsErrorOfResult (version_at (item_tree table.entry) dep.now)) }
 {
     let text = text_at(alloc, dep, table, "version")?;
     Ok(owned_version(alloc, text)?)
@@ -101,7 +101,7 @@ pub(crate) fn truth_at(table: Item<'_>, name: &str) -> Option<bool>
 pub(crate) fn check_spelling(alloc: Global, dep: &str, table: Item<'_>) -> CargoResult<()>
     ensures ok { IfOk result (λ _.
         old_spelling dep.now (member_in (item_tree table.entry) (codes "default_features")) ≡ Ok false) }
-    ensures refused { IfErr result (IsErrorOfResult
+    ensures error { IfErr result (IsErrorOfResult
         (old_spelling dep.now (member_in (item_tree table.entry) (codes "default_features")))) }
 {
     match table.get("default_features") {
@@ -116,7 +116,7 @@ pub(crate) fn check_spelling(alloc: Global, dep: &str, table: Item<'_>) -> Cargo
 fn element_texts(alloc: Global, dep: &str, array: Item<'_>) -> CargoResult<Vec<String>>
     ensures ok { IfOk result (λ v. first_texts (item_tree array.entry) dep.now
         (count_in (view_of array.entry)) ≡ Ok (texts_view v)) }
-    ensures refused { IfErr result (IsErrorOfResult
+    ensures error { IfErr result (IsErrorOfResult
         (first_texts (item_tree array.entry) dep.now (count_in (view_of array.entry)))) }
 {
     let mut texts = Vec::new(alloc);
@@ -133,7 +133,7 @@ fn element_texts(alloc: Global, dep: &str, array: Item<'_>) -> CargoResult<Vec<S
 fn feature_texts(alloc: Global, dep: &str, item: Item<'_>) -> CargoResult<Vec<String>>
     ensures ok { IfOk result (λ v. feature_texts (item_tree item.entry) dep.now (view_of item.entry)
         ≡ Ok (texts_view v)) }
-    ensures refused { IfErr result (IsErrorOfResult
+    ensures error { IfErr result (IsErrorOfResult
         (feature_texts (item_tree item.entry) dep.now (view_of item.entry))) }
 {
     match item.as_array() {
@@ -147,7 +147,7 @@ fn feature_texts(alloc: Global, dep: &str, item: Item<'_>) -> CargoResult<Vec<St
 pub fn features_at(alloc: Global, dep: &str, table: Item<'_>) -> CargoResult<Option<Vec<String>>>
     ensures ok { IfOk result (λ o. features_at (item_tree table.entry) dep.now
         ≡ Ok (option_map texts_view o)) }
-    ensures refused { IfErr result (IsErrorOfResult (features_at (item_tree table.entry) dep.now)) }
+    ensures error { IfErr result (IsErrorOfResult (features_at (item_tree table.entry) dep.now)) }
 {
     match table.get("features") {
         Some(item) => Ok(Some(feature_texts(alloc, dep, item)?)),

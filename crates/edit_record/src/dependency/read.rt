@@ -50,7 +50,7 @@ fn repository(
 fn git_source(alloc: Global, dep: &str, table: Item<'_>, git: Item<'_>) -> CargoResult<GitSource>
     ensures ok { IfOk result (λ s. git_origin (item_tree table.entry) dep.now (view_of git.entry)
         ≡ Ok (from_git (repository_view s))) }
-    ensures refused { IfErr result (IsErrorOfResult
+    ensures error { IfErr result (IsErrorOfResult
         (git_origin (item_tree table.entry) dep.now (view_of git.entry))) }
 {
     let address = text_of(alloc, dep, "git", git)?;
@@ -74,7 +74,7 @@ fn path_source(
 ) -> CargoResult<PathSource>
     ensures ok { IfOk result (λ s. path_origin (item_tree table.entry) root.now dep.now (view_of path.entry)
         ≡ Ok (path_view s)) }
-    ensures refused { IfErr result (IsErrorOfResult
+    ensures error { IfErr result (IsErrorOfResult
         (path_origin (item_tree table.entry) root.now dep.now (view_of path.entry))) }
 {
     let place = text_of(alloc, dep, "path", path)?;
@@ -88,7 +88,7 @@ fn path_source(
 /// The source of an entry with the key `workspace`; `Error::WorkspaceFalse` where it is false.
 fn true_workspace(alloc: Global, dep: &str, item: Item<'_>) -> CargoResult<WorkspaceSource>
     ensures ok { IfOk result (λ _. true_workspace dep.now (view_of item.entry) ≡ Ok from_workspace) }
-    ensures refused { IfErr result (IsErrorOfResult (true_workspace dep.now (view_of item.entry))) }
+    ensures error { IfErr result (IsErrorOfResult (true_workspace dep.now (view_of item.entry))) }
 {
     match item.as_bool() {
         Some(truth) => {
@@ -108,7 +108,7 @@ fn true_workspace(alloc: Global, dep: &str, item: Item<'_>) -> CargoResult<Works
 fn workspace_source(alloc: Global, dep: &str, table: Item<'_>) -> CargoResult<WorkspaceSource>
     ensures ok { IfOk result (λ _. workspace_origin dep.now
         (member_in (item_tree table.entry) (codes "workspace")) ≡ Ok from_workspace) }
-    ensures refused { IfErr result (IsErrorOfResult
+    ensures error { IfErr result (IsErrorOfResult
         (workspace_origin dep.now (member_in (item_tree table.entry) (codes "workspace")))) }
 {
     match table.get("workspace") {
@@ -122,7 +122,7 @@ fn workspace_source(alloc: Global, dep: &str, table: Item<'_>) -> CargoResult<Wo
 /// The source of an entry that is a table or an inline table.
 fn source_of(alloc: Global, root: &str, dep: &str, table: Item<'_>) -> CargoResult<Source>
     ensures ok { IfOk result (λ s. origin_at (item_tree table.entry) root.now dep.now ≡ Ok (source_view s)) }
-    ensures refused { IfErr result (IsErrorOfResult (origin_at (item_tree table.entry) root.now dep.now)) }
+    ensures error { IfErr result (IsErrorOfResult (origin_at (item_tree table.entry) root.now dep.now)) }
 {
     if let Some(git) = table.get("git") {
         return Ok(Source::Git(git_source(alloc, dep, table, git)?));
@@ -162,7 +162,7 @@ fn options_at(
 ) -> CargoResult<(Option<String>, Option<Vec<String>>)>
     ensures ok { IfOk result (λ o. options_at (item_tree table.entry) dep.now
         ≡ Ok (option_map string_bytes o.0, option_map texts_view o.1)) }
-    ensures refused { IfErr result (IsErrorOfResult (options_at (item_tree table.entry) dep.now)) }
+    ensures error { IfErr result (IsErrorOfResult (options_at (item_tree table.entry) dep.now)) }
 {
     let registry = text_at(alloc, dep, table, "registry")?;
     check_spelling(alloc, dep, table)?;
@@ -175,7 +175,7 @@ fn table_record(alloc: Global, root: &str, dep: &str, table: Item<'_>) -> CargoR
     ensures ok { IfOk result (λ d. table_record (item_tree table.entry) root.now dep.now
         ≡ Ok (record_view d)) }
     ensures available { IfOk result (λ d. btree_map_len d.available_features ≡ 0) }
-    ensures refused { IfErr result (IsErrorOfResult (table_record (item_tree table.entry) root.now dep.now)) }
+    ensures error { IfErr result (IsErrorOfResult (table_record (item_tree table.entry) root.now dep.now)) }
 {
     let crate_name = text_at(alloc, dep, table, "package")?;
     let (name, rename) = names(alloc, dep, crate_name)?;
@@ -212,7 +212,7 @@ impl Dependency {
         ensures record { IfOk result (λ d. record_of (tree_of (document_of item.entry)) (place_of item.entry)
             crate_root.now key.now ≡ Ok (record_view d)) }
         ensures available { IfOk result (λ d. btree_map_len d.available_features ≡ 0) }
-        ensures refused { IfErr result (IsErrorOfResult (record_of (tree_of (document_of item.entry))
+        ensures error { IfErr result (IsErrorOfResult (record_of (tree_of (document_of item.entry))
             (place_of item.entry) crate_root.now key.now)) }
     {
         item.stands();

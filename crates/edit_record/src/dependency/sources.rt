@@ -22,7 +22,7 @@ impl RegistrySource {
     /// Returns the source with this requirement, up to its first `+`.
     pub fn new(alloc: Global, version: &str) -> CargoResult<RegistrySource>
         ensures ok { IfOk result (λ s. string_bytes s.version ≡ cut version.now) }
-        ensures refused { IfErr result IsMemory }
+        ensures error { IfErr result IsMemory }
     {
         Ok(RegistrySource {
             version: String::from_str(alloc, before_plus(version))?,
@@ -32,7 +32,7 @@ impl RegistrySource {
     /// Returns a deep copy of the source.
     pub fn try_clone(&self, _alloc: Global) -> CargoResult<RegistrySource>
         ensures ok { IfOk result (λ s. string_bytes s.version ≡ string_bytes self.now.version) }
-        ensures refused { IfErr result IsMemory }
+        ensures error { IfErr result IsMemory }
     {
         Ok(RegistrySource {
             version: self.version.clone()?,
@@ -52,7 +52,7 @@ impl PathSource {
     /// Returns the source with this folder, without a version.
     pub fn new(alloc: Global, path: &str) -> CargoResult<PathSource>
         ensures ok { IfOk result (λ s. path_view s ≡ from_path path.now None) }
-        ensures refused { IfErr result IsMemory }
+        ensures error { IfErr result IsMemory }
     {
         Ok(PathSource {
             path: String::from_str(alloc, path)?,
@@ -64,7 +64,7 @@ impl PathSource {
     pub fn set_version(self, alloc: Global, version: &str) -> CargoResult<PathSource>
         ensures ok { IfOk result (λ s. path_view s
             ≡ from_path (string_bytes self.path) (Some (cut version.now))) }
-        ensures refused { IfErr result IsMemory }
+        ensures error { IfErr result IsMemory }
     {
         let requirement = String::from_str(alloc, before_plus(version))?;
         Ok(PathSource {
@@ -76,7 +76,7 @@ impl PathSource {
     /// Returns a deep copy of the source.
     pub fn try_clone(&self, _alloc: Global) -> CargoResult<PathSource>
         ensures ok { IfOk result (λ s. path_view s ≡ path_view self.now) }
-        ensures refused { IfErr result IsMemory }
+        ensures error { IfErr result IsMemory }
     {
         Ok(PathSource {
             path: self.path.clone()?,
@@ -100,7 +100,7 @@ impl GitSource {
     /// Returns the source with this repository, at its default branch and without a version.
     pub fn new(alloc: Global, git: &str) -> CargoResult<GitSource>
         ensures ok { IfOk result (λ s. repository_view s ≡ repository git.now None None None None) }
-        ensures refused { IfErr result IsMemory }
+        ensures error { IfErr result IsMemory }
     {
         Ok(GitSource {
             git: String::from_str(alloc, git)?,
@@ -115,7 +115,7 @@ impl GitSource {
     pub fn set_branch(self, alloc: Global, branch: &str) -> CargoResult<GitSource>
         ensures ok { IfOk result (λ s. repository_view s
             ≡ record (repository_view self) { branch = Some branch.now; tag = None; rev = None }) }
-        ensures refused { IfErr result IsMemory }
+        ensures error { IfErr result IsMemory }
     {
         let branch = String::from_str(alloc, branch)?;
         Ok(GitSource {
@@ -130,7 +130,7 @@ impl GitSource {
     pub fn set_tag(self, alloc: Global, tag: &str) -> CargoResult<GitSource>
         ensures ok { IfOk result (λ s. repository_view s
             ≡ record (repository_view self) { branch = None; tag = Some tag.now; rev = None }) }
-        ensures refused { IfErr result IsMemory }
+        ensures error { IfErr result IsMemory }
     {
         let tag = String::from_str(alloc, tag)?;
         Ok(GitSource {
@@ -145,7 +145,7 @@ impl GitSource {
     pub fn set_rev(self, alloc: Global, rev: &str) -> CargoResult<GitSource>
         ensures ok { IfOk result (λ s. repository_view s
             ≡ record (repository_view self) { branch = None; tag = None; rev = Some rev.now }) }
-        ensures refused { IfErr result IsMemory }
+        ensures error { IfErr result IsMemory }
     {
         let rev = String::from_str(alloc, rev)?;
         Ok(GitSource {
@@ -160,7 +160,7 @@ impl GitSource {
     pub fn set_version(self, alloc: Global, version: &str) -> CargoResult<GitSource>
         ensures ok { IfOk result (λ s. repository_view s
             ≡ record (repository_view self) { version = Some (cut version.now) }) }
-        ensures refused { IfErr result IsMemory }
+        ensures error { IfErr result IsMemory }
     {
         let version = String::from_str(alloc, before_plus(version))?;
         Ok(GitSource {
@@ -172,7 +172,7 @@ impl GitSource {
     /// Returns a deep copy of the source.
     pub fn try_clone(&self, _alloc: Global) -> CargoResult<GitSource>
         ensures ok { IfOk result (λ s. repository_view s ≡ repository_view self.now) }
-        ensures refused { IfErr result IsMemory }
+        ensures error { IfErr result IsMemory }
     {
         Ok(GitSource {
             git: self.git.clone()?,
@@ -198,7 +198,7 @@ impl WorkspaceSource {
 
     /// Returns a copy of the source.
     pub fn try_clone(&self, _alloc: Global) -> CargoResult<WorkspaceSource>
-        ensures refused { IfErr result IsMemory }
+        ensures error { IfErr result IsMemory }
     {
         Ok(WorkspaceSource)
     }
@@ -257,7 +257,7 @@ impl Source {
     /// Returns a deep copy of the source.
     pub fn try_clone(&self, alloc: Global) -> CargoResult<Source>
         ensures ok { IfOk result (λ s. source_view s ≡ source_view self.now) }
-        ensures refused { IfErr result IsMemory }
+        ensures error { IfErr result IsMemory }
     {
         Ok(match self {
             Source::Registry(source) => Source::Registry(source.try_clone(alloc)?),
@@ -284,7 +284,7 @@ impl Source {
 pub(crate) fn copied_source(alloc: Global, source: Option<&Source>) -> CargoResult<Option<Source>>
     ensures ok { IfOk result (λ o. option_map source_view o
         ≡ option_map source_view (option_copied source.entry)) }
-    ensures refused { IfErr result IsMemory }
+    ensures error { IfErr result IsMemory }
 {
     match source {
         Some(source) => Ok(Some(source.try_clone(alloc)?)),

@@ -26,7 +26,7 @@ fn replace_backslashes(alloc: Global, text: &str) -> Result<String, AllocError>
 /// The value of `path`: the path relative to `root`, with slashes only.
 pub fn path_field(alloc: Global, root: &str, path: &str) -> CargoResult<String>
     ensures text { IfOk result (λ s. string_bytes s ≡ path_field root.now path.now) }
-    ensures refused { IfErr result IsMemory }
+    ensures error { IfErr result IsMemory }
 {
     let way = relative(alloc, path, root)?;
     Ok(replace_backslashes(alloc, way.as_str())?)
@@ -121,7 +121,7 @@ fn push_path(
     ensures ok { OnOk result (new_pair_views members.new.items
         ≡ new_pair_views members.old.items ++ path_members root.now (string_bytes source.now.path)
         (option_map string_bytes source.now.version)) }
-    ensures refused { IfErr result IsMemory }
+    ensures error { IfErr result IsMemory }
 {
     push_text(alloc, members, "version", source.version.as_ref())?;
     let path = path_field(alloc, root, source.path.as_str())?;
@@ -138,7 +138,7 @@ fn push_source(
 ) -> CargoResult<()>
     ensures ok { OnOk result (new_pair_views members.new.items
         ≡ new_pair_views members.old.items ++ origin_members root.now (Some (source_view source.now))) }
-    ensures refused { IfErr result IsMemory }
+    ensures error { IfErr result IsMemory }
 {
     match source {
         Source::Registry(source) => push_text(alloc, members, "version", Some(&source.version))?,
@@ -211,7 +211,7 @@ impl Dependency {
         ensures ok { IfOk result (λ v. new_pair_views v.items
             ≡ origin_members root.now (record_view self.now).origin
             ++ option_members (record_view self.now)) }
-        ensures refused { IfErr result IsMemory }
+        ensures error { IfErr result IsMemory }
     {
         let mut members = Vec::new(alloc);
         if let Some(source) = &self.source {
@@ -224,7 +224,7 @@ impl Dependency {
     /// Converts the dependency into a new entry, with its path relative to `root`.
     fn new_item(&self, alloc: Global, root: &str) -> CargoResult<NewItem>
         ensures item { IfOk result (λ i. new_item_view i ≡ item_of root.now (record_view self.now)) }
-        ensures refused { IfErr result IsMemory }
+        ensures error { IfErr result IsMemory }
     {
         match &self.source {
             Some(Source::Registry(source)) if self.is_short() => {
@@ -252,7 +252,7 @@ impl Dependency {
         ensures item { IfOk result (λ i. new_item_view i ≡ item_of crate_root.now (record_view self.now)) }
         ensures round_trip { IfOk result (λ i. IsPlain (record_view self.now)
             → HasRoundTrip crate_root.now (key_of (record_view self.now)) (new_item_view i)) }
-        ensures refused { IfErr result IsMemory }
+        ensures error { IfErr result IsMemory }
     {
         self.new_item(alloc, crate_root)
     }

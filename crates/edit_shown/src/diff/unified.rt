@@ -41,7 +41,7 @@ fn push_changes(alloc: Global, text: &mut Vec<u8>, old: &[u8], new: &[u8]) -> Re
 /// `path` is the file's name in the diff, after `a/` and `b/`.
 pub fn diff_text(alloc: Global, path: &str, old: &[u8], new: &[u8]) -> CargoResult<Vec<u8>>
     ensures text { IfOk result (λ v. v.items ≡ spec.diff_text path.now old.now new.now) }
-    ensures refused { IfErr result IsMemory }
+    ensures error { IfErr result IsMemory }
 {
     let mut text = Vec::new(alloc);
     if old == new {
@@ -62,7 +62,7 @@ pub fn write_diff<W: io::Write>(
 ) -> CargoResult<()>
     ensures bytes { OnOk result (Appends (W.contents out.old) (W.contents out.new)
         (spec.diff_text path.now old.now new.now)) }
-    ensures refused { IfErr result (λ e. IsMemory e ⊎ (e ≡ Output)) }
+    ensures error { IfErr result (λ e. IsMemory e ⊎ (e ≡ Output)) }
 {
     let text = diff_text(alloc, path, old, new)?;
     match out.write_all(&text) {

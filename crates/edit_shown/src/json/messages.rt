@@ -13,7 +13,7 @@ use std::alloc::Global;
 /// The message of a row of a manifest's report.
 pub fn row_message<'a>(alloc: Global, manifest: &'a str, row: &'a Row) -> CargoResult<String>
     ensures text { IfOk result (λ s. string_bytes s ≡ message_text (row_members manifest.now row.now)) }
-    ensures refused { IfErr result IsMemory }
+    ensures error { IfErr result IsMemory }
 {
     let members = [
         Member {
@@ -72,7 +72,7 @@ pub fn warning_message<'a>(
 ) -> CargoResult<String>
     ensures text { IfOk result (λ s. string_bytes s
         ≡ message_text (warning_members manifest.now warning.now)) }
-    ensures refused { IfErr result IsMemory }
+    ensures error { IfErr result IsMemory }
 {
     let members = [
         Member {
@@ -94,7 +94,7 @@ pub fn warning_message<'a>(
 /// The message of a manifest that changes; `written` is false where the run writes no file.
 pub fn file_message(alloc: Global, manifest: &str, written: bool) -> CargoResult<String>
     ensures text { IfOk result (λ s. string_bytes s ≡ message_text (file_members manifest.now written)) }
-    ensures refused { IfErr result IsMemory }
+    ensures error { IfErr result IsMemory }
 {
     let members = [
         Member {
@@ -129,7 +129,7 @@ pub struct Summary<'a> {
 /// The last message of an upgrade, its summary.
 pub fn summary_message(alloc: Global, summary: Summary<'_>) -> CargoResult<String>
     ensures text { IfOk result (λ s. string_bytes s ≡ message_text (summary_members summary.entry)) }
-    ensures refused { IfErr result IsMemory }
+    ensures error { IfErr result IsMemory }
 {
     let members = [
         Member {
@@ -171,7 +171,7 @@ pub fn summary_message(alloc: Global, summary: Summary<'_>) -> CargoResult<Strin
 /// The message of a line of `set-version`: an action and its text.
 pub fn change_message<'a>(alloc: Global, action: &'a str, change: &'a str) -> CargoResult<String>
     ensures text { IfOk result (λ s. string_bytes s ≡ message_text (change_members action.now change.now)) }
-    ensures refused { IfErr result IsMemory }
+    ensures error { IfErr result IsMemory }
 {
     let members = [
         Member {

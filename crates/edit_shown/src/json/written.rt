@@ -42,7 +42,7 @@ fn object_text(alloc: Global, members: &[Member<'_>]) -> Result<String, AllocErr
 /// The text of a message: an object of these members and the format's version, and a line end.
 pub(crate) fn message(alloc: Global, members: &[Member<'_>]) -> CargoResult<String>
     ensures text { IfOk result (λ s. string_bytes s ≡ message_text (map member_data members.now)) }
-    ensures refused { IfErr result IsMemory }
+    ensures error { IfErr result IsMemory }
 {
     let mut text = object_text(alloc, members)?;
     text.push('\n')?;

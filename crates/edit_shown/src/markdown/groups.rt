@@ -79,7 +79,7 @@ fn print_group<O: io::Write>(
 ) -> CargoResult<()>
     ensures text { OnOk result (Appends (O.contents out.old) (O.contents out.new)
         (spec.table_row inputs.now cells.now members.items)) }
-    ensures refused { IfErr result (λ e. IsMemory e ⊎ (e ≡ Output)) }
+    ensures error { IfErr result (λ e. IsMemory e ⊎ (e ≡ Output)) }
 {
     let names = members_cell(alloc, inputs, members)?;
     let text = format!(in alloc; "{cells}{names} |\n")?;
@@ -99,7 +99,7 @@ fn print_first<O: io::Write>(
     ensures text { OnOk result (Appends (O.contents out.old) (O.contents out.new)
         (option_map_or (λ members. spec.table_row inputs.now cells.now members.items)
         (get_by_text groups.old cells.now) [])) }
-    ensures refused { IfErr result (λ e. IsMemory e ⊎ (e ≡ Output)) }
+    ensures error { IfErr result (λ e. IsMemory e ⊎ (e ≡ Output)) }
 {
     match groups.remove(cells) {
         Some(members) => print_group(alloc, cells, members, inputs, out),
@@ -120,7 +120,7 @@ pub(crate) fn print_groups<O: io::Write>(
         ≡ spec.inputs_of (map spec.line_view lines.now) cells }
     ensures text { OnOk result (Appends (O.contents out.old) (O.contents out.new)
         (spec.table_rows inputs.now (map spec.line_view lines.now))) }
-    ensures refused { IfErr result (λ e. IsMemory e ⊎ (e ≡ Output)) }
+    ensures error { IfErr result (λ e. IsMemory e ⊎ (e ≡ Output)) }
 {
     for line in lines {
         print_first(alloc, line.cells.as_str(), &mut groups, inputs, out)?;

@@ -32,7 +32,7 @@ pub(crate) fn shown_lines(
     verbosity: i8,
 ) -> CargoResult<Vec<MarkdownLine>>
     ensures ok { IfOk result (λ v. map line_view v.items ≡ shown_lines verbosity rows.now) }
-    ensures refused { IfErr result IsMemory }
+    ensures error { IfErr result IsMemory }
 {
     let mut lines = Vec::new(alloc);
     for row in rows {

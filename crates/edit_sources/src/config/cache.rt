@@ -52,10 +52,10 @@ impl ConfigCache {
         place: &str,
     ) -> CargoResult<()>
         ensures store { OnlyReads (S.view store.old) (S.view store.new) }
-        ensures kept { AreCached (S.view store.old) self.old → AreCached (S.view store.new) self.new }
+        ensures preserved { AreCached (S.view store.old) self.old → AreCached (S.view store.new) self.new }
         ensures searched { OnOk result (IsSearchedIn self.new place.now) }
         ensures others { (other : List ℕ) → IsSearchedIn self.old other → IsSearchedIn self.new other }
-        ensures refused { IfErr result (λ e. IsMemory e
+        ensures error { IfErr result (λ e. IsMemory e
             ⊎ (HasFailed (S.view store.old).faults (S.view store.new).faults e
             ⊎ FileFails (S.view store.old).tells (IsConfigPath place.now)
             (file_in (S.view store.old).file_at place.now) e)) }
@@ -79,9 +79,9 @@ impl ConfigCache {
         places: &[String],
     ) -> CargoResult<()>
         ensures store { OnlyReads (S.view store.old) (S.view store.new) }
-        ensures kept { AreCached (S.view store.old) self.old → AreCached (S.view store.new) self.new }
+        ensures preserved { AreCached (S.view store.old) self.old → AreCached (S.view store.new) self.new }
         ensures searched { OnOk result (All (IsSearchedIn self.new) (map string_bytes places.now)) }
-        ensures refused { IfErr result (λ e. IsMemory e
+        ensures error { IfErr result (λ e. IsMemory e
             ⊎ (HasFailed (S.view store.old).faults (S.view store.new).faults e ⊎ PlaceFails
             (S.view store.old).tells (S.view store.old).file_at (map string_bytes places.now) e)) }
         ensures first { IfErr result (λ e. IsMemory e
@@ -107,11 +107,11 @@ impl ConfigCache {
         cargo_home: Option<&str>,
     ) -> CargoResult<Vec<String>>
         ensures store { OnlyReads (S.view store.old) (S.view store.new) }
-        ensures kept { AreCached (S.view store.old) self.old → AreCached (S.view store.new) self.new }
+        ensures preserved { AreCached (S.view store.old) self.old → AreCached (S.view store.new) self.new }
         ensures places { IfOk result (λ v. IsSearched manifest_path.now (given cargo_home.entry)
             (map string_bytes v.items)) }
         ensures searched { IfOk result (λ v. All (IsSearchedIn self.new) (map string_bytes v.items)) }
-        ensures refused { IfErr result (λ e. IsMemory e
+        ensures error { IfErr result (λ e. IsMemory e
             ⊎ (HasFailed (S.view store.old).faults (S.view store.new).faults e
             ⊎ ConfigsFail (S.view store.old).tells (S.view store.old).file_at manifest_path.now
             (given cargo_home.entry) e)) }
@@ -162,12 +162,12 @@ impl ConfigCache {
         cargo_home: Option<&str>,
     ) -> CargoResult<Vec<Config>>
         ensures store { OnlyReads (S.view store.old) (S.view store.new) }
-        ensures kept { AreCached (S.view store.old) self.old → AreCached (S.view store.new) self.new }
+        ensures preserved { AreCached (S.view store.old) self.old → AreCached (S.view store.new) self.new }
         ensures read { IfOk result (λ v. AreCached (S.view store.old) self.old
             → (S.view store.old).tells ≡ true
             → AreConfigs (S.view store.old).file_at manifest_path.now (given cargo_home.entry) v.items) }
         // an error never concerns a folder that is cached
-        ensures refused { IfErr result (λ e. IsMemory e
+        ensures error { IfErr result (λ e. IsMemory e
             ⊎ (HasFailed (S.view store.old).faults (S.view store.new).faults e
             ⊎ ConfigsFail (S.view store.old).tells (S.view store.old).file_at manifest_path.now
             (given cargo_home.entry) e)) }
@@ -196,13 +196,13 @@ impl ConfigCache {
         cargo_home: Option<&str>,
     ) -> CargoResult<Vec<String>>
         ensures store { OnlyReads (S.view store.old) (S.view store.new) }
-        ensures kept { AreCached (S.view store.old) self.old → AreCached (S.view store.new) self.new }
+        ensures preserved { AreCached (S.view store.old) self.old → AreCached (S.view store.new) self.new }
         ensures read { IfOk result (λ v. AreCached (S.view store.old) self.old
             → (S.view store.old).tells ≡ true
             → AreConfigPaths (S.view store.old).file_at manifest_path.now (given cargo_home.entry)
             (map string_bytes v.items)) }
         // an error never concerns a folder that is cached
-        ensures refused { IfErr result (λ e. IsMemory e
+        ensures error { IfErr result (λ e. IsMemory e
             ⊎ (HasFailed (S.view store.old).faults (S.view store.new).faults e
             ⊎ ConfigsFail (S.view store.old).tells (S.view store.old).file_at manifest_path.now
             (given cargo_home.entry) e)) }
@@ -236,7 +236,7 @@ pub fn read_configs<S: Store>(
     ensures store { OnlyReads (S.view store.old) (S.view store.new) }
     ensures read { IfOk result (λ v. (S.view store.old).tells ≡ true
         → AreConfigs (S.view store.old).file_at manifest_path.now (given cargo_home.entry) v.items) }
-    ensures refused { IfErr result (λ e. IsMemory e
+    ensures error { IfErr result (λ e. IsMemory e
         ⊎ (HasFailed (S.view store.old).faults (S.view store.new).faults e
         ⊎ ConfigsFail (S.view store.old).tells (S.view store.old).file_at manifest_path.now
         (given cargo_home.entry) e)) }

@@ -58,7 +58,7 @@ impl Config {
     /// Returns a deep copy of the configuration.
     pub(crate) fn try_clone(&self, alloc: Global) -> Result<Config, AllocError>
         ensures path { IfOk result (λ c. string_bytes c.path ≡ string_bytes self.now.path) }
-        ensures said { IfOk result (λ c. configuration c ≡ configuration self.now) }
+        ensures content { IfOk result (λ c. configuration c ≡ configuration self.now) }
     {
         Ok(Config {
             path: self.path.clone()?,

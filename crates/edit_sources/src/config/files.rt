@@ -36,7 +36,7 @@ pub(super) fn places(
 ) -> CargoResult<Vec<String>>
     ensures searched { IfOk result (λ v. IsSearched manifest_path.now (given cargo_home.entry)
         (map string_bytes v.items)) }
-    ensures refused { IfErr result IsMemory }
+    ensures error { IfErr result IsMemory }
 {
     let folders = folders_upwards(alloc, manifest_path)?;
     let mut places = Vec::new(alloc);
@@ -54,7 +54,7 @@ fn read_file<S: Store>(alloc: Global, store: &mut S, path: &str) -> CargoResult<
     ensures store { OnlyReads (S.view store.old) (S.view store.new) }
     ensures read { IfOk result (λ found. (S.view store.old).tells ≡ true
         → IsReadOf (standing (S.view store.old).file_at path.now) found) }
-    ensures refused { IfErr result (λ e. IsMemory e
+    ensures error { IfErr result (λ e. IsMemory e
         ⊎ (HasFailed (S.view store.old).faults (S.view store.new).faults e
         ⊎ FileFails (S.view store.old).tells (λ at. at ≡ path.now)
         (standing (S.view store.old).file_at path.now) e)) }
@@ -79,7 +79,7 @@ pub(super) fn config_in<S: Store>(
     ensures store { OnlyReads (S.view store.old) (S.view store.new) }
     ensures read { IfOk result (λ found. (S.view store.old).tells ≡ true
         → IsReadOf (file_in (S.view store.old).file_at place.now) found) }
-    ensures refused { IfErr result (λ e. IsMemory e
+    ensures error { IfErr result (λ e. IsMemory e
         ⊎ (HasFailed (S.view store.old).faults (S.view store.new).faults e
         ⊎ FileFails (S.view store.old).tells (IsConfigPath place.now)
         (file_in (S.view store.old).file_at place.now) e)) }

@@ -21,7 +21,7 @@ pub(crate) fn entry_path(
 ) -> CargoResult<String>
     ensures path { IfOk result (λ p. string_bytes p ≡ entry_path folder.now registry.now name.now) }
     ensures named { OnOk result (is_crate_name name.now ≡ true) }
-    ensures refused { IfErr result (λ e. IsMemory e ⊎ HasBadName name.now (number_of e)) }
+    ensures error { IfErr result (λ e. IsMemory e ⊎ HasBadName name.now (number_of e)) }
     ensures names { IfErr result (λ e. IsMemory e ⊎ (lookup_error e ≡ bad_name name.now)) }
 {
     let layout = layout_path(alloc, name)?;

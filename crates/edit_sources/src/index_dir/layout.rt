@@ -14,7 +14,7 @@ use std::alloc::{AllocError, Global};
 pub fn layout_path(alloc: Global, name: &str) -> CargoResult<String>
     ensures path { IfOk result (λ p. string_bytes p ≡ layout name.now) }
     ensures named { OnOk result (is_crate_name name.now ≡ true) }
-    ensures refused { IfErr result (λ e. IsMemory e ⊎ HasBadName name.now (number_of e)) }
+    ensures error { IfErr result (λ e. IsMemory e ⊎ HasBadName name.now (number_of e)) }
     ensures names { IfErr result (λ e. IsMemory e ⊎ (lookup_error e ≡ bad_name name.now)) }
 {
     if !is_crate_name(name) {

@@ -35,7 +35,7 @@ pub struct Definitions<'a> {
 /// Parses a URL; `Error::InvalidUrl` where that fails.
 fn url_of(alloc: Global, address: &str) -> CargoResult<Url>
     ensures reads { IfOk result (λ url. parse_url None address.now ≡ Ok url) }
-    ensures refused { IfErr result (λ e. IsMemory e ⊎ IsNoUrl address.now e) }
+    ensures error { IfErr result (λ e. IsMemory e ⊎ IsNoUrl address.now e) }
 {
     match Url::parse(alloc, address) {
         Ok(url) => Ok(url),
@@ -48,7 +48,7 @@ impl<'a> Definitions<'a> {
     /// Reads the definitions of configurations, which are in order of precedence, the first one first.
     pub fn read(alloc: Global, configs: &'a [Config]) -> CargoResult<Definitions<'a>>
         ensures defines { IfOk result (Defines configs.entry.now) }
-        ensures refused { IfErr result IsMemory }
+        ensures error { IfErr result IsMemory }
     {
         let left = first_definitions(alloc, configs)?;
         Ok(Definitions {
@@ -70,7 +70,7 @@ impl<'a> Definitions<'a> {
         ensures takes { IfOk result
             (λ s. RemovesSource beginning.now key.entry.now self.old self.new (source_texts s)) }
         ensures shorter { OnOk result (btree_map_len self.new.left < btree_map_len self.old.left) }
-        ensures refused { IfErr result (λ e. IsMemory e
+        ensures error { IfErr result (λ e. IsMemory e
             ⊎ ((name : String Global) × (e ≡ SourceNotFound name) × (string_bytes name ≡ key.entry.now))) }
         ensures lacks { OnErr result (HasNoSourceLeft beginning.now key.entry.now self.old) }
     {
@@ -103,7 +103,7 @@ impl<'a> Definitions<'a> {
             → spec.Address (all_definitions configs) (given registry.entry) a.now) }
         ensures defines { OnOk result
             ((configs : List Config) → Defines configs self.old → Defines configs self.new) }
-        ensures refused { IfErr result (λ e. IsMemory e ⊎ ((configs : List Config)
+        ensures error { IfErr result (λ e. IsMemory e ⊎ ((configs : List Config)
             → Defines configs self.old → HasNoUrl configs (given registry.entry) e)) }
     {
         let first = head_key(registry);
@@ -132,7 +132,7 @@ impl<'a> Definitions<'a> {
             → spec.Address (all_definitions configs) (given registry.entry) a.now) }
         ensures defines { OnOk result
             ((configs : List Config) → Defines configs self.old → Defines configs self.new) }
-        ensures refused { IfErr result (λ e. IsMemory e ⊎ ((configs : List Config)
+        ensures error { IfErr result (λ e. IsMemory e ⊎ ((configs : List Config)
             → Defines configs self.old → HasNoUrl configs (given registry.entry) e)) }
     {
         match self.end_of(head_key(registry)) {
@@ -148,7 +148,7 @@ impl<'a> Definitions<'a> {
             → HasAddress configs (given registry.entry) url) }
         ensures defines { OnOk result
             ((configs : List Config) → Defines configs self.old → Defines configs self.new) }
-        ensures refused { IfErr result (λ e. IsMemory e ⊎ ((configs : List Config)
+        ensures error { IfErr result (λ e. IsMemory e ⊎ ((configs : List Config)
             → Defines configs self.old → HasNoUrl configs (given registry.entry) e)) }
     {
         let address = self.address_of(alloc, registry)?;

@@ -32,11 +32,11 @@ fn gather<S: Store>(
     files: &mut S,
 ) -> CargoResult<Vec<Config>>
     ensures store { OnlyReads (S.view files.old) (S.view files.new) }
-    ensures kept { AreCached (S.view files.old) cache.old → AreCached (S.view files.new) cache.new }
+    ensures preserved { AreCached (S.view files.old) cache.old → AreCached (S.view files.new) cache.new }
     ensures read { IfOk result (λ v. AreCached (S.view files.old) cache.old
         → (S.view files.old).tells ≡ true → AreGathered (S.view files.old).file_at
         (given cargo_home.entry) (pair_of named.now) manifest.now v.items) }
-    ensures refused { IfErr result (λ e. IsMemory e
+    ensures error { IfErr result (λ e. IsMemory e
         ⊎ (HasFailed (S.view files.old).faults (S.view files.new).faults e
         ⊎ (IsUnreadFile (pair_of named.now).first e ⊎ (IsUnreadFile (pair_of named.now).last e
         ⊎ ConfigsFail (S.view files.old).tells (S.view files.old).file_at manifest.now
@@ -72,7 +72,7 @@ fn share<S: Store>(
 ) -> CargoResult<bool>
     requires { HasLists lists.old.shared }
     ensures store { OnlyReads (S.view files.old) (S.view files.new) }
-    ensures kept { AreCached (S.view files.old) cache.old → AreCached (S.view files.new) cache.new }
+    ensures preserved { AreCached (S.view files.old) cache.old → AreCached (S.view files.new) cache.new }
     ensures lists { OnOk result (HasLists lists.new.shared) }
     ensures each { IfOk result (λ found. IsTrue found
         → length lists.new.shared.which.items ≡ length lists.old.shared.which.items + 1) }
@@ -83,7 +83,7 @@ fn share<S: Store>(
         → IsListed (S.view files.old).file_at (given cargo_home.entry) (pair_of named.now) manifest.now
         lists.old.shared lists.new.shared) }
     ensures none { IfOk result (λ found. IsFalse found → lists.new.shared ≡ lists.old.shared) }
-    ensures refused { IfErr result (λ e. IsMemory e
+    ensures error { IfErr result (λ e. IsMemory e
         ⊎ (HasFailed (S.view files.old).faults (S.view files.new).faults e
         ⊎ ConfigsFail (S.view files.old).tells (S.view files.old).file_at manifest.now
         (given cargo_home.entry) e)) }
@@ -121,7 +121,7 @@ fn read_all<S: Store>(
         (S.view files.old).file_at (given cargo_home.entry) (pair_of named.now) inputs.now (lists_for s)) }
     ensures each { IfOk result (λ s. length s.which.items ≡ length inputs.now) }
     ensures lists { IfOk result HasLists }
-    ensures refused { IfErr result (λ e. IsCallError call.Read (S.view files.old) (S.view files.new) e
+    ensures error { IfErr result (λ e. IsCallError call.Read (S.view files.old) (S.view files.new) e
         ⊎ ((S.view files.old).tells ≡ true → IsUnconfigured (S.view files.old).file_at
         (given cargo_home.entry) (pair_of named.now) inputs.now e)) }
     // the configurations of the inputs before the one at fault were read
@@ -178,7 +178,7 @@ pub(crate) fn read_configurations<S: Store>(
         (S.view files.old).file_at (given cargo_home.entry) (pair_of named.now) inputs.now (lists_for s)) }
     ensures each { IfOk result (λ s. length s.which.items ≡ length inputs.now) }
     ensures lists { IfOk result HasLists }
-    ensures refused { IfErr result (λ r. IsCallError call.Read (S.view files.old) (S.view files.new) r.error
+    ensures error { IfErr result (λ r. IsCallError call.Read (S.view files.old) (S.view files.new) r.error
         ⊎ ((S.view files.old).tells ≡ true → IsUnconfigured (S.view files.old).file_at
         (given cargo_home.entry) (pair_of named.now) inputs.now r.error)) }
     // the configurations of the inputs before the one at fault were read

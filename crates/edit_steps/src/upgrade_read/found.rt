@@ -38,7 +38,7 @@ fn manifest_of(
     ensures bytes { IfOk result (λ m. m.input.bytes ≡ bytes) }
     ensures document { IfOk result (λ m. m.document.bytes ≡ bytes.items) }
     ensures says { IfOk result (λ m. HasOwnNameAndRust (rust_request rust) m.input) }
-    ensures refused { IfErr result (λ r. IsBadManifest bytes.items r.error) }
+    ensures error { IfErr result (λ r. IsBadManifest bytes.items r.error) }
 {
     let Manifest { document } = match Manifest::read_bytes(alloc, &bytes) {
         Ok(manifest) => manifest,
@@ -70,7 +70,7 @@ pub(crate) fn read_manifest<S: Store>(
         → IsManifestRead (S.view files.old).file_at current.now (given named.entry) (rust_request rust)
         m.input) }
     ensures document { IfOk result (λ m. m.document.bytes ≡ m.input.bytes.items) }
-    ensures refused { IfErr result (λ r. IsFailure (S.view files.old) (S.view files.new) r.error
+    ensures error { IfErr result (λ r. IsFailure (S.view files.old) (S.view files.new) r.error
         ⊎ ((S.view files.old).tells ≡ true
         → IsManifestCause (S.view files.old).file_at current.now (given named.entry) r.error)) }
     ensures counted { IfErr result (λ r. CountsFault (S.view files.old) (S.view files.new) r.error) }

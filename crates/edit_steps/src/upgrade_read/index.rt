@@ -35,7 +35,7 @@ fn read_file<S: Store>(
     ensures store { OnlyReads (S.view files.old) (S.view files.new) }
     ensures read { IfOk result (λ i. (S.view files.old).tells ≡ true
         → IsIndexAt (S.view files.old).file_at current.now named.now i) }
-    ensures refused { IfErr result (λ r. IsCallError call.Read (S.view files.old) (S.view files.new) r.error
+    ensures error { IfErr result (λ r. IsCallError call.Read (S.view files.old) (S.view files.new) r.error
         ⊎ ((S.view files.old).tells ≡ true
         → IsIndexCause (S.view files.old).file_at current.now named.now r.error)) }
     ensures counted { IfErr result (λ r. CountsFault (S.view files.old) (S.view files.new) r.error) }
@@ -67,7 +67,7 @@ pub(crate) fn read_index<S: Store>(
     ensures store { OnlyReads (S.view files.old) (S.view files.new) }
     ensures read { IfOk result (λ i. (S.view files.old).tells ≡ true
         → IsIndexOf (S.view files.old).file_at current.now (given file.entry) (given dir.entry) i) }
-    ensures refused { IfErr result (λ r. IsCallError call.Read (S.view files.old) (S.view files.new) r.error
+    ensures error { IfErr result (λ r. IsCallError call.Read (S.view files.old) (S.view files.new) r.error
         ⊎ ((S.view files.old).tells ≡ true
         → HasNoIndex (S.view files.old).file_at current.now (given file.entry) r.error)) }
     ensures counted { IfErr result (λ r. CountsFault (S.view files.old) (S.view files.new) r.error) }

@@ -42,7 +42,7 @@ pub(crate) fn manifest_path<S: Store>(
     ensures store { OnlyReads (S.view files.old) (S.view files.new) }
     ensures found { IfOk result (λ p. (S.view files.old).tells ≡ true
         → IsManifestPath (S.view files.old).file_at current.now (given named.entry) (string_bytes p)) }
-    ensures refused { IfErr result (λ r. IsCallError call.Kind (S.view files.old) (S.view files.new) r.error
+    ensures error { IfErr result (λ r. IsCallError call.Kind (S.view files.old) (S.view files.new) r.error
         ⊎ ((S.view files.old).tells ≡ true
         → HasNoManifest (S.view files.old).file_at current.now r.error (given named.entry))) }
     ensures counted { IfErr result (λ r. CountsFault (S.view files.old) (S.view files.new) r.error) }

@@ -43,7 +43,7 @@ fn read_file<S: Store>(
     ensures store { OnlyReads (S.view files.old) (S.view files.new) }
     ensures read { IfOk result (λ f. (S.view files.old).tells ≡ true → IsNamedRead
         (S.view files.old).file_at current.now (given named.entry) (option_map path_and_bytes f)) }
-    ensures refused { IfErr result (λ r. IsCallError call.Read (S.view files.old) (S.view files.new) r.error
+    ensures error { IfErr result (λ r. IsCallError call.Read (S.view files.old) (S.view files.new) r.error
         ⊎ ((S.view files.old).tells ≡ true
         → HasNoFile (S.view files.old).file_at current.now (given named.entry) r.error)) }
     ensures counted { IfErr result (λ r. CountsFault (S.view files.old) (S.view files.new) r.error) }
@@ -72,7 +72,7 @@ pub(crate) fn read_named<S: Store>(
     ensures store { OnlyReads (S.view files.old) (S.view files.new) }
     ensures read { IfOk result (λ n. (S.view files.old).tells ≡ true → ArePairRead
         (S.view files.old).file_at current.now (request_view asked.now) (pair_of n)) }
-    ensures refused { IfErr result (λ r. IsCallError call.Read (S.view files.old) (S.view files.new) r.error
+    ensures error { IfErr result (λ r. IsCallError call.Read (S.view files.old) (S.view files.new) r.error
         ⊎ ((S.view files.old).tells ≡ true
         → LacksNamed (S.view files.old).file_at current.now (request_view asked.now) r.error)) }
     ensures counted { IfErr result (λ r. CountsFault (S.view files.old) (S.view files.new) r.error) }
@@ -87,8 +87,8 @@ pub(crate) fn read_named<S: Store>(
 
 /// Parses the configuration of a file, where there is one. A file that is no configuration is an error.
 pub(crate) fn configs_in(alloc: Global, file: Option<&NamedFile>) -> CargoResult<Vec<Config>>
-    ensures said { IfOk result (λ v. AreConfigsIn (seen file.entry) v.items) }
-    ensures refused { IfErr result (λ e. IsMemory e ⊎ IsUnreadFile (seen file.entry) e) }
+    ensures content { IfOk result (λ v. AreConfigsIn (seen file.entry) v.items) }
+    ensures error { IfErr result (λ e. IsMemory e ⊎ IsUnreadFile (seen file.entry) e) }
 {
     let mut configs = Vec::new(alloc);
     if let Some(file) = file {

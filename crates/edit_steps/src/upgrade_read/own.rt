@@ -26,7 +26,7 @@ fn package_text<'a>(document: &'a Document, key: &str) -> Option<&'a str>
 /// The manifest's `rust-version`, where it has a valid one.
 fn own_rust_version(alloc: Global, document: &Document) -> CargoResult<Option<RustVersion>>
     ensures ok { IfOk result (λ v. option_map numbers_of v ≡ declared_rust (tree_of document.now)) }
-    ensures refused { IfErr result IsMemory }
+    ensures error { IfErr result IsMemory }
 {
     let Some(text) = package_text(document, "rust-version") else {
         return Ok(None);
@@ -42,7 +42,7 @@ pub(crate) fn rust_version_for(
 ) -> CargoResult<Option<RustVersion>>
     ensures ok { IfOk result (λ v. option_map numbers_of v
         ≡ rust_version_for (rust_request choice) (declared_rust (tree_of document.now))) }
-    ensures refused { IfErr result IsMemory }
+    ensures error { IfErr result IsMemory }
 {
     match choice {
         RustChoice::Own => own_rust_version(alloc, document),
@@ -54,7 +54,7 @@ pub(crate) fn rust_version_for(
 /// The name of the manifest in reports.
 pub(crate) fn report_name(alloc: Global, document: &Document) -> CargoResult<String>
     ensures ok { IfOk result (λ s. string_bytes s ≡ report_name (tree_of document.now)) }
-    ensures refused { IfErr result IsMemory }
+    ensures error { IfErr result IsMemory }
 {
     let name = package_text(document, "name").unwrap_or("virtual workspace");
     Ok(String::from_str(alloc, name)?)

@@ -43,7 +43,7 @@ pub fn read_sources<S: Store>(
         → AreRead (S.view files.old).file_at current.now (given cargo_home.entry) (request_view asked.now) s) }
     // and what a plan requires, over any store
     ensures planned { IfOk result MayBePlanned }
-    ensures refused { IfErr result (λ r. IsReadCause current.now (given cargo_home.entry)
+    ensures error { IfErr result (λ r. IsReadCause current.now (given cargo_home.entry)
         (request_view asked.now) (S.view files.old) (S.view files.new) r.error) }
     ensures counted { IfErr result (λ r. CountsFault (S.view files.old) (S.view files.new) r.error) }
     // over any store

@@ -56,7 +56,7 @@ pub(crate) fn read_target<S: Store>(
         → IsTargetRead (S.view files.old).file_at current.now (request_view asked.now) t) }
     ensures paths { IfOk result (λ t. HaveOwnPaths t.inputs.items) }
     ensures documents { IfOk result (λ t. AreDocuments t.documents.items t.inputs.items) }
-    ensures refused { IfErr result (λ r. IsFailure (S.view files.old) (S.view files.new) r.error
+    ensures error { IfErr result (λ r. IsFailure (S.view files.old) (S.view files.new) r.error
         ⊎ ((S.view files.old).tells ≡ true
         → HasNoTarget (S.view files.old).file_at current.now (request_view asked.now) r.error)) }
     ensures counted { IfErr result (λ r. CountsFault (S.view files.old) (S.view files.new) r.error) }

@@ -147,7 +147,7 @@ fn push_piece(out: &mut String, bytes: &[u8]) -> CargoResult<usize>
         IfOk result (λ n. (string_bytes out.new ≡ string_bytes out.old ++ strings.said quote p)
         × (n ≡ length (piece quote p []))) }
     ensures some { IfOk result (λ n. 1 ≤ n) }
-    ensures refused { IfErr result IsMemory }
+    ensures error { IfErr result IsMemory }
 {
     if is_in(Class::Spacing, byte_at(bytes, 1)) {
         return Ok(1 + run_len(skip(bytes, 1), Class::Spacing));
@@ -160,7 +160,7 @@ fn push_piece(out: &mut String, bytes: &[u8]) -> CargoResult<usize>
 /// Decodes the content of a basic string; a newline right behind the opening delimiter is not skipped here.
 fn decoded(alloc: Global, content: &str) -> CargoResult<String>
     ensures text { (said : List ℕ) → HasLineValue content.now said → IfOk result (λ s. string_bytes s ≡ said) }
-    ensures refused { IfErr result IsMemory }
+    ensures error { IfErr result IsMemory }
 {
     let mut out = String::new(alloc);
     let mut rest = content;
@@ -194,7 +194,7 @@ fn past_break(content: &str) -> &str
 /// The decoded value of a token with this content (TOML 1.0.0, "String" and "Keys").
 pub fn said(alloc: Global, kind: MarkKind, content: &str) -> CargoResult<String>
     ensures text { (said : List ℕ) → HasDecodedValue kind content.now said → IfOk result (λ s. string_bytes s ≡ said) }
-    ensures refused { IfErr result IsMemory }
+    ensures error { IfErr result IsMemory }
 {
     match kind {
         MarkKind::BasicPart | MarkKind::BasicString => decoded(alloc, content),

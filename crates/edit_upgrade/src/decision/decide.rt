@@ -37,7 +37,7 @@ fn candidate(
 ) -> CargoResult<Option<String>>
     ensures text { IfOk result (λ o. option_map string_bytes o
         ≡ text_or other.now (raise (text_in old.now) (parts_of version.now))) }
-    ensures refused { IfErr result IsMemory }
+    ensures error { IfErr result IsMemory }
 {
     match old.raised(alloc, version) {
         Ok(text) => Ok(text),
@@ -61,7 +61,7 @@ fn latest_candidate(
         (newer (offered (option_copied latest.entry)) (offered (option_copied compatible.entry))))
         (option_and_then (λ v. text_or (plain_text v) (raise (text_in old.now) v))
         (newer (offered (option_copied latest.entry)) (offered (option_copied compatible.entry))))) }
-    ensures refused { IfErr result IsMemory }
+    ensures error { IfErr result IsMemory }
 {
     let Some(latest) = latest else {
         return Ok(None);
@@ -88,7 +88,7 @@ fn compatible_candidate(
     ensures text { IfOk result (λ o. option_map string_bytes o
         ≡ option_and_then (λ v. text_or (text_in old.now) (raise (text_in old.now) v))
         (offered (option_copied compatible.entry))) }
-    ensures refused { IfErr result IsMemory }
+    ensures error { IfErr result IsMemory }
 {
     match compatible {
         Some(offer) => candidate(alloc, old, offer.version, old.text()),
@@ -266,7 +266,7 @@ pub fn decide(
 ) -> CargoResult<Decided>
     ensures decided { IfOk result (λ d. choice_view d ≡ decision options.now
         (case_view case.entry options.now.never_lower (text_in old.now))) }
-    ensures refused { IfErr result IsMemory }
+    ensures error { IfErr result IsMemory }
 {
     if case.excluded {
         return Ok(keep(alloc, old.text(), Reason::Excluded)?);

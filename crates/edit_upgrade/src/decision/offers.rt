@@ -37,7 +37,7 @@ fn plain_version(alloc: Global, version: &Version) -> Result<String, AllocError>
 /// Pairs a version with its text without build metadata.
 pub fn offer_of<'a>(alloc: Global, version: Option<&'a Version>) -> CargoResult<Option<Offer<'a>>>
     ensures ok { IfOk result (λ o. option_map (λ f. parts_of f.version.now) o ≡ parts_in version.entry) }
-    ensures refused { IfErr result IsMemory }
+    ensures error { IfErr result IsMemory }
 {
     match version {
         Some(version) => {

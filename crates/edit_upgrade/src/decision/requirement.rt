@@ -54,7 +54,7 @@ pub fn pin_of(renamed: bool, old: &Requirement<'_>) -> Pin
 pub fn read_pin(alloc: Global, renamed: bool, text: &str) -> CargoResult<Pin>
     ensures readable { IfOk result (λ p. p.readable ≡ is_ok (req_of text.now)) }
     ensures pinned { IfOk result (λ p. p.pinned ≡ (renamed || has_pin_read (req_of text.now))) }
-    ensures refused { IfErr result IsMemory }
+    ensures error { IfErr result IsMemory }
 {
     let read = Requirement::read(alloc, text)?;
     Ok(pin_of(renamed, &read))

@@ -97,7 +97,7 @@ fn precise_version(alloc: Global, comparators: &[Comparator]) -> Result<Option<V
 /// Parses a requirement, and returns it with its precise version where it names one.
 fn pin_of(alloc: Global, text: &str) -> CargoResult<Option<Pin>>
     ensures ok { IfOk result (λ o. option_map pin_view o ≡ pin_of text.now) }
-    ensures refused { IfErr result IsMemory }
+    ensures error { IfErr result IsMemory }
 {
     let Some(req) = read_requirement(alloc, text)? else {
         return Ok(None);
@@ -112,7 +112,7 @@ fn pin_of(alloc: Global, text: &str) -> CargoResult<Option<Pin>>
 fn maybe_pin(alloc: Global, text: Option<&String>) -> CargoResult<Option<Pin>>
     ensures ok { IfOk result (λ o. option_map pin_view o
         ≡ option_and_then pin_of (option_map string_bytes (option_copied text.entry))) }
-    ensures refused { IfErr result IsMemory }
+    ensures error { IfErr result IsMemory }
 {
     match text {
         Some(text) => pin_of(alloc, text.as_str()),
@@ -126,7 +126,7 @@ fn maybe_pin(alloc: Global, text: Option<&String>) -> CargoResult<Option<Pin>>
 pub(crate) fn read_pins(alloc: Global, words: &[String]) -> CargoResult<Pins>
     ensures pins { IfOk result (λ m. pins_view m ≡ pins_of (map string_bytes words.now)) }
     ensures read { IfOk result (λ m. All IsPackageArg (map string_bytes words.now)) }
-    ensures refused { IfErr result
+    ensures error { IfErr result
         (λ e. IsMemory e ⊎ FailsAtPackageArg (map string_bytes words.now) e) }
 {
     let mut pins = BTreeMap::new(alloc);

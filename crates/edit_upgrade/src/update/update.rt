@@ -158,7 +158,7 @@ pub fn update_calls(
     ensures words { IfOk result (λ v. is_due (call_options plan.now options.now) ≡ true
         → All IsPackageArg (map string_bytes options.now.package.items)) }
     // out of memory, or calls are needed and a `--package` argument cannot be parsed
-    ensures refused { IfErr result (λ e. IsMemory e
+    ensures error { IfErr result (λ e. IsMemory e
         ⊎ ((is_due (call_options plan.now options.now) ≡ true)
         × FailsAtPackageArg (map string_bytes options.now.package.items) e)) }
 {

@@ -23,9 +23,9 @@ loop-line-preserved-in-Some-read_answer c =
       search rules,
       c.put.ensures.count ∙ c.loop-line.invariant.1,
       one-first _ _ c.in-Some.line.now _ _ _ c.in-Some-read_answer.number c.in-Some-read_answer.answer
-          c.loop-line.invariant.3 cut none says c.put.ensures.put c.put.ensures.kept
+          c.loop-line.invariant.3 cut none says c.put.ensures.put c.put.ensures.preserved
           c.put.ensures.count c.loop-line.invariant.2,
-      line-on _ _ _ _ _ _ c.loop-line.invariant.3 cut none c.put.ensures.count c.put.ensures.kept
+      line-on _ _ _ _ _ _ c.loop-line.invariant.3 cut none c.put.ensures.count c.put.ensures.preserved
           (says-one _ _ _ _ _ says (one-number _) c.put.ensures.count c.put.ensures.has),
     )
 

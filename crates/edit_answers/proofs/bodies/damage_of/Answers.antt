@@ -24,4 +24,4 @@ returns-in-Err-IndexLine c =
     (λ r. subst (λ n. IsDamaged c.args.name.now c.args.body.now (BadLine n))
     (sym (one-line c.in-Err-IndexLine.line r.0 r.1))
     (bad_line r.0 r.2))
-    (rw c.in-Err-IndexLine.field-0-is at c.in-Err-IndexLine.ensures.refused)
+    (rw c.in-Err-IndexLine.field-0-is at c.in-Err-IndexLine.ensures.error)

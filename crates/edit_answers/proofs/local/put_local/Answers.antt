@@ -11,16 +11,16 @@ use Rattle.edit_answers.proofs.BodyLemmas.{one-line}
 use Rattle.edit_answers.proofs.ChangeLemmas.{keeps-write}
 use Rattle.edit_answers.proofs.local.put_local.Goals as goal
 
-pub returns-in-Err-IndexLine-clause-told : goal.returns-in-Err-IndexLine-clause-told
-returns-in-Err-IndexLine-clause-told g c =
+pub returns-in-Err-IndexLine-clause-outcome : goal.returns-in-Err-IndexLine-clause-outcome
+returns-in-Err-IndexLine-clause-outcome g c =
     subst (λ n. IsLocalFile c.args.bytes.now (Missing (BadLine n))) (sym c.in-Err-IndexLine.line-is)
     (⊎_elim (λ m. absurd (omega (arith, m)))
     (λ r. subst (λ n. IsLocalFile c.args.bytes.now (Missing (BadLine n)))
     (sym (one-line c.in-Err-IndexLine.line r.0 r.1)) (bad_line r.0 r.2))
-    (rw c.in-Err-IndexLine.field-0-is at c.in-Err-IndexLine.ensures.refused))
+    (rw c.in-Err-IndexLine.field-0-is at c.in-Err-IndexLine.ensures.error))
 
-pub returns-in-Ok-write-clause-told : goal.returns-in-Ok-write-clause-told
-returns-in-Ok-write-clause-told g c = lines (map entry_of c.in-Ok.field-0.items) c.in-Ok.ensures.entries
+pub returns-in-Ok-write-clause-outcome : goal.returns-in-Ok-write-clause-outcome
+returns-in-Ok-write-clause-outcome g c = lines (map entry_of c.in-Ok.field-0.items) c.in-Ok.ensures.entries
 
 pub returns-in-Ok-write-clause-changes : goal.returns-in-Ok-write-clause-changes
 returns-in-Ok-write-clause-changes g c =

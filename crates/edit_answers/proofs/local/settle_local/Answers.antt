@@ -7,12 +7,12 @@ use Rattle.edit_answers.specs.declared.meaning.Outcome.TheVariants.{Fetched}
 use Rattle.edit_answers.proofs.ChangeLemmas.{after-reads, on-ok}
 use Rattle.edit_answers.proofs.local.settle_local.Goals as goal
 
-pub returns-in-Ok-None-clause-told : goal.returns-in-Ok-None-clause-told
-returns-in-Ok-None-clause-told g c t = no_folder (rw c.in-Ok-None.field-0-is at
+pub returns-in-Ok-None-clause-outcome : goal.returns-in-Ok-None-clause-outcome
+returns-in-Ok-None-clause-outcome g c t = no_folder (rw c.in-Ok-None.field-0-is at
     (c.in-Ok-None.ensures.folder t))
 
-pub returns-in-Ok-None-read-clause-told : goal.returns-in-Ok-None-read-clause-told
-returns-in-Ok-None-read-clause-told g c t =
+pub returns-in-Ok-None-read-clause-outcome : goal.returns-in-Ok-None-read-clause-outcome
+returns-in-Ok-None-read-clause-outcome g c t =
     let l = lookup_text c.args.lookup.now in
     let reads = c.existing_folder.ensures.reads in
     let path = local_path (string_bytes c.in-Ok-Some.folder) l.path in
@@ -36,8 +36,8 @@ returns-in-Ok-Some-read-clause-changes g c =
     })
     c.put_local.ensures.changes)
 
-pub returns-in-Ok-Some-read-clause-told : goal.returns-in-Ok-Some-read-clause-told
-returns-in-Ok-Some-read-clause-told g c =
+pub returns-in-Ok-Some-read-clause-outcome : goal.returns-in-Ok-Some-read-clause-outcome
+returns-in-Ok-Some-read-clause-outcome g c =
     let l = lookup_text c.args.lookup.now in
     let reads = c.existing_folder.ensures.reads in
     let path = local_path (string_bytes c.in-Ok-Some.folder) l.path in
@@ -50,4 +50,4 @@ returns-in-Ok-Some-read-clause-told g c =
     ∙ (sym (rw c.in-Ok-Some-read.field-0-is at (c.in-Ok-Some-read.ensures.bytes (reads.tells ∙ t)))
     ∙ ap Some (sym c.deref.ensures.value))))
     h)
-    c.put_local.ensures.told
+    c.put_local.ensures.outcome

@@ -9,7 +9,7 @@ returns-then-is_local-clause-follows g c =
     on-ok _ _ c.settle_local.result
     (λ o h t. local o
     (sym (ap is_local c.as_bytes.ensures.value) ∙ (sym c.is_local.ensures ∙ c.if-is_local.true)) (h t))
-    c.settle_local.ensures.told
+    c.settle_local.ensures.outcome
 
 pub returns-clause-follows : goal.returns-clause-follows
 returns-clause-follows g c =
@@ -17,4 +17,4 @@ returns-clause-follows g c =
     (λ o h t. answered c.meaning_for-meaning.result o
     (sym (ap is_local c.as_bytes.ensures.value) ∙ (sym c.is_local.ensures ∙ c.if-is_local.false))
     c.meaning_for-meaning.ensures (h t))
-    c.settle.ensures.told
+    c.settle.ensures.outcome

@@ -11,8 +11,8 @@ returns-in-Err g c = record {
   later = c.list.ensures.later;
   stays = λ t. ap (remaining_files (g.S.AgingStore.aging c.args.cache.now).files) (c.list.ensures.files t);
   gone = tt;
-  refused = ⊎_elim (λ memory. inl memory)
-      (λ failed. inr (failed.0, failed.1, failed.2, c.list.ensures.files)) c.in-Err.ensures.refused;
+  error = ⊎_elim (λ memory. inl memory)
+      (λ failed. inr (failed.0, failed.1, failed.2, c.list.ensures.files)) c.in-Err.ensures.error;
 }
 
 pub loop-i-init : goal.loop-i-init
@@ -90,7 +90,7 @@ returns-in-Err-remove_unused g c =
           (place t).1 c.in_ok-is_used.is_used mid new
           c.remove_unused.result step (used t) (inv.tells ∙ t) ∙ inv.stays t;
       gone = tt;
-      refused = inl c.in-Err-remove_unused.ensures.refused;
+      refused = inl c.in-Err-remove_unused.ensures.error;
     }
 
 pub returns : goal.returns

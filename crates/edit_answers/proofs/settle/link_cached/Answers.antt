@@ -10,8 +10,8 @@ returns-in-Ok-clause-changes g c =
     links-changes (λ _. may) may _ _ _ _ _ _ c.in-Ok.ensures
     (λ bytes. c.as_str-2.ensures.value ∙ c.in_ok-indexed.ensures)
 
-pub returns-in-Ok-clause-told : goal.returns-in-Ok-clause-told
-returns-in-Ok-clause-told g c t =
+pub returns-in-Ok-clause-outcome : goal.returns-in-Ok-clause-outcome
+returns-in-Ok-clause-outcome g c t =
     links-told _ _ _ _ _ _ _ _ _ c.in-Ok.ensures (c.as_str.ensures.value
     ∙ c.in_ok-entry.ensures) c.by_link.ensures t
 

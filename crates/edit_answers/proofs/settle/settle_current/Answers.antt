@@ -26,9 +26,9 @@ returns-in-Ok-renew_validator-clause-changes g c =
     (weakened _ (λ _. may) _ may _ _ _ (λ t v q bytes x. absurd x) (λ q bytes x. absurd x)
     c.in-Ok-renew_validator.ensures.changes))
 
-pub returns-in-Ok-renew_validator-clause-told : goal.returns-in-Ok-renew_validator-clause-told
-returns-in-Ok-renew_validator-clause-told g c t number =
-    current _ c.in-Ok.outcome (c.in-Ok.ensures.told t)
+pub returns-in-Ok-renew_validator-clause-outcome : goal.returns-in-Ok-renew_validator-clause-outcome
+returns-in-Ok-renew_validator-clause-outcome g c t number =
+    current _ c.in-Ok.outcome (c.in-Ok.ensures.outcome t)
 
 pub returns-clause-changes : goal.returns-clause-changes
 returns-clause-changes g c =

@@ -18,8 +18,8 @@ returns-in-Ok-None-clause-changes g c =
     (weakened (λ _. PutsIndexed p l) (Puts p l) (PutsIndexed p l) (Puts p l Fetched) _ _ _
     (λ t o. indexed-puts p l o) (indexed-puts p l Fetched) c.from_cache.ensures.changes)
 
-pub returns-in-Ok-None-clause-told : goal.returns-in-Ok-None-clause-told
-returns-in-Ok-None-clause-told g c =
+pub returns-in-Ok-None-clause-outcome : goal.returns-in-Ok-None-clause-outcome
+returns-in-Ok-None-clause-outcome g c =
     let p = c.args.places.now in
     let l = lookup_text c.args.lookup.now in
     let files = (g.S.Store.view c.args.files.now).file_at in
@@ -31,13 +31,13 @@ returns-in-Ok-None-clause-told g c =
     (subst (λ x. FromCache l.name (Cached NotAnIndex) NotAnIndex x o)
     (reads.files (cached_path p.cache.now l))
     (h (reads.tells ∙ t))))
-    c.from_cache.ensures.told
+    c.from_cache.ensures.outcome
 
 pub returns-clause-changes : goal.returns-clause-changes
 returns-clause-changes g c = after-reads _ _ _ _ _ _ c.read_body.ensures.reads c.store_body.ensures.changes
 
-pub returns-clause-told : goal.returns-clause-told
-returns-clause-told g c =
+pub returns-clause-outcome : goal.returns-clause-outcome
+returns-clause-outcome g c =
     let p = c.args.places.now in
     let l = lookup_text c.args.lookup.now in
     let files = (g.S.Store.view c.args.files.now).file_at in
@@ -51,4 +51,4 @@ returns-clause-told g c =
           (rw c.in-Ok-Some.field-0-is at (c.in-Ok-Some.ensures.body t)),
       rw c.in-Ok-Some.field-0-is at c.in-Ok-Some.ensures.whole,
     )))
-    c.store_body.ensures.told
+    c.store_body.ensures.outcome

@@ -49,7 +49,7 @@ returns-in-Ok-store_direct-clause-changes g c =
     c.in-Ok-store_direct.ensures in
     as-ok (λ _. may) (Puts p l) may (Puts p l Fetched) _ _ _ c.in-Ok-link_cached.outcome
     (λ t q bytes h. subst (λ o. Puts p l o q bytes)
-    (sym (c.in-Ok-link_cached.ensures.told (c.write.ensures.tells ∙ t)
+    (sym (c.in-Ok-link_cached.ensures.outcome (c.write.ensures.tells ∙ t)
     ∙ (ap (λ o. by_cached o c.stored.result Unanswered)
     (subst (λ q. (g.S.Store.view c.write.new.self).file_at q ≡ Some c.args.body.now) path
     (c.in-Ok.ensures.written t)) ∙ c.stored.ensures))) h)

@@ -12,7 +12,7 @@ use Rattle.edit_answers.proofs.stored.store_answers.Goals as goal
 pub returns-in-Err-clause-changes : goal.returns-in-Err-clause-changes
 returns-in-Err-clause-changes g c =
     let may = PutsOf c.args.places.now (g.S.Store.view c.args.files.now).file_at in
-    reads-fails {T = Report} (λ _. may) may _ _ _ c.read_from_room.ensures.reads c.in-Err.ensures.refused
+    reads-fails {T = Report} (λ _. may) may _ _ _ c.read_from_room.ensures.reads c.in-Err.ensures.error
 
 pub returns-in_err-lookups-clause-changes : goal.returns-in_err-lookups-clause-changes
 returns-in_err-lookups-clause-changes g c =

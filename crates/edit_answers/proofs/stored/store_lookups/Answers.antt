@@ -16,7 +16,7 @@ use Rattle.edit_answers.proofs.stored.store_lookups.Goals as goal
 pub returns-in-Err-clause-changes : goal.returns-in-Err-clause-changes
 returns-in-Err-clause-changes g c =
     let may = PutsSome c.args.places.now (map lookup_text c.args.lookups.now) in
-    reads-fails {T = Report} (λ _. may) may _ _ _ c.read_from_room.ensures.reads c.in-Err.ensures.refused
+    reads-fails {T = Report} (λ _. may) may _ _ _ c.read_from_room.ensures.reads c.in-Err.ensures.error
 
 pub returns-in_err-answers-clause-changes : goal.returns-in_err-answers-clause-changes
 returns-in_err-answers-clause-changes g c =

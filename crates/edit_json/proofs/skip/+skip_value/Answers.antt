@@ -137,78 +137,78 @@ skip_members-returns-clause-value t c =
     let all = over c.args.depth (λ ms. ⊤) c.args.reader.now l.reader c.next_key.new.self l.invariant.0 ended in
     (all.0, all.1)
 
-pub skip_items-returns-in_err-skip_value-clause-refused : goal.skip_items-returns-in_err-skip_value-clause-refused
-skip_items-returns-in_err-skip_value-clause-refused t c = λ none.
+pub skip_items-returns-in_err-skip_value-clause-error : goal.skip_items-returns-in_err-skip_value-clause-error
+skip_items-returns-in_err-skip_value-clause-error t c = λ none.
     let l = c.loop-reader in
     let going : (after_end_array l.reader ≡ None) × (c.take_end_array.new.self ≡ l.reader) = grind arith in
     item_refused c.args.depth c.args.reader.now l.reader l.invariant.5 going.0
-    (subst (ReadsNoValue c.args.depth) going.1 (c.in_err-skip_value.ensures.refused refl))
+    (subst (ReadsNoValue c.args.depth) going.1 (c.in_err-skip_value.ensures.error refl))
 
-pub skip_members-returns-in_err-ok-clause-refused : goal.skip_members-returns-in_err-ok-clause-refused
-skip_members-returns-in_err-ok-clause-refused t c = λ none.
+pub skip_members-returns-in_err-ok-clause-error : goal.skip_members-returns-in_err-ok-clause-error
+skip_members-returns-in_err-ok-clause-error t c = λ none.
     let l = c.loop-reader in
     let ended : read_key l.reader ≡ None = grind arith in
     no_key c.args.depth c.args.reader.now l.reader l.invariant.1 ended
 
-pub skip_members-returns-in_err-skip_value-clause-refused : goal.skip_members-returns-in_err-skip_value-clause-refused
-skip_members-returns-in_err-skip_value-clause-refused t c = λ none.
+pub skip_members-returns-in_err-skip_value-clause-error : goal.skip_members-returns-in_err-skip_value-clause-error
+skip_members-returns-in_err-skip_value-clause-error t c = λ none.
     let l = c.loop-reader in
     let k = c.in-Some.field-0.now in
     let s = c.next_key.new.self in
     let named : read_key l.reader ≡ Some (Some k, s) = grind arith in
     member_refused c.args.depth c.args.reader.now l.reader s k l.invariant.1 named
-    (c.in_err-skip_value.ensures.refused refl)
+    (c.in_err-skip_value.ensures.error refl)
 
-pub skip_value-returns-then-depth-eq0-clause-refused : goal.skip_value-returns-then-depth-eq0-clause-refused
-skip_value-returns-then-depth-eq0-clause-refused t c = λ none.
+pub skip_value-returns-then-depth-eq0-clause-error : goal.skip_value-returns-then-depth-eq0-clause-error
+skip_value-returns-then-depth-eq0-clause-error t c = λ none.
     let opened : c.args.reader.now ≡ Token.begin_array ∷ c.next.new.self = grind arith in
     too_deep_array c.args.depth c.args.reader.now c.next.new.self (omega (arith, c.if-depth-eq0.true)) opened
 
-pub skip_value-returns-then-depth-eq0-2-clause-refused : goal.skip_value-returns-then-depth-eq0-2-clause-refused
-skip_value-returns-then-depth-eq0-2-clause-refused t c = λ none.
+pub skip_value-returns-then-depth-eq0-2-clause-error : goal.skip_value-returns-then-depth-eq0-2-clause-error
+skip_value-returns-then-depth-eq0-2-clause-error t c = λ none.
     let opened : c.args.reader.now ≡ Token.begin_object ∷ c.next.new.self = grind arith in
     too_deep_object c.args.depth c.args.reader.now c.next.new.self (omega (arith, c.if-depth-eq0-2.true)) opened
 
-pub skip_value-returns-else-is_small_number-clause-refused : goal.skip_value-returns-else-is_small_number-clause-refused
-skip_value-returns-else-is_small_number-clause-refused t c = λ none.
+pub skip_value-returns-else-is_small_number-clause-error : goal.skip_value-returns-else-is_small_number-clause-error
+skip_value-returns-else-is_small_number-clause-error t c = λ none.
     let s = c.in-Some-Number.text.now in
     let is : c.args.reader.now ≡ Token.number s ∷ c.next.new.self = grind arith in
     other_number c.args.depth c.args.reader.now s c.next.new.self is
     (λ small. true≢false (sym (c.is_small_number.ensures.other small) ∙ c.if-is_small_number.false))
 
-pub skip_value-returns-else-depth-eq0-clause-refused : goal.skip_value-returns-else-depth-eq0-clause-refused
-skip_value-returns-else-depth-eq0-clause-refused t c = λ none.
+pub skip_value-returns-else-depth-eq0-clause-error : goal.skip_value-returns-else-depth-eq0-clause-error
+skip_value-returns-else-depth-eq0-clause-error t c = λ none.
     let opened : c.args.reader.now ≡ Token.begin_array ∷ c.next.new.self = grind arith in
     array_refused c.args.depth c.args.reader.now c.next.new.self (omega arith) opened
-    (c.skip_items.ensures.refused none)
+    (c.skip_items.ensures.error none)
 
-pub skip_value-returns-else-depth-eq0-2-clause-refused : goal.skip_value-returns-else-depth-eq0-2-clause-refused
-skip_value-returns-else-depth-eq0-2-clause-refused t c = λ none.
+pub skip_value-returns-else-depth-eq0-2-clause-error : goal.skip_value-returns-else-depth-eq0-2-clause-error
+skip_value-returns-else-depth-eq0-2-clause-error t c = λ none.
     let opened : c.args.reader.now ≡ Token.begin_object ∷ c.next.new.self = grind arith in
     object_refused c.args.depth c.args.reader.now c.next.new.self (omega arith) opened
-    (c.skip_members.ensures.refused none)
+    (c.skip_members.ensures.error none)
 
-pub skip_value-returns-in-Some-EndObject-clause-refused : goal.skip_value-returns-in-Some-EndObject-clause-refused
-skip_value-returns-in-Some-EndObject-clause-refused t c = λ none.
+pub skip_value-returns-in-Some-EndObject-clause-error : goal.skip_value-returns-in-Some-EndObject-clause-error
+skip_value-returns-in-Some-EndObject-clause-error t c = λ none.
     let is : c.args.reader.now ≡ Token.end_object ∷ c.next.new.self = grind arith in
     no_value c.args.depth c.args.reader.now (ap (value c.args.depth) is ∙ value_is c.args.depth _)
 
-pub skip_value-returns-in-Some-EndArray-clause-refused : goal.skip_value-returns-in-Some-EndArray-clause-refused
-skip_value-returns-in-Some-EndArray-clause-refused t c = λ none.
+pub skip_value-returns-in-Some-EndArray-clause-error : goal.skip_value-returns-in-Some-EndArray-clause-error
+skip_value-returns-in-Some-EndArray-clause-error t c = λ none.
     let is : c.args.reader.now ≡ Token.end_array ∷ c.next.new.self = grind arith in
     no_value c.args.depth c.args.reader.now (ap (value c.args.depth) is ∙ value_is c.args.depth _)
 
-pub skip_value-returns-in-Some-Key-clause-refused : goal.skip_value-returns-in-Some-Key-clause-refused
-skip_value-returns-in-Some-Key-clause-refused t c = λ none.
+pub skip_value-returns-in-Some-Key-clause-error : goal.skip_value-returns-in-Some-Key-clause-error
+skip_value-returns-in-Some-Key-clause-error t c = λ none.
     let is : c.args.reader.now ≡ Token.key c.in-Some-Key._key.now ∷ c.next.new.self = grind arith in
     no_value c.args.depth c.args.reader.now (ap (value c.args.depth) is ∙ value_is c.args.depth _)
 
-pub skip_value-returns-in-Some-Bad-clause-refused : goal.skip_value-returns-in-Some-Bad-clause-refused
-skip_value-returns-in-Some-Bad-clause-refused t c = λ none.
+pub skip_value-returns-in-Some-Bad-clause-error : goal.skip_value-returns-in-Some-Bad-clause-error
+skip_value-returns-in-Some-Bad-clause-error t c = λ none.
     let is : c.args.reader.now ≡ Token.bad ∷ c.next.new.self = grind arith in
     no_value c.args.depth c.args.reader.now (ap (value c.args.depth) is ∙ value_is c.args.depth _)
 
-pub skip_value-returns-in-None-clause-refused : goal.skip_value-returns-in-None-clause-refused
-skip_value-returns-in-None-clause-refused t c = λ none.
+pub skip_value-returns-in-None-clause-error : goal.skip_value-returns-in-None-clause-error
+skip_value-returns-in-None-clause-error t c = λ none.
     let is : c.args.reader.now ≡ [] = grind arith in
     no_value c.args.depth c.args.reader.now (ap (value c.args.depth) is ∙ value_is c.args.depth [])

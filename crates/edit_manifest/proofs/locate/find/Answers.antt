@@ -15,15 +15,15 @@ returns-in_ok-path-in-Some-clause-found g c =
     (c.as_str.ensures.value ∙ c.in_ok-joined-in-Some.ensures.text) c.in_ok-path-in-Some.ensures.text (at t))
     c.find_at.ensures.found
 
-pub returns-in_ok-path-in-Some-clause-refused : goal.returns-in_ok-path-in-Some-clause-refused
-returns-in_ok-path-in-Some-clause-refused g c =
+pub returns-in_ok-path-in-Some-clause-error : goal.returns-in_ok-path-in-Some-clause-error
+returns-in_ok-path-in-Some-clause-error g c =
     IfErr-weaker c.find_at.result _ _
     (λ e refused. ⊎_elim inl
     (λ unfound. inr (λ t. none_specified _ _ _ c.as_str.result.now _ _ _ (ap given c.in-Some.is)
     (c.as_str.ensures.value ∙ c.in_ok-joined-in-Some.ensures.text) c.in_ok-path-in-Some.ensures.text
     (unfound t)))
     refused)
-    c.find_at.ensures.refused
+    c.find_at.ensures.error
 
 pub returns-in_ok-start-in-None-clause-found : goal.returns-in_ok-start-in-None-clause-found
 returns-in_ok-start-in-None-clause-found g c =
@@ -32,14 +32,14 @@ returns-in_ok-start-in-None-clause-found g c =
     c.as_str-in-None.ensures.value c.in_ok-start-in-None.ensures.text (near t))
     c.search.ensures.found
 
-pub returns-in_ok-start-in-None-clause-refused : goal.returns-in_ok-start-in-None-clause-refused
-returns-in_ok-start-in-None-clause-refused g c =
+pub returns-in_ok-start-in-None-clause-error : goal.returns-in_ok-start-in-None-clause-error
+returns-in_ok-start-in-None-clause-error g c =
     IfErr-weaker c.search.result _ _
     (λ e refused. ⊎_elim inl
     (λ none. inr (λ t. none_unspecified _ _ c.as_str-in-None.result.now _ _ _ (ap given c.in-None.is)
     c.as_str-in-None.ensures.value c.in_ok-start-in-None.ensures.text (none t)))
     refused)
-    c.search.ensures.refused
+    c.search.ensures.error
 
 pub returns-in_ok-path-in-Some-clause-only : goal.returns-in_ok-path-in-Some-clause-only
 returns-in_ok-path-in-Some-clause-only g c =

@@ -20,8 +20,8 @@ returns-in-Ok-Folder-clause-found g c =
     c.kind.ensures.tells c.kind.ensures.files stands near)
     c.search.ensures.found
 
-pub returns-in-Ok-Folder-clause-refused : goal.returns-in-Ok-Folder-clause-refused
-returns-in-Ok-Folder-clause-refused g c =
+pub returns-in-Ok-Folder-clause-error : goal.returns-in-Ok-Folder-clause-error
+returns-in-Ok-Folder-clause-error g c =
     let stands = rw c.in-Ok-Folder.field-0-is at c.in-Ok-Folder.ensures.stands in
     IfErr-weaker c.search.result _ _
     (λ e refused. ⊎_elim
@@ -32,7 +32,7 @@ returns-in-Ok-Folder-clause-refused g c =
     c.as_str-in-Ok-Folder.result.now e c.as_str.ensures.value c.as_str-in-Ok-Folder.ensures.value
     c.kind.ensures.tells c.kind.ensures.files stands none))
     refused)
-    c.search.ensures.refused
+    c.search.ensures.error
 
 pub returns-in-Ok-Folder-clause-only : goal.returns-in-Ok-Folder-clause-only
 returns-in-Ok-Folder-clause-only g c =

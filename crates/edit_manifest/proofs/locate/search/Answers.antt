@@ -28,8 +28,8 @@ folders-preserved g c =
           (rw c.in_default.is at c.in_ok-path.ensures.found);
     }
 
-pub returns-in-None-clause-refused : goal.returns-in-None-clause-refused
-returns-in-None-clause-refused g c =
+pub returns-in-None-clause-error : goal.returns-in-None-clause-error
+returns-in-None-clause-error g c =
     let before = c.folders.invariant in
     let root : c.folders.dir.now ≡ codes "/" = search rules in
     ⊎_elim (λ memory. inl (inl memory))

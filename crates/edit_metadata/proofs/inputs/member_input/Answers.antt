@@ -4,8 +4,8 @@ use Rattle.edit_metadata.specs.Inputs.{IsNoInput, manifest_of}
 use Rattle.edit_metadata.specs.Workspaces.{package_view}
 use Rattle.edit_metadata.proofs.inputs.member_input.Goals as goal
 
-pub returns-in_err-bytes-clause-refused : goal.returns-in_err-bytes-clause-refused
-returns-in_err-bytes-clause-refused g c =
+pub returns-in_err-bytes-clause-error : goal.returns-in_err-bytes-clause-error
+returns-in_err-bytes-clause-error g c =
     let why : IsNoInput (g.S.Store.view c.args.store.now) (g.S.Store.view c.read_manifest.new.store)
     (manifest_of (package_view c.args.member.now) ∷ []) c.in_err-bytes.field-0.0
     = ⊎_elim (λ refused. inl refused) (λ none. inr (
@@ -19,5 +19,5 @@ returns-in_err-bytes-clause-refused g c =
             c.in_ok-path.ensures.text);
         absent = none.1 tells;
       },
-    )) c.in_err-bytes.ensures.refused in
+    )) c.in_err-bytes.ensures.error in
     search (rules, why)

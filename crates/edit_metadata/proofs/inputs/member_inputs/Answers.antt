@@ -11,14 +11,14 @@ use Rattle.edit_metadata.proofs.InputLemmas.{among-members, manifests-kept, mani
 use Rattle.edit_metadata.proofs.inputs.member_inputs.Goals as goal
 use Rattle.edit_metadata.proofs.inputs.member_inputs.Goals.{then-package+in_ok-input+in_ok-push, else-package}
 
-pub returns-in_err-input-clause-refused : goal.returns-in_err-input-clause-refused
-returns-in_err-input-clause-refused g c =
+pub returns-in_err-input-clause-error : goal.returns-in_err-input-clause-error
+returns-in_err-input-clause-error g c =
     let why : IsNoInput (g.S.Store.view c.args.store.now) (g.S.Store.view c.member_input.new.store)
     (member_manifests (packages_view c.args.packages.now)) c.in_err-input.field-0.0
     = no-input-later (g.S.Store.view c.args.store.now) (g.S.Store.view c.packages.store)
     (g.S.Store.view c.member_input.new.store) _ _ _ c.packages.invariant.store
     (among-members c.args.packages.now c.packages.package-index c.package-item.result c.packages-test.true
-    c.package-item.is c.if-package.true) c.in_err-input.ensures.refused in
+    c.package-item.is c.if-package.true) c.in_err-input.ensures.error in
     search (rules, why)
 
 pub packages-preserved : goal.packages-preserved

@@ -11,8 +11,8 @@ use Rattle.edit_metadata.specs.declared.input.Input.{Input}
 use Rattle.edit_metadata.proofs.InputLemmas.{member_versions, no-input-among, refused-later}
 use Rattle.edit_metadata.proofs.inputs.workspace_inputs.Goals as goal
 
-pub returns-in_err-inputs-clause-refused : goal.returns-in_err-inputs-clause-refused
-returns-in_err-inputs-clause-refused g c =
+pub returns-in_err-inputs-clause-error : goal.returns-in_err-inputs-clause-error
+returns-in_err-inputs-clause-error g c =
     let said = workspace_view c.args.workspace.now in
     let why : IsNoInput (g.S.Store.view c.args.store.now) (g.S.Store.view c.member_inputs.new.store)
     (manifests said) c.in_err-inputs.field-0.0
@@ -21,7 +21,7 @@ returns-in_err-inputs-clause-refused g c =
     (λ m has. Contains-append_right (root_manifest said ∷ [])
     (member_manifests said.packages) m
     (subst (λ ps. Contains (member_manifests (packages_view ps)) m) c.deref.ensures.value has))
-    c.in_err-inputs.ensures.refused in
+    c.in_err-inputs.ensures.error in
     search (rules, why)
 
 pub returns-then-has_path-clause-inputs : goal.returns-then-has_path-clause-inputs
@@ -37,8 +37,8 @@ returns-then-has_path-clause-inputs g c =
     c.deref-2.ensures.value
     (subst (Contains (input_paths c.deref-2.result.now)) c.as_str.ensures.value has))
 
-pub returns-in_err-input-clause-refused : goal.returns-in_err-input-clause-refused
-returns-in_err-input-clause-refused g c =
+pub returns-in_err-input-clause-error : goal.returns-in_err-input-clause-error
+returns-in_err-input-clause-error g c =
     let said = workspace_view c.args.workspace.now in
     let before = c.in_ok-inputs.ensures.reads in
     let why : IsNoInput (g.S.Store.view c.args.store.now) (g.S.Store.view c.root_input.new.store)
@@ -54,7 +54,7 @@ returns-in_err-input-clause-refused g c =
         is_normal = c.in_ok-root.ensures.path;
         absent = sym (before.files (string_bytes c.in_ok-root.root)) ∙ none.1 (before.tells ∙ tells);
       },
-    )) c.in_err-input.ensures.refused in
+    )) c.in_err-input.ensures.error in
     search (rules, why)
 
 pub returns-clause-inputs : goal.returns-clause-inputs

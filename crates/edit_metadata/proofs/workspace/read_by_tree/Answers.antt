@@ -16,8 +16,8 @@ err-as : {T : Type 0} (r : Result T Error) (P : T → Type 0) (Q R : Error → T
 err-as (Ok x) P Q R other h = tt
 err-as (Err e) P Q R other h = other e h
 
-pub returns-in-Ok-clause-refused : goal.returns-in-Ok-clause-refused
-returns-in-Ok-clause-refused c =
+pub returns-in-Ok-clause-error : goal.returns-in-Ok-clause-error
+returns-in-Ok-clause-error c =
     let d = view c.in-Ok.value in
     err-as c.workspace_from_value.result (λ (w : Workspace). IsWorkspaceValue d (workspace_view w))
     (IsReadingError (IsWorkspaceValue d)) (λ e. IsMemory e ⊎ ((e ≡ Metadata) × HaveNoWorkspace c.args.json.now))

@@ -4,21 +4,21 @@ use Rattle.edit_program.specs.UpgradeAsked.{HasNoRust, IsRust}
 use Rattle.edit_program.proofs.AskedLemmas.{err_same, kept_is}
 use Rattle.edit_program.proofs.asked.parse_upgrade_args.Goals as goal
 
-pub returns-in_err-rust-clause-refused : goal.returns-in_err-rust-clause-refused
-returns-in_err-rust-clause-refused c =
+pub returns-in_err-rust-clause-error : goal.returns-in_err-rust-clause-error
+returns-in_err-rust-clause-error c =
     let rows = rows_of (found_of c.args.matches.now) in
     let named = kept_is c.args.matches.now (codes "rust-version") c.get_str.result _ refl c.get_str.ensures in
     err_same c.from_residual.result c.in_err-rust.field-0.0 _ c.from_residual.ensures.1 (λ other.
     inr (inr (inl (subst (λ (b : Bool). HasNoRust (first_of (codes "rust-version") rows) b)
     c.is_given-ignored.ensures
     (subst (λ (a : Option Text). HasNoRust a c.is_given-ignored.result) named
-    (c.in_err-rust.ensures.refused other))))))
+    (c.in_err-rust.ensures.error other))))))
 
-pub returns-in_err-presentation-clause-refused : goal.returns-in_err-presentation-clause-refused
-returns-in_err-presentation-clause-refused c =
+pub returns-in_err-presentation-clause-error : goal.returns-in_err-presentation-clause-error
+returns-in_err-presentation-clause-error c =
     err_same c.from_residual-in_err-presentation.result c.in_err-presentation.field-0.0 _
     c.from_residual-in_err-presentation.ensures.1 (λ other.
-    inr (inr (inr c.in_err-presentation.ensures.refused)))
+    inr (inr (inr c.in_err-presentation.ensures.error)))
 
 pub returns-clause-asks : goal.returns-clause-asks
 returns-clause-asks c =

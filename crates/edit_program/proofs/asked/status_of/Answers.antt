@@ -9,8 +9,8 @@ returns-in-Some-clause-ok c =
     c.unwrap_or-value.result _ c.get_str.ensures c.unwrap_or-value.ensures refl))
     ∙ sym c.in-Some.ensures
 
-pub returns-in-None-clause-refused : goal.returns-in-None-clause-refused
-returns-in-None-clause-refused c =
+pub returns-in-None-clause-error : goal.returns-in-None-clause-error
+returns-in-None-clause-error c =
     sym (ap status_of_value (value_is c.args.matches.now c.args.option.now [] c.get_str.result
     c.unwrap_or-value.result _ c.get_str.ensures c.unwrap_or-value.ensures refl))
     ∙ sym c.in-None.ensures

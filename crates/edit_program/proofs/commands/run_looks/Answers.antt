@@ -11,11 +11,11 @@ returns-in_err-looks-clause-why g c =
       unchanged = c.looks.ensures.reads.files;
     }))
 
-pub returns-in_err-looks-clause-kept : goal.returns-in_err-looks-clause-kept
-returns-in_err-looks-clause-kept g c = c.looks.ensures.reads.files
+pub returns-in_err-looks-clause-preserved : goal.returns-in_err-looks-clause-preserved
+returns-in_err-looks-clause-preserved g c = c.looks.ensures.reads.files
 
-pub returns-clause-kept : goal.returns-clause-kept
-returns-clause-kept g c = c.looks.ensures.reads.files
+pub returns-clause-preserved : goal.returns-clause-preserved
+returns-clause-preserved g c = c.looks.ensures.reads.files
 
 pub returns-clause-done : goal.returns-clause-done
 returns-clause-done g c other t = (

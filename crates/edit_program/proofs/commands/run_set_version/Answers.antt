@@ -5,10 +5,10 @@ use Rattle.edit_program.proofs.CheckLemmas.{check_after, dry_after, dry_versions
 use Rattle.edit_program.proofs.CommandCases.{stopped_for}
 use Rattle.edit_program.proofs.commands.run_set_version.Goals as goal
 
-pub returns-in_err-due-clause-refused : goal.returns-in_err-due-clause-refused
-returns-in_err-due-clause-refused g c = on_refusal c.from_residual.result _ (λ t.
+pub returns-in_err-due-clause-error : goal.returns-in_err-due-clause-error
+returns-in_err-due-clause-error g c = on_refusal c.from_residual.result _ (λ t.
     stopped_for (rows_of (found_of c.args.matches.now)) _ _ c.args.current.now _ _ c.in-Ok.words
-    c.in-Ok.ensures.asks (c.in_err-due.ensures.refused t))
+    c.in-Ok.ensures.asks (c.in_err-due.ensures.error t))
 
 pub returns-in_err-due-clause-why : goal.returns-in_err-due-clause-why
 returns-in_err-due-clause-why g c =
@@ -52,6 +52,6 @@ returns-clause-done g c other t = record {
   ends = c.status_after.ensures;
 }
 
-pub returns-clause-asked : goal.returns-clause-asked
-returns-clause-asked g c one =
+pub returns-clause-requested : goal.returns-clause-requested
+returns-clause-requested g c one =
     check_after (rows_of (found_of c.args.matches.now)) c.in_ok-due.due _ c.status_after.ensures one

@@ -12,9 +12,9 @@ pub returns-in-upgrade-clause-done : goal.returns-in-upgrade-clause-done
 returns-in-upgrade-clause-done g c = IfOk-weaker c.run_upgrade.result _ _
     (λ s h other t. inl (c.in-upgrade.is, h other t)) c.run_upgrade.ensures.done
 
-pub returns-in-upgrade-clause-refused : goal.returns-in-upgrade-clause-refused
-returns-in-upgrade-clause-refused g c = on_err_weaker c.run_upgrade.result
-    (λ h t. in_right (λ broken. inl (c.in-upgrade.is, broken)) (h t)) c.run_upgrade.ensures.refused
+pub returns-in-upgrade-clause-error : goal.returns-in-upgrade-clause-error
+returns-in-upgrade-clause-error g c = on_err_weaker c.run_upgrade.result
+    (λ h t. in_right (λ broken. inl (c.in-upgrade.is, broken)) (h t)) c.run_upgrade.ensures.error
 
 pub returns-in-upgrade-clause-why : goal.returns-in-upgrade-clause-why
 returns-in-upgrade-clause-why g c = IfErr-weaker c.run_upgrade.result _ _
@@ -22,7 +22,7 @@ returns-in-upgrade-clause-why g c = IfErr-weaker c.run_upgrade.result _ _
 
 pub returns-in-looks-clause-checked : goal.returns-in-looks-clause-checked
 returns-in-looks-clause-checked g c = IfOk-weaker c.run_looks.result _ _
-    (λ s h one t. c.run_looks.ensures.kept) c.run_looks.ensures.status
+    (λ s h one t. c.run_looks.ensures.preserved) c.run_looks.ensures.status
 
 pub returns-in-looks-clause-fault : goal.returns-in-looks-clause-fault
 returns-in-looks-clause-fault g c = IfOk-weaker c.run_looks.result _ _
@@ -33,8 +33,8 @@ returns-in-looks-clause-done g c = IfOk-weaker c.run_looks.result _ _
     (λ s h other t. let looked = h other t in inr (inl (c.in-looks.is, looked.0, looked.1)))
     c.run_looks.ensures.done
 
-pub returns-in-looks-clause-refused : goal.returns-in-looks-clause-refused
-returns-in-looks-clause-refused g c = on_refusal c.run_looks.result _ (λ t. inl c.run_looks.ensures.kept)
+pub returns-in-looks-clause-error : goal.returns-in-looks-clause-error
+returns-in-looks-clause-error g c = on_refusal c.run_looks.result _ (λ t. inl c.run_looks.ensures.preserved)
 
 pub returns-in-looks-clause-why : goal.returns-in-looks-clause-why
 returns-in-looks-clause-why g c = IfErr-weaker c.run_looks.result _ _
@@ -48,9 +48,9 @@ pub returns-in-text-clause-done : goal.returns-in-text-clause-done
 returns-in-text-clause-done g c = IfOk-weaker c.run_set_version.result _ _
     (λ s h other t. inr (inr (c.in-text.is, h other t))) c.run_set_version.ensures.done
 
-pub returns-in-text-clause-refused : goal.returns-in-text-clause-refused
-returns-in-text-clause-refused g c = on_err_weaker c.run_set_version.result
-    (λ h t. in_right (λ stopped. inr (c.in-text.is, stopped)) (h t)) c.run_set_version.ensures.refused
+pub returns-in-text-clause-error : goal.returns-in-text-clause-error
+returns-in-text-clause-error g c = on_err_weaker c.run_set_version.result
+    (λ h t. in_right (λ stopped. inr (c.in-text.is, stopped)) (h t)) c.run_set_version.ensures.error
 
 pub returns-in-text-clause-why : goal.returns-in-text-clause-why
 returns-in-text-clause-why g c = IfErr-weaker c.run_set_version.result _ _
@@ -70,9 +70,9 @@ pub returns-in-looks-clause-counted : goal.returns-in-looks-clause-counted
 returns-in-looks-clause-counted g c = IfErr-weaker c.run_looks.result _ _
     (λ r h device. inl (h device)) c.run_looks.ensures.counted
 
-pub returns-in-looks-clause-asked : goal.returns-in-looks-clause-asked
-returns-in-looks-clause-asked g c = IfOk-weaker c.run_looks.result _ _
-    (λ s h one. absurd (h one)) c.run_looks.ensures.asked
+pub returns-in-looks-clause-requested : goal.returns-in-looks-clause-requested
+returns-in-looks-clause-requested g c = IfOk-weaker c.run_looks.result _ _
+    (λ s h one. absurd (h one)) c.run_looks.ensures.requested
 
 pub returns-in-text-clause-counted : goal.returns-in-text-clause-counted
 returns-in-text-clause-counted g c = IfErr-weaker c.run_set_version.result _ _

@@ -11,9 +11,9 @@ returns-clause-ok c =
     IfOk-weaker c.format_of_options.result _ _
     (λ p h. sym (ap₂ (format_of_options c.args.command) format c.is_given.ensures) ∙ h) c.format_of_options.ensures.ok
 
-pub returns-clause-refused : goal.returns-clause-refused
-returns-clause-refused c =
+pub returns-clause-error : goal.returns-clause-error
+returns-clause-error c =
     let format = value_is c.args.matches.now (codes "message-format") [] c.get_str.result
     c.unwrap_or-format.result _ c.get_str.ensures c.unwrap_or-format.ensures refl in
     IfErr-weaker c.format_of_options.result _ _
-    (λ e h. sym (ap₂ (format_of_options c.args.command) format c.is_given.ensures) ∙ h) c.format_of_options.ensures.refused
+    (λ e h. sym (ap₂ (format_of_options c.args.command) format c.is_given.ensures) ∙ h) c.format_of_options.ensures.error

@@ -31,20 +31,20 @@ returns-in-Err-clause-why g c =
     shown_why (app_of c.in_ok-command.command) (map (λ (w : Bor (List ℕ)). w.now) c.args.words.now)
     c.in-Err.error c.shown.result _ _ _ _ _
     c.in_ok-command.ensures.app c.in-Err.ensures.passes
-    (c.in-Err.ensures.kinds c.in_ok-command.ensures.free) c.shown.ensures.refused
+    (c.in-Err.ensures.kinds c.in_ok-command.ensures.free) c.shown.ensures.error
 
-pub returns-in-Err-clause-asked : goal.returns-in-Err-clause-asked
-returns-in-Err-clause-asked g c = shown_unasked c.shown.result _ c.shown.ensures.small
+pub returns-in-Err-clause-requested : goal.returns-in-Err-clause-requested
+returns-in-Err-clause-requested g c = shown_unasked c.shown.result _ c.shown.ensures.small
 
-pub returns-in-Some-subcommand-clause-asked : goal.returns-in-Some-subcommand-clause-asked
-returns-in-Some-subcommand-clause-asked g c =
+pub returns-in-Some-subcommand-clause-requested : goal.returns-in-Some-subcommand-clause-requested
+returns-in-Some-subcommand-clause-requested g c =
     let words = map (λ (w : Bor (List ℕ)). w.now) c.args.words.now in
     let met = c.in-Some-subcommand in
     let entered = entered_by (app_of c.in_ok-command.command) words c.in-Ok.matches met.matches.now
     met.name.now c.in_ok-command.ensures.app c.in_ok-command.ensures.simple c.in-Ok.ensures.matches
     (c.in-Ok.ensures.kinds c.in_ok-command.ensures.free) met.ensures.name met.ensures.rows in
     command_asked words met.name.now (rows_of (found_of met.matches.now)) c.run_subcommand.result
-    entered c.run_subcommand.ensures.asked
+    entered c.run_subcommand.ensures.requested
 
 pub returns-in-Some-subcommand-clause-fault : goal.returns-in-Some-subcommand-clause-fault
 returns-in-Some-subcommand-clause-fault g c =
@@ -66,14 +66,14 @@ returns-in-Some-subcommand-clause-ended g c =
     command_ended words met.name.now (rows_of (found_of met.matches.now)) _ _ _ c.run_subcommand.result _ entered c.run_subcommand.ensures.status
     c.run_subcommand.ensures.checked c.run_subcommand.ensures.done
 
-pub returns-in-Some-subcommand-clause-refused : goal.returns-in-Some-subcommand-clause-refused
-returns-in-Some-subcommand-clause-refused g c =
+pub returns-in-Some-subcommand-clause-error : goal.returns-in-Some-subcommand-clause-error
+returns-in-Some-subcommand-clause-error g c =
     let words = map (λ (w : Bor (List ℕ)). w.now) c.args.words.now in
     let met = c.in-Some-subcommand in
     let entered = entered_by (app_of c.in_ok-command.command) words c.in-Ok.matches met.matches.now
     met.name.now c.in_ok-command.ensures.app c.in_ok-command.ensures.simple c.in-Ok.ensures.matches
     (c.in-Ok.ensures.kinds c.in_ok-command.ensures.free) met.ensures.name met.ensures.rows in
-    command_refused words met.name.now (rows_of (found_of met.matches.now)) _ _ _ c.run_subcommand.result _ entered c.run_subcommand.ensures.refused
+    command_refused words met.name.now (rows_of (found_of met.matches.now)) _ _ _ c.run_subcommand.result _ entered c.run_subcommand.ensures.error
 
 pub returns-in-Some-subcommand-clause-why : goal.returns-in-Some-subcommand-clause-why
 returns-in-Some-subcommand-clause-why g c =
@@ -95,4 +95,4 @@ returns-in-None-clause-ended g c other t = absurd (other refl)
 
 pub returns-in-Err-clause-counted : goal.returns-in-Err-clause-counted
 returns-in-Err-clause-counted g c =
-    IfErr-weaker c.shown.result _ _ (λ x h. shown_counts x.error h) c.shown.ensures.refused
+    IfErr-weaker c.shown.result _ _ (λ x h. shown_counts x.error h) c.shown.ensures.error

@@ -9,7 +9,7 @@ returns-in-Ok-clause-done g c zero t =
 
 pub returns-in-Ok-clause-failed : goal.returns-in-Ok-clause-failed
 returns-in-Ok-clause-failed g c one = inl (
-  c.in-Ok.ensures.asked one,
+  c.in-Ok.ensures.requested one,
   λ t. ended_found _ c.in-Ok.status _ _ _ (c.in-Ok.ensures.ended (λ two. omega (arith, one, two)) t) one,
 )
 
@@ -19,5 +19,5 @@ returns-in-Err-clause-failed g c one = inr (record {
   cause = c.in-Err.ensures.why;
   counted = c.in-Err.ensures.counted;
   printed = g.E.Write.contents c.try_run.new.err;
-  left = c.in-Err.ensures.refused;
+  left = c.in-Err.ensures.error;
 })

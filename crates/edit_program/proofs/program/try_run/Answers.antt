@@ -26,8 +26,8 @@ returns-clause-ended g c =
     (given c.args.place.now.cargo_home) (g.T.Store.view c.args.index_files) (g.S.Store.view c.args.files.now)
     (g.S.Store.view c.answer.new.files)))) same c.answer.ensures.ended
 
-pub returns-clause-refused : goal.returns-clause-refused
-returns-clause-refused g c =
+pub returns-clause-error : goal.returns-clause-error
+returns-clause-error g c =
     let same : map (λ (w : Bor (List ℕ)). w.now) c.as_slice.result.now
     ≡ filled (map (λ (w : Bor (List ℕ)). w.now) c.args.words.now) = search rules in
     subst (λ (ws : List (List ℕ)). OnErr c.answer.result
@@ -36,7 +36,7 @@ returns-clause-refused g c =
     (Appends (g.E.Write.contents c.args.err.now) (g.E.Write.contents c.answer.new.err))
     (run_at c.args.place.now.current.now
     (given c.args.place.now.cargo_home) (g.T.Store.view c.args.index_files) (g.S.Store.view c.args.files.now)
-    (g.S.Store.view c.answer.new.files)))) same c.answer.ensures.refused
+    (g.S.Store.view c.answer.new.files)))) same c.answer.ensures.error
 
 pub returns-clause-why : goal.returns-clause-why
 returns-clause-why g c =
@@ -48,9 +48,9 @@ returns-clause-why g c =
     (given c.args.place.now.cargo_home) (g.T.Store.view c.args.index_files) (g.S.Store.view c.args.files.now)
     (g.S.Store.view c.answer.new.files)) r.error)) same c.answer.ensures.why
 
-pub returns-clause-asked : goal.returns-clause-asked
-returns-clause-asked g c =
+pub returns-clause-requested : goal.returns-clause-requested
+returns-clause-requested g c =
     let same : map (λ (w : Bor (List ℕ)). w.now) c.as_slice.result.now
     ≡ filled (map (λ (w : Bor (List ℕ)). w.now) c.args.words.now) = search rules in
     subst (λ (ws : List (List ℕ)). IfOk c.answer.result (λ s. s ≡ 1 → HasCheckFlag ws)) same
-    c.answer.ensures.asked
+    c.answer.ensures.requested

@@ -6,8 +6,8 @@ use Rattle.edit_program.specs.VersionWords.{HaveNoTarget, IsTarget}
 use Rattle.edit_program.proofs.AskedLemmas.{err_same, kept_is, value_is}
 use Rattle.edit_program.proofs.version_words.version_words.Goals as goal
 
-pub returns-in_err-target-clause-refused : goal.returns-in_err-target-clause-refused
-returns-in_err-target-clause-refused c =
+pub returns-in_err-target-clause-error : goal.returns-in_err-target-clause-error
+returns-in_err-target-clause-error c =
     let rows = rows_of (found_of c.args.matches.now) in
     let version = kept_is c.args.matches.now (codes "target") c.get_str.result _ refl c.get_str.ensures in
     let level = kept_is c.args.matches.now (codes "bump") c.get_str-2.result _ refl c.get_str-2.ensures in
@@ -15,13 +15,13 @@ returns-in_err-target-clause-refused c =
     inr (inl (subst (λ (b : Option Text). HaveNoTarget (first_of (codes "target") rows) b) level
     (subst (λ (a : Option Text).
     HaveNoTarget a (option_map (λ (s : Bor (List ℕ)). s.now) c.get_str-2.result)) version
-    (c.in_err-target.ensures.refused other)))))
+    (c.in_err-target.ensures.error other)))))
 
-pub returns-in_err-presentation-clause-refused : goal.returns-in_err-presentation-clause-refused
-returns-in_err-presentation-clause-refused c =
+pub returns-in_err-presentation-clause-error : goal.returns-in_err-presentation-clause-error
+returns-in_err-presentation-clause-error c =
     err_same c.from_residual-in_err-presentation.result c.in_err-presentation.field-0.0 _
     c.from_residual-in_err-presentation.ensures.1 (λ other.
-    inr (inr c.in_err-presentation.ensures.refused))
+    inr (inr c.in_err-presentation.ensures.error))
 
 pub returns-clause-asks : goal.returns-clause-asks
 returns-clause-asks c =

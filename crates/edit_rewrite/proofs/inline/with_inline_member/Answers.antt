@@ -13,8 +13,8 @@ pub returns-in_default-clause-text : goal.returns-in_default-clause-text
 returns-in_default-clause-text c form name v m is =
     no_inline form (place_view c.args.place.now) c.args.pair.now (c.in_default.ensures {u = tt} form m)
 
-pub returns-in_err-grown-clause-refused : goal.returns-in_err-grown-clause-refused
-returns-in_err-grown-clause-refused c =
+pub returns-in_err-grown-clause-error : goal.returns-in_err-grown-clause-error
+returns-in_err-grown-clause-error c =
     let f = c.lemma_form.ensures.some in
     let text = c.as_str-text.result.now in
     let start = c.in-Some.start in

@@ -21,7 +21,7 @@ returns-then-begins c g ms after s h is =
     MatchResult-from_both c.with_first_member.result _ _
     (c.with_first_member.ensures.text g after s (subst (λ (x : Members). TableAt text table g x after) none h)
     (ap (λ (x : Members). inline_grown c.args.member.now (inline g x) after) (sym none) ∙ is))
-    c.with_first_member.ensures.refused
+    c.with_first_member.ensures.error
 
 pub returns-in_err-last : goal.returns-in_err-last
 returns-in_err-last c g ms after s h is =
@@ -42,4 +42,4 @@ returns c g ms after s h is =
     (IfOk-weaker c.with_lead.result _ _ (λ t e. e ∙ ap (λ (x : Splice). with_splice text x) (sym row))
     (c.with_lead.ensures.text (behind_last ms (right_brace ∷ after))
     (inline_spots text table g ms after c.utf8.text h).last (ap length last)))
-    c.with_lead.ensures.refused
+    c.with_lead.ensures.error

@@ -28,8 +28,8 @@ returns-clause-found c form manifest =
     (c.last_inner.ensures (take k place) t.1.between t.1.all t.1.placed_value.after at (way_above place k t.0))
     (λ o e. e ∙ sym (closest_inner form place m.no_clash k start t.0 t.1 t.2)) (λ d e. tt)
 
-pub returns-clause-refused : goal.returns-clause-refused
-returns-clause-refused c =
+pub returns-clause-error : goal.returns-clause-error
+returns-clause-error c =
     let f = c.lemma_form.ensures.some in
     let text = c.as_str-text.result.now in
     let place = place_view c.args.place.now in

@@ -18,8 +18,8 @@ use Rattle.edit_rewrite.proofs.KeyWays.{key_are}
 use Rattle.edit_rewrite.proofs.Ways.{follows_itself}
 use Rattle.edit_rewrite.proofs.members.past_member.Goals as goal
 
-pub returns-clause-told : goal.returns-clause-told
-returns-clause-told c table k a b v g rest st begins =
+pub returns-clause-outcome : goal.returns-clause-outcome
+returns-clause-outcome c table k a b v g rest st begins =
     let text = c.args.text.now in
     let place = place_view c.args.place.now in
     let w = st.valid in

@@ -9,8 +9,8 @@ use Rattle.edit_rewrite.proofs.SlotTurns.{stop_is}
 use Rattle.edit_rewrite.proofs.ToldPairs.{mapped, unmapped}
 use Rattle.edit_rewrite.proofs.members.table_offsets.Goals as goal
 
-pub returns-then-not-begins-clause-told : goal.returns-then-not-begins-clause-told
-returns-then-not-begins-clause-told c w st e begins =
+pub returns-then-not-begins-clause-outcome : goal.returns-then-not-begins-clause-outcome
+returns-then-not-begins-clause-outcome c w st e begins =
     no_members_told c.args.text.now c.args.s.now (place_view c.args.place.now) w st e
     (sym c.begins.ensures ∙ c.if-not-begins.true)
 
@@ -20,29 +20,29 @@ members-init c w st e begins =
     (sym c.begins.ensures ∙ c.if-not-begins.false) (c.past_gap-rest.ensures ∙ ap past_gap
     c.behind_one.ensures)
 
-pub returns-then-begins-clause-told : goal.returns-then-begins-clause-told
-returns-then-begins-clause-told c w st e begins =
+pub returns-then-begins-clause-outcome : goal.returns-then-begins-clause-outcome
+returns-then-begins-clause-outcome c w st e begins =
     members_closed c.args.text.now (place_view c.args.place.now) w c.members._member (length c.args.s.now)
     c.members.rest.now (c.members.invariant w st e begins) (sym c.begins-in-members.ensures ∙
     c.if-begins.true)
 
-pub returns-in-Some-clause-told : goal.returns-in-Some-clause-told
-returns-in-Some-clause-told c w st e begins =
+pub returns-in-Some-clause-outcome : goal.returns-in-Some-clause-outcome
+returns-in-Some-clause-outcome c w st e begins =
     let f =
     members_front c.args.text.now (place_view c.args.place.now) w c.members._member (length c.args.s.now)
     c.members.rest.now (c.members.invariant w st e begins) (sym c.begins-in-members.ensures ∙
     c.if-begins.false) in
-    let r = (c.in_ok-part.ensures {u = tt}).told w.place f.k f.a f.b f.v f.c f.behind f.stands begins in
+    let r = (c.in_ok-part.ensures {u = tt}).outcome w.place f.k f.a f.b f.v f.c f.behind f.stands begins in
     let is = mapped _ c.in-Some.from (sym r.0 ∙ c.in-Some.is) in
     f.found is.0 (c.in-Some.from, length c.in_ok-part.after.now) is.1 is.2 (ap length r.1)
 
-pub returns-then-not-begins-2-clause-told : goal.returns-then-not-begins-2-clause-told
-returns-then-not-begins-2-clause-told c w st e begins =
+pub returns-then-not-begins-2-clause-outcome : goal.returns-then-not-begins-2-clause-outcome
+returns-then-not-begins-2-clause-outcome c w st e begins =
     let text = c.args.text.now in
     let rest = c.members.rest.now in
     let f = members_front text (place_view c.args.place.now) w c.members._member (length c.args.s.now) rest
     (c.members.invariant w st e begins) (sym c.begins-in-members.ensures ∙ c.if-begins.false) in
-    let r = (c.in_ok-part.ensures {u = tt}).told w.place f.k f.a f.b f.v f.c f.behind f.stands begins in
+    let r = (c.in_ok-part.ensures {u = tt}).outcome w.place f.k f.a f.b f.v f.c f.behind f.stands begins in
     let stop : c.past_gap-stop.result.now ≡ f.behind =
     c.past_gap-stop.ensures ∙ ap past_gap r.1
     ∙ stop_is text rest true (of_pair f.k f.a f.b f.v) f.c f.behind f.stands in
@@ -56,7 +56,7 @@ members-preserved c w st e begins =
     let rest = c.members.rest.now in
     let f = members_front text (place_view c.args.place.now) w c.members._member (length c.args.s.now) rest
     (c.members.invariant w st e begins) (sym c.begins-in-members.ensures ∙ c.if-begins.false) in
-    let r = (c.in_ok-part.ensures {u = tt}).told w.place f.k f.a f.b f.v f.c f.behind f.stands begins in
+    let r = (c.in_ok-part.ensures {u = tt}).outcome w.place f.k f.a f.b f.v f.c f.behind f.stands begins in
     let stop : c.past_gap-stop.result.now ≡ f.behind =
     c.past_gap-stop.ensures ∙ ap past_gap r.1
     ∙ stop_is text rest true (of_pair f.k f.a f.b f.v) f.c f.behind f.stands in
@@ -66,8 +66,8 @@ members-preserved c w st e begins =
     c.past_gap-rest-in-members.result.now
     (c.past_gap-rest-in-members.ensures ∙ ap past_gap (c.behind_one-in-members.ensures ∙ ap (drop 1) stop))
 
-pub returns-clause-told : goal.returns-clause-told
-returns-clause-told c w st e begins =
+pub returns-clause-outcome : goal.returns-clause-outcome
+returns-clause-outcome c w st e begins =
     absurd (members_over c.args.text.now (place_view c.args.place.now) w c.members._member
     (length c.args.s.now)
     c.members.rest.now (c.members.invariant w st e begins) (omega (arith, c.members-test.false)))

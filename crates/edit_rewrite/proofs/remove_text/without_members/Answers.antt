@@ -24,8 +24,8 @@ returns-then-not-is_container-clause-text c w s =
     (λ is. true≢false (sym (tells.1 is) ∙ c.if-not-is_container.true)))))
     (c.with_part.ensures.text w s)
 
-pub returns-in_err-value_without-clause-refused : goal.returns-in_err-value_without-clause-refused
-returns-in_err-value_without-clause-refused c =
+pub returns-in_err-value_without-clause-error : goal.returns-in_err-value_without-clause-error
+returns-in_err-value_without-clause-error c =
     let w = c.requires.stands.0 in
     let s = c.requires.stands.1 in
     let old : c.between-old.result.now ≡ value w.value [] =

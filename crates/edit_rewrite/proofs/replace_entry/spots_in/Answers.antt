@@ -14,8 +14,8 @@ use Rattle.edit_rewrite.proofs.InnerPairs.{front_way, inner_told, no_inner_told}
 use Rattle.edit_rewrite.proofs.ValueSpots.{values_stand}
 use Rattle.edit_rewrite.proofs.replace_entry.spots_in.Goals as goal
 
-pub returns-in-Some-clause-told : goal.returns-in-Some-clause-told
-returns-in-Some-clause-told c form m =
+pub returns-in-Some-clause-outcome : goal.returns-in-Some-clause-outcome
+returns-in-Some-clause-outcome c form m =
     let text = c.as_str-text.result.now in
     let place = place_view c.args.place.now in
     let end = c.args.end in
@@ -36,10 +36,10 @@ returns-in-Some-clause-told c form m =
     let size = length-map c.args.place.now step_view in
     IfOk-weaker c.table_offsets.result _ _ (λ o t. inner_told form place end w o m.no_clash among
     there t)
-    (c.table_offsets.ensures.told w stands from
+    (c.table_offsets.ensures.outcome w stands from
     (front_way end place (omega (arith, c.requires, size)) ∙ ap (way place) (sym there)))
 
-pub returns-in-None-clause-told : goal.returns-in-None-clause-told
-returns-in-None-clause-told c form m =
+pub returns-in-None-clause-outcome : goal.returns-in-None-clause-outcome
+returns-in-None-clause-outcome c form m =
     no_inner_told form (place_view c.args.place.now) c.args.end
     (ap (is_value_at form) (take-map step_view c.args.end c.args.place.now) ∙ c.in-None.ensures form m)

@@ -43,8 +43,8 @@ crates-preserved c =
           (c.crates.invariant.versions target each);
     }
 
-pub returns-in_err-push_bump-clause-refused : goal.returns-in_err-push_bump-clause-refused
-returns-in_err-push_bump-clause-refused c =
+pub returns-in_err-push_bump-clause-error : goal.returns-in_err-push_bump-clause-error
+returns-in_err-push_bump-clause-error c =
     let p = err_from_is_err_and c.from_residual.result c.from_residual.ensures.1 in
     let t = target_of c.args.target.now in
     let a = selection_view c.args.selection.now in
@@ -52,7 +52,7 @@ returns-in_err-push_bump-clause-refused c =
     let all = c.args.crates.now in
     let i = c.crates.found-index in
     let x = c.found-item.result in
-    rw (p.1, p.2) (elim c.in_err-push_bump.ensures.refused [
+    rw (p.1, p.2) (elim c.in_err-push_bump.ensures.error [
       | inl none ↦ inl none
       | inr why ↦ inr (unbumped_member t a all i x e c.crates-test.true c.found-item.is
           c.crates.invariant.bumpable why)

@@ -20,13 +20,13 @@ returns-in_ok-push-in-Some-clause-versions c = λ target current all.
     (subst AreVersions (sym (map_push bump_view was b))
     (All-push (λ (x : Bump). IsVersion x.next) (bumps_view was) (bump_view b) all is))
 
-pub returns-in_err-bump-clause-refused : goal.returns-in_err-bump-clause-refused
-returns-in_err-bump-clause-refused c =
+pub returns-in_err-bump-clause-error : goal.returns-in_err-bump-clause-error
+returns-in_err-bump-clause-error c =
     let r = err_from_is_err_and c.from_residual.result c.from_residual.ensures.1 in
-    rw (r.1, r.2) (inr c.in_err-bump.ensures.refused)
+    rw (r.1, r.2) (inr c.in_err-bump.ensures.error)
 
-pub returns-in_err-push-in-Some-clause-refused : goal.returns-in_err-push-in-Some-clause-refused
-returns-in_err-push-in-Some-clause-refused c =
+pub returns-in_err-push-in-Some-clause-error : goal.returns-in_err-push-in-Some-clause-error
+returns-in_err-push-in-Some-clause-error c =
     let r = err_from_is_err_and c.from_residual-in_err-push-in-Some.result
     c.from_residual-in_err-push-in-Some.ensures.1 in
     rw (r.1, r.2) (inl refl)

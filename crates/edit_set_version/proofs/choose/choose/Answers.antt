@@ -14,8 +14,8 @@ use Rattle.edit_set_version.proofs.ChoiceLemmas.{asked_part, inheriting_part, ot
 use Rattle.edit_set_version.proofs.choose.choose.Goals as goal
 use Rattle.edit_set_version.proofs.choose.choose.Goals.{then-is_whole_selected, else-is_whole_selected}
 
-pub returns-in_err-check_excluded-clause-refused : goal.returns-in_err-check_excluded-clause-refused
-returns-in_err-check_excluded-clause-refused c =
+pub returns-in_err-check_excluded-clause-error : goal.returns-in_err-check_excluded-clause-error
+returns-in_err-check_excluded-clause-error c =
     let a = selection_view c.args.selection.now in
     let ms = members_of c.args.crates.now in
     let w = c.in_ok-wanted.wanted in
@@ -36,7 +36,7 @@ returns-in_err-check_excluded-clause-refused c =
     (subst (λ xs. IsMemory e ⊎ IsExcludeError (filter held xs) (inheriting a ms) e)
     (ap members_of c.deref-2.ensures.value ∙ more)
     (subst (λ ys. IsMemory e ⊎ IsExcludeError (filter held (members_of c.deref-2.result.now)) ys e)
-    (ap members_of c.deref-3.ensures.value ∙ inh) c.in_err-check_excluded.ensures.refused))
+    (ap members_of c.deref-3.ensures.value ∙ inh) c.in_err-check_excluded.ensures.error))
 
 pub returns-clause-chosen : goal.returns-clause-chosen
 returns-clause-chosen c =
@@ -94,22 +94,22 @@ returns-clause-excluded c =
     ap (filter held) (sym (ap members_of c.deref-2.ensures.value ∙ more))
     ∙ c.in_ok-check_excluded.ensures.none
 
-pub returns-in_err-wanted-clause-refused : goal.returns-in_err-wanted-clause-refused
-returns-in_err-wanted-clause-refused c =
+pub returns-in_err-wanted-clause-error : goal.returns-in_err-wanted-clause-error
+returns-in_err-wanted-clause-error c =
     let r = err_from_is_err_and c.from_residual.result c.from_residual.ensures.1 in
     rw (r.1, r.2) (inl refl)
 
-pub returns-in_err-inheriting-clause-refused : goal.returns-in_err-inheriting-clause-refused
-returns-in_err-inheriting-clause-refused c =
+pub returns-in_err-inheriting-clause-error : goal.returns-in_err-inheriting-clause-error
+returns-in_err-inheriting-clause-error c =
     let r = err_from_is_err_and c.from_residual-in_err-inheriting.result c.from_residual-in_err-inheriting.ensures.1 in
     rw (r.1, r.2) (inl refl)
 
-pub returns-in_err-others-clause-refused : goal.returns-in_err-others-clause-refused
-returns-in_err-others-clause-refused c =
+pub returns-in_err-others-clause-error : goal.returns-in_err-others-clause-error
+returns-in_err-others-clause-error c =
     let r = err_from_is_err_and c.from_residual-in_err-others.result c.from_residual-in_err-others.ensures.1 in
     rw (r.1, r.2) (inl refl)
 
-pub returns-in_err-chosen-clause-refused : goal.returns-in_err-chosen-clause-refused
-returns-in_err-chosen-clause-refused c =
+pub returns-in_err-chosen-clause-error : goal.returns-in_err-chosen-clause-error
+returns-in_err-chosen-clause-error c =
     let r = err_from_is_err_and c.from_residual-in_err-chosen.result c.from_residual-in_err-chosen.ensures.1 in
     rw (r.1, r.2) (inl refl)

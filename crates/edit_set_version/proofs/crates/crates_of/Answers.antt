@@ -36,7 +36,7 @@ returns c = record {
       ∙ ap (λ ps. length (members (packages_view ps))) c.deref.ensures.value in
       members_last w is c.args.manifests.now c.in_ok-crates.crates.items
       (length is - length c.deref-2.result.now) last c.requires.manifests (omega (arith, many, long))
-      (read_item c.in_ok-crates.crates.items c.deref-2.result.now c.in_ok-crates.ensures.told
+      (read_item c.in_ok-crates.crates.items c.deref-2.result.now c.in_ok-crates.ensures.outcome
       ∙ ap (map (λ p. package_view p.now)) c.deref-2.ensures.value ∙ c.in_ok-members.ensures.ok
       ∙ ap (λ ps. members (packages_view ps)) c.deref.ensures.value)
       c.in_ok-crates.ensures.inputs c.in_ok-crates.ensures.manifests;

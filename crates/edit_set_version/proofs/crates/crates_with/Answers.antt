@@ -21,8 +21,8 @@ members-preserved c =
           (omega (arith, within, c.requires.manifests)) c.index-manifests-i.is;
     }
 
-pub returns-clause-told : goal.returns-clause-told
-returns-clause-told c =
+pub returns-clause-outcome : goal.returns-clause-outcome
+returns-clause-outcome c =
     c.members.invariant.told
     ∙ ap (map (λ p. p.now)) (take_all c.members.i c.args.members.now c.members-test.false)
 

@@ -22,8 +22,8 @@ entries-preserved c =
       risen = c.in_ok-push_dependent.ensures.risen c.entries.invariant.risen;
     }
 
-pub returns-in_err-push_dependent-clause-refused : goal.returns-in_err-push_dependent-clause-refused
-returns-in_err-push_dependent-clause-refused c =
+pub returns-in_err-push_dependent-clause-error : goal.returns-in_err-push_dependent-clause-error
+returns-in_err-push_dependent-clause-error c =
     let p = err_from_is_err_and c.from_residual-in_err-push_dependent.result
     c.from_residual-in_err-push_dependent.ensures.1 in
     rw (p.1, p.2) (λ bs tells. unraised bs c.args.file.now (tree_of c.args.document.now) c.entries.yielded
@@ -31,7 +31,7 @@ returns-in_err-push_dependent-clause-refused c =
     (ap (λ xs. path_dependency_views (c.entries.yielded ++ xs)) (sym c.in-Some.ensures.steps.0)
     ∙ c.entries.invariant.rest)
     (c.entries.invariant.seen bs tells) c.entries.invariant.risen
-    (c.in_err-push_dependent.ensures.refused bs tells))
+    (c.in_err-push_dependent.ensures.error bs tells))
 
 pub entries-init : goal.entries-init
 entries-init c = record {
@@ -42,8 +42,8 @@ entries-init c = record {
       (arith, below)));
 }
 
-pub returns-in_err-entries-clause-refused : goal.returns-in_err-entries-clause-refused
-returns-in_err-entries-clause-refused c =
+pub returns-in_err-entries-clause-error : goal.returns-in_err-entries-clause-error
+returns-in_err-entries-clause-error c =
     let r = err_from_is_err_and c.from_residual.result
     c.from_residual.ensures.1 in
-    rw (r.1, r.2) (λ bs tells. inl c.in_err-entries.ensures.refused)
+    rw (r.1, r.2) (λ bs tells. inl c.in_err-entries.ensures.error)

@@ -10,8 +10,8 @@ use Rattle.edit_set_version.specs.PathDependency.{path_dependency_view}
 use Rattle.edit_set_version.proofs.DependentLemmas.{led_numbered, numbered_by}
 use Rattle.edit_set_version.proofs.dependents.push_dependent.Goals as goal
 
-pub returns-in_err-dependent-in-Some-clause-refused : goal.returns-in_err-dependent-in-Some-clause-refused
-returns-in_err-dependent-in-Some-clause-refused c =
+pub returns-in_err-dependent-in-Some-clause-error : goal.returns-in_err-dependent-in-Some-clause-error
+returns-in_err-dependent-in-Some-clause-error c =
     let file = c.args.file.now in
     let q = path_dependency_view c.args.entry in
     let n = numbered_view c.in-Some.bump in
@@ -23,7 +23,7 @@ returns-in_err-dependent-in-Some-clause-refused c =
     (led_numbered bs file q ∙ ap (option_map (λ n. n.1)) (numbered_by bs c.args.numbers.now file q
     (option_map numbered_view c.in_ok-bump.bump) tells told
     ∙ ap (λ b. option_map (λ n. (n.0, record { place = q.place; text = q.text; next = n.1 }))
-    (option_map numbered_view b)) c.in-Some.is)) c.in_err-dependent-in-Some.ensures.refused)
+    (option_map numbered_view b)) c.in-Some.is)) c.in_err-dependent-in-Some.ensures.error)
 
 pub returns-in_ok-push-in-Some-clause-ok : goal.returns-in_ok-push-in-Some-clause-ok
 returns-in_ok-push-in-Some-clause-ok c = λ bs tells.
@@ -60,14 +60,14 @@ returns-in-None-clause-ok c = λ bs tells.
     sym (ap (λ o. map numbered_dependent_view c.args.dependents.now.items ++ option_to_list o) is
     ∙ append-nil (map numbered_dependent_view c.args.dependents.now.items))
 
-pub returns-in_err-bump-clause-refused : goal.returns-in_err-bump-clause-refused
-returns-in_err-bump-clause-refused c =
+pub returns-in_err-bump-clause-error : goal.returns-in_err-bump-clause-error
+returns-in_err-bump-clause-error c =
     let r = err_from_is_err_and c.from_residual.result
     c.from_residual.ensures.1 in
-    rw (r.1, r.2) (λ bs tells. lacks c.in_err-bump.ensures.refused)
+    rw (r.1, r.2) (λ bs tells. lacks c.in_err-bump.ensures.error)
 
-pub returns-in_err-push-in-Some-clause-refused : goal.returns-in_err-push-in-Some-clause-refused
-returns-in_err-push-in-Some-clause-refused c =
+pub returns-in_err-push-in-Some-clause-error : goal.returns-in_err-push-in-Some-clause-error
+returns-in_err-push-in-Some-clause-error c =
     let r = err_from_is_err_and c.from_residual-in_err-push-in-Some.result
     c.from_residual-in_err-push-in-Some.ensures.1 in
     rw (r.1, r.2) (λ bs tells. lacks refl)

@@ -24,11 +24,11 @@ check_literal-requires-clause-read c =
     c.index-manifests-i.is in
     there.1
 
-pub returns-in_err-check_literal-clause-refused : goal.returns-in_err-check_literal-clause-refused
-returns-in_err-check_literal-clause-refused c =
+pub returns-in_err-check_literal-clause-error : goal.returns-in_err-check_literal-clause-error
+returns-in_err-check_literal-clause-error c =
     let bs = bumps_view c.args.writing.now.bumps.now in
     let p = err_from_is_err_and c.from_residual.result c.from_residual.ensures.1 in
-    rw (p.1, p.2) (elim c.in_err-check_literal.ensures.refused [
+    rw (p.1, p.2) (elim c.in_err-check_literal.ensures.error [
       | inl none ↦ inl none
       | inr why ↦ inr (
         why.0,

@@ -30,8 +30,8 @@ inputs-preserved c =
       shows = found.2;
     })))
 
-pub returns-in_err-manifest-clause-refused : goal.returns-in_err-manifest-clause-refused
-returns-in_err-manifest-clause-refused c =
+pub returns-in_err-manifest-clause-error : goal.returns-in_err-manifest-clause-error
+returns-in_err-manifest-clause-error c =
     let p = err_from_is_err_and c.from_residual-in_err-manifest.result
     c.from_residual-in_err-manifest.ensures.1 in
     let e = c.in_err-manifest.field-0.0 in
@@ -39,14 +39,14 @@ returns-in_err-manifest-clause-refused c =
     rw (p.1, p.2) (inr (first_at IsManifest (λ (x : Input). IsBadManifest x.bytes.items e) c.args.inputs.now i
     c.input-item.result c.inputs-test.true c.input-item.is
     (all_manifests (take i c.args.inputs.now) c.inputs.manifests.items c.inputs.invariant)
-    (subst (λ bs. IsBadManifest bs e) c.deref.ensures.value c.in_err-manifest.ensures.refused)))
+    (subst (λ bs. IsBadManifest bs e) c.deref.ensures.value c.in_err-manifest.ensures.error)))
 
-pub returns-in_err-manifests-clause-refused : goal.returns-in_err-manifests-clause-refused
-returns-in_err-manifests-clause-refused c =
+pub returns-in_err-manifests-clause-error : goal.returns-in_err-manifests-clause-error
+returns-in_err-manifests-clause-error c =
     let r = err_from_is_err_and c.from_residual.result c.from_residual.ensures.1 in
     rw (r.1, r.2) (inl refl)
 
-pub returns-in_err-push-clause-refused : goal.returns-in_err-push-clause-refused
-returns-in_err-push-clause-refused c =
+pub returns-in_err-push-clause-error : goal.returns-in_err-push-clause-error
+returns-in_err-push-clause-error c =
     let r = err_from_is_err_and c.from_residual-in_err-push.result c.from_residual-in_err-push.ensures.1 in
     rw (r.1, r.2) (inl refl)

@@ -15,8 +15,8 @@ use Rattle.edit_set_version.specs.SetVersioned.{writes_own}
 use Rattle.edit_set_version.proofs.EditsStand.{unraised_memory, unvalued_memory, written_clear}
 use Rattle.edit_set_version.proofs.outputs.edits_of.Goals as goal
 
-pub returns-in_err-push_own-clause-refused : goal.returns-in_err-push_own-clause-refused
-returns-in_err-push_own-clause-refused c =
+pub returns-in_err-push_own-clause-error : goal.returns-in_err-push_own-clause-error
+returns-in_err-push_own-clause-error c =
     let bs = bumps_view c.args.writing.now.bumps.now in
     let m = c.args.manifest.now in
     let e = c.in_err-push_own.field-0.0 in
@@ -24,10 +24,10 @@ returns-in_err-push_own-clause-refused c =
     c.from_residual-in_err-push_own.ensures.1 in
     rw (p.1, p.2) (unvalued_memory bs c.args.input.now m e c.requires.read
     (subst (λ path. IsMemory e ⊎ ((e ≡ NoVersionPlace) × (filter (writes_own path) bs ≢ [])
-    × IsNoValue m.document package_version)) c.as_str-path.ensures.value c.in_err-push_own.ensures.refused))
+    × IsNoValue m.document package_version)) c.as_str-path.ensures.value c.in_err-push_own.ensures.error))
 
-pub returns-in_err-push_dependents-clause-refused : goal.returns-in_err-push_dependents-clause-refused
-returns-in_err-push_dependents-clause-refused c =
+pub returns-in_err-push_dependents-clause-error : goal.returns-in_err-push_dependents-clause-error
+returns-in_err-push_dependents-clause-error c =
     let bs = bumps_view c.args.writing.now.bumps.now in
     let m = c.args.manifest.now in
     let e = c.in_err-push_dependents.field-0.0 in
@@ -35,7 +35,7 @@ returns-in_err-push_dependents-clause-refused c =
     c.from_residual-in_err-push_dependents.ensures.1 in
     rw (p.1, p.2) (unraised_memory bs c.args.input.now m e c.requires.read
     (subst (λ path. IsMemory e ⊎ IsUnraised bs path (tree_of m.document) e) c.as_str-path.ensures.value
-    c.in_err-push_dependents.ensures.refused))
+    c.in_err-push_dependents.ensures.error))
 
 pub returns-clause-clear : goal.returns-clause-clear
 returns-clause-clear c =

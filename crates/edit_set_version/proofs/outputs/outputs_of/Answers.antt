@@ -39,12 +39,12 @@ push_output-requires-clause-shared c =
     c.index-inputs-i.result c.index-manifests-i.result c.requires.read c.requires.distinct c.requires.shared
     c.inputs-test.true c.index-inputs-i.is c.index-manifests-i.is
 
-pub returns-in_err-push_output-clause-refused : goal.returns-in_err-push_output-clause-refused
-returns-in_err-push_output-clause-refused c =
+pub returns-in_err-push_output-clause-error : goal.returns-in_err-push_output-clause-error
+returns-in_err-push_output-clause-error c =
     let p = err_from_is_err_and c.from_residual.result c.from_residual.ensures.1 in
     let bs = bumps_view c.args.writing.now.bumps.now in
     let input = c.index-inputs-i.result in
-    rw (p.1, p.2) (λ clear. c.in_err-push_output.ensures.refused
+    rw (p.1, p.2) (λ clear. c.in_err-push_output.ensures.error
     (All-contains (IsInputClearBy bs) c.args.inputs.now input clear
     (element_among c.args.inputs.now c.inputs.i input c.inputs-test.true c.index-inputs-i.is)))
 

@@ -11,10 +11,10 @@ use Rattle.edit_set_version.specs.SetVersioned.{Dependent, dependents, requireme
 use Rattle.edit_set_version.proofs.DependentLemmas.{all_rise, dependents_numbered, without_indices}
 use Rattle.edit_set_version.proofs.outputs.push_dependents.Goals as goal
 
-pub returns-in_err-dependents-clause-refused : goal.returns-in_err-dependents-clause-refused
-returns-in_err-dependents-clause-refused c =
+pub returns-in_err-dependents-clause-error : goal.returns-in_err-dependents-clause-error
+returns-in_err-dependents-clause-error c =
     let p = err_from_is_err_and c.from_residual.result c.from_residual.ensures.1 in
-    rw (p.1, p.2) (c.in_err-dependents.ensures.refused (bumps_view c.args.writing.now.bumps.now)
+    rw (p.1, p.2) (c.in_err-dependents.ensures.error (bumps_view c.args.writing.now.bumps.now)
     c.requires.numbers)
 
 -- the entries that depend on bumped crates have the requirements on them

@@ -33,23 +33,23 @@ returns-clause-ok c =
     ∙ sym (own_edits c.args.path.now (bumps_view c.args.writing.now.bumps.now)
     ∙ ap (map (λ (b : Bump). (package_version, parts_text b.next))) one))
 
-pub returns-in_err-bump-clause-refused : goal.returns-in_err-bump-clause-refused
-returns-in_err-bump-clause-refused c =
+pub returns-in_err-bump-clause-error : goal.returns-in_err-bump-clause-error
+returns-in_err-bump-clause-error c =
     let r = err_from_is_err_and c.from_residual.result c.from_residual.ensures.1 in
-    rw (r.1, r.2) (inl c.in_err-bump.ensures.refused)
+    rw (r.1, r.2) (inl c.in_err-bump.ensures.error)
 
 pub returns-in_default-clause-literal : goal.returns-in_default-clause-literal
 returns-in_default-clause-literal c = λ some form is.
     absurd (some (c.in_ok-bump.ensures.ok
     ∙ ap (λ o. option_to_list (option_map (λ b. bump_view b.now) o)) c.in_default.is))
 
-pub returns-in_err-edit-clause-refused : goal.returns-in_err-edit-clause-refused
-returns-in_err-edit-clause-refused c =
+pub returns-in_err-edit-clause-error : goal.returns-in_err-edit-clause-error
+returns-in_err-edit-clause-error c =
     let r = err_from_is_err_and c.from_residual-in_err-edit.result c.from_residual-in_err-edit.ensures.1 in
     rw (r.1, r.2) (inl refl)
 
-pub returns-then-not-is_value-clause-refused : goal.returns-then-not-is_value-clause-refused
-returns-then-not-is_value-clause-refused c =
+pub returns-then-not-is_value-clause-error : goal.returns-then-not-is_value-clause-error
+returns-then-not-is_value-clause-error c =
     let one = c.in_ok-bump.ensures.ok
     ∙ ap (λ o. option_to_list (option_map (λ b. bump_view b.now) o)) c.in-Some.is in
     let at : place_view c.deref.result.now ≡ package_version
@@ -60,8 +60,8 @@ returns-then-not-is_value-clause-refused c =
       λ form is. sym (ap (is_value_at form) at) ∙ sym (c.is_value.ensures form is) ∙ c.if-not-is_value.true,
     )
 
-pub returns-in_err-push-clause-refused : goal.returns-in_err-push-clause-refused
-returns-in_err-push-clause-refused c =
+pub returns-in_err-push-clause-error : goal.returns-in_err-push-clause-error
+returns-in_err-push-clause-error c =
     let r = err_from_is_err_and c.from_residual-in_err-push.result c.from_residual-in_err-push.ensures.1 in
     rw (r.1, r.2) (inl refl)
 

@@ -30,21 +30,21 @@ use Rattle.edit_set_version.proofs.InputPaths.{inputs_apart}
 use Rattle.edit_set_version.proofs.PlanLemmas.{all_admitted, all_chosen, clear_given, lines_for, names_told, outputs_given, tells_shared, where_all, where_err}
 use Rattle.edit_set_version.proofs.planned.plan_set_version.Goals as goal
 
-pub returns-in_err-manifests-clause-refused : goal.returns-in_err-manifests-clause-refused
-returns-in_err-manifests-clause-refused c =
+pub returns-in_err-manifests-clause-error : goal.returns-in_err-manifests-clause-error
+returns-in_err-manifests-clause-error c =
     let r = err_from_is_err_and c.from_residual-in_err-manifests.result
     c.from_residual-in_err-manifests.ensures.1 in
-    rw (r.1, r.2) (elim c.in_err-manifests.ensures.refused [
+    rw (r.1, r.2) (elim c.in_err-manifests.ensures.error [
       | inl none ↦ of_memory none
       | inr why ↦ of_input c.in_ok-check_names.ensures.found why
     ])
 
-pub returns-in_err-versions-clause-refused : goal.returns-in_err-versions-clause-refused
-returns-in_err-versions-clause-refused c =
+pub returns-in_err-versions-clause-error : goal.returns-in_err-versions-clause-error
+returns-in_err-versions-clause-error c =
     let r = err_from_is_err_and c.from_residual-in_err-versions.result
     c.from_residual-in_err-versions.ensures.1 in
     let p = project_view c.in_ok-project.project in
-    rw (r.1, r.2) (elim c.in_err-versions.ensures.refused [
+    rw (r.1, r.2) (elim c.in_err-versions.ensures.error [
       | inl none ↦ of_memory none
       | inr why ↦ of_project c.in_ok-check_names.ensures.found p c.in_ok-project.ensures.ok why
     ])
@@ -115,8 +115,8 @@ returns-clause-planned c =
     c.plan_with.ensures.outputs c.plan_with.ensures.in_order c.plan_with.ensures.lines
     c.plan_with.ensures.changed c.plan_with.ensures.clear
 
-pub returns-clause-refused : goal.returns-clause-refused
-returns-clause-refused c =
+pub returns-clause-error : goal.returns-clause-error
+returns-clause-error c =
     let t = target_of c.args.target.now in
     let a = selection_view c.args.selection.now in
     let w = workspace_view c.args.workspace.now in
@@ -133,7 +133,7 @@ returns-clause-refused c =
           })
           (subst (λ (cs : List Bump). IsManifestError cs is p e) c.in_ok-versions.ensures.bumps fault)
     ])
-    c.plan_with.ensures.refused
+    c.plan_with.ensures.error
 
 pub plan_with-requires-clause-among : goal.plan_with-requires-clause-among
 plan_with-requires-clause-among c =
@@ -142,19 +142,19 @@ plan_with-requires-clause-among c =
     inputs_among w is (project_view c.in_ok-project.project) c.requires.inputs
     (inputs_apart w is c.requires.folders c.requires.inputs) c.in_ok-project.ensures.ok
 
-pub returns-in_err-check_names-clause-refused : goal.returns-in_err-check_names-clause-refused
-returns-in_err-check_names-clause-refused c =
+pub returns-in_err-check_names-clause-error : goal.returns-in_err-check_names-clause-error
+returns-in_err-check_names-clause-error c =
     let r = err_from_is_err_and c.from_residual.result c.from_residual.ensures.1 in
-    rw (r.1, r.2) (elim c.in_err-check_names.ensures.refused [
+    rw (r.1, r.2) (elim c.in_err-check_names.ensures.error [
       | inl none ↦ of_memory none
       | inr why ↦ of_package why
     ])
 
-pub returns-in_err-project-clause-refused : goal.returns-in_err-project-clause-refused
-returns-in_err-project-clause-refused c =
+pub returns-in_err-project-clause-error : goal.returns-in_err-project-clause-error
+returns-in_err-project-clause-error c =
     let r = err_from_is_err_and c.from_residual-in_err-project.result
     c.from_residual-in_err-project.ensures.1 in
-    rw (r.1, r.2) (of_memory c.in_err-project.ensures.refused)
+    rw (r.1, r.2) (of_memory c.in_err-project.ensures.error)
 
 pub project_of-requires-clause-inputs : goal.project_of-requires-clause-inputs
 project_of-requires-clause-inputs c = c.requires.inputs

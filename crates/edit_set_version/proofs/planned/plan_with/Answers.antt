@@ -37,33 +37,33 @@ outputs_of-requires-clause-numbers c =
     subst (λ (bs : List Bumping). HasFirstBumps (bumps_view bs) c.in_ok-numbers.numbers)
     (c.deref.ensures.value ∙ sym c.deref-2.ensures.value) c.in_ok-numbers.ensures.ok
 
-pub returns-in_err-numbers-clause-refused : goal.returns-in_err-numbers-clause-refused
-returns-in_err-numbers-clause-refused c =
+pub returns-in_err-numbers-clause-error : goal.returns-in_err-numbers-clause-error
+returns-in_err-numbers-clause-error c =
     let r = err_from_is_err_and c.from_residual.result c.from_residual.ensures.1 in
-    rw (r.1, r.2) (inl c.in_err-numbers.ensures.refused)
+    rw (r.1, r.2) (inl c.in_err-numbers.ensures.error)
 
 pub plan_lines-requires-clause-apart : goal.plan_lines-requires-clause-apart
 plan_lines-requires-clause-apart c =
     subst (λ (bs : List Bumping). AreApart (bumps_view bs)) (sym c.deref-3.ensures.value) c.requires.apart
 
-pub returns-in_err-check_literals-clause-refused : goal.returns-in_err-check_literals-clause-refused
-returns-in_err-check_literals-clause-refused c =
+pub returns-in_err-check_literals-clause-error : goal.returns-in_err-check_literals-clause-error
+returns-in_err-check_literals-clause-error c =
     let r = err_from_is_err_and c.from_residual-in_err-check_literals.result
     c.from_residual-in_err-check_literals.ensures.1 in
-    rw (r.1, r.2) (elim c.in_err-check_literals.ensures.refused [
+    rw (r.1, r.2) (elim c.in_err-check_literals.ensures.error [
       | inl none ↦ inl none
       | inr why ↦ inr (of_literal why.0
           (subst (λ (bs : List Bumping). LackLiterals (bumps_view bs) c.args.inputs.now)
           c.deref-2.ensures.value why.1))
     ])
 
-pub returns-in_err-lines-clause-refused : goal.returns-in_err-lines-clause-refused
-returns-in_err-lines-clause-refused c =
+pub returns-in_err-lines-clause-error : goal.returns-in_err-lines-clause-error
+returns-in_err-lines-clause-error c =
     let r = err_from_is_err_and c.from_residual-in_err-lines.result
     c.from_residual-in_err-lines.ensures.1 in
     let all = manifests (project_view c.args.project.now) in
     let e = c.in_err-lines.field-0.0 in
-    rw (r.1, r.2) (elim c.in_err-lines.ensures.refused [
+    rw (r.1, r.2) (elim c.in_err-lines.ensures.error [
       | inl none ↦ inl none
       | inr why ↦ inr (of_requirement
           (subst (λ (bs : List Bumping). All (HasLiteral (bumps_view bs)) c.args.inputs.now)
@@ -89,14 +89,14 @@ outputs_of-requires-clause-shared c =
     subst (HasSharedVersion is c.as_str.result.now) (sym seen)
     (subst (λ (root : List ℕ). HasSharedVersion is root n) (sym c.as_str.ensures.value) c.requires.shared)
 
-pub returns-in_err-outputs-clause-refused : goal.returns-in_err-outputs-clause-refused
-returns-in_err-outputs-clause-refused c =
+pub returns-in_err-outputs-clause-error : goal.returns-in_err-outputs-clause-error
+returns-in_err-outputs-clause-error c =
     let r = err_from_is_err_and c.from_residual-in_err-outputs.result
     c.from_residual-in_err-outputs.ensures.1 in
     let all = manifests (project_view c.args.project.now) in
     let rise = subst (λ (bs : List Bumping). All (AllRiseIn (bumps_view bs)) all)
     (c.deref-3.ensures.value ∙ sym c.deref-2.ensures.value) c.in_ok-lines.ensures.rise in
-    rw (r.1, r.2) (inl (c.in_err-outputs.ensures.refused
+    rw (r.1, r.2) (inl (c.in_err-outputs.ensures.error
     (all_clear (bumps_view c.deref-2.result.now) all c.args.inputs.now c.in_ok-check_literals.ensures.literals
     rise c.requires.among)))
 

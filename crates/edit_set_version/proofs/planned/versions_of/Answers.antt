@@ -20,8 +20,8 @@ use Rattle.edit_set_version.proofs.PlanLemmas.{seen_copied}
 use Rattle.edit_set_version.proofs.VersionLemmas.{all_currents, all_shared, unbumped_chosen, unbumped_shared}
 use Rattle.edit_set_version.proofs.planned.versions_of.Goals as goal
 
-pub returns-in_err-next-clause-refused : goal.returns-in_err-next-clause-refused
-returns-in_err-next-clause-refused c =
+pub returns-in_err-next-clause-error : goal.returns-in_err-next-clause-error
+returns-in_err-next-clause-error c =
     let a = selection_view c.args.selection.now in
     let p = project_view c.args.project.now in
     let tree = tree_of c.args.project.now.root.manifest.now.document in
@@ -31,15 +31,15 @@ returns-in_err-next-clause-refused c =
     ∙ ap (λ cs. bumps_workspace a (members_of cs)) c.deref.ensures.value) in
     let seen : shared_version_view c.as_ref.result ≡ workspace_current a p
     = seen_copied c.as_ref.result ∙ ap (option_map parts_of) c.as_ref.ensures.value ∙ is in
-    let why = c.in_err-next.ensures.refused in
+    let why = c.in_err-next.ensures.error in
     let r = err_from_is_err_and c.from_residual-in_err-next.result c.from_residual-in_err-next.ensures.1 in
     let none : held_back a p.members ≡ []
     = ap (λ cs. held_back a (members_of cs)) (sym c.deref.ensures.value) ∙ c.in_ok-choice.ensures.excluded in
     rw (r.1, r.2) (inr (version none (unbumped_shared (target_of c.args.target.now) a p why.0
     c.in_err-next.field-0.0 (sym seen ∙ why.1) why.2)))
 
-pub returns-in_err-bumps-clause-refused : goal.returns-in_err-bumps-clause-refused
-returns-in_err-bumps-clause-refused c =
+pub returns-in_err-bumps-clause-error : goal.returns-in_err-bumps-clause-error
+returns-in_err-bumps-clause-error c =
     let t = target_of c.args.target.now in
     let a = selection_view c.args.selection.now in
     let p = project_view c.args.project.now in
@@ -60,7 +60,7 @@ returns-in_err-bumps-clause-refused c =
     c.from_residual-in_err-bumps.ensures.1 in
     let kept : held_back a p.members ≡ []
     = ap (λ cs. held_back a (members_of cs)) (sym c.deref.ensures.value) ∙ c.in_ok-choice.ensures.excluded in
-    rw (r.1, r.2) (elim c.in_err-bumps.ensures.refused [
+    rw (r.1, r.2) (elim c.in_err-bumps.ensures.error [
       | inl none ↦ inl none
       | inr why ↦ inr (version kept (unbumped_chosen t a p e shared
           (subst (λ (ms : List Member). AreUnbumped t a (map (λ (m : Member). m.version) ms) e) these why)))
@@ -97,22 +97,22 @@ returns-clause-versions c = λ target all.
     c.in_ok-bumps.ensures.versions target
     (subst (All (λ (m : Member). IsReadable m.version)) (sym these) all)
 
-pub returns-in_err-choice-clause-refused : goal.returns-in_err-choice-clause-refused
-returns-in_err-choice-clause-refused c =
+pub returns-in_err-choice-clause-error : goal.returns-in_err-choice-clause-error
+returns-in_err-choice-clause-error c =
     let a = selection_view c.args.selection.now in
     let e = c.in_err-choice.field-0.0 in
     let r = err_from_is_err_and c.from_residual.result c.from_residual.ensures.1 in
-    rw (r.1, r.2) (elim c.in_err-choice.ensures.refused [
+    rw (r.1, r.2) (elim c.in_err-choice.ensures.error [
       | inl none ↦ inl none
       | inr why ↦ inr (excluded (subst (λ (cs : List Crate). IsExcludeError (held_back a (members_of cs))
           (inheriting a (members_of cs)) e) c.deref.ensures.value why))
     ])
 
-pub returns-in_err-current-clause-refused : goal.returns-in_err-current-clause-refused
-returns-in_err-current-clause-refused c =
+pub returns-in_err-current-clause-error : goal.returns-in_err-current-clause-error
+returns-in_err-current-clause-error c =
     let r = err_from_is_err_and c.from_residual-in_err-current.result
     c.from_residual-in_err-current.ensures.1 in
-    rw (r.1, r.2) (inl c.in_err-current.ensures.refused)
+    rw (r.1, r.2) (inl c.in_err-current.ensures.error)
 
 pub returns-clause-bumps : goal.returns-clause-bumps
 returns-clause-bumps c =

@@ -11,10 +11,10 @@ use Rattle.edit_set_version.specs.PathDependency.{path_dependencies_in, path_dep
 use Rattle.edit_set_version.proofs.ChoiceLemmas.{spread_more}
 use Rattle.edit_set_version.proofs.pointed.entries_of.Goals as goal
 
-pub returns-in_err-tables-clause-refused : goal.returns-in_err-tables-clause-refused
-returns-in_err-tables-clause-refused c =
+pub returns-in_err-tables-clause-error : goal.returns-in_err-tables-clause-error
+returns-in_err-tables-clause-error c =
     let r = err_from_is_err_and c.from_residual.result c.from_residual.ensures.1 in
-    rw (r.1, r.2) c.in_err-tables.ensures.refused
+    rw (r.1, r.2) c.in_err-tables.ensures.error
 
 pub tables-init : goal.tables-init
 tables-init c = ap path_dependency_views c.new-entries.ensures.items
@@ -29,11 +29,11 @@ tables-preserved c =
     ∙ sym (spread_more (path_dependencies_in t) (λ (p : Vec Step). place_view p.items)
     c.deref-table-items.result.now c.tables.table-index own c.tables-test.true c.table-item.is)
 
-pub returns-in_err-push_table-clause-refused : goal.returns-in_err-push_table-clause-refused
-returns-in_err-push_table-clause-refused c =
+pub returns-in_err-push_table-clause-error : goal.returns-in_err-push_table-clause-error
+returns-in_err-push_table-clause-error c =
     let r = err_from_is_err_and c.from_residual-in_err-push_table.result
     c.from_residual-in_err-push_table.ensures.1 in
-    rw (r.1, r.2) c.in_err-push_table.ensures.refused
+    rw (r.1, r.2) c.in_err-push_table.ensures.error
 
 pub returns-clause-ok : goal.returns-clause-ok
 returns-clause-ok c =

@@ -5,11 +5,11 @@ use Rattle.edit_set_version.specs.PlanLines.{manifests}
 use Rattle.edit_set_version.specs.ToldLines.{with_manifests}
 use Rattle.edit_set_version.proofs.walk.lists_of.Goals as goal
 
-pub returns-in_err-push_project-clause-refused : goal.returns-in_err-push_project-clause-refused
-returns-in_err-push_project-clause-refused c =
+pub returns-in_err-push_project-clause-error : goal.returns-in_err-push_project-clause-error
+returns-in_err-push_project-clause-error c =
     let p = err_from_is_err_and c.from_residual-in_err-push_project.result
     c.from_residual-in_err-push_project.ensures.1 in
-    rw (p.1, p.2) (c.in_err-push_project.ensures.refused (bumps_view c.args.bumps.now) c.requires.numbers)
+    rw (p.1, p.2) (c.in_err-push_project.ensures.error (bumps_view c.args.bumps.now) c.requires.numbers)
 
 pub returns-clause-ok : goal.returns-clause-ok
 returns-clause-ok c =

@@ -7,16 +7,16 @@ use Rattle.edit_set_version.specs.PlanCauses.{IsUnraised}
 use Rattle.edit_set_version.proofs.DependentLemmas.{all_rise}
 use Rattle.edit_set_version.proofs.walk.push_manifest.Goals as goal
 
-pub returns-in_err-dependents-clause-refused : goal.returns-in_err-dependents-clause-refused
-returns-in_err-dependents-clause-refused c =
+pub returns-in_err-dependents-clause-error : goal.returns-in_err-dependents-clause-error
+returns-in_err-dependents-clause-error c =
     let p = err_from_is_err_and c.from_residual.result c.from_residual.ensures.1 in
     let tree = tree_of c.args.manifest.now.document in
     let e = c.in_err-dependents.field-0.0 in
     rw (p.1, p.2) (λ bs tells. subst (λ q. IsMemory e ⊎ IsUnraised bs q tree e) c.as_str.ensures.value
-    (c.in_err-dependents.ensures.refused bs tells))
+    (c.in_err-dependents.ensures.error bs tells))
 
-pub returns-in_err-push_updates-clause-refused : goal.returns-in_err-push_updates-clause-refused
-returns-in_err-push_updates-clause-refused c =
+pub returns-in_err-push_updates-clause-error : goal.returns-in_err-push_updates-clause-error
+returns-in_err-push_updates-clause-error c =
     let p = err_from_is_err_and c.from_residual-in_err-push_updates.result
     c.from_residual-in_err-push_updates.ensures.1 in
     rw (p.1, p.2) (λ bs tells. inl refl)

@@ -38,8 +38,8 @@ returns-then-eq-clause-rise c = λ bs tells.
     ∙ c.if-eq.true in
     subst (All (AllRiseIn bs)) (sym (other_same root m same)) (All-nil (AllRiseIn bs))
 
-pub returns-in_err-push_manifest-clause-refused : goal.returns-in_err-push_manifest-clause-refused
-returns-in_err-push_manifest-clause-refused c =
+pub returns-in_err-push_manifest-clause-error : goal.returns-in_err-push_manifest-clause-error
+returns-in_err-push_manifest-clause-error c =
     let p = err_from_is_err_and c.from_residual.result c.from_residual.ensures.1 in
     let m = member_of c.args.found in
     let root = c.args.root.now in
@@ -47,7 +47,7 @@ returns-in_err-push_manifest-clause-refused c =
     let other : same_bytes m.path root ≡ false
     = compared m.path root c.as_str.result.now c.eq.result c.as_str.ensures.value c.eq.ensures
     ∙ c.if-eq.false in
-    rw (p.1, p.2) (λ bs tells. elim (c.in_err-push_manifest.ensures.refused bs tells) [
+    rw (p.1, p.2) (λ bs tells. elim (c.in_err-push_manifest.ensures.error bs tells) [
       | inl none ↦ inl none
       | inr has ↦ inr (subst (λ ms. AreUnraised bs ms e) (sym (other_one root m other))
           (first_here (AllRiseIn bs) (λ (n : Named). IsUnraised bs n.path n.tree e) (named_member m) [] has))

@@ -13,12 +13,12 @@ pub members-init : goal.members-init
 members-init c = λ bs tells.
     (sym (no_manifests bs 0 (line_lists_view c.args.lists.now.items)), All-nil (AllRiseIn bs))
 
-pub returns-in_err-push_member-clause-refused : goal.returns-in_err-push_member-clause-refused
-returns-in_err-push_member-clause-refused c =
+pub returns-in_err-push_member-clause-error : goal.returns-in_err-push_member-clause-error
+returns-in_err-push_member-clause-error c =
     let p = err_from_is_err_and c.from_residual.result c.from_residual.ensures.1 in
     rw (p.1, p.2) (λ bs tells. unraised_among bs c.args.root.now c.args.crates.now c.members.found-index
     c.found-item.result c.in_err-push_member.field-0.0 c.members-test.true c.found-item.is
-    (c.members.invariant bs tells).1 (c.in_err-push_member.ensures.refused bs tells))
+    (c.members.invariant bs tells).1 (c.in_err-push_member.ensures.error bs tells))
 
 pub members-preserved : goal.members-preserved
 members-preserved c = λ bs tells.

@@ -26,12 +26,12 @@ abbrev others_of : ProjectRead → List Named
 others_of project =
     other_manifests (string_bytes project.root.input.now.path) (members_of project.members.items)
 
-pub returns-in_err-push_manifest-clause-refused : goal.returns-in_err-push_manifest-clause-refused
-returns-in_err-push_manifest-clause-refused c =
+pub returns-in_err-push_manifest-clause-error : goal.returns-in_err-push_manifest-clause-error
+returns-in_err-push_manifest-clause-error c =
     let p = err_from_is_err_and c.from_residual.result c.from_residual.ensures.1 in
     let project = c.args.project.now in
     let e = c.in_err-push_manifest.field-0.0 in
-    rw (p.1, p.2) (λ bs tells. elim (c.in_err-push_manifest.ensures.refused bs tells) [
+    rw (p.1, p.2) (λ bs tells. elim (c.in_err-push_manifest.ensures.error bs tells) [
       | inl none ↦ inl none
       | inr has ↦ inr (first_here (AllRiseIn bs) (λ (m : Named). IsUnraised bs m.path m.tree e)
           (root_of project) (others_of project) has)
@@ -45,15 +45,15 @@ others_given project path cs at same =
     ap (λ r. other_manifests r (members_of cs)) at
     ∙ ap (λ xs. other_manifests (string_bytes project.root.input.now.path) (members_of xs)) same
 
-pub returns-in_err-push_members-clause-refused : goal.returns-in_err-push_members-clause-refused
-returns-in_err-push_members-clause-refused c =
+pub returns-in_err-push_members-clause-error : goal.returns-in_err-push_members-clause-error
+returns-in_err-push_members-clause-error c =
     let p = err_from_is_err_and c.from_residual-in_err-push_members.result
     c.from_residual-in_err-push_members.ensures.1 in
     let project = c.args.project.now in
     let e = c.in_err-push_members.field-0.0 in
     let given = others_given project c.as_str.result.now c.deref.result.now c.as_str.ensures.value
     c.deref.ensures.value in
-    rw (p.1, p.2) (λ bs tells. elim (c.in_err-push_members.ensures.refused bs tells) [
+    rw (p.1, p.2) (λ bs tells. elim (c.in_err-push_members.ensures.error bs tells) [
       | inl none ↦ inl none
       | inr has ↦ inr (first_behind (AllRiseIn bs) (λ (m : Named). IsUnraised bs m.path m.tree e)
           (root_of project ∷ []) (others_of project)

@@ -41,8 +41,8 @@ lines-preserved c =
     (map entry_of c.lines.entries.items) read c.split_line.ensures.lines _ c.split_line.ensures.shorter
     (subst (λ es. HaveEntriesInOrder (read.lines ++ c.split_line.result.0.now ∷ []) es) (sym all) says)
 
-pub returns-in-Err-clause-refused : goal.returns-in-Err-clause-refused
-returns-in-Err-clause-refused c =
+pub returns-in-Err-clause-error : goal.returns-in-Err-clause-error
+returns-in-Err-clause-error c =
     let read = subst (λ r. HasRead c.args.bytes.now c.lines.number r (map entry_of c.lines.entries.items))
     c.in-Some.is c.lines.invariant in
     let is : is_blank c.split_line.result.0.now ≡ false = sym c.blank.ensures ∙ c.if-blank.false in

@@ -27,11 +27,11 @@ returns-clause-only c =
     (λ url has other also. one_url c.args.configs.now (given c.args.registry) other url also
     (has c.args.configs.now c.in_ok-definitions.ensures.defines)) c.resolve.ensures.address
 
-pub returns-clause-refused : goal.returns-clause-refused
-returns-clause-refused c =
+pub returns-clause-error : goal.returns-clause-error
+returns-clause-error c =
     let d = c.in_ok-definitions.definitions in
     IfErr-weaker c.resolve.result (λ e. IsMemory e ⊎ Refuses d (given c.args.registry) e)
     (λ e. IsMemory e ⊎ HasNoUrl c.args.configs.now (given c.args.registry) e)
     (λ e refused. ⊎_elim (λ m. inl m)
     (λ r. inr (r c.args.configs.now c.in_ok-definitions.ensures.defines)) refused)
-    c.resolve.ensures.refused
+    c.resolve.ensures.error

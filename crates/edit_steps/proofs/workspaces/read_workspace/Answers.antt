@@ -25,21 +25,21 @@ returns-clause-paths g c =
     (workspace_view c.in_ok-workspace.workspace) c.in-Ok.inputs.items
     c.in_ok-workspace.ensures.folders c.in-Ok.ensures.inputs
 
-pub returns-in_err-workspace-clause-refused : goal.returns-in_err-workspace-clause-refused
-returns-in_err-workspace-clause-refused g c =
+pub returns-in_err-workspace-clause-error : goal.returns-in_err-workspace-clause-error
+returns-in_err-workspace-clause-error g c =
     refusal_has c.from_residual.result c.in_err-workspace.field-0.0 _ c.from_residual.ensures.1
     (metadata_cause (g.S.Store.view c.args.files.now) (g.S.Store.view c.read_metadata.new.files)
     c.args.current.now c.args.named.now
-    c.in_err-workspace.field-0.0.error c.in_err-workspace.ensures.refused)
+    c.in_err-workspace.field-0.0.error c.in_err-workspace.ensures.error)
 
-pub returns-in-Err-clause-refused : goal.returns-in-Err-clause-refused
-returns-in-Err-clause-refused g c =
+pub returns-in-Err-clause-error : goal.returns-in-Err-clause-error
+returns-in-Err-clause-error g c =
     manifest_before (g.S.Store.view c.args.files.now) (g.S.Store.view c.read_metadata.new.files)
     (g.S.Store.view c.workspace_inputs.new.store) (g.S.Store.view c.at_manifest.new.files)
     c.args.current.now c.args.named.now (workspace_view c.in_ok-workspace.workspace) c.in-Err.error
     c.at_manifest.result.error c.in_ok-workspace.ensures.reads c.at_manifest.ensures.reads
     c.at_manifest.ensures.counted c.at_manifest.ensures.same c.in_ok-workspace.ensures.metadata
-    c.in-Err.ensures.refused
+    c.in-Err.ensures.error
 
 pub returns-in_err-workspace-clause-only : goal.returns-in_err-workspace-clause-only
 returns-in_err-workspace-clause-only g c =
@@ -60,4 +60,4 @@ returns-in-Err-clause-only g c =
     (only_on call.Read (g.S.Store.view c.args.files.now) mid read e (IsWorkspaceError e) (IsWorkspaceError e)
     c.in_ok-workspace.ensures.reads (λ same. same)
     (inputs_error mid read (manifests (workspace_view c.in_ok-workspace.workspace)) e
-    c.in-Err.ensures.refused))
+    c.in-Err.ensures.error))

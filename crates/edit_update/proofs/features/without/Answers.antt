@@ -32,8 +32,8 @@ remove-requires-clause-inner c =
     let form = c.lemma_form.ensures.some in
     string_inner form.0 (tree_of c.places.left) place (c.lemma_form.ensures.shows form.0 form.1) strings.0
 
-pub returns-in_err-remove-clause-refused : goal.returns-in_err-remove-clause-refused
-returns-in_err-remove-clause-refused c =
+pub returns-in_err-remove-clause-error : goal.returns-in_err-remove-clause-error
+returns-in_err-remove-clause-error c =
     let place = place_view c.deref.result.now in
     let rest = map (λ p. place_view p.items) (drop (c.places.place-index + 1) c.args.places.now) in
     let front = places_view (take c.places.place-index c.args.places.now) in
@@ -44,7 +44,7 @@ returns-in_err-remove-clause-refused c =
     × HasFailedRemoval (places_view c.args.places.now) c.args.document.now.bytes) =
     ⊎_elim (λ m. inl m)
     (λ r. inr (r.0, one_stays _ front rest place _ _ split c.places.invariant.without r.1))
-    c.in_err-remove.ensures.refused in
+    c.in_err-remove.ensures.error in
     let stop = c.from_residual-in_err-remove in
     let e = err_from_is_err_and stop.result stop.ensures.1 in
     rw (e.1, e.2) why

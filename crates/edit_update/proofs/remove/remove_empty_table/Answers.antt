@@ -49,8 +49,8 @@ returns-clause-gone c path name e absent =
     (tree_of c.remove.new.self) e (root_not c.args.table.now (sym c.is_empty.ensures ∙ c.if-is_empty.false))
     (c.in_ok-remove.ensures.tree form.0 form.1)
 
-pub returns-in_err-remove-clause-refused : goal.returns-in_err-remove-clause-refused
-returns-in_err-remove-clause-refused c =
+pub returns-in_err-remove-clause-error : goal.returns-in_err-remove-clause-error
+returns-in_err-remove-clause-error c =
     let old = c.args.document.now in
     let place = place_view c.args.table.now in
     let is = c.is_empty_table.ensures old place c.item.ensures in
@@ -64,7 +64,7 @@ returns-in_err-remove-clause-refused c =
           (sym c.is_empty.ensures ∙ c.if-is_empty.false)) (sym is ∙ c.if-not-is_empty_table.false)))
           (first_stays place [] old.bytes r.1),
     ))
-    c.in_err-remove.ensures.refused in
+    c.in_err-remove.ensures.error in
     let stop = c.from_residual in
     let e = err_from_is_err_and stop.result stop.ensures.1 in
     rw (e.1, e.2) why

@@ -12,8 +12,8 @@ use Rattle.edit_manifest.specs.Tables.{keyed}
 use Rattle.edit_update.proofs.RemovedTables.{entry_kept, found_stands, member_gone, table_kept, taken_out}
 use Rattle.edit_update.proofs.remove.taken_out.Goals as goal
 
-pub returns-in_err-remove-clause-refused : goal.returns-in_err-remove-clause-refused
-returns-in_err-remove-clause-refused c =
+pub returns-in_err-remove-clause-error : goal.returns-in_err-remove-clause-error
+returns-in_err-remove-clause-error c =
     let path = map string_bytes c.args.table_path.now in
     let old = c.args.document.now in
     let r = place_view c.deref.result.now in
@@ -33,13 +33,13 @@ returns-in_err-remove-clause-refused c =
     (sym c.in_default.ensures) stands
     (subst (λ d. IsMemory c.in_err-remove.field-0.0 ⊎ ((c.in_err-remove.field-0.0 ≡ EditRefused)
     × RemoveFails p d.bytes))
-    same c.in_err-remove.ensures.refused) in
+    same c.in_err-remove.ensures.error) in
     let stop = c.from_residual-in_err-remove in
     let e = err_from_is_err_and stop.result stop.ensures.1 in
     rw (e.1, e.2) why
 
-pub returns-in_err-remove_empty_table-clause-refused : goal.returns-in_err-remove_empty_table-clause-refused
-returns-in_err-remove_empty_table-clause-refused c =
+pub returns-in_err-remove_empty_table-clause-error : goal.returns-in_err-remove_empty_table-clause-error
+returns-in_err-remove_empty_table-clause-error c =
     let path = map string_bytes c.args.table_path.now in
     let old = c.args.document.now in
     let r = place_view c.deref-4.result.now in
@@ -64,7 +64,7 @@ returns-in_err-remove_empty_table-clause-refused c =
     (c.lemma_form.ensures.shows form.0 form.1) c.remove.new.self again.0
     c.in_err-remove_empty_table.field-0.0
     (sym c.in_default.ensures) stands (c.in_ok-remove.ensures.bytes form.0 reads) again.1
-    (c.lemma_form-2.ensures.shows again.0 again.1) removed c.in_err-remove_empty_table.ensures.refused in
+    (c.lemma_form-2.ensures.shows again.0 again.1) removed c.in_err-remove_empty_table.ensures.error in
     let stop = c.from_residual-in_err-remove_empty_table in
     let e = err_from_is_err_and stop.result stop.ensures.1 in
     rw (e.1, e.2) why

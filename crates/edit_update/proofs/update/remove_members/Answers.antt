@@ -6,15 +6,15 @@ use Rattle.edit_update.proofs.Updates.{is_remaining, is_removed, none_asked, one
 use Rattle.edit_update.proofs.update.remove_members.Goals as goal
 use Rattle.edit_update.proofs.update.remove_members.Goals.{then-is_none+in_ok-remove_member, else-is_none}
 
-pub returns-in_err-remove_member-clause-refused : goal.returns-in_err-remove_member-clause-refused
-returns-in_err-remove_member-clause-refused c =
+pub returns-in_err-remove_member-clause-error : goal.returns-in_err-remove_member-clause-error
+returns-in_err-remove_member-clause-error c =
     let p = err_from_is_err_and c.from_residual.result c.from_residual.ensures.1 in
     let end = c.end-item.result in
     let asked = is_removed end.name.now end.value (c.is_none.ensures ∙ ap not c.if-is_none.true) in
     rw (p.1, p.2)
     (one_refused removal_of (place_view c.args.entry.now) c.args.ends.now c.ends.end-index end
     c.ends-test.true c.end-item.is (removes end.name.now) c.args.document.now.bytes
-    c.ends.document.bytes _ asked c.ends.invariant c.in_err-remove_member.ensures.refused)
+    c.ends.document.bytes _ asked c.ends.invariant c.in_err-remove_member.ensures.error)
 
 pub ends-preserved : goal.ends-preserved
 ends-preserved c =

@@ -38,12 +38,12 @@ returns-then-is_replaced-clause-text c form is =
           (c.lemma_form-then-is_replaced.ensures.shows again.0 again.1) bytes c.in_ok-replace_entry.ensures.tree,
     ))
 
-pub returns-in_err-replace_entry-clause-refused : goal.returns-in_err-replace_entry-clause-refused
-returns-in_err-replace_entry-clause-refused c =
+pub returns-in_err-replace_entry-clause-error : goal.returns-in_err-replace_entry-clause-error
+returns-in_err-replace_entry-clause-error c =
     let stop = c.from_residual-in_err-replace_entry in
     let p = err_from_is_err_and stop.result stop.ensures.1 in
     rw (p.1, p.2)
-    (elim c.in_err-replace_entry.ensures.refused [
+    (elim c.in_err-replace_entry.ensures.error [
       | inl memory ↦ inl memory
       | inr p ↦ inr (
         p.0,
@@ -57,12 +57,12 @@ returns-in_err-replace_entry-clause-refused c =
       )
     ])
 
-pub returns-in_err-write_members-clause-refused : goal.returns-in_err-write_members-clause-refused
-returns-in_err-write_members-clause-refused c =
+pub returns-in_err-write_members-clause-error : goal.returns-in_err-write_members-clause-error
+returns-in_err-write_members-clause-error c =
     let stop = c.from_residual-in_err-write_members in
     let p = err_from_is_err_and stop.result stop.ensures.1 in
     rw (p.1, p.2)
-    (elim c.in_err-write_members.ensures.refused [
+    (elim c.in_err-write_members.ensures.error [
       | inl memory ↦ inl memory
       | inr h ↦ inr (
         h.0,
@@ -104,8 +104,8 @@ returns-clause-text c =
     c.as_slice-2.ensures.value h)))
     c.remove_members.ensures.changed
 
-pub returns-clause-refused : goal.returns-clause-refused
-returns-clause-refused c =
+pub returns-clause-error : goal.returns-clause-error
+returns-clause-error c =
     IfErr-weaker c.remove_members.result _ _
     (λ e h. elim h [
       | inl memory ↦ inl memory
@@ -129,4 +129,4 @@ returns-clause-refused c =
             (subst (λ l. OneFails place (filter_map removal_of (final_values_view l)) mid)
             c.as_slice-2.ensures.value p.1)),
       )
-    ]) c.remove_members.ensures.refused
+    ]) c.remove_members.ensures.error

@@ -9,8 +9,8 @@ use Rattle.edit_update.proofs.Updates.{none_asked, one_made, one_refused, reads_
 use Rattle.edit_update.proofs.update.write_members.Goals as goal
 use Rattle.edit_update.proofs.update.write_members.Goals.{in-Some+in_ok-write_member, in_default}
 
-pub returns-in_err-write_member-clause-refused : goal.returns-in_err-write_member-clause-refused
-returns-in_err-write_member-clause-refused c =
+pub returns-in_err-write_member-clause-error : goal.returns-in_err-write_member-clause-error
+returns-in_err-write_member-clause-error c =
     let p = err_from_is_err_and c.from_residual.result c.from_residual.ensures.1 in
     let name = c.end-item.result.name.now in
     let asked = ap (λ (o : Option WrittenValue). option_map (writes name) (option_map new_value_view o))
@@ -18,7 +18,7 @@ returns-in_err-write_member-clause-refused c =
     rw (p.1, p.2)
     (one_refused write_of (place_view c.args.entry.now) c.args.ends.now c.ends.end-index c.end-item.result
     c.ends-test.true c.end-item.is (writes name (new_value_view c.in-Some.value)) c.args.document.now.bytes
-    c.ends.document.bytes _ asked c.ends.invariant c.in_err-write_member.ensures.refused)
+    c.ends.document.bytes _ asked c.ends.invariant c.in_err-write_member.ensures.error)
 
 pub ends-preserved : goal.ends-preserved
 ends-preserved c =

@@ -18,7 +18,7 @@ not-some {A} o is some = cc (ap (λ (p : Option (Bor A)). is_some (option_copied
 pub returns-in_err-add_input-in-Some-clause-given : goal.returns-in_err-add_input-in-Some-clause-given
 returns-in_err-add_input-in-Some-clause-given g c =
     refusal-has c.from_residual.result c.in_err-add_input-in-Some.field-0.0 _ c.from_residual.ensures.1
-    (λ some. c.in_err-add_input-in-Some.ensures.refused)
+    (λ some. c.in_err-add_input-in-Some.ensures.error)
 
 pub returns-in_err-add_input-in-Some-clause-read : goal.returns-in_err-add_input-in-Some-clause-read
 returns-in_err-add_input-in-Some-clause-read g c =
@@ -37,7 +37,7 @@ returns-in_err-manifest-in-None-clause-read g c =
     refusal-has c.from_residual-in_err-manifest-in-None.result e _
     c.from_residual-in_err-manifest-in-None.ensures.1
     (λ none. inl (subst (λ (bytes : List ℕ). IsBadManifest bytes e) c.deref.ensures.value
-    c.in_err-manifest-in-None.ensures.refused))
+    c.in_err-manifest-in-None.ensures.error))
 
 pub returns-in_err-add_input-in-None-clause-given : goal.returns-in_err-add_input-in-None-clause-given
 returns-in_err-add_input-in-None-clause-given g c =
@@ -52,7 +52,7 @@ returns-in_err-add_input-in-None-clause-read g c =
     c.in_ok-manifest-in-None.ensures.utf8 in
     refusal-has c.from_residual-in_err-add_input-in-None.result e _
     c.from_residual-in_err-add_input-in-None.ensures.1
-    (λ none. elim c.in_err-add_input-in-None.ensures.refused [
+    (λ none. elim c.in_err-add_input-in-None.ensures.error [
       | inl memory ↦ inl (inr (inr (memory, utf8)))
       | inr stops ↦ inr stops
     ])

@@ -27,9 +27,9 @@ returns-clause-ok c =
     subst (λ (xs : List (String Global)). ArePackageArgs (map string_bytes xs) c.words.read)
     (take_all c.words.word-index c.args.words.now (omega (arith, c.words-test.false))) c.words.invariant
 
-pub returns-in_err-add_package_arg-clause-refused : goal.returns-in_err-add_package_arg-clause-refused
-returns-in_err-add_package_arg-clause-refused c =
+pub returns-in_err-add_package_arg-clause-error : goal.returns-in_err-add_package_arg-clause-error
+returns-in_err-add_package_arg-clause-error c =
     refusal-has c.from_residual.result c.in_err-add_package_arg.field-0.0 _ c.from_residual.ensures.1
     (stops-at c.args.words.now c.words.word-index c.word-item.result c.as_str.result.now
     c.in_err-add_package_arg.field-0.0 c.words-test.true c.word-item.is c.as_str.ensures.value
-    c.words.invariant.each c.in_err-add_package_arg.ensures.refused)
+    c.words.invariant.each c.in_err-add_package_arg.ensures.error)

@@ -36,7 +36,7 @@ pub returns-in_err-plan-clause-given : goal.returns-in_err-plan-clause-given
 returns-in_err-plan-clause-given g c =
     refusal-has c.from_residual-in_err-plan.result c.in_err-plan.field-0.0 _
     c.from_residual-in_err-plan.ensures.1
-    (λ given. inr (c.in_ok-picks.ensures.ok.words.each, inl c.in_err-plan.ensures.refused.0))
+    (λ given. inr (c.in_ok-picks.ensures.ok.words.each, inl c.in_err-plan.ensures.error.0))
 
 pub returns-in_err-plan-clause-read : goal.returns-in_err-plan-clause-read
 returns-in_err-plan-clause-read g c =
@@ -47,8 +47,8 @@ returns-in_err-plan-clause-read g c =
       finish-refused c.args.inputs.now (lists_in c.args.configs) (cache_view g.I.Index.view c.args.index.now)
           (cache_view g.I.Index.view c.plan_each_input.new.index) c.in_err-plan.field-0.0
           c.in_ok-draft.ensures.inputs.planned c.requires.configurations
-          (rows-some c.in_ok-draft.draft.rows.items c.in_err-plan.ensures.refused.1)
-          (c.in_ok-draft.ensures.utf8 none) c.in_err-plan.ensures.refused.0,
+          (rows-some c.in_ok-draft.draft.rows.items c.in_err-plan.ensures.error.1)
+          (c.in_ok-draft.ensures.utf8 none) c.in_err-plan.ensures.error.0,
     ))
 
 pub returns-in_err-draft-clause-given : goal.returns-in_err-draft-clause-given
@@ -73,12 +73,12 @@ invariant_of-asked g c = record {
 pub returns-in_err-picks-clause-given : goal.returns-in_err-picks-clause-given
 returns-in_err-picks-clause-given g c =
     refusal-has c.from_residual.result c.in_err-picks.field-0.0 _ c.from_residual.ensures.1
-    (λ given. inl c.in_err-picks.ensures.refused)
+    (λ given. inl c.in_err-picks.ensures.error)
 
 pub returns-in_err-picks-clause-read : goal.returns-in_err-picks-clause-read
 returns-in_err-picks-clause-read g c =
     refusal-has c.from_residual.result c.in_err-picks.field-0.0 _ c.from_residual.ensures.1
-    (λ none. inl c.in_err-picks.ensures.refused)
+    (λ none. inl c.in_err-picks.ensures.error)
 
 pub returns-in_err-missing-clause-read : goal.returns-in_err-missing-clause-read
 returns-in_err-missing-clause-read g c =
@@ -86,4 +86,4 @@ returns-in_err-missing-clause-read g c =
     c.from_residual-in_err-missing.ensures.1
     (λ none. inl (inl (memory-at (words_of c.args.options.now) c.deref.result.now c.in_err-missing.field-0.0
     (ap (map string_bytes) c.deref.ensures.value ∙ c.in_ok-picks.ensures.ok.words.names)
-    c.in_err-missing.ensures.refused.1 c.in_err-missing.ensures.refused.0)))
+    c.in_err-missing.ensures.error.1 c.in_err-missing.ensures.error.0)))

@@ -5,8 +5,8 @@ use Rattle.edit_tree.specs.DocumentViews.{DocumentViews}
 use Rattle.edit_metadata.specs.declared.input.Input.{Input}
 use Rattle.edit_upgrade.proofs.plan.plan_documents.Goals as goal
 
-pub returns-clause-refused : goal.returns-clause-refused
-returns-clause-refused g c =
+pub returns-clause-error : goal.returns-clause-error
+returns-clause-error g c =
     let long = sym (length-map c.args.documents.now (λ (d : DocumentViews). d.bytes))
     ∙ ap length c.requires.documents
     ∙ length-map c.args.inputs.now (λ (input : Input). input.bytes.items) in

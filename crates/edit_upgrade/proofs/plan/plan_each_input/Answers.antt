@@ -48,7 +48,7 @@ add_read-requires g c = record {
       c.list_index-list.result c.index-inputs-i.result c.take_addresses-addresses.result c.inputs-test.true
       c.requires.configurations c.index-inputs-i.is c.list_index-list.ensures.within
       c.list_index-list.ensures.list c.take_addresses-addresses.ensures.addresses;
-  kept = c.inputs.invariant.draft.kept;
+  preserved = c.inputs.invariant.draft.kept;
 }
 
 pub keep_addresses-requires : goal.keep_addresses-requires
@@ -72,7 +72,7 @@ inputs-preserved g c =
       draft = draft-next c.args.asked.options.now was now next c.inputs.draft c.add_read.new.draft at
           c.requires.paths c.inputs.invariant.draft c.inputs.invariant.left.same
           c.in_ok-add_read.ensures.left.adds.stays c.in_ok-add_read.ensures.adds
-          c.in_ok-add_read.ensures.kept;
+          c.in_ok-add_read.ensures.preserved;
       known = known-next c.args.asked.options.now c.args.inputs.now c.inputs.i c.index-inputs-i.result
           (contains_text c.inputs.draft.known) (contains_text c.add_read.new.draft.known) at.low at.is
           c.inputs.invariant.known c.in_ok-add_read.ensures.known;
@@ -175,7 +175,7 @@ returns-in_err-keep_addresses-clause-given g c =
     c.from_residual-in_err-keep_addresses.ensures.1
     (λ long. given-refused was now next c.in_err-keep_addresses.field-0.0 at c.inputs.invariant.draft.planned
     c.inputs.invariant.left c.in_ok-add_read.ensures.left.adds.stays
-    (inl c.in_err-keep_addresses.ensures.refused))
+    (inl c.in_err-keep_addresses.ensures.error))
 
 pub returns-in_err-keep_addresses-clause-read : goal.returns-in_err-keep_addresses-clause-read
 returns-in_err-keep_addresses-clause-read g c =
@@ -193,4 +193,4 @@ returns-in_err-keep_addresses-clause-read g c =
     ∙ ap (λ (ds : List DocumentViews). slice_get ds c.inputs.i) e) in
     read-refused was now next c.in_err-keep_addresses.field-0.0 at c.inputs.invariant.draft.planned
     c.inputs.invariant.left c.in_ok-add_read.ensures.left.adds.stays
-    (inl (inr (inr (c.in_err-keep_addresses.ensures.refused, utf8)))))
+    (inl (inr (inr (c.in_err-keep_addresses.ensures.error, utf8)))))

@@ -88,8 +88,8 @@ returns-in_err-rows-clause-left g c =
     (cached_by c.args.index.now) (cached_by c.walk.new.index) (map seen_of c.deref-3.result.now) seen
     c.in_err-rows.ensures.left
 
-pub returns-in_err-rows-clause-refused : goal.returns-in_err-rows-clause-refused
-returns-in_err-rows-clause-refused g c =
+pub returns-in_err-rows-clause-error : goal.returns-in_err-rows-clause-error
+returns-in_err-rows-clause-error g c =
     let seen = subst (λ (xs : List Entry). AreRowEntries c.args.job.input.now.bytes.items (map seen_of xs))
     (sym c.deref-3.ensures.value)
     (document-seen c.args.job.input.now.bytes.items c.args.document.now
@@ -101,4 +101,4 @@ returns-in_err-rows-clause-refused g c =
     (g.I.Index.view (index_of c.args.index.now)).gives
     (cached_by c.args.index.now) (cached_by c.walk.new.index)
     (g.I.Index.view (index_of c.args.index.now)).faults (g.I.Index.view (index_of c.walk.new.index)).faults
-    (map seen_of c.deref-3.result.now) c.in_err-rows.field-0.0 seen c.in_err-rows.ensures.refused)
+    (map seen_of c.deref-3.result.now) c.in_err-rows.field-0.0 seen c.in_err-rows.ensures.error)

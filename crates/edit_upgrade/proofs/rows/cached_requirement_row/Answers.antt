@@ -36,9 +36,9 @@ returns-clause-ok g c =
     (line_of r)) named (h answer ranking)))
     c.row_with.ensures.ok
 
-pub returns-clause-kept : goal.returns-clause-kept
-returns-clause-kept g c = kept-same c.args.index.now c.rank_for.new.self c.in_ok-rank_for.ensures.kept
+pub returns-clause-preserved : goal.returns-clause-preserved
+returns-clause-preserved g c = kept-same c.args.index.now c.rank_for.new.self c.in_ok-rank_for.ensures.preserved
 
-pub returns-in_err-rank_for-clause-kept : goal.returns-in_err-rank_for-clause-kept
-returns-in_err-rank_for-clause-kept g c =
-    kept-same c.args.index.now c.rank_for.new.self c.in_err-rank_for.ensures.kept
+pub returns-in_err-rank_for-clause-preserved : goal.returns-in_err-rank_for-clause-preserved
+returns-in_err-rank_for-clause-preserved g c =
+    kept-same c.args.index.now c.rank_for.new.self c.in_err-rank_for.ensures.preserved

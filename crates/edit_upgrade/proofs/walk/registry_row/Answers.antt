@@ -14,15 +14,15 @@ use Rattle.edit_upgrade.proofs.PlannedLemmas.{refusal-has}
 use Rattle.edit_upgrade.proofs.WalkLemmas.{no-look, no-registry, registry-decided, registry-left, registry-step}
 use Rattle.edit_upgrade.proofs.walk.registry_row.Goals as goal
 
-pub returns-in_err-see-clause-refused : goal.returns-in_err-see-clause-refused
-returns-in_err-see-clause-refused g c =
+pub returns-in_err-see-clause-error : goal.returns-in_err-see-clause-error
+returns-in_err-see-clause-error g c =
     refusal-has c.from_residual.result c.in_err-see.field-0.0 _ c.from_residual.ensures.1
     (no-registry c.args.addresses.now.configs.now (seen_of c.args.entry.now) (given c.args.registry)
     (g.I.Index.view (index_of c.args.index.now)).gives
     (cached_by c.args.index.now) (g.I.Index.view (index_of c.args.index.now)).faults
     (g.I.Index.view (index_of c.args.index.now)).faults c.in_err-see.field-0.0
     c.requires.source (⊎_elim (λ m. inl m)
-    (λ r. inr (r c.args.addresses.now.configs.now c.requires.addresses)) c.in_err-see.ensures.refused))
+    (λ r. inr (r c.args.addresses.now.configs.now c.requires.addresses)) c.in_err-see.ensures.error))
 
 pub returns-in_err-lookup_once-clause-left : goal.returns-in_err-lookup_once-clause-left
 returns-in_err-lookup_once-clause-left g c =
@@ -37,8 +37,8 @@ returns-in_err-lookup_once-clause-left g c =
     (sym c.url.ensures ∙ ap option_copied c.in-Some.is))
     c.as_str-name.ensures.value c.in_err-lookup_once.ensures.left
 
-pub returns-in_err-lookup_once-clause-refused : goal.returns-in_err-lookup_once-clause-refused
-returns-in_err-lookup_once-clause-refused g c =
+pub returns-in_err-lookup_once-clause-error : goal.returns-in_err-lookup_once-clause-error
+returns-in_err-lookup_once-clause-error g c =
     refusal-has c.from_residual-in_err-lookup_once.result c.in_err-lookup_once.field-0.0 _
     c.from_residual-in_err-lookup_once.ensures.1
     (no-look c.args.addresses.now.configs.now (seen_of c.args.entry.now)
@@ -49,7 +49,7 @@ returns-in_err-lookup_once-clause-refused g c =
     ((c.in_ok-see.ensures.are c.args.addresses.now.configs.now c.requires.addresses).has
     (given c.args.registry) c.in-Some.url.now
     (sym c.url.ensures ∙ ap option_copied c.in-Some.is))
-    c.as_str-name.ensures.value c.in_err-lookup_once.ensures.refused)
+    c.as_str-name.ensures.value c.in_err-lookup_once.ensures.error)
 
 pub returns-in_err-row-clause-left : goal.returns-in_err-row-clause-left
 returns-in_err-row-clause-left g c =
@@ -69,7 +69,7 @@ returns-in_err-row-clause-left g c =
     subst (λ (k : CachedAnswers). Leaves (IsNeededFor configs e) first
     (g.I.Index.view (index_of c.cached_row.new.index)).gives before
     (g.I.Index.view (index_of c.cached_row.new.index)).faults (cached_by c.args.index.now) k)
-    (sym c.in_err-row.ensures.kept)
+    (sym c.in_err-row.ensures.preserved)
     (subst (λ i. Leaves (IsNeededFor configs e) first (g.I.Index.view i).gives before
     (g.I.Index.view i).faults (cached_by c.args.index.now) (cached_by c.lookup_once.new.index))
     (sym c.in_err-row.ensures.index) left)
@@ -90,7 +90,7 @@ returns-clause-step g c =
     (subst (λ (k : CachedAnswers). IsStep (serialize address) name first old k
     c.args.books.now.looks.items c.lookup_once.new.looks.items
     (holds_pair c.args.books.now.pairs) (holds_pair c.lookup_once.new.pairs))
-    (sym c.in_ok-row.ensures.kept) c.in_ok-lookup_once.ensures.step)
+    (sym c.in_ok-row.ensures.preserved) c.in_ok-lookup_once.ensures.step)
 
 pub returns-clause-row : goal.returns-clause-row
 returns-clause-row g c =
@@ -120,7 +120,7 @@ returns-clause-left g c =
     subst (λ (k : CachedAnswers). Leaves (IsNeededFor configs e) first
     (g.I.Index.view (index_of c.cached_row.new.index)).gives before
     (g.I.Index.view (index_of c.cached_row.new.index)).faults (cached_by c.args.index.now) k)
-    (sym c.in_ok-row.ensures.kept)
+    (sym c.in_ok-row.ensures.preserved)
     (subst (λ i. Leaves (IsNeededFor configs e) first (g.I.Index.view i).gives before
     (g.I.Index.view i).faults (cached_by c.args.index.now) (cached_by c.lookup_once.new.index))
     (sym c.in_ok-row.ensures.index) left)

@@ -34,7 +34,7 @@ entries-init g c =
     let rust = option_map numbers_of c.args.job.input.now.rust_version in
     record {
       addresses = c.requires.addresses;
-      kept = c.requires.kept;
+      kept = c.requires.preserved;
       steps = start kept c.args.books.now.looks.items (holds_pair c.args.books.now.pairs);
       passed = All-nil (IsPassed configs kept);
       rows = subst (λ (rows : List Row). AreDecided (cached_basis c.args.job.number c.args.job.asked.options.now
@@ -95,8 +95,8 @@ returns-in_err-push-clause-left g c =
     (cached_by c.entries.index) (cached_by c.entry_row.new.index)) c.entries.invariant.addresses.own
     c.in_ok-row.ensures.left)
 
-pub returns-in_err-row-clause-refused : goal.returns-in_err-row-clause-refused
-returns-in_err-row-clause-refused g c =
+pub returns-in_err-row-clause-error : goal.returns-in_err-row-clause-error
+returns-in_err-row-clause-error g c =
     refusal-has c.from_residual-in_err-row.result c.in_err-row.field-0.0 _
     c.from_residual-in_err-row.ensures.1
     (walk-refused c.args.addresses.now.configs.now (g.I.Index.view (index_of c.args.index.now)).gives
@@ -116,7 +116,7 @@ returns-in_err-row-clause-refused g c =
     ⊎ StopsAt cs (g.I.Index.view (index_of c.entries.index)).gives (cached_by c.entries.index)
     (g.I.Index.view (index_of c.entries.index)).faults
     (g.I.Index.view (index_of c.entry_row.new.index)).faults (seen_of c.entry-item.result)
-    c.in_err-row.field-0.0) c.entries.invariant.addresses.own c.in_err-row.ensures.refused))
+    c.in_err-row.field-0.0) c.entries.invariant.addresses.own c.in_err-row.ensures.error))
 
 pub entries-preserved : goal.entries-preserved
 entries-preserved g c =

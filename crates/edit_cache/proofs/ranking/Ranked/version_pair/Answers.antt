@@ -24,7 +24,7 @@ returns-clause-compatible c = λ entries g.
     (greatest-at entries ranks rust test choice.compatible
     (subst (λ (r : Option RustVersion). choice.compatible
     ≡ position_from (passes (option_map numbers_of r) test) 0 ranks)
-    c.choice-choice.ensures.asked c.choice-choice.ensures.is.compatible) g)
+    c.choice-choice.ensures.requested c.choice-choice.ensures.is.compatible) g)
 
 pub returns-clause-latest : goal.returns-clause-latest
 returns-clause-latest c = λ entries g.
@@ -36,4 +36,4 @@ returns-clause-latest c = λ entries g.
     (greatest-at entries ranks rust test choice.latest
     (subst (λ (r : Option RustVersion). choice.latest
     ≡ position_from (passes (option_map numbers_of r) test) 0 ranks)
-    c.choice-choice.ensures.asked c.choice-choice.ensures.is.latest) g)
+    c.choice-choice.ensures.requested c.choice-choice.ensures.is.latest) g)

@@ -7,8 +7,8 @@ use Rattle.edit_rewrite.proofs.SetBytes.{form_set}
 use Rattle.edit_changes.proofs.SetValues.{set_manifest, set_tree}
 use Rattle.edit_changes.proofs.document_ext.DocumentDocumentExt.set_value.Goals as goal
 
-pub returns-in_err-self-clause-refused : goal.returns-in_err-self-clause-refused
-returns-in_err-self-clause-refused c =
+pub returns-in_err-self-clause-error : goal.returns-in_err-self-clause-error
+returns-in_err-self-clause-error c =
     let f = c.lemma_form.ensures.some in
     let p = place_view c.args.place.now in
     let v = new_value_view c.args.value.now in

@@ -23,7 +23,7 @@ returns-in_err-nodes-clause-only c form m =
     let e = refused_memory c.args.text.now c.as_bytes.result.now c.in_ok-marks.marks.items
     c.as_slice.result.now form c.in_err-nodes.field-0.0
     (length c.args.text.now) c.utf8.text c.as_bytes.ensures.value
-    (c.in_ok-marks.ensures {u = tt}).found c.as_slice.ensures.value (c.in_err-nodes.ensures {u = tt}).refused
+    (c.in_ok-marks.ensures {u = tt}).found c.as_slice.ensures.value (c.in_err-nodes.ensures {u = tt}).error
     (c.in_err-nodes.ensures {u = tt}).nodes m in
     answer_memory c.from_residual-in_err-nodes.result c.in_err-nodes.field-0.0 p.0
     (λ d. ShowsTree d form) p.1 p.2 e

@@ -14,8 +14,8 @@ use Rattle.edit_tree.proofs.PieceLaws.{literal_among, literal_some, most_pieces}
 use Rattle.edit_tree.proofs.ReplacedStrings.{written_same}
 use Rattle.edit_document.proofs.document.Document.set_literal.Goals as goal
 
-pub returns-in_err-new-clause-refused : goal.returns-in_err-new-clause-refused
-returns-in_err-new-clause-refused c =
+pub returns-in_err-new-clause-error : goal.returns-in_err-new-clause-error
+returns-in_err-new-clause-error c =
     let edit = one_edit (place_view c.args.place.now) c.args.text.now in
     let r = (c.in_ok-new_text.ensures {u = tt}).replaces in
     let manifest = subst (λ (b : List ℕ). IsDocument b (replaced edit r.form))

@@ -5,8 +5,8 @@ use Rattle.edit_lock.specs.LockFile.{packages_in}
 use Rattle.edit_lock.specs.LockFile.IsNoLock.{misshapen}
 use Rattle.edit_lock.proofs.lock.Lock.read.Goals as goal
 
-pub returns-clause-refused : goal.returns-clause-refused
-returns-clause-refused c =
+pub returns-clause-error : goal.returns-clause-error
+returns-clause-error c =
     let document : parse_document c.args.bytes.now ≡ Some (table_view c.in-Ok-table_from_str.table) =
     search rules in
     let none : packages_in (table_view c.in-Ok-table_from_str.table) ≡ None = search rules in

@@ -9,8 +9,8 @@ use Rattle.edit_upgrade.proofs.PlannedLemmas.{refusal-has}
 use Rattle.edit_upgrade.specs.declared.upgrade.Look.{Look}
 use Rattle.edit_program.proofs.looks.text.looks_text.Goals as goal
 
-pub returns-in_err-push_lookup-clause-refused : goal.returns-in_err-push_lookup-clause-refused
-returns-in_err-push_lookup-clause-refused c =
+pub returns-in_err-push_lookup-clause-error : goal.returns-in_err-push_lookup-clause-error
+returns-in_err-push_lookup-clause-error c =
     refusal-has c.from_residual.result c.in_err-push_lookup.field-0.0
     (λ (e : Error). IsMemory e ⊎ HasBadLookup c.args.looks.now (number_of e)) c.from_residual.ensures.1
     (⊎_elim (λ m. inl m) (λ bad. inr (
@@ -18,4 +18,4 @@ returns-in_err-push_lookup-clause-refused c =
       list_any_at (λ (l : Look). not (is_crate_name (string_bytes l.name))) c.args.looks.now
           c.loop-look.look-index c.look-item.result (omega arith)
           (subst (λ (l : Look). not (is_crate_name (string_bytes l.name)) ≡ true) c.look-item.is (ap not bad.1)),
-    )) c.in_err-push_lookup.ensures.refused)
+    )) c.in_err-push_lookup.ensures.error)

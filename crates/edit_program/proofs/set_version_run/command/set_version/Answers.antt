@@ -20,7 +20,7 @@ returns-in_err-read-clause-why g c =
     c.from_residual.ensures.1
     (workspace_cause c.args.words.now c.args.current.now (g.S.Store.view c.args.files.now)
     (g.S.Store.view c.read_workspace.new.files) c.in_err-read.field-0.0.error
-    c.in_err-read.ensures.reads.files c.in_err-read.ensures.refused)
+    c.in_err-read.ensures.reads.files c.in_err-read.ensures.error)
 
 pub returns-in_err-plan-clause-why : goal.returns-in_err-plan-clause-why
 returns-in_err-plan-clause-why g c =
@@ -29,7 +29,7 @@ returns-in_err-plan-clause-why g c =
     (plan_cause c.args.words.now c.args.current.now (g.S.Store.view c.args.files.now)
     (g.S.Store.view c.read_workspace.new.files)
     (workspace_view c.in_ok-read.read.workspace) c.in_ok-read.read.inputs.items c.in_err-plan.field-0.0.error
-    c.in_ok-read.ensures.reads.files c.in_ok-read.ensures.workspace c.in_err-plan.ensures.refused)
+    c.in_ok-read.ensures.reads.files c.in_ok-read.ensures.workspace c.in_err-plan.ensures.error)
 
 pub write_outputs-requires : goal.write_outputs-requires
 write_outputs-requires g c =
@@ -43,7 +43,7 @@ returns-in_err-print_plan-clause-why g c =
     c.from_residual-in_err-print_plan.ensures.1
     (stream_cause c.args.words.now c.args.current.now (g.S.Store.view c.args.files.now)
     (g.S.Store.view c.read_workspace.new.files) c.in_err-print_plan.field-0.0
-    c.in_ok-read.ensures.reads.files c.in_err-print_plan.ensures.refused)
+    c.in_ok-read.ensures.reads.files c.in_err-print_plan.ensures.error)
 
 pub returns-clause-done : goal.returns-clause-done
 returns-clause-done g c =
@@ -63,15 +63,15 @@ returns-clause-done g c =
     (shown words c.as_str.result.now is plan)) c.as_slice.ensures.value c.in_ok-print_plan.ensures.shown))
     (printed_all words (plan_lines_view plan) _ (g.E.Write.contents c.warn_if.new.err)
     (g.E.Write.contents c.print_plan.new.err) _ c.in_ok-warn_if.ensures.text
-    c.in_ok-print_plan.ensures.told c.in_ok-warn_if-2.ensures.text) (
+    c.in_ok-print_plan.ensures.outcome c.in_ok-warn_if-2.ensures.text) (
       subst (λ os. AreWritten os old new) c.written.ensures
           (written_after _ old (g.S.Store.view c.read_workspace.new.files) new c.in_ok-read.ensures.reads
           c.in_ok-write_outputs.ensures.written),
       c.has_some.ensures,
     )
 
-pub returns-in_err-write_outputs-clause-refused : goal.returns-in_err-write_outputs-clause-refused
-returns-in_err-write_outputs-clause-refused g c =
+pub returns-in_err-write_outputs-clause-error : goal.returns-in_err-write_outputs-clause-error
+returns-in_err-write_outputs-clause-error g c =
     let old = g.S.Store.view c.args.files.now in
     let new = g.S.Store.view c.write_outputs.new.files in
     let plan = c.in_ok-plan.plan in
@@ -89,7 +89,7 @@ returns-in_err-write_outputs-clause-refused g c =
     (shown words c.as_str.result.now is plan)) c.as_slice.ensures.value c.in_ok-print_plan.ensures.shown))
     (printed_all words (plan_lines_view plan) _ (g.E.Write.contents c.warn_if.new.err)
     (g.E.Write.contents c.print_plan.new.err) _ c.in_ok-warn_if.ensures.text
-    c.in_ok-print_plan.ensures.told c.in_ok-warn_if-2.ensures.text)
+    c.in_ok-print_plan.ensures.outcome c.in_ok-warn_if-2.ensures.text)
     (subst (λ os. HasStopped os old new) c.written.ensures
     (stopped_after _ old (g.S.Store.view c.read_workspace.new.files) new c.in_ok-read.ensures.reads
     c.in_err-write_outputs.ensures.stopped)) t))
@@ -103,4 +103,4 @@ returns-in_err-write_outputs-clause-counted g c =
     refusal_has c.from_residual-in_err-write_outputs.result e (λ error. CountsFault old new error)
     c.from_residual-in_err-write_outputs.ensures.1
     (fault_before old mid new e.error c.in_ok-read.ensures.reads.later
-    (call_counts call.Write mid new e.error c.in_err-write_outputs.ensures.refused))
+    (call_counts call.Write mid new e.error c.in_err-write_outputs.ensures.error))

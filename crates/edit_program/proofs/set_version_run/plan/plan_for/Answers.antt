@@ -32,18 +32,18 @@ returns-in-Ok-clause-planned c =
     } in
     subst (λ is. IsVersionPlan t a w is c.in-Ok.plan) c.as_slice.ensures.value there
 
-pub returns-in-Err-clause-refused : goal.returns-in-Err-clause-refused
-returns-in-Err-clause-refused c =
+pub returns-in-Err-clause-error : goal.returns-in-Err-clause-error
+returns-in-Err-clause-error c =
     let t = target_of c.args.words.now.target in
     let a = selection_view c.args.words.now.selection in
     let w = workspace_view c.args.read.now.workspace in
     subst (λ is. IsCauseOf t a w is c.explain_set_version.result.error) c.as_slice.ensures.value
-    (subst (λ e. IsCauseOf t a w c.as_slice.result.now e) (sym c.explain_set_version.ensures) c.in-Err.ensures.refused)
+    (subst (λ e. IsCauseOf t a w c.as_slice.result.now e) (sym c.explain_set_version.ensures) c.in-Err.ensures.error)
 
 pub returns-in-Err-clause-counted : goal.returns-in-Err-clause-counted
 returns-in-Err-clause-counted c device =
     let t = target_of c.args.words.now.target in
     let a = selection_view c.args.words.now.selection in
     let w = workspace_view c.args.read.now.workspace in
-    versions_count t a w c.as_slice.result.now c.in-Err.error c.in-Err.ensures.refused
+    versions_count t a w c.as_slice.result.now c.in-Err.error c.in-Err.ensures.error
     (sym (ap number_of c.explain_set_version.ensures) ∙ device)

@@ -49,11 +49,11 @@ returns-clause-stopped g c =
     c.write_outputs.ensures.tells c.in_ok-write_outputs.ensures.written h))))
     c.write_outputs-2.ensures.stopped
 
-pub returns-clause-refused : goal.returns-clause-refused
-returns-clause-refused g c =
+pub returns-clause-error : goal.returns-clause-error
+returns-clause-error g c =
     let later : (g.S.Store.view c.args.files.now).faults ≤ (g.S.Store.view c.write_outputs.new.files).faults
     = omega (arith, c.stage_outputs.ensures.reads.later, c.write_outputs.ensures.later) in
     IfErr-weaker c.write_outputs-2.result _ _
     (λ r h. inl (refused_later _ (g.S.Store.view c.args.files.now) (g.S.Store.view c.write_outputs.new.files)
     (g.S.Store.view c.write_outputs-2.new.files) r.error later h))
-    c.write_outputs-2.ensures.refused
+    c.write_outputs-2.ensures.error

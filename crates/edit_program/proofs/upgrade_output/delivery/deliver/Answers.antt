@@ -14,7 +14,7 @@ returns-in_err-due-clause-cause g c =
     let out = g.O.Write.contents c.args.out.now in
     refusal_made c.from_residual.result c.in_err-due.field-0.0 _ c.from_residual.ensures.1
     (calls_cause (Appends out out) (delivery_of c.args.task.now) (g.S.Store.view c.args.files.now)
-    c.in_err-due.field-0.0 c.in_err-due.ensures.refused)
+    c.in_err-due.field-0.0 c.in_err-due.ensures.error)
 
 pub returns-in_err-carry_out-clause-stopped : goal.returns-in_err-carry_out-clause-stopped
 returns-in_err-carry_out-clause-stopped g c =
@@ -51,8 +51,8 @@ returns-clause-stopped g c =
     c.in_ok-print_plan.ensures.shows c.in_ok-check_lock.ensures.ok c.written.ensures
     c.as_slice-file.ensures.value c.in_ok-outputs.ensures.file c.in_ok-carry_out.ensures.written)))
 
-pub returns-clause-said : goal.returns-clause-said
-returns-clause-said g c =
+pub returns-clause-content : goal.returns-clause-content
+returns-clause-content g c =
     let task = c.args.task.now in
     let a = g.E.Write.contents c.args.err.now in
     let b = g.E.Write.contents c.print_plan.new.err in
@@ -80,4 +80,4 @@ returns-clause-cause g c =
     c.in_ok-due.ensures.calls)
     c.in_ok-print_plan.ensures.shows c.in_ok-check_lock.ensures.ok c.written.ensures
     c.as_slice-file.ensures.value c.in_ok-outputs.ensures.file c.in_ok-carry_out.ensures.written))
-    c.conclude.ensures.refused
+    c.conclude.ensures.error

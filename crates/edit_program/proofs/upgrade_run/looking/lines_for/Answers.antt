@@ -26,13 +26,13 @@ returns-clause-lines c =
     (subst (λ looks. IfOk c.looks_text.result (λ s. string_bytes s ≡ flat_map look_as_line looks))
     c.deref.ensures.value c.looks_text.ensures.text)
 
-pub returns-clause-refused : goal.returns-clause-refused
-returns-clause-refused c =
+pub returns-clause-error : goal.returns-clause-error
+returns-clause-error c =
     IfErr-weaker c.looks_text.result _ _
     (λ e h. inl (lines_refused c.args.options.now c.args.target.now.inputs.items
     (lists_for c.args.configs.now) c.in_ok-plan.plan e c.in_ok-plan.ensures.planned h))
     (subst (λ looks. IfErr c.looks_text.result (λ e. IsMemory e ⊎ HasBadLookup looks (number_of e)))
-    c.deref.ensures.value c.looks_text.ensures.refused)
+    c.deref.ensures.value c.looks_text.ensures.error)
 
 pub returns-clause-counted : goal.returns-clause-counted
 returns-clause-counted c =
@@ -40,7 +40,7 @@ returns-clause-counted c =
     (λ e h. memory_counts e (lines_refused c.args.options.now c.args.target.now.inputs.items
     (lists_for c.args.configs.now) c.in_ok-plan.plan e c.in_ok-plan.ensures.planned h))
     (subst (λ looks. IfErr c.looks_text.result (λ e. IsMemory e ⊎ HasBadLookup looks (number_of e)))
-    c.deref.ensures.value c.looks_text.ensures.refused)
+    c.deref.ensures.value c.looks_text.ensures.error)
 
 pub returns-in_err-plan-clause-counted : goal.returns-in_err-plan-clause-counted
 returns-in_err-plan-clause-counted c =

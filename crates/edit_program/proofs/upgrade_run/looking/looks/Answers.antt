@@ -22,7 +22,7 @@ returns-in_err-sources-clause-why g c =
     c.from_residual.ensures.1
     (unread_cause words current home old new e.error
     (subst (λ a. IsReadCause current home a old new e.error) c.to_lookup_request.ensures
-    c.in_err-sources.ensures.refused))
+    c.in_err-sources.ensures.error))
 
 pub returns-in-Err-clause-why : goal.returns-in-Err-clause-why
 returns-in-Err-clause-why g c =
@@ -36,7 +36,7 @@ returns-in-Err-clause-why g c =
     (unplanned_cause words current home old new s c.in-Err.error
     (λ t. subst (λ a. AreRead old.file_at current home a s) c.to_lookup_request.ensures
     (c.in_ok-sources.ensures.read t))
-    c.in-Err.ensures.refused)
+    c.in-Err.ensures.error)
 
 pub returns-in-Err-clause-reads : goal.returns-in-Err-clause-reads
 returns-in-Err-clause-reads g c =

@@ -46,8 +46,8 @@ returns-clause-planned g c =
     (chosen_lists c.deref-3.result.now c.deref-4.result.now) c.new-cache.result c.plan_shared.new.index p
     c.new-cache.ensures.index c.new-cache.ensures.empty h) c.plan_shared.ensures.plan)))
 
-pub returns-clause-refused : goal.returns-clause-refused
-returns-clause-refused g c =
+pub returns-clause-error : goal.returns-clause-error
+returns-clause-error g c =
     let o = c.args.options.now in
     let is = c.deref.result.now in
     let docs = c.deref-2.result.now in

@@ -10,8 +10,8 @@ use Rattle.edit_program.proofs.CountLemmas.{fault_before}
 use Rattle.edit_program.proofs.LockLemmas.{cause_after, lock_refused}
 use Rattle.edit_program.proofs.upgrade_run.reading.read.Goals as goal
 
-pub returns-in_err-lock-clause-refused : goal.returns-in_err-lock-clause-refused
-returns-in_err-lock-clause-refused g c =
+pub returns-in_err-lock-clause-error : goal.returns-in_err-lock-clause-error
+returns-in_err-lock-clause-error g c =
     let words = c.args.words.now in
     let current = c.args.current.now in
     let home = given c.args.cargo_home in
@@ -21,10 +21,10 @@ returns-in_err-lock-clause-refused g c =
     refusal_has c.from_residual.result e (λ error. IsReadCause current home (to_request words) old new error
     ⊎ (old.tells ≡ true → HasNoLock old.file_at current (given words.lock_file) error))
     c.from_residual.ensures.1
-    (lock_refused old new current home (given words.lock_file) (to_request words) e.error c.in_err-lock.ensures.refused)
+    (lock_refused old new current home (given words.lock_file) (to_request words) e.error c.in_err-lock.ensures.error)
 
-pub returns-in_err-sources-clause-refused : goal.returns-in_err-sources-clause-refused
-returns-in_err-sources-clause-refused g c =
+pub returns-in_err-sources-clause-error : goal.returns-in_err-sources-clause-error
+returns-in_err-sources-clause-error g c =
     let words = c.args.words.now in
     let current = c.args.current.now in
     let home = given c.args.cargo_home in
@@ -37,7 +37,7 @@ returns-in_err-sources-clause-refused g c =
     ⊎ (old.tells ≡ true → HasNoLock old.file_at current (given words.lock_file) error))
     c.from_residual-in_err-sources.ensures.1
     (inl (cause_after old mid new current home (to_request words) e.error c.in_ok-lock.ensures.store
-    (subst (λ a. IsReadCause current home a mid new e.error) c.asked.ensures c.in_err-sources.ensures.refused)))
+    (subst (λ a. IsReadCause current home a mid new e.error) c.asked.ensures c.in_err-sources.ensures.error)))
 
 pub returns-in_err-sources-clause-counted : goal.returns-in_err-sources-clause-counted
 returns-in_err-sources-clause-counted g c =

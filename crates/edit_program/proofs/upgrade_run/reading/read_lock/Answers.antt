@@ -6,11 +6,11 @@ use Rattle.edit_store.specs.Store.{IsCallError}
 use Rattle.edit_program.specs.LockRead.{HasNoLock}
 use Rattle.edit_program.proofs.upgrade_run.reading.read_lock.Goals as goal
 
-pub returns-in-Err-clause-refused : goal.returns-in-Err-clause-refused
-returns-in-Err-clause-refused g c =
+pub returns-in-Err-clause-error : goal.returns-in-Err-clause-error
+returns-in-Err-clause-error g c =
     let old = g.S.Store.view c.args.files.now in
     let new = g.S.Store.view c.read_lock_at.new.files in
     let e = c.in-Err.refusal.error in
     subst (λ named. IsCallError call.Read old new e
     ⊎ (old.tells ≡ true → HasNoLock old.file_at c.args.current.now (given named) e)) (sym c.in-Some.is)
-    c.in-Err.ensures.refused
+    c.in-Err.ensures.error

@@ -36,7 +36,7 @@ returns-in_err-readings-clause-why g c =
     (λ error. IsUpgradeCause (Appends out out) words (run_at current home local old mid) error)
     c.from_residual-in_err-readings.ensures.1
     (lock_cause (Appends out out) words current home local old mid e.error c.read.ensures.store.files
-    c.in_err-readings.ensures.refused)
+    c.in_err-readings.ensures.error)
 
 pub returns-in-Err-clause-why : goal.returns-in-Err-clause-why
 returns-in-Err-clause-why g c =
@@ -54,13 +54,13 @@ returns-in-Err-clause-why g c =
     (sym c.explain_upgrade.ensures.same)
     (plan_cause (Appends out out) words current home local old mid s c.in-Err.error
     (λ path. c.explain_upgrade.ensures.reads.files path ∙ c.in_ok-readings.ensures.store.files path) read
-    c.in-Err.ensures.refused)
+    c.in-Err.ensures.error)
 
 pub returns-in-Err-clause-tells : goal.returns-in-Err-clause-tells
 returns-in-Err-clause-tells g c = c.explain_upgrade.ensures.reads.tells ∙ c.in_ok-readings.ensures.store.tells
 
-pub returns-in-Err-clause-refused : goal.returns-in-Err-clause-refused
-returns-in-Err-clause-refused g c =
+pub returns-in-Err-clause-error : goal.returns-in-Err-clause-error
+returns-in-Err-clause-error g c =
     λ t. inl (λ path. c.explain_upgrade.ensures.reads.files path ∙ c.in_ok-readings.ensures.store.files path)
 
 pub deliver-requires-clause-outputs : goal.deliver-requires-clause-outputs
@@ -111,10 +111,10 @@ returns-in-Ok-deliver-clause-done g c =
     upgraded c.has_outputs.result HasFields HasDecodedValue words current home local old mid new s plan path lock
     c.in_ok-readings.ensures.store read planned at locked
     (answered c.has_outputs.result HasFields HasDecodedValue mid new _ _ c.delivery_task-task.ensures c.has_outputs.ensures
-    c.in-Ok-deliver.ensures.done c.in-Ok-deliver.ensures.said)
+    c.in-Ok-deliver.ensures.done c.in-Ok-deliver.ensures.content)
 
-pub returns-clause-refused : goal.returns-clause-refused
-returns-clause-refused g c =
+pub returns-clause-error : goal.returns-clause-error
+returns-clause-error g c =
     let words = c.args.words.now in
     let current = c.args.place.now.current.now in
     let home = given c.args.place.now.cargo_home in

@@ -7,8 +7,8 @@ use Rattle.edit_record.specs.RecordViews.{record_view, item_tree}
 use Rattle.edit_record.proofs.EntryLemmas.{no_entry, table_entry}
 use Rattle.edit_record.proofs.dependency.Dependency.from_toml.Goals as goal
 
-pub returns-in_ok-from_str-in-None-clause-refused : goal.returns-in_ok-from_str-in-None-clause-refused
-returns-in_ok-from_str-in-None-clause-refused c =
+pub returns-in_ok-from_str-in-None-clause-error : goal.returns-in_ok-from_str-in-None-clause-error
+returns-in_ok-from_str-in-None-clause-error c =
     rw c.stands.ensures
     (no_entry (item_tree c.args.item) c.args.crate_root.now c.args.key.now (view_of c.args.item) _
     c.in-None.ensures (sym c.if-is_table_like.ensures) c.in_ok-from_str-in-None.ensures.ok)

@@ -7,9 +7,9 @@ use Rattle.edit_record.specs.RecordViews.{IsErrorOfResult, texts_view}
 use Rattle.edit_record.proofs.EntryLemmas.{member_tree, refusal_stays}
 use Rattle.edit_record.proofs.dependency.members.features_at.Goals as goal
 
-pub returns-in_err-feature_texts-in-Some-clause-refused :
-    goal.returns-in_err-feature_texts-in-Some-clause-refused
-returns-in_err-feature_texts-in-Some-clause-refused c =
+pub returns-in_err-feature_texts-in-Some-clause-error :
+    goal.returns-in_err-feature_texts-in-Some-clause-error
+returns-in_err-feature_texts-in-Some-clause-error c =
     let p = err_from_is_err_and c.from_residual.result c.from_residual.ensures.1 in
     let there = c.in-Some.ensures in
     let same = member_tree c.in-Some.item (document_of c.args.table) (place_of c.args.table)
@@ -17,7 +17,7 @@ returns-in_err-feature_texts-in-Some-clause-refused c =
     let P : Tree → Type 0 = λ t. IsErrorOfResult (feature_texts t c.args.dep.now (view_of c.in-Some.item))
     c.in_err-feature_texts-in-Some.field-0.0 in
     rw (p.1, p.2, there.2)
-    (refusal_stays _ _ _ (subst P same c.in_err-feature_texts-in-Some.ensures.refused))
+    (refusal_stays _ _ _ (subst P same c.in_err-feature_texts-in-Some.ensures.error))
 
 pub returns-in_ok-feature_texts-in-Some-clause-ok :
     goal.returns-in_ok-feature_texts-in-Some-clause-ok

@@ -19,8 +19,8 @@ returns-then-is_empty-clause-found c =
     c.is_empty.ensures (sym c.in_ok-names.names.ok.0) in
     sym told ∙ ap (map string_bytes) none
 
-pub returns-clause-refused : goal.returns-clause-refused
-returns-clause-refused c =
+pub returns-clause-error : goal.returns-clause-error
+returns-clause-error c =
     let there = names_of (packages_view c.args.workspace.now.packages.items) in
     let told : map string_bytes c.in_ok-names.names.items ≡ missing (selection_view c.args.self.now) there
     = c.in_ok-names.ensures.ok (names_of (packages_view c.deref.result.now)) c.in_ok-known.ensures.ok

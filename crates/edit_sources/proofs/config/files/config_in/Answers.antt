@@ -15,8 +15,8 @@ returns-in-Ok-read_file-clause-read g c = λ tells.
     subst (λ o. IsReadOf o c.in-Ok-read_file.found) counts
     (c.in-Ok-read_file.ensures.read (c.read_file.ensures.store.tells ∙ tells))
 
-pub returns-clause-refused : goal.returns-clause-refused
-returns-clause-refused g c =
+pub returns-clause-error : goal.returns-clause-error
+returns-clause-error g c =
     let first = c.as_str.ensures.value ∙ c.in-Ok.ensures.text in
     let second = c.as_str-2.ensures.value ∙ c.in-Ok-join.ensures.text in
     ⊎_elim (λ memory. inl memory) (λ other. inr (⊎_elim
@@ -32,4 +32,4 @@ returns-clause-refused g c =
           c.in-Ok-None.field-0-is (c.in-Ok-None.ensures.read tells))) ∙
           fails.stands (c.read_file.ensures.store.tells ∙ tells);
       unread = fails.unread;
-    })) other)) c.in-Err-read_file-2.ensures.refused
+    })) other)) c.in-Err-read_file-2.ensures.error

@@ -3,8 +3,8 @@ use Rattle.edit_sources.specs.Configuration.{IsMalformedConfig}
 use Rattle.edit_sources.specs.ConfigurationFiles.{standing}
 use Rattle.edit_sources.proofs.config.files.read_file.Goals as goal
 
-pub returns-clause-refused : goal.returns-clause-refused
-returns-clause-refused g c =
+pub returns-clause-error : goal.returns-clause-error
+returns-clause-error g c =
     let file : List ℕ × List ℕ = (c.args.path.now, c.in-Ok-Some.bytes.items) in
     let stands : (g.S.Store.view c.args.store.now).tells ≡ true
     → standing (g.S.Store.view c.args.store.now).file_at c.args.path.now ≡ Some file
@@ -16,4 +16,4 @@ returns-clause-refused g c =
       at = refl;
       stands = stands;
       unread = record { named = refused.0; nothing = subst IsMalformedConfig c.deref.ensures.value refused.1 };
-    }))) c.in-Err-read.ensures.refused
+    }))) c.in-Err-read.ensures.error

@@ -14,21 +14,21 @@ returns-clause-read g c = λ kept t.
     c.append.new.self.items c.append-2.new.self.items (seen c.as_ref.result) (seen c.as_ref-2.result)
     (seen_of c.as_ref.result c.args.named.now.first c.as_ref.ensures.value)
     (seen_of c.as_ref-2.result c.args.named.now.last c.as_ref-2.ensures.value)
-    c.in_ok-configs.ensures.said (c.in-Ok.ensures.read kept t) c.in_ok-last.ensures.said
+    c.in_ok-configs.ensures.content (c.in-Ok.ensures.read kept t) c.in_ok-last.ensures.content
     c.in_ok-append.ensures.items c.in_ok-append-2.ensures.items
 
-pub returns-in-Err-clause-refused : goal.returns-in-Err-clause-refused
-returns-in-Err-clause-refused g c =
+pub returns-in-Err-clause-error : goal.returns-in-Err-clause-error
+returns-in-Err-clause-error g c =
     let old = g.S.Store.view c.args.files.now in
     own_fails _ (pair_of c.args.named.now) old.tells old.file_at c.args.manifest.now (given c.args.cargo_home)
-    c.in-Err.error c.in-Err.ensures.refused
+    c.in-Err.error c.in-Err.ensures.error
 
 pub returns-in-Err-clause-first : goal.returns-in-Err-clause-first
 returns-in-Err-clause-first g c =
     let old = g.S.Store.view c.args.files.now in
     own_ungathered _ (AreCached old c.args.cache.now) old (given c.args.cargo_home) (pair_of c.args.named.now)
     c.args.manifest.now c.as_ref.result c.args.named.now.first c.in_ok-configs.configs.items c.in-Err.error
-    c.as_ref.ensures.value refl c.in_ok-configs.ensures.said c.in-Err.ensures.first
+    c.as_ref.ensures.value refl c.in_ok-configs.ensures.content c.in-Err.ensures.first
 
 pub returns-in_err-last-clause-first : goal.returns-in_err-last-clause-first
 returns-in_err-last-clause-first g c =
@@ -38,4 +38,4 @@ returns-in_err-last-clause-first g c =
     (last_ungathered _ (AreCached old c.args.cache.now) old (given c.args.cargo_home) (pair_of c.args.named.now)
     c.args.manifest.now c.as_ref.result c.as_ref-2.result c.args.named.now.first c.args.named.now.last
     c.in_ok-configs.configs.items c.in-Ok.own.items e c.as_ref.ensures.value refl c.as_ref-2.ensures.value
-    refl c.in_ok-configs.ensures.said c.in-Ok.ensures.read c.in_err-last.ensures.refused)
+    refl c.in_ok-configs.ensures.content c.in-Ok.ensures.read c.in_err-last.ensures.error)

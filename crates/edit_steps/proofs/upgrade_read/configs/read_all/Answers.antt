@@ -13,18 +13,18 @@ use Rattle.edit_sources.specs.CachedConfigs.{AreCached}
 use Rattle.edit_steps.proofs.FirstLemmas.{stops_at_input}
 use Rattle.edit_steps.proofs.upgrade_read.configs.read_all.Goals as goal
 
-pub returns-in-Err-clause-refused : goal.returns-in-Err-clause-refused
-returns-in-Err-clause-refused g c =
+pub returns-in-Err-clause-error : goal.returns-in-Err-clause-error
+returns-in-Err-clause-error g c =
     let mid = g.S.Store.view c.inputs.files in
     unconfigured (g.S.Store.view c.args.files.now) mid (g.S.Store.view c.share.new.files)
     (given c.args.cargo_home) (pair_of c.args.named.now) c.args.inputs.now c.input-item.result c.as_str.result.now
     c.in-Err.cause c.inputs.invariant.store c.as_str.ensures.value
     (among c.args.inputs.now c.inputs.input-index c.input-item.result c.inputs-test.true c.input-item.is)
     (own_fails _ (pair_of c.args.named.now) mid.tells mid.file_at c.as_str.result.now (given c.args.cargo_home)
-    c.in-Err.cause c.in-Err.ensures.refused)
+    c.in-Err.cause c.in-Err.ensures.error)
 
-pub returns-in-Err-gather-clause-refused : goal.returns-in-Err-gather-clause-refused
-returns-in-Err-gather-clause-refused g c =
+pub returns-in-Err-gather-clause-error : goal.returns-in-Err-gather-clause-error
+returns-in-Err-gather-clause-error g c =
     let old = g.S.Store.view c.args.files.now in
     let mid = g.S.Store.view c.share.new.files in
     unconfigured old mid (g.S.Store.view c.gather.new.files) (given c.args.cargo_home)
@@ -32,7 +32,7 @@ returns-in-Err-gather-clause-refused g c =
     (reads-on old (g.S.Store.view c.inputs.files) mid c.inputs.invariant.store c.share.ensures.store)
     c.as_str-in-inputs.ensures.value
     (among c.args.inputs.now c.inputs.input-index c.input-item.result c.inputs-test.true c.input-item.is)
-    c.in-Err-gather.ensures.refused
+    c.in-Err-gather.ensures.error
 
 pub returns-in-Err-clause-first : goal.returns-in-Err-clause-first
 returns-in-Err-clause-first g c =
@@ -60,7 +60,7 @@ returns-in-Err-gather-clause-first g c =
     (given c.args.cargo_home) (pair_of c.args.named.now) c.args.inputs.now c.inputs.input-index
     c.input-item.result c.as_str-in-inputs.result.now (lists_for c.inputs.lists.shared) c.in-Err-gather.error
     (reads-on old (g.S.Store.view c.inputs.files) mid c.inputs.invariant.store c.share.ensures.store)
-    (c.share.ensures.kept c.inputs.invariant.kept) c.inputs-test.true c.input-item.is c.as_str-in-inputs.ensures.value
+    (c.share.ensures.preserved c.inputs.invariant.kept) c.inputs-test.true c.input-item.is c.as_str-in-inputs.ensures.value
     c.inputs.invariant.read c.in-Err-gather.ensures.first
 
 pub returns-in-Err-clause-only : goal.returns-in-Err-clause-only
@@ -70,7 +70,7 @@ returns-in-Err-clause-only g c =
     (given c.args.cargo_home) (pair_of c.args.named.now).first (pair_of c.args.named.now).last
     c.as_str.result.now c.in-Err.cause c.inputs.invariant.store
     (own_fails _ (pair_of c.args.named.now) mid.tells mid.file_at c.as_str.result.now (given c.args.cargo_home)
-    c.in-Err.cause c.in-Err.ensures.refused)
+    c.in-Err.cause c.in-Err.ensures.error)
 
 pub returns-in-Err-gather-clause-only : goal.returns-in-Err-gather-clause-only
 returns-in-Err-gather-clause-only g c =
@@ -79,7 +79,7 @@ returns-in-Err-gather-clause-only g c =
     config_error old mid (g.S.Store.view c.gather.new.files) (given c.args.cargo_home)
     (pair_of c.args.named.now).first (pair_of c.args.named.now).last c.as_str-in-inputs.result.now c.in-Err-gather.error
     (reads-on old (g.S.Store.view c.inputs.files) mid c.inputs.invariant.store c.share.ensures.store)
-    c.in-Err-gather.ensures.refused
+    c.in-Err-gather.ensures.error
 
 pub returns-in-Err-clause-counted : goal.returns-in-Err-clause-counted
 returns-in-Err-clause-counted g c =
@@ -126,7 +126,7 @@ inputs-preserved-in-Ok-true g c =
     record {
       store = reads-on old mid (g.S.Store.view c.share.new.files) c.inputs.invariant.store
           c.share.ensures.store;
-      kept = c.share.ensures.kept c.inputs.invariant.kept;
+      kept = c.share.ensures.preserved c.inputs.invariant.kept;
       each = each_more c.args.inputs.now c.inputs.input-index shared more c.inputs-test.true
           (c.in-Ok-true.ensures.each c.in-Ok-true.field-0-test) c.inputs.invariant.each;
       lists = c.in-Ok-true.ensures.lists;
@@ -153,10 +153,10 @@ inputs-preserved g c =
     = λ t. added_listed old.file_at home pair path c.in-Ok.configs shared more adds
     (c.inputs.invariant.others t)
     (before (λ files. AreGathered files home pair path c.in-Ok.configs.items) old mid reads
-    (c.in-Ok.ensures.read (c.share.ensures.kept c.inputs.invariant.kept)) t) in
+    (c.in-Ok.ensures.read (c.share.ensures.preserved c.inputs.invariant.kept)) t) in
     record {
       store = reads-on old mid (g.S.Store.view c.gather.new.files) reads c.in-Ok.ensures.store;
-      kept = c.gather.ensures.kept (c.share.ensures.kept c.inputs.invariant.kept);
+      kept = c.gather.ensures.preserved (c.share.ensures.preserved c.inputs.invariant.kept);
       each = each_more c.args.inputs.now c.inputs.input-index shared more c.inputs-test.true
           (c.in_ok-add.ensures.each ∙ ap (λ s. length s.which.items + 1) same) c.inputs.invariant.each;
       lists = c.in_ok-add.ensures.lists;

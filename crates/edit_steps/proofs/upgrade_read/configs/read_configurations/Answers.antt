@@ -8,12 +8,12 @@ use Rattle.std.proofs.Common.{◌≡◌, true}
 use Rattle.edit_steps.specs.Causes.{StopsAtInput}
 use Rattle.edit_steps.proofs.upgrade_read.configs.read_configurations.Goals as goal
 
-pub returns-in-Err-clause-refused : goal.returns-in-Err-clause-refused
-returns-in-Err-clause-refused g c =
+pub returns-in-Err-clause-error : goal.returns-in-Err-clause-error
+returns-in-Err-clause-error g c =
     unconfigured_before (g.S.Store.view c.args.files.now) (g.S.Store.view c.read_all.new.files)
     (g.S.Store.view c.at_config.new.files) (given c.args.cargo_home) (pair_of c.args.named.now)
     c.args.inputs.now c.in-Err.error c.at_config.result.error c.at_config.ensures.reads
-    c.at_config.ensures.counted c.at_config.ensures.same c.in-Err.ensures.refused
+    c.at_config.ensures.counted c.at_config.ensures.same c.in-Err.ensures.error
 
 pub returns-in-Err-clause-only : goal.returns-in-Err-clause-only
 returns-in-Err-clause-only g c =

@@ -11,13 +11,13 @@ use Rattle.edit_store.specs.Store.{IsCallError}
 use Rattle.edit_steps.specs.Faults.{CountsFault}
 use Rattle.edit_steps.proofs.upgrade_read.named.read_named.Goals as goal
 
-pub returns-in_err-last-clause-refused : goal.returns-in_err-last-clause-refused
-returns-in_err-last-clause-refused g c =
+pub returns-in_err-last-clause-error : goal.returns-in_err-last-clause-error
+returns-in_err-last-clause-error g c =
     refusal_has c.from_residual-in_err-last.result c.in_err-last.field-0.0 _
     c.from_residual-in_err-last.ensures.1
     (last_lacks (g.S.Store.view c.args.files.now) (g.S.Store.view c.read_file.new.files)
     (g.S.Store.view c.read_file-2.new.files) c.args.current.now (request_view c.args.asked.now)
-    c.in_err-last.field-0.0.error c.in_ok-first.ensures.store c.in_err-last.ensures.refused)
+    c.in_err-last.field-0.0.error c.in_ok-first.ensures.store c.in_err-last.ensures.error)
 
 pub returns-in_err-last-clause-only : goal.returns-in_err-last-clause-only
 returns-in_err-last-clause-only g c =
@@ -29,8 +29,8 @@ returns-in_err-last-clause-only g c =
     (g.S.Store.view c.read_file-2.new.files) e (IsNamedError asking.default_config e) (IsPairError asking e)
     c.in_ok-first.ensures.store (λ absent. inr absent) c.in_err-last.ensures.only)
 
-pub returns-in_err-first-clause-refused : goal.returns-in_err-first-clause-refused
-returns-in_err-first-clause-refused g c =
+pub returns-in_err-first-clause-error : goal.returns-in_err-first-clause-error
+returns-in_err-first-clause-error g c =
     let old = g.S.Store.view c.args.files.now in
     let asking = request_view c.args.asked.now in
     let e = c.in_err-first.field-0.0.error in
@@ -38,7 +38,7 @@ returns-in_err-first-clause-refused g c =
     (wider (IsCallError call.Read old (g.S.Store.view c.read_file.new.files) e)
     (old.tells ≡ true → HasNoFile old.file_at c.args.current.now asking.config e)
     (old.tells ≡ true → LacksNamed old.file_at c.args.current.now asking e) (λ lacks t. inl (lacks t))
-    c.in_err-first.ensures.refused)
+    c.in_err-first.ensures.error)
 
 pub returns-in_err-first-clause-only : goal.returns-in_err-first-clause-only
 returns-in_err-first-clause-only g c =

@@ -16,25 +16,25 @@ use Rattle.edit_steps.specs.Errors.{IsConfigError, IsIndexError, IsPairError, Is
 use Rattle.edit_steps.specs.Faults.{CountsFault}
 use Rattle.edit_steps.proofs.upgrade_read.sources.read_sources.Goals as goal
 
-pub returns-in_err-target-clause-refused : goal.returns-in_err-target-clause-refused
-returns-in_err-target-clause-refused g c =
+pub returns-in_err-target-clause-error : goal.returns-in_err-target-clause-error
+returns-in_err-target-clause-error g c =
     refusal_has c.from_residual.result c.in_err-target.field-0.0 _ c.from_residual.ensures.1
     (target_cause c.args.current.now (given c.args.cargo_home) (request_view c.args.asked.now)
     (g.S.Store.view c.args.files.now) (g.S.Store.view c.read_target.new.files)
-    c.in_err-target.field-0.0.error c.in_err-target.ensures.refused)
+    c.in_err-target.field-0.0.error c.in_err-target.ensures.error)
 
-pub returns-in_err-named-clause-refused : goal.returns-in_err-named-clause-refused
-returns-in_err-named-clause-refused g c =
+pub returns-in_err-named-clause-error : goal.returns-in_err-named-clause-error
+returns-in_err-named-clause-error g c =
     refusal_has c.from_residual-in_err-named.result c.in_err-named.field-0.0 _
     c.from_residual-in_err-named.ensures.1
     (named_cause c.args.current.now (given c.args.cargo_home) (request_view c.args.asked.now)
     (g.S.Store.view c.args.files.now) (g.S.Store.view c.read_target.new.files)
     (g.S.Store.view c.read_named.new.files) c.in_ok-target.target.workspace
     c.in_ok-target.target.inputs.items c.in_err-named.field-0.0.error c.in_ok-target.ensures.store
-    c.in_ok-target.ensures.read c.in_err-named.ensures.refused)
+    c.in_ok-target.ensures.read c.in_err-named.ensures.error)
 
-pub returns-in_err-configs-clause-refused : goal.returns-in_err-configs-clause-refused
-returns-in_err-configs-clause-refused g c =
+pub returns-in_err-configs-clause-error : goal.returns-in_err-configs-clause-error
+returns-in_err-configs-clause-error g c =
     refusal_has c.from_residual-in_err-configs.result c.in_err-configs.field-0.0 _
     c.from_residual-in_err-configs.ensures.1
     (config_cause c.args.current.now (given c.args.cargo_home) (request_view c.args.asked.now)
@@ -48,10 +48,10 @@ returns-in_err-configs-clause-refused g c =
     ⊎ ((g.S.Store.view c.read_named.new.files).tells ≡ true
     → IsUnconfigured (g.S.Store.view c.read_named.new.files).file_at (given c.args.cargo_home)
     (pair_of c.in_ok-named.named) is c.in_err-configs.field-0.0.error)) c.deref.ensures.value
-    c.in_err-configs.ensures.refused))
+    c.in_err-configs.ensures.error))
 
-pub returns-in_err-index-clause-refused : goal.returns-in_err-index-clause-refused
-returns-in_err-index-clause-refused g c =
+pub returns-in_err-index-clause-error : goal.returns-in_err-index-clause-error
+returns-in_err-index-clause-error g c =
     refusal_has c.from_residual-in_err-index.result c.in_err-index.field-0.0 _
     c.from_residual-in_err-index.ensures.1
     (index_cause c.args.current.now (given c.args.cargo_home) (request_view c.args.asked.now)
@@ -63,7 +63,7 @@ returns-in_err-index-clause-refused g c =
     c.in_ok-configs.ensures.store c.in_ok-target.ensures.read c.in_ok-named.ensures.read
     (λ t. subst (λ is. AreConfigured (g.S.Store.view c.read_named.new.files).file_at
     (given c.args.cargo_home) (pair_of c.in_ok-named.named) is (lists_for c.in_ok-configs.configs))
-    c.deref.ensures.value (c.in_ok-configs.ensures.read t)) c.in_err-index.ensures.refused)
+    c.deref.ensures.value (c.in_ok-configs.ensures.read t)) c.in_err-index.ensures.error)
 
 pub returns-clause-read : goal.returns-clause-read
 returns-clause-read g c = λ t.

@@ -12,13 +12,13 @@ returns-in_default-clause-read g c =
     c.in_ok-manifest.manifest.input c.in_ok-alone.field-0 c.in_default.is c.in_ok-alone.ensures.workspace
     c.in_ok-alone.ensures.inputs (c.in_ok-manifest.ensures.read t)
 
-pub returns-in_err-read-clause-refused : goal.returns-in_err-read-clause-refused
-returns-in_err-read-clause-refused g c =
+pub returns-in_err-read-clause-error : goal.returns-in_err-read-clause-error
+returns-in_err-read-clause-error g c =
     refusal_has c.from_residual-in_err-read.result c.in_err-read.field-0.0 _
     c.from_residual-in_err-read.ensures.1
     (workspace_cause (g.S.Store.view c.args.files.now) (g.S.Store.view c.read_workspace.new.files)
     c.args.current.now c.args.asked.now c.in-Some.named c.in_err-read.field-0.0.error c.in-Some.is
-    c.in_err-read.ensures.refused)
+    c.in_err-read.ensures.error)
 
 pub returns-clause-read : goal.returns-clause-read
 returns-clause-read g c =
@@ -42,9 +42,9 @@ returns-in_err-read-clause-only g c =
     c.args.current.now c.args.asked.now.metadata_json c.in-Some.named (given c.args.asked.now.manifest_path)
     c.in_err-read.field-0.0.error c.in-Some.is c.in_err-read.ensures.only)
 
-pub returns-in_err-manifest-clause-refused : goal.returns-in_err-manifest-clause-refused
-returns-in_err-manifest-clause-refused g c =
+pub returns-in_err-manifest-clause-error : goal.returns-in_err-manifest-clause-error
+returns-in_err-manifest-clause-error g c =
     refusal_has c.from_residual.result c.in_err-manifest.field-0.0 _ c.from_residual.ensures.1
     (manifest_cause (g.S.Store.view c.args.files.now) (g.S.Store.view c.read_manifest.new.files)
     c.args.current.now c.args.asked.now c.in_err-manifest.field-0.0.error c.in_default.is
-    c.in_err-manifest.ensures.refused)
+    c.in_err-manifest.ensures.error)

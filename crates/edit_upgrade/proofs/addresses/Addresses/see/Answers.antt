@@ -11,12 +11,12 @@ returns-clause-are c = λ configs are.
     (record c.take_definitions.new.self { definitions = Some c.resolve.new.self }) c.keep.new.self are
     c.take_definitions.ensures.configs (c.in_ok-url.ensures.defines configs before)
     c.take_definitions.ensures.default c.take_definitions.ensures.named
-    c.keep.ensures.configs c.keep.ensures.definitions c.in_ok-keep.ensures.kept
+    c.keep.ensures.configs c.keep.ensures.definitions c.in_ok-keep.ensures.preserved
     (c.in_ok-url.ensures.address configs before)
 
-pub returns-in_err-url-clause-refused : goal.returns-in_err-url-clause-refused
-returns-in_err-url-clause-refused c =
+pub returns-in_err-url-clause-error : goal.returns-in_err-url-clause-error
+returns-in_err-url-clause-error c =
     refusal-has c.from_residual-in_err-url.result c.in_err-url.field-0.0 _ c.from_residual-in_err-url.ensures.1
     (⊎_elim (λ memory. inl memory)
     (λ none. inr (λ configs are. none configs (c.in_ok-definitions.ensures.defines configs are)))
-    c.in_err-url.ensures.refused)
+    c.in_err-url.ensures.error)

@@ -15,8 +15,8 @@ use Rattle.edit_upgrade.specs.Pins.{pin_of, pins_of, with_package_arg, arg_pin}
 use Rattle.edit_upgrade.proofs.Entries.{insert-seen, word-more}
 use Rattle.edit_upgrade.proofs.update.pins.read_pins.Goals as goal
 
-pub returns-in_err-spec-clause-refused : goal.returns-in_err-spec-clause-refused
-returns-in_err-spec-clause-refused c =
+pub returns-in_err-spec-clause-error : goal.returns-in_err-spec-clause-error
+returns-in_err-spec-clause-error c =
     let words = c.args.words.now in
     let i = c.words.word-index in
     let e = c.in_err-spec.field-0.0 in
@@ -27,7 +27,7 @@ returns-in_err-spec-clause-refused c =
       split = names-split string_bytes words i c.word-item.result c.words-test.true c.word-item.is;
       read = c.words.invariant.read;
       refused = subst (λ (w : List ℕ). IsInvalidSpec w e) c.as_str.ensures.value
-          c.in_err-spec.ensures.refused;
+          c.in_err-spec.ensures.error;
     }) in
     search (rules, why)
 

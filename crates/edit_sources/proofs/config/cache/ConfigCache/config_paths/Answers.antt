@@ -8,7 +8,7 @@ returns-clause-read g c = λ kept tells. record {
   configs = map (λ x. x.now) c.in_ok-found.found.items;
   read = found_configs (g.S.Store.view c.args.store.now) (g.S.Store.view c.search.new.store) c.search.new.self
       c.args.manifest_path.now (given c.args.cargo_home) c.in-Ok.places.items c.deref.result.now
-      (map (λ x. x.now) c.in_ok-found.found.items) c.in-Ok.ensures.store (c.search.ensures.kept kept)
+      (map (λ x. x.now) c.in_ok-found.found.items) c.in-Ok.ensures.store (c.search.ensures.preserved kept)
       c.in-Ok.ensures.places c.in-Ok.ensures.searched c.deref.ensures.value c.in_ok-found.ensures tells;
   all = c.in_ok-paths.ensures ∙ ap (λ cs. paths_of (map (λ x. x.now) cs)) c.deref-2.ensures.value;
 }

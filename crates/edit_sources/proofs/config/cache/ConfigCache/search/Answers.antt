@@ -5,14 +5,14 @@ use Rattle.edit_sources.specs.Configured.{given}
 use Rattle.edit_sources.specs.ConfigurationFiles.{IsSearched}
 use Rattle.edit_sources.proofs.config.cache.ConfigCache.search.Goals as goal
 
-pub returns-in-Err-search_folders-clause-refused : goal.returns-in-Err-search_folders-clause-refused
-returns-in-Err-search_folders-clause-refused g c =
+pub returns-in-Err-search_folders-clause-error : goal.returns-in-Err-search_folders-clause-error
+returns-in-Err-search_folders-clause-error g c =
     ⊎_elim (λ memory. inl memory) (λ other. inr (⊎_elim (λ failed. inl failed) (λ fails. inr (record {
       places = map string_bytes c.deref.result.now;
       searched = subst (λ ps. IsSearched c.args.manifest_path.now (given c.args.cargo_home) (map string_bytes ps))
           (sym c.deref.ensures.value) c.in-Ok.ensures.searched;
       fails = fails;
-    })) other)) c.in-Err-search_folders.ensures.refused
+    })) other)) c.in-Err-search_folders.ensures.error
 
 pub returns-in-Err-search_folders-clause-first : goal.returns-in-Err-search_folders-clause-first
 returns-in-Err-search_folders-clause-first g c =

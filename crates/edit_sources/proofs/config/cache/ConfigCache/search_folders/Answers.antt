@@ -6,11 +6,11 @@ use Rattle.edit_sources.proofs.CachedConfigLemmas.{all_searched, found_read}
 use Rattle.edit_sources.proofs.FileLemmas.{failed_later, first_malformed, place_fails}
 use Rattle.edit_sources.proofs.config.cache.ConfigCache.search_folders.Goals as goal
 
-pub returns-in-Err-clause-kept : goal.returns-in-Err-clause-kept
-returns-in-Err-clause-kept g c = λ kept. c.search_folder.ensures.kept (c.loop-place.invariant.kept kept)
+pub returns-in-Err-clause-preserved : goal.returns-in-Err-clause-preserved
+returns-in-Err-clause-preserved g c = λ kept. c.search_folder.ensures.preserved (c.loop-place.invariant.kept kept)
 
-pub returns-in-Err-clause-refused : goal.returns-in-Err-clause-refused
-returns-in-Err-clause-refused g c =
+pub returns-in-Err-clause-error : goal.returns-in-Err-clause-error
+returns-in-Err-clause-error g c =
     let store = c.loop-place.invariant.store in
     ⊎_elim (λ memory. inl memory) (λ other. inr (⊎_elim
     (λ failed. inl (failed_later _ _ _ _ store.later failed))
@@ -18,7 +18,7 @@ returns-in-Err-clause-refused g c =
     (g.S.Store.view c.loop-place.store).file_at c.args.places.now c.loop-place.place-index c.place-item.result
     c.as_str.result.now c.in-Err.error c.loop-place-test.true c.place-item.is c.as_str.ensures.value
     store.tells store.files fails))
-    other)) c.in-Err.ensures.refused
+    other)) c.in-Err.ensures.error
 
 pub returns-in-Err-clause-first : goal.returns-in-Err-clause-first
 returns-in-Err-clause-first g c =
@@ -33,7 +33,7 @@ returns-in-Err-clause-first g c =
     (found_read (g.S.Store.view c.args.store.now) (g.S.Store.view c.loop-place.store) c.loop-place.self before
     (found_in c.loop-place.self before) store (c.loop-place.invariant.kept kept)
     c.loop-place.invariant.searched refl t) fails t))
-    other)) c.in-Err.ensures.refused
+    other)) c.in-Err.ensures.error
 
 pub loop-place-preserved : goal.loop-place-preserved
 loop-place-preserved g c =
@@ -45,7 +45,7 @@ loop-place-preserved g c =
         writes = c.search_folder.ensures.store.writes ∙ store.writes;
         later = omega (arith, store.later, c.search_folder.ensures.store.later);
       };
-      kept = λ kept. c.search_folder.ensures.kept (c.loop-place.invariant.kept kept);
+      kept = λ kept. c.search_folder.ensures.preserved (c.loop-place.invariant.kept kept);
       searched = all_searched c.loop-place.self c.search_folder.new.self c.args.places.now
           c.loop-place.place-index c.place-item.result c.as_str.result.now c.loop-place-test.true
           c.place-item.is c.as_str.ensures.value c.search_folder.ensures.others

@@ -33,8 +33,8 @@ loop-source-preserved c = λ configs defines.
     (c.loop-source.invariant configs defines) names (sym c.in_default-end_of.ensures)
     c.in_ok-source.ensures.takes)
 
-pub returns-in_default-clause-refused : goal.returns-in_default-clause-refused
-returns-in_default-clause-refused c =
+pub returns-in_default-clause-error : goal.returns-in_default-clause-error
+returns-in_default-clause-error c =
     refused_head (given c.args.registry) c.head_key-first.result.now c.args.self.now
     c.registry_not_found.result c.registry_not_found.ensures
     (λ configs defines. walk_fails configs (given c.args.registry) c.head_key-first.result.now c.args.self.now
@@ -65,13 +65,13 @@ returns-in-Some-end_of-clause-defines c = λ configs defines.
     (λ q. c.in_ok-keep.ensures.ends q ∙ ap (λ xs. cond (is_used (texts xs) q) (Some address)
     (end_at c.loop-source.self q)) c.deref.ensures.value)
 
-pub returns-in_err-source-clause-refused : goal.returns-in_err-source-clause-refused
-returns-in_err-source-clause-refused c =
+pub returns-in_err-source-clause-error : goal.returns-in_err-source-clause-error
+returns-in_err-source-clause-error c =
     let names = ap (option_map (λ (t : Bor (List ℕ)). t.now)) c.in-Some-replace_with.is in
     let why : IsMemory c.in_err-source.field-0.0
     ⊎ Refuses c.args.self.now (given c.args.registry) c.in_err-source.field-0.0 =
     refused_next (given c.args.registry) c.in-Some-replace_with.key.now c.args.self.now
-    c.in_err-source.field-0.0 c.in_err-source.ensures.refused
+    c.in_err-source.field-0.0 c.in_err-source.ensures.error
     (λ configs defines. walk_breaks configs (given c.args.registry) c.head_key-first.result.now
     c.in-Some-replace_with.key.now c.loop-source.self (texts c.loop-source.passed.items)
     (source_texts c.loop-source.source) c.head_key-first.ensures (c.loop-source.invariant configs defines)
@@ -80,8 +80,8 @@ returns-in_err-source-clause-refused c =
     let e = err_from_is_err_and stop.result stop.ensures.1 in
     rw (e.1, e.2) why
 
-pub returns-in_default-registry-clause-refused : goal.returns-in_default-registry-clause-refused
-returns-in_default-registry-clause-refused c =
+pub returns-in_default-registry-clause-error : goal.returns-in_default-registry-clause-error
+returns-in_default-registry-clause-error c =
     let now = λ (t : Bor (List ℕ)). t.now in
     inr (λ configs defines. no_address (walk_ends configs (given c.args.registry) c.loop-source.self
     (texts c.loop-source.passed.items) (source_texts c.loop-source.source)

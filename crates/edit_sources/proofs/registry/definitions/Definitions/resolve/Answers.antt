@@ -20,8 +20,8 @@ returns-clause-address c =
     record { text = text; address = c.in_ok-address.ensures.address configs defines; reads = reads })
     c.url_of.ensures.reads
 
-pub returns-clause-refused : goal.returns-clause-refused
-returns-clause-refused c =
+pub returns-clause-error : goal.returns-clause-error
+returns-clause-error c =
     let text = c.in_ok-address.address.now in
     let registry = given c.args.registry in
     IfErr-weaker c.url_of.result (λ e. IsMemory e ⊎ IsNoUrl text e)
@@ -29,4 +29,4 @@ returns-clause-refused c =
     (λ e refused. ⊎_elim (λ m. inl m)
     (λ n. inr (λ configs defines. subst (HasNoUrl configs registry) (sym n.is)
     (no_url text n.fault (c.in_ok-address.ensures.address configs defines) n.reads))) refused)
-    c.url_of.ensures.refused
+    c.url_of.ensures.error
