@@ -2,5 +2,5 @@
 
 pub use edit_changes::DocumentExt;
 pub use edit_document::{
-    Document, Item, Keys, NewItem, NewValue, Place, Step, copied_place, member_place,
+    Document, Item, Keys, NewItem, NewValue, Place, Step, clone_place, member_place,
 };

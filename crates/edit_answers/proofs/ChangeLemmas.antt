@@ -8,7 +8,7 @@ use Rattle.edit_base.specs.Errors.{IsMemory, number_of}
 use Rattle.edit_base.specs.declared.errors.DeviceCall.{DeviceCall}
 use Rattle.edit_base.specs.declared.errors.Error.{Error}
 use Rattle.edit_base.specs.declared.errors.Error.TheVariants.{Memory}
-use Rattle.edit_store.specs.Store.{Files, HasCause, OnlyReads, IsCallError, SameBut, SameFiles, StoreView, raised}
+use Rattle.edit_store.specs.Store.{Files, HasCause, OnlyReads, IsCallError, SameBut, SameFiles, StoreView, IsRaisedCount}
 use Rattle.edit_answers.specs.Changes.{Changes, Fails, IsAllowedAt, AllowsChanges, AllowsChangesBut}
 
 by_test : (t : Bool) (P : Type 0) → Decides t P → P ⊎ (P → ⊥)
@@ -69,7 +69,7 @@ module _ (P Q : List ℕ → List ℕ → Type 0) (weaker : (path bytes : List �
   )
 
 -- a failure counts from an earlier state on
-pub raised-later : (a b c : ℕ) → a ≤ b → raised b c → raised a c
+pub raised-later : (a b c : ℕ) → a ≤ b → IsRaisedCount b c → IsRaisedCount a c
 raised-later a b c le (inl lt) = inl (omega arith)
 raised-later a b c le (inr end) = grind (arith)
 

@@ -7,7 +7,7 @@ use Rattle.std.proofs.lemmas.List.{map-append, take_more}
 use Rattle.std.proofs.lemmas.List.Elements.{filter-append, filter_map-append}
 use Rattle.std.proofs.lemmas.Slice.Eq.{bytes_eq-Decides}
 use Rattle.edit_lookups.specs.declared.lookups.Lookup.{Lookup}
-use Rattle.edit_answers.specs.Groups.{AreGroupsOf, GroupText, IsGroup, failure_with, firsts, group_text, is_in, is_listed, missed}
+use Rattle.edit_answers.specs.Groups.{AreGroupsOf, GroupText, IsGroup, failure_with, firsts, group_text, is_in, is_listed, failed_lookups}
 use Rattle.edit_answers.specs.Groups.AreGroupsOf.{more}
 use Rattle.edit_answers.specs.declared.groups.Group.{Group}
 use Rattle.edit_answers.specs.declared.groups.Consequence.{Consequence}
@@ -75,26 +75,26 @@ module _ (all : List (Lookup × Failure)) (i : ℕ) (d : Lookup × Failure) (wit
 module _ (s : Consequence) (offline : Bool) (pairs : List (Lookup × Outcome)) (i : ℕ) (d : Lookup × Outcome)
     (within : i < length pairs) where
   missed-taken : (r : Option Failure) → r ≡ failure_with s offline (get_or pairs i d).1
-      → missed s offline (take i pairs) ++ cons_option (option_map (λ f. ((get_or pairs i d).0, f)) r) []
-      ≡ missed s offline (take (i + 1) pairs)
+      → failed_lookups s offline (take i pairs) ++ cons_option (option_map (λ f. ((get_or pairs i d).0, f)) r) []
+      ≡ failed_lookups s offline (take (i + 1) pairs)
   missed-taken r is =
-      ap (λ o. missed s offline (take i pairs) ++ cons_option
+      ap (λ o. failed_lookups s offline (take i pairs) ++ cons_option
       (option_map (λ f. ((get_or pairs i d).0, f)) o) []) is
       ∙ sym (filter_map-append (λ p. option_map (λ f. (p.0, f)) (failure_with s offline p.1)) (take i pairs)
       (get_or pairs i d ∷ []))
-      ∙ ap (missed s offline) (sym (take_more pairs i d within))
+      ∙ ap (failed_lookups s offline) (sym (take_more pairs i d within))
 
   -- a lookup with another consequence
   pub missed-same : (found : List (Lookup × Failure)) (r : Option Failure)
-      → r ≡ failure_with s offline (get_or pairs i d).1 → r ≡ None → found ≡ missed s offline (take i pairs)
-      → found ≡ missed s offline (take (i + 1) pairs)
+      → r ≡ failure_with s offline (get_or pairs i d).1 → r ≡ None → found ≡ failed_lookups s offline (take i pairs)
+      → found ≡ failed_lookups s offline (take (i + 1) pairs)
   missed-same found r is none e =
-      e ∙ sym (append-nil (missed s offline (take i pairs))) ∙ missed-taken None (sym none ∙ is)
+      e ∙ sym (append-nil (failed_lookups s offline (take i pairs))) ∙ missed-taken None (sym none ∙ is)
 
   -- a lookup with this consequence
   pub missed-more : (old new : List (Lookup × Failure)) (r : Option Failure) (f : Failure)
       → r ≡ failure_with s offline (get_or pairs i d).1 → r ≡ Some f
-      → new ≡ old ++ ((get_or pairs i d).0, f) ∷ [] → old ≡ missed s offline (take i pairs)
-      → new ≡ missed s offline (take (i + 1) pairs)
+      → new ≡ old ++ ((get_or pairs i d).0, f) ∷ [] → old ≡ failed_lookups s offline (take i pairs)
+      → new ≡ failed_lookups s offline (take (i + 1) pairs)
   missed-more old new r f is some added e =
       added ∙ ap (λ l. l ++ ((get_or pairs i d).0, f) ∷ []) e ∙ missed-taken (Some f) (sym some ∙ is)

@@ -2,7 +2,7 @@
 use Rattle.std.proofs.Common.{◌≡◌, ◌<◌, ◌≤◌, ◌+◌, ℕ, inl, inr, ⊎_elim, arith, List, [], ◌∷◌, ◌++◌, Bool, true, false, cond, not, refl, sym, ap, subst, ◌∙◌, length, get_or, map, take, append_assoc}
 use Rattle.std.specs.Prelude.{◌-◌, ◌&&◌, ◌||◌, All, Ok, Result, codes, filter, nat_eq}
 use Rattle.edit_base.specs.declared.errors.Error.{Error}
-use Rattle.edit_store.specs.Store.{raised}
+use Rattle.edit_store.specs.Store.{IsRaisedCount}
 use Rattle.std.specs.List.{ends_with, list_any}
 use Rattle.std.specs.Str.{bytes_eq}
 use Rattle.std.proofs.Math.ListN.{get_or-map}
@@ -14,7 +14,7 @@ use Rattle.std.proofs.lemmas.Bool.{false≢true}
 use Rattle.std.proofs.lemmas.Bool.Decides.{Decides-eqb}
 use Rattle.std.proofs.lemmas.Slice.Eq.{bytes_eq-Decides, ends_is}
 use Rattle.edit_answers.specs.Aging.{AgedText, AgingView, RemovesUnused, aged_text, entry_of, is_recent, is_same, is_used, owner_of, remaining_files}
-use Rattle.edit_answers.specs.declared.aging_store.Aged.{Aged}
+use Rattle.edit_answers.specs.declared.aging_store.AgedFile.{AgedFile}
 use Rattle.edit_answers.proofs.BoolLemmas.{filter-filter, filter-here, filter-same}
 
 either : (a b : Bool) → (a || (b || false)) ≡ cond b true a
@@ -134,7 +134,7 @@ mapped-more f xs i x within is =
     ∙ map-append f (take i xs) (x ∷ [])
 
 -- a listed file is at its index
-pub at-place : (items : List Aged) (files : List AgedText) (i : ℕ) (a : Aged) → map aged_text items ≡ files
+pub at-place : (items : List AgedFile) (files : List AgedText) (i : ℕ) (a : AgedFile) → map aged_text items ≡ files
     → i < length items → a ≡ get_or items i a
     → (i < length files) × (aged_text a ≡ get_or files i (aged_text a))
 at-place items files i a listed within is = (
@@ -204,7 +204,7 @@ module _ (all : List AgedText) (i : ℕ) (t : AgedText) (within : i < length all
       (λ x. keeps-used (is_used all (owner_of x)) (is_same t x) (of-same false unused x)) now
 
 -- a failure that was counted stays counted
-pub raised-on : (a b c : ℕ) → b ≤ c → raised a b → raised a c
+pub raised-on : (a b c : ℕ) → b ≤ c → IsRaisedCount a b → IsRaisedCount a c
 raised-on a b c le (inl lt) = inl (omega arith)
 raised-on a b c le (inr end) = grind (arith)
 
@@ -220,7 +220,7 @@ module _ (all : List AgedText) (i : ℕ) (t : AgedText) (within : i < length all
       (λ removed. stays-more all i t within is mid.files new.files (sym used) removed) (h.changed tells)
 
   pub gone-step : (b : Bool) (mid new : AgingView) → RemovesUnused b t mid new (Ok tt)
-      → b ≡ is_used all (owner_of t) → mid.tells ≡ true → (raised mid.faults new.faults → ⊥)
+      → b ≡ is_used all (owner_of t) → mid.tells ≡ true → (IsRaisedCount mid.faults new.faults → ⊥)
       → mid.files ≡ filter (stays_at all i) all → new.files ≡ filter (stays_at all (i + 1)) all
   gone-step true mid new h used tells none e =
       h.kept refl tells ∙ kept-more all i t within is mid.files (sym used) e

@@ -8,9 +8,9 @@ use Rattle.edit_base.specs.declared.errors.DeviceCall.{DeviceCall}
 use Rattle.edit_base.specs.declared.errors.Error.{Error}
 use Rattle.edit_base.specs.declared.errors.Error.TheVariants.{Device}
 use Rattle.edit_base.specs.Errors.{IsMemory}
-use Rattle.edit_store.specs.Store.{raised}
+use Rattle.edit_store.specs.Store.{IsRaisedCount}
 use Rattle.edit_answers.specs.Changes.{Fails}
-use Rattle.edit_answers.specs.declared.aging_store.Aged.{Aged}
+use Rattle.edit_answers.specs.declared.aging_store.AgedFile.{AgedFile}
 use Rattle.edit_answers.specs.declared.aging_store.MemoryCache.{MemoryCache}
 use Rattle.edit_answers.specs.declared.cache_folder.CacheFolder.{CacheFolder}
 
@@ -21,7 +21,7 @@ pub record AgedText : Type 0 where
   pub days : ℕ
 
 -- the model of a file of a cache
-abbrev pub aged_text : Aged → AgedText
+abbrev pub aged_text : AgedFile → AgedText
 aged_text a = record { path = string_bytes a.path; is_run = a.is_run; days = a.days }
 
 -- the model of a cache: whether its files are known, these files, and how often the device has failed
@@ -35,7 +35,7 @@ abbrev pub is_same : AgedText → AgedText → Bool
 is_same a b = bytes_eq a.path b.path && (if a.is_run then b.is_run else not b.is_run)
 
 -- the files of the cache are listed, and nothing changes
-pub record Lists (old new : AgingView) (result : Result (Vec Aged Global) Error) : Type 0 where
+pub record Lists (old new : AgingView) (result : Result (Vec AgedFile Global) Error) : Type 0 where
   pub tells : new.tells ≡ old.tells
   pub later : old.faults ≤ new.faults
   pub files : old.tells ≡ true → new.files ≡ old.files
@@ -84,14 +84,14 @@ pub record RemovesUnused (is_used : Bool) (a : AgedText) (old new : AgingView) (
   pub kept : is_used ≡ true → old.tells ≡ true → new.files ≡ old.files
   pub changed : old.tells ≡ true
       → (new.files ≡ old.files) ⊎ (new.files ≡ filter (λ b. not (is_same a b)) old.files)
-  pub gone : is_used ≡ false → OnOk result (old.tells ≡ true → (raised old.faults new.faults → ⊥)
+  pub gone : is_used ≡ false → OnOk result (old.tells ≡ true → (IsRaisedCount old.faults new.faults → ⊥)
       → new.files ≡ filter (λ b. not (is_same a b)) old.files)
   pub refused : IfErr result IsMemory
 
 -- the errors of pruning: lack of memory, or the files cannot be listed, and then none is removed
 abbrev pub FailsToPrune : AgingView → AgingView → Error → Type 0
 FailsToPrune old new e =
-    IsMemory e ⊎ ((call : DeviceCall) × (e ≡ Device call) × raised old.faults new.faults
+    IsMemory e ⊎ ((call : DeviceCall) × (e ≡ Device call) × IsRaisedCount old.faults new.faults
     × (old.tells ≡ true → new.files ≡ old.files))
 
 -- pruning a cache: even on an error, no file is removed that has to stay; if the device does not fail, no
@@ -100,7 +100,7 @@ pub record Prunes (old new : AgingView) (result : Result Unit Error) : Type 0 wh
   pub tells : new.tells ≡ old.tells
   pub later : old.faults ≤ new.faults
   pub stays : old.tells ≡ true → remaining_files old.files new.files ≡ remaining_files old.files old.files
-  pub gone : OnOk result (old.tells ≡ true → (raised old.faults new.faults → ⊥)
+  pub gone : OnOk result (old.tells ≡ true → (IsRaisedCount old.faults new.faults → ⊥)
       → new.files ≡ remaining_files old.files old.files)
   pub refused : IfErr result (FailsToPrune old new)
 

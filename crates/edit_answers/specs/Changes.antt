@@ -4,7 +4,7 @@ use Rattle.edit_base.specs.declared.errors.DeviceCall.{DeviceCall}
 use Rattle.edit_base.specs.declared.errors.Error.{Error}
 use Rattle.edit_base.specs.declared.errors.Error.TheVariants.{Device}
 use Rattle.edit_base.specs.Errors.{IsMemory}
-use Rattle.edit_store.specs.Store.{Files, StoreView, raised}
+use Rattle.edit_store.specs.Store.{Files, StoreView, IsRaisedCount}
 
 -- the path has the same bytes as before, or new bytes that are allowed there
 abbrev pub IsAllowedAt : (List ℕ → List ℕ → Type 0) → Files → Files → List ℕ → Type 0
@@ -21,7 +21,7 @@ AllowsChangesBut P old new = (torn : List ℕ) × ((path : List ℕ) → path �
 
 -- a call fails for lack of memory, or with the device, which was counted
 abbrev pub Fails : ℕ → ℕ → Error → Type 0
-Fails before now e = IsMemory e ⊎ ((call : DeviceCall) × (e ≡ Device call) × raised before now)
+Fails before now e = IsMemory e ⊎ ((call : DeviceCall) × (e ≡ Device call) × IsRaisedCount before now)
 
 -- the effect of a call on a store: its result determines which bytes are allowed in which files; on an error
 -- one file may hold anything, and every other one is unchanged or has bytes that are allowed there

@@ -34,10 +34,10 @@ cached_failure (Cached failure) = if is_offline failure then None else Some fail
 cached_failure _ = None
 
 -- why an entry is not available, neither fetched nor cached
-abbrev pub lost : Outcome → Option Failure
-lost (Missing failure) = Some failure
-lost (Damaged damage failure) = Some failure
-lost _ = None
+abbrev pub missing_failure : Outcome → Option Failure
+missing_failure (Missing failure) = Some failure
+missing_failure (Damaged damage failure) = Some failure
+missing_failure _ = None
 
 -- whether an upgrade cannot proceed without an entry: offline it can, unless a registry on this machine is
 -- broken
@@ -50,13 +50,13 @@ is_fatal offline _ = not offline
 abbrev pub failure_with : Consequence → Bool → Outcome → Option Failure
 failure_with standing.Cached offline outcome = cached_failure outcome
 failure_with standing.Left offline outcome =
-    option_and_then (λ f. if is_fatal offline f then None else Some f) (lost outcome)
+    option_and_then (λ f. if is_fatal offline f then None else Some f) (missing_failure outcome)
 failure_with standing.Missing offline outcome =
-    option_and_then (λ f. if is_fatal offline f then Some f else None) (lost outcome)
+    option_and_then (λ f. if is_fatal offline f then Some f else None) (missing_failure outcome)
 
 -- the lookups with this consequence, each with its failure
-abbrev pub missed : Consequence → Bool → List (Lookup × Outcome) → List (Lookup × Failure)
-missed standing offline pairs =
+abbrev pub failed_lookups : Consequence → Bool → List (Lookup × Outcome) → List (Lookup × Failure)
+failed_lookups standing offline pairs =
     filter_map (λ p. option_map (λ f. (p.0, f)) (failure_with standing offline p.1)) pairs
 
 -- whether a lookup is in a registry

@@ -3,11 +3,11 @@ use Rattle.std.specs.Prelude.{◌≡◌, ℕ, List, [], ◌∷◌, ◌++◌, Opt
 use Rattle.std.specs.Fmt.{decimal}
 use Rattle.std.specs.List.{flat_map}
 use Rattle.edit_lookups.specs.CachePaths.{cached_path}
-use Rattle.edit_lookups.specs.ControlEscapes.{escaped}
+use Rattle.edit_lookups.specs.ControlEscapes.{escape_controls}
 use Rattle.edit_lookups.specs.Lookups.{lookup_text}
-use Rattle.edit_lookups.specs.UserinfoAddresses.{shown_address}
+use Rattle.edit_lookups.specs.UserinfoAddresses.{strip_userinfo}
 use Rattle.edit_lookups.specs.declared.lookups.Lookup.{Lookup}
-use Rattle.edit_answers.specs.Groups.{AreGroups, GroupText, missed}
+use Rattle.edit_answers.specs.Groups.{AreGroups, GroupText, failed_lookups}
 use Rattle.edit_answers.specs.declared.bodies.Damage.{Damage}
 use Rattle.edit_answers.specs.declared.bodies.Damage.TheVariants.{BadLine, NotWhole}
 use Rattle.edit_answers.specs.declared.groups.Consequence.{Consequence}
@@ -18,12 +18,12 @@ use Rattle.edit_answers.specs.declared.messages.Report.{Report}
 
 -- the address of a registry in messages
 abbrev pub message_address : List ℕ → List ℕ
-message_address address = escaped (shown_address address)
+message_address address = escape_controls (strip_userinfo address)
 
 -- names joined by commas
 abbrev pub names_text : List (List ℕ) → List ℕ
 names_text [] = []
-names_text (name ∷ rest) = escaped name ++ flat_map (λ n. codes ", " ++ escaped n) rest
+names_text (name ∷ rest) = escape_controls name ++ flat_map (λ n. codes ", " ++ escape_controls n) rest
 
 -- how many index entries of a registry could not be fetched, and why
 unfoldable pub unfetched_text : List ℕ → List ℕ → List ℕ → List ℕ
@@ -66,12 +66,12 @@ line_of Missing g = missing_line g
 -- the warning about a damaged file in the cache
 abbrev pub damage_text : List ℕ → Damage → List ℕ
 damage_text path (BadLine line) =
-    let place = escaped path ++ (codes ":" ++ decimal line) in
+    let place = escape_controls path ++ (codes ":" ++ decimal line) in
     codes "warning: the cached index entry "
     ++ ((place ++ codes " is no index line, so the file is not used") ++ codes ": remove it\n")
 damage_text path NotWhole =
     codes "warning: the cached index entry "
-    ++ (escaped path ++ codes " is not whole, so the file is not used: remove it\n")
+    ++ (escape_controls path ++ codes " is not whole, so the file is not used: remove it\n")
 
 -- the warning about the damaged cached entry at a path; empty for any other result
 abbrev pub damage_by : List ℕ → Outcome → List ℕ
@@ -104,9 +104,9 @@ pub record IsReport (cache : List ℕ) (is_offline : Bool) (pairs : List (Lookup
   pub cached : List GroupText
   pub left : List GroupText
   pub missing : List GroupText
-  pub are_cached : AreGroups (missed Cached is_offline pairs) cached
-  pub are_left : AreGroups (missed Left is_offline pairs) left
-  pub are_missing : AreGroups (missed Missing is_offline pairs) missing
+  pub are_cached : AreGroups (failed_lookups Cached is_offline pairs) cached
+  pub are_left : AreGroups (failed_lookups Left is_offline pairs) left
+  pub are_missing : AreGroups (failed_lookups Missing is_offline pairs) missing
   pub warnings : string_bytes r.warnings
       ≡ (flat_map (damage_line cache) pairs ++ flat_map (line_of Cached) cached)
       ++ flat_map (line_of Left) left

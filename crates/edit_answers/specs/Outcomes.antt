@@ -59,15 +59,15 @@ HasBody p l number files =
     (body : List ℕ) × (files (body_path p.room.now number) ≡ Some body) × IsWholeIndex l.name body
 
 -- the result of a lookup whose new body is stored, given whether no redirect was followed
-abbrev pub stored : Bool → Outcome
-stored true = Fetched
-stored false = Moved
+abbrev pub stored_outcome : Bool → Outcome
+stored_outcome true = Fetched
+stored_outcome false = Moved
 
 -- the result of a lookup, given the meaning of its transfer and these files: a new body counts only if it is
 -- a complete index file; without one, the cached entry is used
 pub data Settles (p : Places) (l : LookupText) (number : ℕ) (files : Files) : Meaning → Outcome → Type 0 where
   fetched : (is_direct : Bool) → HasBody p l number files
-      → Settles p l number files (new_meaning is_direct) (stored is_direct)
+      → Settles p l number files (new_meaning is_direct) (stored_outcome is_direct)
   unusable : (is_direct : Bool) (o : Outcome) → (HasBody p l number files → ⊥)
       → FromCache l.name (Cached NotAnIndex) NotAnIndex (files (cached_path p.cache.now l)) o
       → Settles p l number files (new_meaning is_direct) o

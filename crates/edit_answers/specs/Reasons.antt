@@ -2,7 +2,7 @@
 use Rattle.std.specs.Prelude.{◌≡◌, ℕ, List, [], ◌++◌, ◌==◌, ◌||◌, codes, length, if◌then◌else◌}
 use Rattle.std.specs.Fmt.{decimal}
 use Rattle.std.specs.Str.{bytes_eq}
-use Rattle.edit_lookups.specs.ControlEscapes.{escaped}
+use Rattle.edit_lookups.specs.ControlEscapes.{escape_controls}
 use Rattle.edit_lookups.specs.Lookups.{LookupText}
 use Rattle.edit_answers.specs.Locals.{IsLocalFolder}
 use Rattle.edit_answers.specs.Places.{local_path}
@@ -17,20 +17,20 @@ pub data IsFileOf (l : LookupText) : List ℕ → Type 0 where
 -- the reason for a failed transfer: curl's message, and its exit code
 abbrev pub curl_text : List ℕ → List ℕ → List ℕ
 curl_text exit message =
-    escaped (if length message == 0 then codes "curl failed" else message) ++
-    (codes ", curl: " ++ escaped exit)
+    escape_controls (if length message == 0 then codes "curl failed" else message) ++
+    (codes ", curl: " ++ escape_controls exit)
 
 -- the reason for an HTTP status
 abbrev pub status_text : List ℕ → List ℕ
 status_text code =
     if bytes_eq code (codes "401") || bytes_eq code (codes "403")
     then codes "status " ++ (code ++ codes ": it wants a token, `CARGO_REGISTRIES_<NAME>_TOKEN`")
-    else codes "status " ++ escaped code
+    else codes "status " ++ escape_controls code
 
 -- the reason for a malformed line of an index
 abbrev pub bad_line_text : ℕ → List ℕ → List ℕ
 bad_line_text line path =
-    codes "invalid index line " ++ (decimal line ++ (codes " of " ++ escaped path))
+    codes "invalid index line " ++ (decimal line ++ (codes " of " ++ escape_controls path))
 
 -- why the entry of a lookup could not be fetched
 abbrev pub IsReason : LookupText → Failure → List ℕ → Type 0

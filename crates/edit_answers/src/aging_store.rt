@@ -8,7 +8,7 @@ use std::alloc::{AllocError, Global};
 /// A file of a cache, or the working folder of a run in it, and the number of whole days since it was last
 /// modified.
 #[derive(Debug, Drop)]
-pub struct Aged {
+pub struct AgedFile {
     pub path: String,
     pub is_run: bool,
     pub days: u64,
@@ -19,32 +19,32 @@ pub trait AgingStore {
     ghost aging: { Self → AgingView };
 
     /// Lists the files of the cache, and the working folders of runs.
-    fn list(&mut self, alloc: Global) -> CargoResult<Vec<Aged>>
+    fn list(&mut self, alloc: Global) -> CargoResult<Vec<AgedFile>>
         ensures { Lists (aging self.old) (aging self.new) result };
 
     /// Removes a file, or the working folder of a run with its contents.
-    fn remove(&mut self, alloc: Global, aged: &Aged) -> CargoResult<()>
+    fn remove(&mut self, alloc: Global, aged: &AgedFile) -> CargoResult<()>
         ensures { Removes (aged_text aged.now) (aging self.old) (aging self.new) result };
 }
 
 /// A cache in memory, for tests.
 #[derive(Debug, Drop)]
 pub struct MemoryCache {
-    pub files: Vec<Aged>,
+    pub files: Vec<AgedFile>,
 }
 
 /// Whether two files are the same, by path and kind.
-fn is_same(a: &Aged, b: &Aged) -> bool
+fn is_same(a: &AgedFile, b: &AgedFile) -> bool
     ensures { result ≡ is_same (aged_text a.now) (aged_text b.now) }
 {
     a.path.as_str() == b.path.as_str() && if a.is_run { b.is_run } else { !b.is_run }
 }
 
 /// Returns a copy of a file's data.
-fn copy_of(alloc: Global, aged: &Aged) -> Result<Aged, AllocError>
+fn copy_of(alloc: Global, aged: &AgedFile) -> Result<AgedFile, AllocError>
     ensures { IfOk result (λ a. aged_text a ≡ aged_text aged.now) }
 {
-    Ok(Aged {
+    Ok(AgedFile {
         path: String::from_str(alloc, aged.path.as_str())?,
         is_run: aged.is_run,
         days: aged.days,
@@ -52,7 +52,7 @@ fn copy_of(alloc: Global, aged: &Aged) -> Result<Aged, AllocError>
 }
 
 /// Returns copies of these files, without one of them.
-fn without(alloc: Global, files: &[Aged], aged: &Aged) -> Result<Vec<Aged>, AllocError>
+fn files_without(alloc: Global, files: &[AgedFile], aged: &AgedFile) -> Result<Vec<AgedFile>, AllocError>
     ensures { IfOk result (λ v. map aged_text v.items
         ≡ filter (λ b. not (is_same (aged_text aged.now) b)) (map aged_text files.now)) }
 {
@@ -66,7 +66,7 @@ fn without(alloc: Global, files: &[Aged], aged: &Aged) -> Result<Vec<Aged>, Allo
 }
 
 /// Returns copies of these files.
-fn copies_of(alloc: Global, files: &[Aged]) -> Result<Vec<Aged>, AllocError>
+fn copies_of(alloc: Global, files: &[AgedFile]) -> Result<Vec<AgedFile>, AllocError>
     ensures { IfOk result (λ v. map aged_text v.items ≡ map aged_text files.now) }
 {
     let mut copies = Vec::new(alloc);
@@ -79,12 +79,12 @@ fn copies_of(alloc: Global, files: &[Aged]) -> Result<Vec<Aged>, AllocError>
 impl AgingStore for MemoryCache {
     ghost aging = { memory_aging };
 
-    fn list(&mut self, alloc: Global) -> CargoResult<Vec<Aged>> {
+    fn list(&mut self, alloc: Global) -> CargoResult<Vec<AgedFile>> {
         Ok(copies_of(alloc, &self.files)?)
     }
 
-    fn remove(&mut self, alloc: Global, aged: &Aged) -> CargoResult<()> {
-        let left = without(alloc, &self.files, aged)?;
+    fn remove(&mut self, alloc: Global, aged: &AgedFile) -> CargoResult<()> {
+        let left = files_without(alloc, &self.files, aged)?;
         self.files = left;
         Ok(())
     }

@@ -59,7 +59,7 @@ fn no_answers<'a>(alloc: Global, count: usize) -> Result<Vec<Option<Answer<'a>>>
 }
 
 /// Puts an outcome into the slot of its number, from 1, if the table has that slot and it is empty.
-fn put<'a>(table: &mut Vec<Option<Answer<'a>>>, number: usize, answer: Answer<'a>)
+fn put_answer<'a>(table: &mut Vec<Option<Answer<'a>>>, number: usize, answer: Answer<'a>)
     ensures put { (k : ℕ) (a : Answer) → slice_get table.new.items k ≡ Some (Some a)
         → (slice_get table.old.items k ≡ Some (Some a)) ⊎ ((k + 1 ≡ number) × (a ≡ answer.entry)) }
     ensures preserved { (k : ℕ) (a : Answer) → slice_get table.old.items k ≡ Some (Some a)
@@ -90,7 +90,7 @@ pub fn read_answers<'a>(
     let mut rest = text;
     while let Some((line, after)) = rest.split_once('\n') {
         if let Some((number, answer)) = read_answer(line) {
-            put(&mut table, number, answer);
+            put_answer(&mut table, number, answer);
         }
         rest = after;
     }

@@ -2,8 +2,8 @@
 ghost use Rattle.std.specs.Prelude.{◌≡◌};
 ghost use Rattle.edit_answers.specs.Aging.{folder_aging, folder_faults};
 
-use crate::aging_store::{Aged, AgingStore};
-use crate::cache_store::refused;
+use crate::aging_store::{AgedFile, AgingStore};
+use crate::cache_store::count_fault;
 use edit_base::errors::{CargoResult, DeviceCall};
 use std::alloc::Global;
 use std::fs::{File, Files};
@@ -50,7 +50,7 @@ fn add_files<R: Files<File = File> + Alloc<A = Global> + Clone + Drop>(
     rt: &R,
     folder: &str,
     now: SystemTime,
-    files: &mut Vec<Aged>,
+    files: &mut Vec<AgedFile>,
     folders: &mut Vec<String>,
 ) -> io::Result<()> {
     for entry in fs::read_dir(rt, folder)? {
@@ -61,7 +61,7 @@ fn add_files<R: Files<File = File> + Alloc<A = Global> + Clone + Drop>(
         if kind.is_dir() && !is_run {
             folders.push(path)?;
         } else if let Some(days) = days_since(rt, path.as_str(), now) {
-            files.push(Aged { path, is_run, days })?;
+            files.push(AgedFile { path, is_run, days })?;
         }
     }
     Ok(())
@@ -71,7 +71,7 @@ fn add_files<R: Files<File = File> + Alloc<A = Global> + Clone + Drop>(
 fn files_below<R: Files<File = File> + Alloc<A = Global> + Clock + Clone + Drop>(
     rt: &R,
     folder: &str,
-) -> io::Result<Vec<Aged>> {
+) -> io::Result<Vec<AgedFile>> {
     let now = SystemTime::now(rt)?;
     let mut files = Vec::new(rt.alloc());
     let mut folders = Vec::new(rt.alloc());
@@ -89,7 +89,7 @@ fn files_below<R: Files<File = File> + Alloc<A = Global> + Clock + Clone + Drop>
 }
 
 /// Removes a file, or the working folder of a run.
-fn remove<R: Files<File = File> + Alloc<A = Global> + Drop>(rt: &R, aged: &Aged) -> io::Result<()> {
+fn remove<R: Files<File = File> + Alloc<A = Global> + Drop>(rt: &R, aged: &AgedFile) -> io::Result<()> {
     let path = aged.path.as_str();
     if aged.is_run {
         fs::remove_dir_all(rt, path)
@@ -102,17 +102,17 @@ impl<R: Files<File = File> + Alloc<A = Global> + Clock + Clone + Drop> AgingStor
     for CacheFolder<R> {
     ghost aging = { folder_aging };
 
-    fn list(&mut self, _alloc: Global) -> CargoResult<Vec<Aged>> {
+    fn list(&mut self, _alloc: Global) -> CargoResult<Vec<AgedFile>> {
         match files_below(&self.rt, self.folder.as_str()) {
             Ok(files) => Ok(files),
-            Err(error) => Err(refused(&mut self.failed, DeviceCall::Read, error)),
+            Err(error) => Err(count_fault(&mut self.failed, DeviceCall::Read, error)),
         }
     }
 
-    fn remove(&mut self, _alloc: Global, aged: &Aged) -> CargoResult<()> {
+    fn remove(&mut self, _alloc: Global, aged: &AgedFile) -> CargoResult<()> {
         match remove(&self.rt, aged) {
             Ok(()) => Ok(()),
-            Err(error) => Err(refused(&mut self.failed, DeviceCall::Write, error)),
+            Err(error) => Err(count_fault(&mut self.failed, DeviceCall::Write, error)),
         }
     }
 }

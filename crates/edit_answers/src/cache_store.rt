@@ -1,7 +1,7 @@
 //! The store of the files of a cache.
 ghost use Rattle.std.specs.Prelude.{◌≡◌, []};
 ghost use Rattle.edit_answers.specs.CacheStore.{cache_faults, cache_view, cache_writes};
-ghost use Rattle.edit_store.specs.Host.{IsRefusal};
+ghost use Rattle.edit_store.specs.Host.{IsHostError};
 
 use crate::link_store::{LinkStore, copy};
 use edit_base::errors::{CargoResult, DeviceCall, Error};
@@ -42,8 +42,8 @@ impl<R: Files<File = File> + Alloc<A = Global> + Drop> CacheStore<R> {
 }
 
 /// Turns an error of the system into the error of a call. Every error except lack of memory is counted.
-pub(crate) fn refused(failed: &mut u64, call: DeviceCall, error: io::Error) -> Error
-    ensures { IsRefusal call failed.old failed.new result }
+pub(crate) fn count_fault(failed: &mut u64, call: DeviceCall, error: io::Error) -> Error
+    ensures { IsHostError call failed.old failed.new result }
 {
     if error.kind() == ErrorKind::OutOfMemory {
         return Error::Memory;
@@ -130,7 +130,7 @@ impl<R: Files<File = File> + Alloc<A = Global> + Drop> Store for CacheStore<R> {
             Ok(metadata) if metadata.is_dir() => Ok(Kind::Folder),
             Ok(_) => Ok(Kind::Absent),
             Err(error) if is_absent(error.kind()) => Ok(Kind::Absent),
-            Err(error) => Err(refused(&mut self.failed, DeviceCall::Kind, error)),
+            Err(error) => Err(count_fault(&mut self.failed, DeviceCall::Kind, error)),
         }
     }
 
@@ -138,7 +138,7 @@ impl<R: Files<File = File> + Alloc<A = Global> + Drop> Store for CacheStore<R> {
         match fs::read(&self.rt, path) {
             Ok(bytes) => Ok(Some(bytes)),
             Err(error) if is_absent(error.kind()) => Ok(None),
-            Err(error) => Err(refused(&mut self.failed, DeviceCall::Read, error)),
+            Err(error) => Err(count_fault(&mut self.failed, DeviceCall::Read, error)),
         }
     }
 
@@ -146,7 +146,7 @@ impl<R: Files<File = File> + Alloc<A = Global> + Drop> Store for CacheStore<R> {
         self.writes.push(String::from_str(alloc, path)?)?;
         match replace(&self.rt, alloc, path, bytes, self.run) {
             Ok(()) => Ok(()),
-            Err(error) => Err(refused(&mut self.failed, DeviceCall::Write, error)),
+            Err(error) => Err(count_fault(&mut self.failed, DeviceCall::Write, error)),
         }
     }
 

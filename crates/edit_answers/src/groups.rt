@@ -1,6 +1,6 @@
 //! The lookups without a fetched entry, grouped by registry.
 ghost use Rattle.std.specs.Prelude.{◌≡◌, ◌++◌, IfOk, map};
-ghost use Rattle.edit_answers.specs.Groups.{AreGroups, IsGroup, failure_with, group_text, is_excluded, is_fatal, is_listed, is_offline, lost, missed, names_at, cached_failure, included_lookups};
+ghost use Rattle.edit_answers.specs.Groups.{AreGroups, IsGroup, failure_with, group_text, is_excluded, is_fatal, is_listed, is_offline, missing_failure, failed_lookups, names_at, cached_failure, included_lookups};
 ghost use Rattle.edit_answers.specs.Reasons.{IsReason};
 
 use crate::meaning::{Failure, Outcome};
@@ -75,8 +75,8 @@ fn cached_failure<'b>(outcome: Outcome<'b>) -> Option<Failure<'b>>
 }
 
 /// Why an entry is not available, neither fetched nor cached.
-fn lost<'b>(outcome: Outcome<'b>) -> Option<Failure<'b>>
-    ensures { result ≡ lost outcome.entry }
+fn missing_failure<'b>(outcome: Outcome<'b>) -> Option<Failure<'b>>
+    ensures { result ≡ missing_failure outcome.entry }
 {
     match outcome {
         Outcome::Missing(failure) => Some(failure),
@@ -108,7 +108,7 @@ fn failure_with<'b>(
     match standing {
         Consequence::Cached => cached_failure(outcome),
         Consequence::Left => {
-            let failure = lost(outcome)?;
+            let failure = missing_failure(outcome)?;
             if is_fatal(failure, offline) {
                 None
             } else {
@@ -116,7 +116,7 @@ fn failure_with<'b>(
             }
         }
         Consequence::Missing => {
-            let failure = lost(outcome)?;
+            let failure = missing_failure(outcome)?;
             if is_fatal(failure, offline) {
                 Some(failure)
             } else {
@@ -127,13 +127,13 @@ fn failure_with<'b>(
 }
 
 /// The lookups with this consequence, each with its failure.
-fn missed<'a, 'b>(
+fn failed_lookups<'a, 'b>(
     alloc: Global,
     standing: Consequence,
     offline: bool,
     pairs: &[(Lookup<'a>, Outcome<'b>)],
 ) -> Result<Vec<(Lookup<'a>, Failure<'b>)>, AllocError>
-    ensures { IfOk result (λ v. v.items ≡ missed standing offline pairs.now) }
+    ensures { IfOk result (λ v. v.items ≡ failed_lookups standing offline pairs.now) }
 {
     let mut found = Vec::new(alloc);
     for pair in pairs {
@@ -214,8 +214,8 @@ pub(crate) fn groups_with<'a>(
     offline: bool,
     pairs: &[(Lookup<'a>, Outcome<'_>)],
 ) -> Result<Vec<Group<'a>>, AllocError>
-    ensures { IfOk result (λ v. AreGroups (missed standing offline pairs.now) (map group_text v.items)) }
+    ensures { IfOk result (λ v. AreGroups (failed_lookups standing offline pairs.now) (map group_text v.items)) }
 {
-    let found = missed(alloc, standing, offline, pairs)?;
+    let found = failed_lookups(alloc, standing, offline, pairs)?;
     groups_of(alloc, &found)
 }

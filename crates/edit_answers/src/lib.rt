@@ -18,10 +18,10 @@ pub mod places;
 pub mod pruning;
 mod reasons;
 pub mod settle;
-pub mod stored;
+pub mod store_results;
 mod validators;
 
-pub use aging_store::{Aged, AgingStore, MemoryCache};
+pub use aging_store::{AgedFile, AgingStore, MemoryCache};
 pub use answers::{Answer, read_answers};
 pub use bodies::{Damage, damage_of};
 pub use cache_folder::CacheFolder;
@@ -33,4 +33,4 @@ pub use meaning::{Failure, Meaning, Outcome, meaning_of};
 pub use messages::{Report, StoreOptions, report_of};
 pub use places::Places;
 pub use pruning::prune;
-pub use stored::store_answers;
+pub use store_results::store_answers;

@@ -173,7 +173,7 @@ mod tests {
     use std::test::Fail;
 
     /// The folder of an address, or `-` where it names none.
-    fn shown(alloc: Global, address: &str) -> Result<String, Fail> {
+    fn folder_or_dash(alloc: Global, address: &str) -> Result<String, Fail> {
         match local_folder(alloc, address)? {
             Some(folder) => Ok(folder),
             None => Ok(String::from_str(alloc, "-")?),
@@ -194,7 +194,7 @@ mod tests {
             ("idx", "-"),
         ];
         for (address, folder) in cases {
-            assert_eq!(rt; shown(rt.alloc(), address)?.as_str(), folder);
+            assert_eq!(rt; folder_or_dash(rt.alloc(), address)?.as_str(), folder);
         }
         Ok(())
     }

@@ -4,14 +4,14 @@ ghost use Rattle.std.specs.Fmt.{decimal};
 ghost use Rattle.std.specs.List.{flat_map};
 ghost use Rattle.edit_answers.specs.Groups.{GroupText, group_text, included_lookups};
 ghost use Rattle.edit_answers.specs.Messages.{IsReport, IsUnreadable, cached_line, cached_text, damage_line, damage_text, error_text, skipped_line, line_of, missing_line, names_text, message_address, unfetched_text};
-ghost use Rattle.edit_lookups.specs.ControlEscapes.{escaped};
+ghost use Rattle.edit_lookups.specs.ControlEscapes.{escape_controls};
 
 use crate::bodies::Damage;
 use crate::groups::{Consequence, Group, groups_with, included_lookups};
 use crate::meaning::Outcome;
 use crate::places::Places;
 use crate::reasons::escape_message;
-use edit_lookups::{Lookup, cached_path, push_escaped, shown_address};
+use edit_lookups::{Lookup, cached_path, push_escaped, strip_userinfo};
 use std::alloc::{AllocError, Global};
 
 /// The messages of a run: its warnings, each with a line end, and the error that ends it with status 1, if
@@ -35,14 +35,14 @@ pub struct StoreOptions<'a> {
 fn message_address(alloc: Global, address: &str) -> Result<String, AllocError>
     ensures { IfOk result (λ s. string_bytes s ≡ message_address address.now) }
 {
-    let shown = shown_address(alloc, address)?;
+    let shown = strip_userinfo(alloc, address)?;
     escape_message(alloc, shown.as_str())
 }
 
 /// Appends names, each after a comma and a space.
 fn push_names(text: &mut String, names: &[&str]) -> Result<(), AllocError>
     ensures { OnOk result (string_bytes text.new ≡ string_bytes text.old
-        ++ flat_map (λ n. codes ", " ++ escaped n.now) names.now) }
+        ++ flat_map (λ n. codes ", " ++ escape_controls n.now) names.now) }
 {
     for name in names {
         text.push_str(", ")?;
@@ -169,7 +169,7 @@ fn push_lines(
 }
 
 /// The report of a run whose file of lookups is malformed.
-pub fn unreadable(alloc: Global) -> Result<Report, AllocError>
+pub fn malformed_report(alloc: Global) -> Result<Report, AllocError>
     ensures { IfOk result IsUnreadable }
 {
     Ok(Report {

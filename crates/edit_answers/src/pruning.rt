@@ -4,7 +4,7 @@ ghost use Rattle.std.specs.BTreeSet.{contains_text};
 ghost use Rattle.std.specs.Str.{bytes_eq};
 ghost use Rattle.edit_answers.specs.Aging.{Prunes, RemovesUnused, aged_text, retention_days, entry_of, is_recent, is_used, owner_of};
 
-use crate::aging_store::{Aged, AgingStore};
+use crate::aging_store::{AgedFile, AgingStore};
 use edit_base::{CargoResult, Error};
 use std::alloc::{AllocError, Global};
 use std::collections::BTreeSet;
@@ -28,7 +28,7 @@ fn entry_of(path: &str) -> &str
 }
 
 /// The path of what a file belongs to: its entry, or the working folder of a run.
-fn owner_of(alloc: Global, aged: &Aged) -> Result<String, AllocError>
+fn owner_of(alloc: Global, aged: &AgedFile) -> Result<String, AllocError>
     ensures { IfOk result (λ s. string_bytes s ≡ owner_of (aged_text aged.now)) }
 {
     let path = aged.path.as_str();
@@ -39,7 +39,7 @@ fn owner_of(alloc: Global, aged: &Aged) -> Result<String, AllocError>
 }
 
 /// Whether a file was modified recently enough to stay.
-fn is_recent(aged: &Aged) -> bool
+fn is_recent(aged: &AgedFile) -> bool
     ensures { result ≡ is_recent (aged_text aged.now) }
 {
     if aged.is_run {
@@ -50,7 +50,7 @@ fn is_recent(aged: &Aged) -> bool
 }
 
 /// Adds the owner of a file that was modified recently.
-fn add_used(alloc: Global, used: &mut BTreeSet<String>, aged: &Aged) -> Result<(), AllocError>
+fn add_used(alloc: Global, used: &mut BTreeSet<String>, aged: &AgedFile) -> Result<(), AllocError>
     ensures { OnOk result ((q : List ℕ) → contains_text used.new q
         ≡ (if is_recent (aged_text aged.now) && bytes_eq (owner_of (aged_text aged.now)) q then true
         else contains_text used.old q)) }
@@ -62,7 +62,7 @@ fn add_used(alloc: Global, used: &mut BTreeSet<String>, aged: &Aged) -> Result<(
 }
 
 /// The owners of files that were modified recently.
-fn used_owners(alloc: Global, files: &[Aged]) -> Result<BTreeSet<String>, AllocError>
+fn used_owners(alloc: Global, files: &[AgedFile]) -> Result<BTreeSet<String>, AllocError>
     ensures { IfOk result (λ s. (q : List ℕ) → contains_text s q ≡ is_used (map aged_text files.now) q) }
 {
     let mut used = BTreeSet::new(alloc);
@@ -73,7 +73,7 @@ fn used_owners(alloc: Global, files: &[Aged]) -> Result<BTreeSet<String>, AllocE
 }
 
 /// Whether the owner of a file is in a set.
-fn is_used(alloc: Global, used: &BTreeSet<String>, aged: &Aged) -> Result<bool, AllocError>
+fn is_used(alloc: Global, used: &BTreeSet<String>, aged: &AgedFile) -> Result<bool, AllocError>
     ensures { IfOk result (λ b. b ≡ contains_text used.now (owner_of (aged_text aged.now))) }
 {
     let owner = owner_of(alloc, aged)?;
@@ -84,7 +84,7 @@ fn is_used(alloc: Global, used: &BTreeSet<String>, aged: &Aged) -> Result<bool, 
 fn remove_unused<S: AgingStore>(
     alloc: Global,
     cache: &mut S,
-    aged: &Aged,
+    aged: &AgedFile,
     is_used: bool,
 ) -> CargoResult<()>
     ensures { RemovesUnused is_used (aged_text aged.now) (S.aging cache.old) (S.aging cache.new) result }
@@ -136,7 +136,7 @@ mod tests {
         days: u64,
     ) -> Result<(), Fail> {
         let path = String::from_str(alloc, path)?;
-        cache.files.push(Aged { path, is_run, days })?;
+        cache.files.push(AgedFile { path, is_run, days })?;
         Ok(())
     }
 

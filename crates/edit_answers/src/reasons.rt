@@ -1,7 +1,7 @@
 //! The reasons in messages why entries could not be fetched.
 ghost use Rattle.std.specs.Prelude.{◌≡◌, ◌++◌, ℕ, List, IfOk, MatchOption, codes, string_bytes};
 ghost use Rattle.edit_answers.specs.Reasons.{IsFileOf, IsReason, bad_line_text, curl_text, status_text};
-ghost use Rattle.edit_lookups.specs.ControlEscapes.{escaped};
+ghost use Rattle.edit_lookups.specs.ControlEscapes.{escape_controls};
 ghost use Rattle.edit_lookups.specs.Lookups.{lookup_text};
 
 use crate::local::{local_folder, local_path};
@@ -11,7 +11,7 @@ use std::alloc::{AllocError, Global};
 
 /// Escapes the control characters of a text.
 pub(crate) fn escape_message(alloc: Global, text: &str) -> Result<String, AllocError>
-    ensures { IfOk result (λ s. string_bytes s ≡ escaped text.now) }
+    ensures { IfOk result (λ s. string_bytes s ≡ escape_controls text.now) }
 {
     let mut shown = String::new(alloc);
     push_escaped(&mut shown, text)?;

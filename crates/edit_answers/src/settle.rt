@@ -3,7 +3,7 @@ ghost use Rattle.std.specs.Prelude.{◌≡◌, ℕ, List, Some, true, IfErr, IfO
 ghost use Rattle.edit_answers.specs.Bodies.{IsWholeIndex};
 ghost use Rattle.edit_answers.specs.Changes.{Changes, Fails};
 ghost use Rattle.edit_answers.specs.Meanings.{new_meaning};
-ghost use Rattle.edit_answers.specs.Outcomes.{FromCache, HasDamage, Puts, PutsIndexed, Settles, by_cached, by_link, stored};
+ghost use Rattle.edit_answers.specs.Outcomes.{FromCache, HasDamage, Puts, PutsIndexed, Settles, by_cached, by_link, stored_outcome};
 ghost use Rattle.edit_answers.specs.Places.{index_path};
 ghost use Rattle.edit_lookups.specs.CachePaths.{cached_path};
 ghost use Rattle.edit_lookups.specs.Lookups.{lookup_text};
@@ -171,8 +171,8 @@ fn settle_new<'a, S: LinkStore>(
 }
 
 /// The result of a lookup whose new body is stored.
-fn stored<'a>(is_direct: bool) -> Outcome<'a>
-    ensures { result ≡ stored is_direct }
+fn stored_outcome<'a>(is_direct: bool) -> Outcome<'a>
+    ensures { result ≡ stored_outcome is_direct }
 {
     if is_direct {
         Outcome::Fetched
@@ -195,7 +195,7 @@ fn store_body<'a, S: LinkStore>(
     ensures changes { Changes (Puts places.now (lookup_text lookup.now))
         (Puts places.now (lookup_text lookup.now) Outcome.Fetched)
         (S.view files.old) (S.view files.new) result }
-    ensures outcome { IfOk result (λ o. (S.view files.old).tells ≡ true → o ≡ stored is_direct) }
+    ensures outcome { IfOk result (λ o. (S.view files.old).tells ≡ true → o ≡ stored_outcome is_direct) }
 {
     let entry = cached_path(alloc, places.cache, lookup)?;
     let etag_path = validator_path(alloc, body_path)?;
@@ -208,7 +208,7 @@ fn store_body<'a, S: LinkStore>(
         files,
         places,
         lookup,
-        stored(is_direct),
+        stored_outcome(is_direct),
         Failure::Unanswered,
     ) {
         Ok(outcome) => outcome,

@@ -9,7 +9,7 @@ use Rattle.std.proofs.lemmas.List.Sorted.{sorted_far}
 use Rattle.std.proofs.lemmas.List.MinMax.{ranks_by}
 use Rattle.std.proofs.lemmas.Option.{slice_get-get_or}
 use Rattle.semver.specs.Parse.{Parts}
-use Rattle.edit_version.specs.Admissible.{admissible_in, candidate_in, entry_order, is_kept}
+use Rattle.edit_version.specs.Admissible.{admissible_in, candidate_in, entry_order, is_qualifying}
 use Rattle.edit_version.specs.Greatest.{IsGreatest, IsGreatestKept}
 use Rattle.edit_version.specs.IndexEntry.{IndexEntry}
 use Rattle.edit_version.specs.RustVersions.{Numbers}
@@ -58,13 +58,13 @@ ordered entries r s t u h =
 
 beaten_by : (entries : List IndexEntry) (rust : Option Numbers) (test : Parts → Bool) (r : Ranking)
     → (t : Told entries r) → (j : ℕ) (x : IndexEntry) → slice_get entries j ≡ Some x
-    → is_kept rust test x ≡ true → (s : Ranking) → s.place ≡ j → Beside entries (passes rust test) r s
+    → is_qualifying rust test x ≡ true → (s : Ranking) → s.place ≡ j → Beside entries (passes rust test) r s
     → (is_le (entry_order x t.entry) ≡ true) × (r.place < j → entry_order x t.entry ≡ Less)
 beaten_by entries rust test r t j x at kept s place b =
     let both : Some b.0.entry ≡ Some x = sym b.0.at ∙ ap (slice_get entries) place ∙ at in
     let same : b.0.entry ≡ x = cc both in
     let passed : passes rust test s ≡ true = sym (kept-passes rust test entries s b.0) ∙
-    ap (is_kept rust test) same ∙ kept in
+    ap (is_qualifying rust test) same ∙ kept in
     elim b.1 [
       | inl fails ↦ cc (passed, fails)
       | inr later ↦
@@ -80,7 +80,7 @@ beaten_by entries rust test r t j x at kept s place b =
 -- greater
 beaten : (entries : List IndexEntry) (ranks : List Ranking) (rust : Option Numbers) (test : Parts → Bool)
     (r : Ranking) → IsRanking entries ranks → IsFirst (passes rust test) ranks r → (t : Told entries r)
-    → (j : ℕ) (x : IndexEntry) → slice_get entries j ≡ Some x → is_kept rust test x ≡ true
+    → (j : ℕ) (x : IndexEntry) → slice_get entries j ≡ Some x → is_qualifying rust test x ≡ true
     → (is_le (entry_order x t.entry) ≡ true) × (r.place < j → entry_order x t.entry ≡ Less)
 beaten entries ranks rust test r g f t j x at kept =
     let read : IsSome (option_and_then candidate_in (slice_get entries j)) =
@@ -93,7 +93,7 @@ beaten entries ranks rust test r g f t j x at kept =
 -- the entry of the first rank that passes is the greatest admissible one, the last of equal ones
 pub greatest_first : (entries : List IndexEntry) (ranks : List Ranking) (rust : Option Numbers)
     (test : Parts → Bool) (r : Ranking) → IsRanking entries ranks → find (passes rust test) ranks ≡ Some r
-    → (t : Told entries r) × IsGreatestKept (is_kept rust test) entry_order entries t.entry
+    → (t : Told entries r) × IsGreatestKept (is_qualifying rust test) entry_order entries t.entry
 greatest_first entries ranks rust test r g h =
     let f = first_found (passes rust test) ranks r h in
     let t = tells_first entries ranks (passes rust test) r g f in (
@@ -115,7 +115,7 @@ greatest_first entries ranks rust test r g h =
 
 none_kept : (entries : List IndexEntry) (ranks : List Ranking) (rust : Option Numbers) (test : Parts → Bool)
     → IsRanking entries ranks → All (λ s. passes rust test s ≡ false) ranks → (j : ℕ) (x : IndexEntry)
-    → slice_get entries j ≡ Some x → is_kept rust test x ≡ true → ⊥
+    → slice_get entries j ≡ Some x → is_qualifying rust test x ≡ true → ⊥
 none_kept entries ranks rust test g fails j x at kept =
     let read : IsSome (option_and_then candidate_in (slice_get entries j)) =
     subst (λ o. IsSome (option_and_then candidate_in o)) (sym at)
@@ -128,15 +128,15 @@ none_kept entries ranks rust test g fails j x at kept =
     let both : Some found.2.0.entry ≡ Some x = sym found.2.0.at ∙ ap (slice_get entries) place ∙ at in
     let same : found.2.0.entry ≡ x = cc both in
     let passed : passes rust test s ≡ true = sym (kept-passes rust test entries s found.2.0) ∙
-    ap (is_kept rust test) same ∙ kept in
+    ap (is_qualifying rust test) same ∙ kept in
     cc (passed, found.2.1)
 
 -- if no rank passes, no entry is admissible
 pub none_first : (entries : List IndexEntry) (ranks : List Ranking) (rust : Option Numbers)
     (test : Parts → Bool) → IsRanking entries ranks → find (passes rust test) ranks ≡ None
-    → All (λ x. is_kept rust test x ≡ false) entries
+    → All (λ x. is_qualifying rust test x ≡ false) entries
 none_first entries ranks rust test g h j d within =
-    elim (cases_Bool (is_kept rust test (get_or entries j d))) [
+    elim (cases_Bool (is_qualifying rust test (get_or entries j d))) [
       | inl kept ↦ absurd (none_kept entries ranks rust test g (none_found (passes rust test) ranks h) j
           (get_or entries j d) (slice_get-get_or entries j d within) kept)
       | inr dropped ↦ dropped

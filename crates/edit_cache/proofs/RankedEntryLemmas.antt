@@ -15,7 +15,7 @@ use Rattle.std.proofs.lemmas.Option.{slice_get-get_or}
 use Rattle.semver.specs.Identifiers.{parts_text}
 use Rattle.semver.specs.Parse.{Parts}
 use Rattle.semver.proofs.Grammar.{version_parts-sound}
-use Rattle.edit_version.specs.Admissible.{minimum_rust, candidate_in, entry_order, if_fits, if_passes, is_kept, is_too_new, version_in}
+use Rattle.edit_version.specs.Admissible.{minimum_rust, candidate_in, entry_order, if_fits, if_passes, is_qualifying, is_too_new, version_in}
 use Rattle.edit_version.specs.IndexEntry.{IndexEntry}
 use Rattle.edit_version.specs.ReadVersion.{version_read}
 use Rattle.edit_version.specs.RustVersions.{Numbers}
@@ -161,7 +161,7 @@ passes-read false true v t e = rw e refl
 passes-read false false v t e = rw e refl
 
 pub kept-passes : (rust : Option Numbers) (test : Parts → Bool) (entries : List IndexEntry) (r : Ranking)
-    → (t : Told entries r) → is_kept rust test t.entry ≡ passes rust test r
+    → (t : Told entries r) → is_qualifying rust test t.entry ≡ passes rust test r
 kept-passes rust test entries r t =
     ap (λ o. is_some (if_passes test (if_fits rust o))) t.read
     ∙ passes-read (is_too_new r.rust_version rust) (test r.version) r.version test refl

@@ -6,11 +6,11 @@ use Rattle.std.specs.BTreeMap.{get_by_text}
 use Rattle.url.specs.Parts.{Parts, serialize}
 use Rattle.edit_base.specs.declared.errors.Error.{Error}
 use Rattle.edit_base.specs.Errors.{number_of, IsMemory}
-use Rattle.edit_sources.specs.Index.{IndexView, Outcomes, SameOutcomes, HasLookupCause, IsGivenRefusal, answer_of}
+use Rattle.edit_sources.specs.Index.{IndexView, Outcomes, SameOutcomes, HasLookupCause, IsOutcomeError, answer_of}
 use Rattle.edit_sources.specs.declared.index.IndexKrate.{IndexKrate}
 use Rattle.edit_cache.specs.CachedAnswer.{IsRanked}
 use Rattle.edit_cache.specs.declared.cache.IndexCache.{IndexCache}
-use Rattle.edit_cache.specs.declared.kept.CachedAnswer.{CachedAnswer}
+use Rattle.edit_cache.specs.declared.cached_result.CachedAnswer.{CachedAnswer}
 use Rattle.edit_cache.specs.declared.ranking.Ranked.{Ranked}
 
 -- the index below the cache (own)
@@ -82,4 +82,4 @@ pub record Ranks {I T : Type 0} (seen now : IndexView) (address : Parts) (name :
 -- fault of its device (own)
 abbrev pub IsMissError : Outcomes → Parts → List ℕ → Option (Option IndexKrate) → Error → Type 0
 IsMissError gives address name kept e =
-    IsMemory e ⊎ ((kept ≡ None) × (IsGivenRefusal gives address name e ⊎ (number_of e ≡ 3)))
+    IsMemory e ⊎ ((kept ≡ None) × (IsOutcomeError gives address name e ⊎ (number_of e ≡ 3)))

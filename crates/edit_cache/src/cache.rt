@@ -9,7 +9,7 @@ ghost use Rattle.edit_cache.specs.CachedAnswer.{IsRanked, IsRankedAt};
 
 mod choice_cache;
 
-use crate::kept::CachedAnswer;
+use crate::cached_result::CachedAnswer;
 use crate::ranking::Ranked;
 use edit_base::errors::CargoResult;
 use edit_sources::index::{Index, IndexKrate};
@@ -49,17 +49,17 @@ impl<I: Index> IndexCache<I> {
 
     /// The cached entries of a crate; `None` where nothing is cached, or the index has no crate of that
     /// name.
-    pub fn shown(&self, registry: &Url, name: &str) -> Option<&IndexKrate>
+    pub fn cached_krate(&self, registry: &Url, name: &str) -> Option<&IndexKrate>
         ensures { option_copied result ≡ krate_at self.now (serialize registry.now) name.now }
     {
-        match self.kept(registry.as_str(), name) {
+        match self.cached_answer(registry.as_str(), name) {
             Some(kept) => kept.answer.as_ref(),
             None => None,
         }
     }
 
     /// The cached result and its ranking, if there is one.
-    fn kept(&self, address: &str, name: &str) -> Option<&CachedAnswer>
+    fn cached_answer(&self, address: &str, name: &str) -> Option<&CachedAnswer>
         ensures { option_copied result ≡ cached_at self.now address.now name.now }
     {
         self.answers.get(address)?.get(name)
@@ -88,7 +88,7 @@ impl<I: Index> IndexCache<I> {
     }
 
     /// Adds a result to the cache.
-    fn keep(
+    fn insert_answer(
         &mut self,
         alloc: Global,
         address: &str,
@@ -114,25 +114,25 @@ impl<I: Index> IndexCache<I> {
         Ok(())
     }
 
-    /// Looks up a crate, unless the result is cached; `shown` then returns the entries.
+    /// Looks up a crate, unless the result is cached; `cached_krate` then returns the entries.
     ///
     /// The errors are those of the lookup, and lack of memory; nothing is cached then.
     pub fn fetch(&mut self, alloc: Global, registry: &Url, name: &str) -> CargoResult<()>
         ensures { Fetches (I.view (index_of self.old)) (I.view
             (index_of self.new)) registry.now name.now self.old self.new result }
     {
-        if self.kept(registry.as_str(), name).is_some() {
+        if self.cached_answer(registry.as_str(), name).is_some() {
             return Ok(());
         }
         let answer = match self.index.look(alloc, registry, name) {
             Ok(answer) => answer,
             Err(error) => return Err(error),
         };
-        self.keep(alloc, registry.as_str(), name, answer)
+        self.insert_answer(alloc, registry.as_str(), name, answer)
     }
 
     /// Returns the entries of a crate; `None` where the index has no crate of that name. It is `fetch` and
-    /// then `shown`: errors are not cached, so that a later call makes the lookup again. The contract of
+    /// then `cached_krate`: errors are not cached, so that a later call makes the lookup again. The contract of
     /// `fetch` describes the cache afterwards; for this call, whose result borrows from the cache, tests
     /// show it.
     pub fn krate(
@@ -152,7 +152,7 @@ impl<I: Index> IndexCache<I> {
             (cached_answer_at self.old (serialize registry.now) name.now)) }
     {
         match self.fetch(alloc, registry, name) {
-            Ok(()) => Ok(self.shown(registry, name)),
+            Ok(()) => Ok(self.cached_krate(registry, name)),
             Err(error) => Err(error),
         }
     }
@@ -165,7 +165,7 @@ impl<I: Index> IndexCache<I> {
             (index_of self.new)) registry.now name.now self.old self.new result }
     {
         match self.fetch(alloc, registry, name) {
-            Ok(()) => Ok(self.shown(registry, name).is_some()),
+            Ok(()) => Ok(self.cached_krate(registry, name).is_some()),
             Err(error) => Err(error),
         }
     }
@@ -185,7 +185,7 @@ impl<I: Index> IndexCache<I> {
             (index_of self.new)) registry.now name.now self.old self.new result }
     {
         match self.fetch(alloc, registry, name) {
-            Ok(()) => Ok(holds_version(self.shown(registry, name), version)),
+            Ok(()) => Ok(holds_version(self.cached_krate(registry, name), version)),
             Err(error) => Err(error),
         }
     }
@@ -241,7 +241,7 @@ impl<I: Index> IndexCache<I> {
     pub fn cached_ranking(&self, registry: &Url, name: &str) -> Option<&Ranked>
         ensures { option_copied result ≡ ranking_at self.now (serialize registry.now) name.now }
     {
-        match self.kept(registry.as_str(), name) {
+        match self.cached_answer(registry.as_str(), name) {
             Some(kept) => kept.ranked.as_ref(),
             None => None,
         }

@@ -3,7 +3,7 @@
 
 pub mod cache;
 mod choices;
-mod kept;
+mod cached_result;
 mod rank;
 pub mod ranking;
 

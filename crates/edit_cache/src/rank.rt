@@ -16,7 +16,7 @@ use crate::choices::Choice;
 use edit_base::errors::CargoResult;
 use edit_record::dependency::Dependency;
 use edit_record::find::dependency_on;
-use edit_version::candidates::{is_for, is_wanted, read_candidate};
+use edit_version::candidates::{is_for, is_selectable, read_candidate};
 use edit_version::fetch::IndexVersion;
 use edit_version::rust_version::RustVersion;
 use edit_version::{Requirement, allows_prerelease};
@@ -103,11 +103,11 @@ pub(crate) fn first_wanted<'a>(
 {
     ranks
         .iter()
-        .find(|rank| is_first(rank, allow_prerelease, req, rust_version))
+        .find(|rank| is_matching_rank(rank, allow_prerelease, req, rust_version))
 }
 
 /// Whether a rank supports a Rust version and its version matches.
-fn is_first(
+fn is_matching_rank(
     rank: &Rank,
     allow_prerelease: bool,
     req: Option<&VersionReq>,
@@ -116,7 +116,7 @@ fn is_first(
     ensures { result
         ≡ passes (numbers_in rust_version) (wants allow_prerelease req.entry) (rank_of rank.now) }
 {
-    is_for(rank.rust_version, rust_version) && is_wanted(&rank.version.0, allow_prerelease, req)
+    is_for(rank.rust_version, rust_version) && is_selectable(&rank.version.0, allow_prerelease, req)
 }
 
 /// The index of the first rank that supports a Rust version and whose version matches.
@@ -131,7 +131,7 @@ fn first_place(
 {
     ranks
         .iter()
-        .position(|rank| is_first(rank, allow_prerelease, req, rust_version))
+        .position(|rank| is_matching_rank(rank, allow_prerelease, req, rust_version))
 }
 
 /// The index of the first rank that supports a Rust version and that a requirement admits.

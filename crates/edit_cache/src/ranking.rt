@@ -2,7 +2,7 @@
 ghost use Rattle.std.specs.Prelude.{◌≡◌, ℕ, List, IfOk, IfErr, IsTrue, map, option_map, slice_get};
 ghost use Rattle.semver.specs.Parse.{Parts};
 ghost use Rattle.edit_base.specs.Errors.{IsMemory};
-ghost use Rattle.edit_version.specs.Admissible.{admissible_in, entry_order, is_kept};
+ghost use Rattle.edit_version.specs.Admissible.{admissible_in, entry_order, is_qualifying};
 ghost use Rattle.edit_version.specs.Admits.{admits};
 ghost use Rattle.edit_version.specs.Candidates.{numbers_in, parts_in, wants};
 ghost use Rattle.edit_version.specs.Greatest.{IsGreatest, IsGreatestKept};
@@ -134,7 +134,7 @@ impl Ranked {
     }
 
     /// Returns a dependency on the first rank that supports a Rust version and whose version matches.
-    fn best(
+    fn first_match(
         &self,
         alloc: Global,
         allow_prerelease: bool,
@@ -164,11 +164,11 @@ impl Ranked {
         // pre-releases are allowed where the requirement has a `-`
         ensures at_least { OfEntries self.now (λ entries. IfOk result (λ o.
             (req : List ℕ) → (IsTrue (holds_dash req) → IsTrue allow_prerelease) → (e : IndexEntry)
-            → IsGreatestKept (is_kept (numbers_in rust_version) (is_admitted req)) entry_order entries e
+            → IsGreatestKept (is_qualifying (numbers_in rust_version) (is_admitted req)) entry_order entries e
             → IsFoundAtLeast (numbers_in rust_version) (is_allowed allow_prerelease) entries e o)) }
         ensures error { IfErr result IsMemory }
     {
-        self.best(alloc, allow_prerelease, None, rust_version)
+        self.first_match(alloc, allow_prerelease, None, rust_version)
     }
 
     /// The result of `find_compatible_version` for the ranked entries.
@@ -183,6 +183,6 @@ impl Ranked {
             entries)) }
         ensures error { IfErr result IsMemory }
     {
-        self.best(alloc, false, Some(version_req), rust_version)
+        self.first_match(alloc, false, Some(version_req), rust_version)
     }
 }

@@ -6,14 +6,14 @@ ghost use Rattle.edit_steps.specs.Sources.{MayBePlanned};
 
 use crate::counted::CountedIndex;
 use crate::plans::show_outputs;
-use crate::said::say;
+use crate::print_helpers::print_text;
 use edit_base::CargoResult;
 use edit_cache::IndexCache;
 use edit_metadata::Input;
 use edit_sources::FileIndex;
 use edit_sources::registry::resolve;
 use edit_steps::upgrade_read::{
-    Asked, IndexSource, RustChoice, SharedConfigs, Sources, read_sources,
+    SourceRequest, IndexSource, RustChoice, SharedConfigs, Sources, read_sources,
 };
 use edit_store::HostStore;
 use edit_upgrade::{Options, plan_shared};
@@ -38,7 +38,7 @@ struct CacheCall<'a> {
 
 /// The number of cached entries of a name.
 fn count_of(cache: &Cache<'_>, registry: &Url, name: &str) -> usize {
-    match cache.shown(registry, name) {
+    match cache.cached_krate(registry, name) {
         Some(krate) => krate.versions.len(),
         None => 0,
     }
@@ -50,7 +50,7 @@ impl<'a> CacheCall<'a> {
     fn show_cached(self, rt: &HostRuntime, cache: &Cache<'_>) {
         let held = count_of(cache, self.registry, HELD);
         let cached = count_of(cache, self.registry, self.name);
-        say(
+        print_text(
             rt,
             format_args!("after error 46: {held} held, {cached} cached, then "),
         );
@@ -59,7 +59,7 @@ impl<'a> CacheCall<'a> {
     /// Prints the number of lookups.
     fn show_lookups(self, rt: &HostRuntime) {
         let lookups = self.lookups.get();
-        say(rt, format_args!("{lookups} lookups\n"));
+        print_text(rt, format_args!("{lookups} lookups\n"));
     }
 
     /// Prints the first three versions of a ranking.
@@ -67,7 +67,7 @@ impl<'a> CacheCall<'a> {
         if let Some(ranked) = cache.ranked(rt.alloc(), self.registry, self.name)? {
             for n in 0..3 {
                 if let Some(version) = ranked.version(n) {
-                    say(rt, format_args!("{version} "));
+                    print_text(rt, format_args!("{version} "));
                 }
             }
         }
@@ -79,7 +79,7 @@ impl<'a> CacheCall<'a> {
     fn entries(self, rt: &HostRuntime, cache: &mut Cache<'_>) -> CargoResult<()> {
         if let Some(krate) = cache.krate(rt.alloc(), self.registry, self.name)? {
             for entry in &krate.versions {
-                say(rt, format_args!("{} ", entry.version));
+                print_text(rt, format_args!("{} ", entry.version));
             }
         }
         self.show_lookups(rt);
@@ -87,7 +87,7 @@ impl<'a> CacheCall<'a> {
     }
 
     /// Makes the call.
-    fn once(
+    fn make_cache_call(
         self,
         rt: &HostRuntime,
         cache: &mut Cache<'_>,
@@ -118,10 +118,10 @@ impl<'a> CacheCall<'a> {
         requires lists { HasLists configs.now }
     {
         cache.fetch(rt.alloc(), self.registry, HELD)?;
-        match self.once(rt, cache, inputs, configs) {
+        match self.make_cache_call(rt, cache, inputs, configs) {
             Err(error) if error.number() == 46 => {
                 self.show_cached(rt, cache);
-                self.once(rt, cache, inputs, configs)
+                self.make_cache_call(rt, cache, inputs, configs)
             }
             answer => answer,
         }
@@ -176,7 +176,7 @@ fn sources_of(rt: &HostRuntime, folder: &str) -> CargoResult<Sources>
     ensures { IfOk result MayBePlanned }
 {
     let mut files = HostStore::new(rt.clone()?);
-    let asked = Asked {
+    let asked = SourceRequest {
         manifest_path: None,
         metadata_json: None,
         index_file: Some("index.json"),

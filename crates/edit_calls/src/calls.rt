@@ -3,7 +3,7 @@
 ghost use Rattle.edit_tree.specs.NewItems.{IsEntry};
 ghost use Rattle.edit_document.specs.NewItemViews.{new_item_view};
 
-use crate::words::ArgCursor;
+use crate::arg_cursor::ArgCursor;
 use edit_changes::DocumentExt;
 use edit_document::{CargoResult, Document, Error, NewItem, NewValue, Step};
 use edit_manifest::Manifest;

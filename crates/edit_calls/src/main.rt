@@ -53,18 +53,18 @@ mod calls;
 mod counted;
 mod plans;
 mod readers;
-mod said;
-mod shown;
+mod print_helpers;
+mod item_views;
 mod views;
-mod words;
+mod arg_cursor;
 
 use calls::edits;
 use edit_document::{CargoResult, Error};
 use edit_manifest::Manifest;
 use edit_store::{HostStore, Store};
 use readers::planned_call;
-use said::say;
-use shown::{show_words, show_written};
+use print_helpers::print_text;
+use item_views::{show_words, show_written};
 use std::env;
 use std::io::Write;
 use std::process::ExitCode;
@@ -73,7 +73,7 @@ use views::{show_pieces, show_views};
 /// Prints an error and the document's current text. Returns whether memory ran out.
 fn print_edit_error(rt: &HostRuntime, manifest: &Manifest, error: &Error) -> bool {
     let number = error.number();
-    say(
+    print_text(
         rt,
         format_args!("refused {number} {error}\n{}", manifest.document),
     );
@@ -87,7 +87,7 @@ fn print_edited(rt: &HostRuntime, manifest: &mut Manifest, words: &[String]) -> 
         Ok(false) => "no such place",
         Err(error) => return print_edit_error(rt, manifest, &error),
     };
-    say(rt, format_args!("{said}\n{}", manifest.document));
+    print_text(rt, format_args!("{said}\n{}", manifest.document));
     false
 }
 
@@ -128,7 +128,7 @@ fn run_edits_on_file(rt: &HostRuntime, path: &str, words: &[String]) -> CargoRes
 }
 
 /// Runs the call in the arguments.
-fn answer(rt: &HostRuntime) -> CargoResult<()> {
+fn run_args(rt: &HostRuntime) -> CargoResult<()> {
     let words: Vec<String> = env::args(rt)?.skip(1).collect(rt.alloc())?;
     if let Some(call) = planned_call(&words) {
         call.show(rt);
@@ -141,7 +141,7 @@ fn answer(rt: &HostRuntime) -> CargoResult<()> {
 }
 
 fn main(rt: HostRuntime) -> ExitCode {
-    match answer(&rt) {
+    match run_args(&rt) {
         Ok(()) => ExitCode::from(0),
         Err(error) => {
             let _ = writeln!(rt.stderr(), "Error: {error}");

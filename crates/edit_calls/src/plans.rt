@@ -6,7 +6,7 @@ ghost use Rattle.edit_set_version.specs.Planned.{OutputsInOrder};
 ghost use Rattle.edit_set_version.specs.Projects.{AreInputsOf};
 ghost use Rattle.edit_metadata.specs.Inputs.{HaveOwnPaths};
 
-use crate::said::say;
+use crate::print_helpers::print_text;
 use edit_base::CargoResult;
 use edit_report::{Output, apply};
 use edit_set_version::{BumpLevel, Selection, SetVersionPlan, TargetVersion, plan_set_version};
@@ -18,7 +18,7 @@ use std::io::Write;
 /// Prints a text and a line end.
 pub(crate) fn show(rt: &HostRuntime, text: &[u8]) {
     let _ = rt.stdout().write_all(text);
-    say(rt, "\n");
+    print_text(rt, "\n");
 }
 
 /// Prints the texts of outputs, each after its path.

@@ -2,7 +2,7 @@
 
 use crate::cached::over_cache;
 use crate::plans::{set_versions, show};
-use crate::said::say;
+use crate::print_helpers::print_text;
 use edit_base::{CargoResult, Error};
 use edit_store::{HostStore, Store};
 use edit_version::CrateSpec;
@@ -26,7 +26,7 @@ fn show_name(rt: &HostRuntime, word: &str) -> CargoResult<()> {
 }
 
 /// Prints the crate name in the `NAME@REQUIREMENT` text of a file.
-fn word(rt: &HostRuntime, path: &str) -> CargoResult<()> {
+fn show_name_in_file(rt: &HostRuntime, path: &str) -> CargoResult<()> {
     let bytes = bytes_of(rt, path)?;
     show_name(rt, str::from_utf8(&bytes).unwrap_or(""))
 }
@@ -46,15 +46,15 @@ impl<'a> Call<'a> {
             "upgrade" | "ranked" | "krate" => over_cache(rt, self.what, self.at, self.name),
             "set_version" => set_versions(rt, self.at, false),
             "apply" => set_versions(rt, self.at, true),
-            _ => word(rt, self.at),
+            _ => show_name_in_file(rt, self.at),
         }
     }
 
     /// Makes the call, and prints whether it failed.
     pub(crate) fn show(self, rt: &HostRuntime) {
         match self.make(rt) {
-            Ok(()) => say(rt, "done\n"),
-            Err(error) => say(rt, format_args!("refused {} {error}\n", error.number())),
+            Ok(()) => print_text(rt, "done\n"),
+            Err(error) => print_text(rt, format_args!("refused {} {error}\n", error.number())),
         }
     }
 }

@@ -1,12 +1,12 @@
 //! Prints the views of a document.
-use crate::said::say;
+use crate::print_helpers::print_text;
 use edit_document::{CargoResult, Document, Item};
 
 /// Prints the key and the kind of each member of a table.
 fn show_members(rt: &HostRuntime, table: Item<'_>) {
     for key in table.keys() {
         if let Some(item) = table.get(key) {
-            say(rt, format_args!("{key}: {}\n", item.type_name()));
+            print_text(rt, format_args!("{key}: {}\n", item.type_name()));
         }
     }
 }
@@ -29,10 +29,10 @@ pub(crate) fn show_views(rt: &HostRuntime, document: &Document) {
 pub(crate) fn show_pieces(rt: &HostRuntime, document: &Document) -> CargoResult<()> {
     let text = document.text(rt.alloc())?;
     let count = document.pieces();
-    say(rt, format_args!("\0{count}\0{text}"));
+    print_text(rt, format_args!("\0{count}\0{text}"));
     for number in 0..=count {
         if let Some(piece) = document.piece(number) {
-            say(rt, format_args!("\0{piece}"));
+            print_text(rt, format_args!("\0{piece}"));
         }
     }
     Ok(())

@@ -16,11 +16,11 @@ ghost use Rattle.edit_document.specs.NewItemViews.{HasRoom, new_item_view, new_v
 ghost use Rattle.edit_tree.specs.EditBytes.{is_one_statement};
 ghost use Rattle.edit_tree.specs.NewItems.{IsEntry};
 
-use crate::edited::{accept_inserted, accept_removed, accept_replaced};
+use crate::accept_edit::{accept_inserted, accept_removed, accept_replaced};
 use crate::set_value::with_value;
 use edit_base::errors::CargoResult;
 use edit_document::{Document, NewItem, NewValue, Step};
-use edit_rewrite::{with_entry, with_member, without};
+use edit_rewrite::{with_entry, with_member, without_item};
 use std::alloc::Global;
 
 /// Edits that change the tree of a document and leave every other byte unchanged. Each edit reads the new
@@ -116,7 +116,7 @@ impl DocumentExt for Document {
         ensures error { IfErr result (λ e. IsMemory e ⊎ ((e ≡ EditRefused)
             × RemoveFails (place_view place.now) self.old.bytes)) }
     {
-        let text = without(self, alloc, place)?;
+        let text = without_item(self, alloc, place)?;
         accept_removed(self, alloc, text.as_str(), place)
     }
 

@@ -3,7 +3,7 @@
 #![tactic(auto)]
 
 mod document_ext;
-mod edited;
+mod accept_edit;
 mod set_value;
 
 pub use document_ext::DocumentExt;

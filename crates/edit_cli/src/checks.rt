@@ -3,7 +3,7 @@
 use clap::ArgMatches;
 use edit_base::CargoResult;
 use edit_base::paths::{folder, join};
-use edit_steps::absolute;
+use edit_steps::absolute_path;
 use std::fs;
 use std::fs::Metadata;
 use std::os::unix::fs::MetadataExt;
@@ -80,7 +80,7 @@ fn calls_fault(
     folders: Folders<'_>,
     named: &str,
 ) -> CargoResult<Option<String>> {
-    let path = absolute(rt.alloc(), folders.current, named)?;
+    let path = absolute_path(rt.alloc(), folders.current, named)?;
     let fault = if is_parted(arguments, folders.current) {
         Some("a call cannot name the workspace, since the path has a line end")
     } else if !is_folder(rt, folder(path.as_str())) {

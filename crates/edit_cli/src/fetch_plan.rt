@@ -3,7 +3,7 @@
 mod configurations;
 mod environment;
 mod tokens;
-mod unread;
+mod registry_errors;
 
 use crate::fetch_arguments::{
     FetchArguments, excluded_names, metadata_file, print_usage, read_arguments, upgrade_matches,
@@ -22,7 +22,7 @@ use edit_store::HostStore;
 use std::io::Write;
 use std::str;
 use tokens::registry_tokens;
-use unread::unread_error;
+use registry_errors::unfetchable_error;
 
 /// Runs `fetch-plan`, and returns the exit status: that of `looks` where that is not 0, 1 for registries
 /// whose entries cannot be fetched, and 2 for a usage error.
@@ -71,7 +71,7 @@ fn plan_upgrade<E: Write>(
     settings.offline = settings.offline || arguments.offline;
     let excluded = excluded_names(matches).unwrap_or(&[]);
     if !settings.offline
-        && let Some(error) = unread_error(rt, text, excluded, &environment, &all)?
+        && let Some(error) = unfetchable_error(rt, text, excluded, &environment, &all)?
     {
         let _ = writeln!(err, "Error: {error}");
         return Ok(1);

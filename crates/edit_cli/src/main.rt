@@ -18,7 +18,7 @@ use edit_base::paths::join;
 use edit_base::{CargoResult, Error};
 use edit_program::run;
 use edit_store::HostStore;
-use edit_words::{command, filled_words};
+use edit_words::{command, insert_defaults};
 use fetch_store::{check_curl, fetch_store};
 use machine::{machine_error, variable};
 use next_call::next_call;
@@ -100,7 +100,7 @@ fn start(rt: &HostRuntime) -> CargoResult<u8> {
         Some("fetch-plan" | "fetch-store" | "next-call") => return start_in(rt, words, None),
         _ => {}
     }
-    let filled = filled_words(rt.alloc(), words)?;
+    let filled = insert_defaults(rt.alloc(), words)?;
     let command = command(rt.alloc())?;
     let matches = match command.try_get_matches_from(filled.as_slice()) {
         Ok(matches) => matches,

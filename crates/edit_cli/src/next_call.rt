@@ -6,10 +6,10 @@ use crate::parsing::print_parse_error;
 use clap::builder::ValueParser;
 use clap::{Arg, ArgAction, ArgMatches, Command};
 use edit_base::Error;
-use edit_lock::{Lock, read_calls, standing_calls};
+use edit_lock::{Lock, read_calls, adapt_calls};
 use edit_report::shell_status;
 use edit_shell::{push_arguments, push_assignment};
-use edit_steps::{Refusal, RunResult, absolute, at_path, print_error};
+use edit_steps::{RunError, RunResult, absolute_path, at_path, print_error};
 use edit_store::Store;
 use std::alloc::{AllocError, Global};
 use std::io;
@@ -27,7 +27,7 @@ struct Next<'a> {
 }
 
 /// A required option with a value.
-fn required<'a>(alloc: Global, id: &'a str, value: &'a str, help: &'a str) -> Arg<'a> {
+fn required_option<'a>(alloc: Global, id: &'a str, value: &'a str, help: &'a str) -> Arg<'a> {
     Arg::new(alloc, id)
         .long(id)
         .help(help)
@@ -38,7 +38,7 @@ fn required<'a>(alloc: Global, id: &'a str, value: &'a str, help: &'a str) -> Ar
 }
 
 /// The flag for calls that must not fetch anything.
-fn offline<'a>(alloc: Global) -> Arg<'a> {
+fn offline_flag<'a>(alloc: Global) -> Arg<'a> {
     Arg::new(alloc, "offline")
         .long("offline")
         .help("The call fetches nothing")
@@ -53,26 +53,26 @@ fn command<'a>(alloc: Global) -> Result<Command<'a>, AllocError> {
         )
         .no_binary_name(true)
         .bin_name("cargo-edit next-call")?
-        .arg(required(
+        .arg(required_option(
             alloc,
             "calls",
             "FILE",
             "The file that `upgrade --update-calls` wrote",
         ))?
-        .arg(required(
+        .arg(required_option(
             alloc,
             "lock-before",
             "FILE",
             "The Cargo.lock as it was before the first call",
         ))?
-        .arg(required(alloc, "lock-file", "FILE", "The Cargo.lock as it is now"))?
-        .arg(required(
+        .arg(required_option(alloc, "lock-file", "FILE", "The Cargo.lock as it is now"))?
+        .arg(required_option(
             alloc,
             "after",
             "N",
             "The number of the call before this one, from 1; 0 before the first call",
         ))?
-        .arg(offline(alloc))
+        .arg(offline_flag(alloc))
 }
 
 /// The parsed arguments; `None` where the number is invalid.
@@ -93,7 +93,7 @@ fn read_lock<S: Store>(
     named: &str,
     files: &mut S,
 ) -> RunResult<Lock> {
-    let path = absolute(alloc, current, named)?;
+    let path = absolute_path(alloc, current, named)?;
     let bytes = match files.read(alloc, path.as_str()) {
         Ok(Some(bytes)) => bytes,
         Ok(None) => return Ok(Lock::empty(alloc)),
@@ -112,7 +112,7 @@ fn read_file<S: Store>(
     named: &str,
     files: &mut S,
 ) -> RunResult<Vec<Vec<String>>> {
-    let path = absolute(alloc, current, named)?;
+    let path = absolute_path(alloc, current, named)?;
     let bytes = match files.read(alloc, path.as_str()) {
         Ok(Some(bytes)) => bytes,
         Ok(None) => return Err(at_path(alloc, Error::NoPath, path.as_str())),
@@ -146,7 +146,7 @@ fn print_call<O: io::Write, E: io::Write>(
     push_arguments(&mut text, arguments)?;
     match out.write_all(&text) {
         Ok(()) => Ok(()),
-        Err(_) => Err(Refusal::from(Error::Output)),
+        Err(_) => Err(RunError::from(Error::Output)),
     }
 }
 
@@ -166,7 +166,7 @@ fn print_next<S: Store, O: io::Write, E: io::Write>(
     for index in next.after..calls.len() {
         let call = &calls[index];
         let given = &calls[index..index + 1];
-        let standing = standing_calls(alloc, given, &before, &now, next.offline)?;
+        let standing = adapt_calls(alloc, given, &before, &now, next.offline)?;
         if let Some(made) = standing.first() {
             return print_call(alloc, index + 1, made, made == call, out, err);
         }

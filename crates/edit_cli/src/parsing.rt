@@ -3,7 +3,7 @@
 use clap::ArgMatches;
 use clap::error::ErrorKind;
 use edit_base::{CargoResult, Error};
-use edit_words::{command, filled_words};
+use edit_words::{command, insert_defaults};
 use std::alloc::{AllocError, Global};
 use std::io;
 
@@ -18,7 +18,7 @@ pub(crate) fn filled_args<'a>(
     for argument in arguments {
         words.push(*argument)?;
     }
-    filled_words(alloc, &words)
+    insert_defaults(alloc, &words)
 }
 
 /// Parses arguments that begin with a subcommand of `cargo-edit`.

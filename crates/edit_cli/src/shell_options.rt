@@ -6,7 +6,7 @@ use clap::ArgMatches;
 use clap::error::ErrorKind;
 use edit_base::Error;
 use edit_shell::push_assignment;
-use edit_steps::{Refusal, RunResult, print_error};
+use edit_steps::{RunError, RunResult, print_error};
 use std::alloc::{AllocError, Global};
 use std::io;
 
@@ -123,7 +123,7 @@ fn write_options<O: io::Write, E: io::Write>(
     }
     match out.write_all(&text) {
         Ok(()) => Ok(0),
-        Err(_) => Err(Refusal::from(Error::Output)),
+        Err(_) => Err(RunError::from(Error::Output)),
     }
 }
 

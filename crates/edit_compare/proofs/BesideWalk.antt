@@ -6,7 +6,7 @@ use Rattle.std.proofs.lemmas.List.{map-append, take-append-drop}
 use Rattle.edit_tree.specs.declared.place.Step.{Step as WrittenStep}
 use Rattle.edit_tree.specs.Assertions.{Place, at}
 use Rattle.edit_tree.specs.DocumentViews.{DocumentViews, tree_of}
-use Rattle.edit_document.specs.Items.{place_view, step_view, node_place, Numbers}
+use Rattle.edit_document.specs.Items.{place_view, step_view, node_place, IsNodeIndex}
 use Rattle.edit_document.specs.Compared.{tree_below, IsNumber}
 use Rattle.edit_tree.specs.IntendedTrees.{Tree}
 use Rattle.edit_document.proofs.MemberViews.{place_more, walk_none}
@@ -64,8 +64,8 @@ module _ (Beside : Place → Tree → Tree → Type 0) (goes : GoesAlong Beside)
 
   -- the nodes one step on
   pub walk_next : Beside (place_view (take i steps)) (tree_of d) (tree_of e) → AroundNodes → (a b : ℕ)
-      → Numbers d (at (node_place d n) (step_view step)) (Some a)
-      → Numbers e (at (node_place e m) (step_view step)) (Some b)
+      → IsNodeIndex d (at (node_place d n) (step_view step)) (Some a)
+      → IsNodeIndex e (at (node_place e m) (step_view step)) (Some b)
       → Beside (place_view (take (i + 1) steps)) (tree_of d) (tree_of e)
       × IsNumber d (place_view (take (i + 1) steps)) a × IsNumber e (place_view (take (i + 1) steps)) b
   walk_next front around a b na nb =

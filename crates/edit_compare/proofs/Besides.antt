@@ -8,7 +8,7 @@ use Rattle.edit_tree.specs.EditBytes.{is_within}
 use Rattle.edit_tree.specs.IntendedTrees.{Tree}
 use Rattle.edit_tree.specs.Tree.{View}
 use Rattle.edit_tree.specs.DocumentViews.{DocumentViews, tree_of}
-use Rattle.edit_document.specs.Items.{node_place, node_view, count_in, Numbers}
+use Rattle.edit_document.specs.Items.{node_place, node_view, count_in, IsNodeIndex}
 use Rattle.edit_document.specs.Compared.{SameBelow, tree_below, SameBeside, SamePartsBut, SamePart, nth_part, IsChildIndex}
 use Rattle.edit_tree.proofs.SamePlace.{same_step_self, same_step_is}
 use Rattle.edit_document.proofs.SameParts.{part_or, part_less, one_down, NothingElse, NoneBelow}
@@ -151,7 +151,7 @@ module _ (d : DocumentViews) (n : ℕ) (e : DocumentViews) (m : ℕ) (s : Step) 
 
 abbrev Counterpart : DocumentViews → ℕ → DocumentViews → ℕ → ℕ → Option ℕ → Type 0
 Counterpart d n e m i r =
-    (step : Step) → nth_part (node_view d n) i ≡ Some step → Numbers e (at (node_place e m) step) r
+    (step : Step) → nth_part (node_view d n) i ≡ Some step → IsNodeIndex e (at (node_place e m) step) r
 
 pub part_decides : (d : DocumentViews) (n : ℕ) (e : DocumentViews) (m i a b : ℕ) (r : Bool)
     → IsChildIndex d n i (Some a)

@@ -6,7 +6,7 @@ use Rattle.edit_syntax.proofs.Cases.{by_test}
 use Rattle.edit_tree.specs.Assertions.{Place, Step, key, index, at, same_step, Kind, assertions}
 use Rattle.edit_tree.specs.EditBytes.{is_within}
 use Rattle.edit_document.specs.ItemRemoval.{IsLeft, IsLost}
-use Rattle.edit_tree.specs.IntendedTrees.{assertions_left, moved, is_member}
+use Rattle.edit_tree.specs.IntendedTrees.{assertions_left, place_after_removal, is_member}
 use Rattle.edit_tree.specs.Tree.{kind_at, view_in}
 use Rattle.edit_tree.proofs.ElementWays.{are_made}
 use Rattle.edit_compare.proofs.Besides.{within_back}
@@ -27,8 +27,8 @@ within_rest (s ∷ p) (t ∷ q) e =
     (r.0, ap (λ z. z ∷ q) (sym (same_step_is s t h.0)) ∙ ap (λ z. s ∷ z) r.1)
 
 -- what moves, moves with its front
-pub moved_step : (s x u : Step) (xs us : Place) → moved (s ∷ x ∷ xs) (u ∷ us)
-    ≡ u ∷ (if same_step s u then moved (x ∷ xs) us else us)
+pub moved_step : (s x u : Step) (xs us : Place) → place_after_removal (s ∷ x ∷ xs) (u ∷ us)
+    ≡ u ∷ (if same_step s u then place_after_removal (x ∷ xs) us else us)
 moved_step (key n) x u xs us = refl
 moved_step (index i) x (key n) xs us = refl
 moved_step (index i) x (index j) xs us = refl
@@ -38,39 +38,39 @@ first_step [] t r = (t, r, refl)
 first_step (y ∷ q) t r = (y, q ++ t ∷ r, refl)
 
 moved_cons : (s u : Step) (q : Place) (t : Step) (r us : Place)
-    → moved (s ∷ (q ++ t ∷ r)) (u ∷ us) ≡ u ∷ (if same_step s u then moved (q ++ t ∷ r) us else us)
+    → place_after_removal (s ∷ (q ++ t ∷ r)) (u ∷ us) ≡ u ∷ (if same_step s u then place_after_removal (q ++ t ∷ r) us else us)
 moved_cons s u q t r us =
     let c = first_step q t r in
-    subst (λ z. moved (s ∷ z) (u ∷ us) ≡ u ∷ (if same_step s u then moved z us else us)) (sym c.2)
+    subst (λ z. place_after_removal (s ∷ z) (u ∷ us) ≡ u ∷ (if same_step s u then place_after_removal z us else us)) (sym c.2)
     (moved_step s c.0 u c.1 us)
 
-pub moved_back : (q : Place) (t : Step) (r k : Place) → moved (q ++ t ∷ r) (q ++ k) ≡ q ++ moved (t ∷ r) k
+pub moved_back : (q : Place) (t : Step) (r k : Place) → place_after_removal (q ++ t ∷ r) (q ++ k) ≡ q ++ place_after_removal (t ∷ r) k
 moved_back [] t r k = refl
 moved_back (s ∷ q) t r k =
-    moved_cons s s q t r (q ++ k) ∙ ap (λ b. s ∷ (if b then moved (q ++ t ∷ r) (q ++ k) else q ++ k))
+    moved_cons s s q t r (q ++ k) ∙ ap (λ b. s ∷ (if b then place_after_removal (q ++ t ∷ r) (q ++ k) else q ++ k))
     (same_step_self s)
     ∙ ap (λ z. s ∷ z) (moved_back q t r k)
 
-pub moved_else : (q : Place) (t : Step) (r p : Place) → is_within q p ≡ false → moved (q ++ t ∷ r) p ≡ p
+pub moved_else : (q : Place) (t : Step) (r p : Place) → is_within q p ≡ false → place_after_removal (q ++ t ∷ r) p ≡ p
 moved_else [] t r p e = absurd (true≢false e)
 moved_else (s ∷ q) t r [] e = refl
 moved_else (s ∷ q) t r (u ∷ us) e = moved_cons s u q t r us ∙ go (same_step s u) e (moved_else q t r us)
   where
-    go : (b : Bool) → (b && is_within q us) ≡ false → (is_within q us ≡ false → moved (q ++ t ∷ r) us ≡ us)
-        → u ∷ (if b then moved (q ++ t ∷ r) us else us) ≡ u ∷ us
+    go : (b : Bool) → (b && is_within q us) ≡ false → (is_within q us ≡ false → place_after_removal (q ++ t ∷ r) us ≡ us)
+        → u ∷ (if b then place_after_removal (q ++ t ∷ r) us else us) ≡ u ∷ us
     go true f ih = ap (λ z. u ∷ z) (ih f)
     go false f ih = refl
 
 -- a step more that goes is as one that goes, where another step is looked at
 pub moved_flat : (t s : Step) (r k : Place) → (s ≡ t → ⊥) → (r ≡ []) ⊎ ((n : List ℕ) × (t ≡ key n))
-    → moved (t ∷ r) (s ∷ k) ≡ moved (t ∷ []) (s ∷ k)
+    → place_after_removal (t ∷ r) (s ∷ k) ≡ place_after_removal (t ∷ []) (s ∷ k)
 moved_flat t s [] k ne flat = refl
 moved_flat t s (x ∷ xs) k ne (inl e) = absurd cc
 moved_flat t s (x ∷ xs) k ne (inr n) =
     let other : same_step t s ≡ false = by_test (same_step t s) (λ e. absurd (ne (sym (same_step_is t s e))))
     (λ e. e) in
-    moved_step t x s xs k ∙ ap (λ b. s ∷ (if b then moved (x ∷ xs) k else k)) other
-    ∙ sym (subst (λ z. moved (z ∷ []) (s ∷ k) ≡ s ∷ k) (sym n.1)
+    moved_step t x s xs k ∙ ap (λ b. s ∷ (if b then place_after_removal (x ∷ xs) k else k)) other
+    ∙ sym (subst (λ z. place_after_removal (z ∷ []) (s ∷ k) ≡ s ∷ k) (sym n.1)
     (ap (λ b. s ∷ (if b then k else k)) (ap (λ z. same_step z s) (sym n.1) ∙ other)))
 
 -- what follows equal fronts is equal

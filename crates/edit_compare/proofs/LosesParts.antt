@@ -6,7 +6,7 @@ use Rattle.edit_tree.specs.Assertions.{Step, key, index, Place, at}
 use Rattle.edit_document.specs.Compared.{nth_part, element_step, kind_of, tree_below, AreSteps, AreNames, AreKeys, HasNamesOf}
 use Rattle.edit_document.specs.Items.{node_place, node_view, names_in, count_in}
 use Rattle.edit_document.specs.ItemRemoval.{LosesPart, moved_place, MovedParts, HasNamesBut}
-use Rattle.edit_tree.specs.IntendedTrees.{Loses, SameButOrder, same, moved, is_member}
+use Rattle.edit_tree.specs.IntendedTrees.{Loses, SameButOrder, same, place_after_removal, is_member}
 use Rattle.edit_tree.specs.DocumentViews.{DocumentViews, tree_of}
 use Rattle.edit_tree.specs.Tree.{View, string, truth, whole, fractional, moment, static_array, table_array, inline_table, table}
 use Rattle.edit_document.proofs.SameParts.{part_or, part_less, one_down, NothingElse, NoneBelow}
@@ -74,7 +74,7 @@ module _ (d : DocumentViews) (n : ℕ) (e : DocumentViews) (m : ℕ) (t : Step) 
         (subst (λ p. SameButOrder (tree_of d (node_place d n ++ s ∷ q)) (tree_of e p)) (moved_to s q)
         (h.elsewhere s q ne))
       where
-        moved_to : (s : Step) (q : Place) → node_place e m ++ moved (t ∷ []) (s ∷ q)
+        moved_to : (s : Step) (q : Place) → node_place e m ++ place_after_removal (t ∷ []) (s ∷ q)
             ≡ moved_place t (node_place e m) s ++ q
         moved_to s q =
             ap (λ z. node_place e m ++ z) (moved_is t s q) ∙
@@ -168,7 +168,7 @@ module _ (d : DocumentViews) (n : ℕ) (e : DocumentViews) (m : ℕ) (t : Step) 
             no_names (moment b) i l small h = cc
 
         to : (s : Step) (q : Place) → moved_place t (node_place e m) s ++ q
-            ≡ node_place e m ++ moved (t ∷ []) (s ∷ q)
+            ≡ node_place e m ++ place_after_removal (t ∷ []) (s ∷ q)
         to s q =
             ap (λ z. z ++ q) (moved_place_is t (node_place e m) s) ∙
             append_assoc (node_place e m) (moved_one t s ∷ []) q
@@ -176,7 +176,7 @@ module _ (d : DocumentViews) (n : ℕ) (e : DocumentViews) (m : ℕ) (t : Step) 
 
         other : (s : Step) (q : Place) → (s ≡ t → ⊥)
             → SameButOrder (tree_of d (node_place d n ++ s ∷ q))
-            (tree_of e (node_place e m ++ moved (t ∷ []) (s ∷ q)))
+            (tree_of e (node_place e m ++ place_after_removal (t ∷ []) (s ∷ q)))
         other s q ne = elim (part_or (node_view d n) s (count_in (node_view d n))) [
           | inl a ↦
               subst (λ p. SameButOrder (tree_of d (node_place d n ++ s ∷ q)) (tree_of e p)) (to s q)
@@ -189,11 +189,11 @@ module _ (d : DocumentViews) (n : ℕ) (e : DocumentViews) (m : ℕ) (t : Step) 
               let left : tree_of d (node_place d n ++ s ∷ q) ≡ None =
               sym (one_down d (node_place d n) s q) ∙
               below_d (at (node_place d n) s) q (else_d s absent) in
-              let right : tree_of e (node_place e m ++ moved (t ∷ []) (s ∷ q)) ≡ None =
+              let right : tree_of e (node_place e m ++ place_after_removal (t ∷ []) (s ∷ q)) ≡ None =
               ap (tree_of e) (sym (to s q) ∙ ap (λ z. z ++ q) (moved_place_is t (node_place e m) s))
               ∙ below_e (at (node_place e m) (moved_one t s)) q
               (else_e (moved_one t s) (λ j h. no_counterpart k.0 k.1 keys loses s ne absent j h)) in
-              subst (λ o. SameButOrder o (tree_of e (node_place e m ++ moved (t ∷ []) (s ∷ q))))
+              subst (λ o. SameButOrder o (tree_of e (node_place e m ++ place_after_removal (t ∷ []) (s ∷ q))))
               (sym left)
               (subst (λ o. SameButOrder None o) (sym right) (same None))
         ]

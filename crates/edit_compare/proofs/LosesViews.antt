@@ -7,9 +7,9 @@ use Rattle.std.proofs.lemmas.Option.{same_Some}
 use Rattle.edit_syntax.proofs.Cases.{by_test}
 use Rattle.edit_tree.specs.Assertions.{Step, key, index, Place, at, same_step}
 use Rattle.edit_document.specs.Compared.{nth_part, element_step, kind_of, AreSteps}
-use Rattle.edit_document.specs.Items.{names_in, count_in, Numbers}
+use Rattle.edit_document.specs.Items.{names_in, count_in, IsNodeIndex}
 use Rattle.edit_document.specs.ItemRemoval.{moved_index, moved_place}
-use Rattle.edit_tree.specs.IntendedTrees.{moved, LosesStep, Loses, from_table, from_inline_table, from_array, from_table_array}
+use Rattle.edit_tree.specs.IntendedTrees.{place_after_removal, LosesStep, Loses, from_table, from_inline_table, from_array, from_table_array}
 use Rattle.edit_tree.specs.DocumentViews.{DocumentViews}
 use Rattle.edit_tree.specs.Tree.{View, string, truth, whole, fractional, moment, static_array, table_array, inline_table, table}
 use Rattle.edit_compare.proofs.GrownNames.{tabled}
@@ -23,11 +23,11 @@ abbrev pub moved_one : Step → Step → Step
 moved_one t (key n) = key n
 moved_one t (index j) = index (moved_index t j)
 
-either : (b : Bool) (q : Place) → (if b then moved [] q else q) ≡ q
+either : (b : Bool) (q : Place) → (if b then place_after_removal [] q else q) ≡ q
 either true q = refl
 either false q = refl
 
-pub moved_is : (t s : Step) (q : Place) → moved (t ∷ []) (s ∷ q) ≡ moved_one t s ∷ q
+pub moved_is : (t s : Step) (q : Place) → place_after_removal (t ∷ []) (s ∷ q) ≡ moved_one t s ∷ q
 moved_is (key n) (key m) q = ap (λ z. key m ∷ z) (either (same_step (key n) (key m)) q)
 moved_is (key n) (index j) q = refl
 moved_is (index i) (key m) q = refl
@@ -38,31 +38,31 @@ moved_place_is t p s = ap (λ z. p ++ z) (moved_is t s [])
 
 -- the number of a counterpart
 pub moved_number : (e : DocumentViews) (t : Step) (p : Place) (s : Step) (r : Option ℕ)
-    → Numbers e (at p (moved_one t s)) r → Numbers e (moved_place t p s) r
-moved_number e t p s r h = subst (λ z. Numbers e z r) (sym (moved_place_is t p s)) h
+    → IsNodeIndex e (at p (moved_one t s)) r → IsNodeIndex e (moved_place t p s) r
+moved_number e t p s r h = subst (λ z. IsNodeIndex e z r) (sym (moved_place_is t p s)) h
 
 -- a member is where it was
 pub key_moves : (v : View) → AreSteps v → (i : ℕ) (name : List ℕ) → slice_get (names_in v) i ≡ Some name
     → (e : DocumentViews) (t : Step) (p : Place) (r : Option ℕ)
-    → Numbers e (at p (key name)) r → (s : Step) → nth_part v i ≡ Some s → Numbers e (moved_place t p s) r
+    → IsNodeIndex e (at p (key name)) r → (s : Step) → nth_part v i ≡ Some s → IsNodeIndex e (moved_place t p s) r
 key_moves v steps i name here e t p r h s part = elim (steps i s part) [
   | inl k ↦
       let same : name ≡ k.0 = same_Some name k.0 (sym here ∙ k.1) in
       let is : moved_one t s ≡ key name = ap (moved_one t) (k.2 ∙ ap key (sym same)) in
-      moved_number e t p s r (subst (λ z. Numbers e (at p z) r) (sym is) h)
+      moved_number e t p s r (subst (λ z. IsNodeIndex e (at p z) r) (sym is) h)
   | inr k ↦ absurd (let clash : Some name ≡ None = sym here ∙ k.0 in cc)
 ]
 
 -- an element is where it moved to
 pub index_moves : (v : View) → AreSteps v → (i j : ℕ) → slice_get (names_in v) i ≡ None
     → (e : DocumentViews) (t : Step) (p : Place) (r : Option ℕ)
-    → j ≡ moved_index t i → Numbers e (at p (index j)) r → (s : Step) → nth_part v i ≡ Some s
-    → Numbers e (moved_place t p s) r
+    → j ≡ moved_index t i → IsNodeIndex e (at p (index j)) r → (s : Step) → nth_part v i ≡ Some s
+    → IsNodeIndex e (moved_place t p s) r
 index_moves v steps i j none e t p r to h s part = elim (steps i s part) [
   | inl k ↦ absurd (let clash : None ≡ Some k.0 = sym none ∙ k.1 in cc)
   | inr k ↦
       let is : moved_one t s ≡ index j = ap (moved_one t) k.1 ∙ ap index (sym to) in
-      moved_number e t p s r (subst (λ z. Numbers e (at p z) r) (sym is) h)
+      moved_number e t p s r (subst (λ z. IsNodeIndex e (at p z) r) (sym is) h)
 ]
 
 -- ---- views

@@ -4,7 +4,7 @@ use Rattle.std.specs.Bool.{Decides}
 use Rattle.std.proofs.lemmas.Option.{same_Some}
 use Rattle.edit_tree.specs.Assertions.{Step, Place, at}
 use Rattle.edit_document.specs.Compared.{SameButOrderBelow, IsChildIndex, tree_below, nth_part}
-use Rattle.edit_document.specs.Items.{node_place, node_view, count_in, Numbers}
+use Rattle.edit_document.specs.Items.{node_place, node_view, count_in, IsNodeIndex}
 use Rattle.edit_document.specs.ItemRemoval.{SameButOrderBeside, UnorderedPartsBut}
 use Rattle.edit_tree.specs.IntendedTrees.{Tree, SameButOrder, same}
 use Rattle.edit_tree.specs.DocumentViews.{DocumentViews, tree_of}
@@ -18,7 +18,7 @@ use Rattle.edit_compare.proofs.UnorderedViews.{order_free, free_none}
 -- the same stands at a part as at the node of its counterpart
 pub part_there : (P : Step → Place) (d : DocumentViews) (n : ℕ) (e : DocumentViews) (i a b : ℕ) (r : Bool)
     → IsChildIndex d n i (Some a)
-    → ((s : Step) → nth_part (node_view d n) i ≡ Some s → Numbers e (P s) (Some b))
+    → ((s : Step) → nth_part (node_view d n) i ≡ Some s → IsNodeIndex e (P s) (Some b))
     → Decides r (SameButOrderBelow d (node_place d a) e (node_place e b))
     → Decides r ((s : Step) → nth_part (node_view d n) i ≡ Some s
     → SameButOrderBelow d (at (node_place d n) s) e (P s))
@@ -36,7 +36,7 @@ pub part_missing : (P : Step → Place) (d : DocumentViews) (n : ℕ) (e : Docum
     → IsChildIndex d n i (Some a)
     → ((step : Step) (i : ℕ) → nth_part (node_view d n) i ≡ Some step
     → tree_of d (at (node_place d n) step) ≡ None → ⊥)
-    → ((s : Step) → nth_part (node_view d n) i ≡ Some s → Numbers e (P s) None)
+    → ((s : Step) → nth_part (node_view d n) i ≡ Some s → IsNodeIndex e (P s) None)
     → ((s : Step) → nth_part (node_view d n) i ≡ Some s
     → SameButOrderBelow d (at (node_place d n) s) e (P s)) → ⊥
 part_missing P d n e i a (t, pt, la, pa) stands there h =

@@ -2,7 +2,7 @@
 use Rattle.std.proofs.Common.{◌≡◌, ℕ, List, Option, Some, None, refl, sym, ap, ◌∙◌, inl, inr}
 use Rattle.std.specs.Prelude.{slice_get}
 use Rattle.edit_tree.specs.Assertions.{Step, key, index, at}
-use Rattle.edit_document.specs.Items.{names_in, node_place, node_view, Numbers}
+use Rattle.edit_document.specs.Items.{names_in, node_place, node_view, IsNodeIndex}
 use Rattle.edit_tree.specs.DocumentViews.{DocumentViews, tree_of}
 use Rattle.edit_document.specs.Compared.{nth_part, AreSteps, IsChildIndex}
 
@@ -16,20 +16,20 @@ NoneElse d number = (step : Step) → ((i : ℕ) → nth_part (node_view d numbe
 
 pub member_part : (d : DocumentViews) (number i : ℕ) (name : List ℕ) (r : Option ℕ) → StandsPart d number
     → nth_part (node_view d number) i ≡ Some (key name)
-    → Numbers d (at (node_place d number) (key name)) r → IsChildIndex d number i r
+    → IsNodeIndex d (at (node_place d number) (key name)) r → IsChildIndex d number i r
 member_part d number i name None stands part h = absurd (stands (key name) i part h)
 member_part d number i name (Some n) stands part h = (key name, part, h.2, h.1)
 
 pub element_part : (d : DocumentViews) (number i : ℕ) (r : Option ℕ) → AreSteps (node_view d number)
     → StandsPart d number → NoneElse d number → slice_get (names_in (node_view d number)) i ≡ None
-    → Numbers d (at (node_place d number) (index i)) r → IsChildIndex d number i r
+    → IsNodeIndex d (at (node_place d number) (index i)) r → IsChildIndex d number i r
 element_part d number i r steps stands else none h = go (nth_part (node_view d number) i) refl r h
   where
     here : ℕ
     here = number
 
     go : (o : Option Step) → nth_part (node_view d number) i ≡ o → (r : Option ℕ)
-        → Numbers d (at (node_place d number) (index i)) r → IsChildIndex d number i r
+        → IsNodeIndex d (at (node_place d number) (index i)) r → IsChildIndex d number i r
     go None e None h = e
     go None e (Some n) h =
         let other = else (index i) (λ j p. elim (steps j (index i) p) [
@@ -47,7 +47,7 @@ element_part d number i r steps stands else none h = go (nth_part (node_view d n
           | inr k ↦ there r h (e ∙ ap Some k.1)
         ]
       where
-        there : (r : Option ℕ) → Numbers d (at (node_place d number) (index i)) r
+        there : (r : Option ℕ) → IsNodeIndex d (at (node_place d number) (index i)) r
             → nth_part (node_view d number) i ≡ Some (index i) → IsChildIndex d number i r
         there None h e = absurd (stands (index i) i e h)
         there (Some n) h e = (index i, e, h.2, h.1)

@@ -6,7 +6,7 @@ use Rattle.edit_syntax.proofs.Cases.{by_test}
 use Rattle.edit_tree.specs.Assertions.{Place, Step, key, at, same_step, assertions}
 use Rattle.edit_tree.specs.EditBytes.{is_within}
 use Rattle.edit_document.specs.ItemRemoval.{SameButOrderBeside, LosesPart, IsLeft, IsLost}
-use Rattle.edit_tree.specs.IntendedTrees.{Tree, moved, Loses, SameButOrder, same, is_member, Removed}
+use Rattle.edit_tree.specs.IntendedTrees.{Tree, place_after_removal, Loses, SameButOrder, same, is_member, Removed}
 use Rattle.edit_tree.specs.Tree.{kind_at, view_in}
 use Rattle.edit_compare.proofs.Besides.{within_back}
 use Rattle.edit_tree.proofs.HeadedPlaces.{inside_self, inside_more, inside_trans}
@@ -105,7 +105,7 @@ module _ (form : Text) (q : Place) (t : Step) (r : Place)
       -- below the part that is lost nothing else stood, and nothing stands
       below_case : (k : Place) → is_within (q ++ t ∷ r) (q ++ t ∷ k) ≡ false
           → is_within (q ++ t ∷ k) (q ++ t ∷ r) ≡ false
-          → SameButOrder (old (q ++ t ∷ k)) (new (moved (q ++ t ∷ r) (q ++ t ∷ k)))
+          → SameButOrder (old (q ++ t ∷ k)) (new (place_after_removal (q ++ t ∷ r) (q ++ t ∷ k)))
       below_case k out high = go r refl
         where
           place : at q t ++ k ≡ q ++ t ∷ k
@@ -118,32 +118,32 @@ module _ (form : Text) (q : Place) (t : Step) (r : Place)
               (ap (λ z. is_within z (q ++ t ∷ r)) place ∙ high)
 
           go : (rest : Place) → r ≡ rest
-              → SameButOrder (old (q ++ t ∷ k)) (new (moved (q ++ t ∷ r) (q ++ t ∷ k)))
+              → SameButOrder (old (q ++ t ∷ k)) (new (place_after_removal (q ++ t ∷ r) (q ++ t ∷ k)))
           go [] e =
               let low : is_within (q ++ t ∷ r) (q ++ t ∷ k) ≡ true =
               within_back q (t ∷ r) (t ∷ k) ∙ ap (λ z. same_step t t && is_within z k) e ∙
               ap (λ b. b && true) (same_step_self t) in
               absurd (true≢false (sym low ∙ out))
           go (u ∷ us) e =
-              let to : moved (q ++ t ∷ r) (q ++ t ∷ k) ≡ at q t ++ moved (u ∷ us) k =
-              moved_back q t r (t ∷ k) ∙ ap (λ z. q ++ moved (t ∷ z) (t ∷ k)) e
+              let to : place_after_removal (q ++ t ∷ r) (q ++ t ∷ k) ≡ at q t ++ place_after_removal (u ∷ us) k =
+              moved_back q t r (t ∷ k) ∙ ap (λ z. q ++ place_after_removal (t ∷ z) (t ∷ k)) e
               ∙ ap (λ z. q ++ z) (moved_step t u t us k ∙
-              ap (λ b. t ∷ (if b then moved (u ∷ us) k else k)) (same_step_self t))
-              ∙ sym (append_assoc q (t ∷ []) (moved (u ∷ us) k)) in
-              let none : new (moved (q ++ t ∷ r) (q ++ t ∷ k)) ≡ None = ap new to ∙
-              nothing_at (by_name u us e) (moved (u ∷ us) k) in
-              subst (λ o. SameButOrder o (new (moved (q ++ t ∷ r) (q ++ t ∷ k)))) (sym nothing)
+              ap (λ b. t ∷ (if b then place_after_removal (u ∷ us) k else k)) (same_step_self t))
+              ∙ sym (append_assoc q (t ∷ []) (place_after_removal (u ∷ us) k)) in
+              let none : new (place_after_removal (q ++ t ∷ r) (q ++ t ∷ k)) ≡ None = ap new to ∙
+              nothing_at (by_name u us e) (place_after_removal (u ∷ us) k) in
+              subst (λ o. SameButOrder o (new (place_after_removal (q ++ t ∷ r) (q ++ t ∷ k)))) (sym nothing)
               (subst (λ o. SameButOrder None o) (sym none) (same None))
 
       inner_case : (k : Place) → is_within (q ++ t ∷ r) (q ++ k) ≡ false
           → is_within (q ++ k) (q ++ t ∷ r) ≡ false
-          → SameButOrder (old (q ++ k)) (new (moved (q ++ t ∷ r) (q ++ k)))
+          → SameButOrder (old (q ++ k)) (new (place_after_removal (q ++ t ∷ r) (q ++ k)))
       inner_case [] out high = absurd (true≢false
           (sym (ap (λ z. is_within z (q ++ t ∷ r)) (append-nil q) ∙ whole_way) ∙ high))
       inner_case (s ∷ k) out high = by_test (same_step s t)
           (λ e. subst (λ z. is_within (q ++ t ∷ r) (q ++ z ∷ k) ≡ false
           → is_within (q ++ z ∷ k) (q ++ t ∷ r) ≡ false
-          → SameButOrder (old (q ++ z ∷ k)) (new (moved (q ++ t ∷ r) (q ++ z ∷ k))))
+          → SameButOrder (old (q ++ z ∷ k)) (new (place_after_removal (q ++ t ∷ r) (q ++ z ∷ k))))
           (sym (same_step_is s t e)) (below_case k) out high)
           (λ e.
           let ne : s ≡ t → ⊥ = λ f. true≢false (sym (ap (λ z. same_step z t) f ∙ same_step_self t) ∙ e) in
@@ -208,7 +208,7 @@ module _ (form : Text) (q : Place) (t : Step) (r : Place)
         beside = λ p out high. by_test (is_within q p)
             (λ low. (let k = within_rest q p low in
             subst (λ z. is_within (q ++ t ∷ r) z ≡ false → is_within z (q ++ t ∷ r) ≡ false
-            → SameButOrder (old z) (new (moved (q ++ t ∷ r) z))) (sym k.1) (inner_case k.0) out high))
+            → SameButOrder (old z) (new (place_after_removal (q ++ t ∷ r) z))) (sym k.1) (inner_case k.0) out high))
             (λ apart. subst (λ z. SameButOrder (old p) (new z)) (sym (moved_else q t r p apart))
             (beside p apart));
         stays = λ p s k e next. beside p (is_beside p s k e next);

@@ -5,7 +5,7 @@ use Rattle.std.proofs.lemmas.Option.{same_Some}
 use Rattle.edit_tree.specs.Assertions.{Step, Place, at}
 use Rattle.edit_tree.specs.Tree.{View}
 use Rattle.edit_tree.specs.DocumentViews.{DocumentViews, tree_of}
-use Rattle.edit_document.specs.Items.{node_place, node_view, count_in, Numbers}
+use Rattle.edit_document.specs.Items.{node_place, node_view, count_in, IsNodeIndex}
 use Rattle.edit_tree.specs.IntendedTrees.{SameButOrder, same}
 use Rattle.edit_document.specs.Compared.{nth_part, IsChildIndex, SameButOrderBelow}
 use Rattle.edit_document.proofs.SameParts.{part_or, part_less, one_down, NothingElse, NoneBelow}
@@ -72,7 +72,7 @@ module _ (d : DocumentViews) (n : ℕ) (e : DocumentViews) (m : ℕ) where
 
   abbrev Counterpart : ℕ → Option ℕ → Type 0
   Counterpart i r = (t : Step) → nth_part (node_view d n) i ≡ Some t
-      → Numbers e (at (node_place e m) t) r
+      → IsNodeIndex e (at (node_place e m) t) r
 
   -- the numbered parts show the same but for the order, where the nodes do
   pub unordered_down : (i a b : ℕ) → IsChildIndex d n i (Some a) → Counterpart i (Some b)

@@ -8,7 +8,7 @@ ghost use Rattle.edit_tree.specs.IntendedTrees.{above, is_inline_table, HasRepla
 ghost use Rattle.edit_document.specs.NewItemViews.{new_value_view, new_pair_views, new_item_view};
 ghost use Rattle.edit_tree.specs.DocumentViews.{tree_of};
 
-use crate::beside::beside;
+use crate::equal_around::find_equal_around;
 use crate::compare::is_same_text;
 use crate::new_content::shows_value;
 use edit_document::{Document, NewItem, NewValue, Step};
@@ -58,8 +58,8 @@ fn shows_members(
         (new_pair_views members.now)) }
 {
     document.lemma_tree();
-    document.is_whole(number);
-    document.stands(number);
+    document.lemma_children(number);
+    document.lemma_exists(number);
     lemma_unique_names(document, number);
     let kind = if is_inline { 8 } else { 9 };
     if document.kind(number) != kind {
@@ -96,7 +96,7 @@ fn is_inline_above(document: &Document, place: &[Step]) -> bool
     ensures { result ≡ is_inline_table (tree_of document.now (above (place_view place.now))) }
 {
     let upper = &place[..place.len().saturating_sub(1)];
-    match document.number(upper) {
+    match document.node_index(upper) {
         Some(number) => document.kind(number) == 8,
         None => false,
     }
@@ -108,7 +108,7 @@ pub fn has_replaced(document: &Document, other: &Document, place: &[Step], item:
         (tree_of document.now) (tree_of other.now)) }
 {
     let inside = is_inline_above(document, place);
-    match beside(document, other, place) {
+    match find_equal_around(document, other, place) {
         Some((_number, there)) => shows_item(other, there, item, inside),
         None => false,
     }

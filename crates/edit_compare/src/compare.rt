@@ -5,7 +5,7 @@ ghost use Rattle.edit_document.specs.Compared.{IsWhole, IsChildIndex, SameBelow,
 ghost use Rattle.edit_document.specs.Items.{node_place, node_view, names_in};
 
 use edit_document::Document;
-use edit_tree::nodes::{Content, cut, decoded_str};
+use edit_tree::nodes::{Content, decoded_str, span_text};
 
 /// Whether two optional texts are equal.
 pub(crate) fn is_same_text(word: Option<&str>, other: Option<&str>) -> bool
@@ -25,7 +25,7 @@ pub(crate) fn part_at(document: &Document, number: usize, index: usize) -> Optio
     requires { number < length document.now.nodes }
     ensures { IsChildIndex document.now number index result }
 {
-    document.is_whole(number);
+    document.lemma_children(number);
     match document.member_name(number, index) {
         Some(name) => document.member(number, name),
         None => document.element(number, index),
@@ -60,15 +60,15 @@ pub(crate) fn same_view(document: &Document, number: usize, other: &Document, th
     requires there { there < length other.now.nodes }
     ensures { Decides result (node_view document.now number ≡ node_view other.now there) }
 {
-    document.is_whole(number);
-    other.is_whole(there);
+    document.lemma_children(number);
+    other.lemma_children(there);
     if document.kind(number) != other.kind(there) {
         return false;
     }
     if document.member_count(number) != other.member_count(there) {
         return false;
     }
-    if !is_same_text(document.word(number), other.word(there)) {
+    if !is_same_text(document.scalar_text(number), other.scalar_text(there)) {
         return false;
     }
     same_names(document, number, other, there)
@@ -90,10 +90,10 @@ pub(crate) fn same_below(
 {
     document.lemma_tree();
     other.lemma_tree();
-    document.is_whole(number);
-    other.is_whole(there);
-    document.stands(number);
-    other.stands(there);
+    document.lemma_children(number);
+    other.lemma_children(there);
+    document.lemma_exists(number);
+    other.lemma_exists(there);
     if depth == 0 {
         unreachable!()
     }

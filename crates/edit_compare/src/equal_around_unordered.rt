@@ -7,7 +7,7 @@ ghost use Rattle.edit_document.specs.Items.{node_place, place_view, step_view};
 ghost use Rattle.edit_document.specs.ItemRemoval.{UnorderedPart, UnorderedPartsBut, SameButOrderBeside, FindsUnordered};
 ghost use Rattle.edit_tree.specs.DocumentViews.{tree_of};
 
-use crate::beside::{counterpart, is_step_to_child, step_down};
+use crate::equal_around::{counterpart, is_step_to_child, child_by_step};
 use crate::compare::part_at;
 use crate::unordered::{same_but_order, same_unordered};
 use edit_document::{Document, Step};
@@ -25,7 +25,7 @@ fn unordered_part(
     requires there { there < length other.now.nodes }
     ensures { Decides result (UnorderedPart document.now number other.now there index) }
 {
-    document.is_whole(number);
+    document.lemma_children(number);
     let Some(part) = part_at(document, number, index) else {
         return true;
     };
@@ -79,10 +79,10 @@ fn unordered_around(
 {
     document.lemma_tree();
     other.lemma_tree();
-    document.is_whole(number);
-    other.is_whole(there);
-    document.stands(number);
-    other.stands(there);
+    document.lemma_children(number);
+    other.lemma_children(there);
+    document.lemma_exists(number);
+    other.lemma_exists(there);
     if !same_but_order(document, number, other, there) {
         return false;
     }
@@ -106,10 +106,10 @@ pub(crate) fn equal_around_unordered(
         if !unordered_around(document, number, other, there, step) {
             return None;
         }
-        let Some(other_next) = step_down(other, there, step) else {
+        let Some(other_next) = child_by_step(other, there, step) else {
             return None;
         };
-        let Some(next) = step_down(document, number, step) else {
+        let Some(next) = child_by_step(document, number, step) else {
             return None;
         };
         number = next;

@@ -8,7 +8,7 @@ ghost use Rattle.edit_tree.specs.IntendedTrees.{Grown, Inserted};
 ghost use Rattle.edit_document.specs.NewItemViews.{new_value_view};
 ghost use Rattle.edit_tree.specs.DocumentViews.{tree_of};
 
-use crate::beside::{beside, same_parts};
+use crate::equal_around::{find_equal_around, same_parts};
 use crate::compare::is_same_text;
 use crate::new_content::shows_value;
 use edit_document::{Document, NewValue, Step};
@@ -46,8 +46,8 @@ fn grown_names(
     ensures { Decides result (Grown (key_step key.now) (Some (node_view document.now number))
         (Some (node_view other.now there))) }
 {
-    document.is_whole(number);
-    other.is_whole(there);
+    document.lemma_children(number);
+    other.lemma_children(there);
     let kind = document.kind(number);
     if kind < 8 {
         return false;
@@ -92,10 +92,10 @@ fn grown_here(
 {
     document.lemma_tree();
     other.lemma_tree();
-    document.is_whole(number);
-    other.is_whole(there);
-    document.stands(number);
-    other.stands(there);
+    document.lemma_children(number);
+    other.lemma_children(there);
+    document.lemma_exists(number);
+    other.lemma_exists(there);
     let Some(added) = other.member(there, key) else {
         return false;
     };
@@ -120,7 +120,7 @@ pub fn has_grown(
     ensures { Decides result (Inserted (place_view place.now) key.now (new_value_view value.now)
         (tree_of document.now) (tree_of other.now)) }
 {
-    match beside(document, other, place) {
+    match find_equal_around(document, other, place) {
         Some((number, there)) => grown_here(document, number, other, there, key, value),
         None => false,
     }

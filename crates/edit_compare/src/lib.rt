@@ -1,12 +1,12 @@
 //! Comparison of two documents: whether the second is the first after one given edit.
 #![tactic(auto)]
 
-mod beside;
+mod equal_around;
 mod changed;
 mod compare;
 mod equal_around_unordered;
 mod grown;
-mod kept;
+mod remaining_parts;
 mod new_content;
 mod removed;
 mod unordered;

@@ -17,12 +17,12 @@ fn shows_string(document: &Document, number: usize, said: &str) -> bool
         (ShowsValue document.now (node_place document.now number) (a_string said.now)) }
 {
     document.lemma_tree();
-    document.is_whole(number);
-    document.stands(number);
+    document.lemma_children(number);
+    document.lemma_exists(number);
     if document.kind(number) != 0 {
         return false;
     }
-    is_same_text(document.word(number), Some(said))
+    is_same_text(document.scalar_text(number), Some(said))
 }
 
 /// Whether a node is this boolean.
@@ -31,8 +31,8 @@ fn shows_truth(document: &Document, number: usize, truth: bool) -> bool
     ensures { Decides result (ShowsValue document.now (node_place document.now number) (a_truth truth)) }
 {
     document.lemma_tree();
-    document.is_whole(number);
-    document.stands(number);
+    document.lemma_children(number);
+    document.lemma_exists(number);
     let kind = document.kind(number);
     if truth { kind == 2 } else { kind == 1 }
 }
@@ -56,8 +56,8 @@ fn shows_list(document: &Document, number: usize, list: &[String]) -> bool
         (ShowsValue document.now (node_place document.now number) (a_list (map string_bytes list.now))) }
 {
     document.lemma_tree();
-    document.is_whole(number);
-    document.stands(number);
+    document.lemma_children(number);
+    document.lemma_exists(number);
     if document.kind(number) != 6 {
         return false;
     }

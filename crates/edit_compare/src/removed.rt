@@ -4,16 +4,16 @@ ghost use Rattle.std.specs.Bool.{Decides};
 ghost use Rattle.edit_tree.specs.Assertions.{Step as StepSeen, at, key as key_step};
 ghost use Rattle.edit_document.specs.Forms.{IfDocument};
 ghost use Rattle.edit_document.specs.Compared.{nth_part, tree_below};
-ghost use Rattle.edit_document.specs.Items.{node_place, node_view, place_view, step_view, Numbers};
+ghost use Rattle.edit_document.specs.Items.{node_place, node_view, place_view, step_view, IsNodeIndex};
 ghost use Rattle.edit_document.specs.ItemRemoval.{HasNamesBut, MovedPart, MovedParts, LosesPart, moved_place};
 ghost use Rattle.edit_document.specs.ItemRemoval as lost;
 ghost use Rattle.edit_tree.specs.IntendedTrees.{Loses, Removed};
 ghost use Rattle.edit_tree.specs.DocumentViews.{tree_of};
 
-use crate::beside::{is_step_to_child, step_down};
+use crate::equal_around::{is_step_to_child, child_by_step};
 use crate::compare::part_at;
 use crate::equal_around_unordered::equal_around_unordered;
-use crate::kept::steps_to_remaining;
+use crate::remaining_parts::steps_to_remaining;
 use crate::unordered::{has_names_of, same_unordered};
 use edit_document::{Document, Step};
 
@@ -59,9 +59,9 @@ fn moved_counterpart(
     requires here { number < length document.now.nodes }
     requires there { there < length other.now.nodes }
     ensures { (s : StepSeen) → nth_part (node_view document.now number) index ≡ Some s
-        → Numbers other.now (moved_place (step_view step.now) (node_place other.now there) s) result }
+        → IsNodeIndex other.now (moved_place (step_view step.now) (node_place other.now there) s) result }
 {
-    document.is_whole(number);
+    document.lemma_children(number);
     match document.member_name(number, index) {
         Some(name) => other.member(there, name),
         None => other.element(there, moved_index(step, index)),
@@ -82,7 +82,7 @@ fn moved_part(
     requires there { there < length other.now.nodes }
     ensures { Decides result (MovedPart (step_view step.now) document.now number other.now there index) }
 {
-    document.is_whole(number);
+    document.lemma_children(number);
     let Some(part) = part_at(document, number, index) else {
         return true;
     };
@@ -146,7 +146,7 @@ fn has_no_child(document: &Document, number: usize, step: &Step) -> bool
     ensures { Decides result
         (tree_of document.now (at (node_place document.now number) (step_view step.now)) ≡ None) }
 {
-    match step_down(document, number, step) {
+    match child_by_step(document, number, step) {
         Some(_) => false,
         None => true,
     }
@@ -167,8 +167,8 @@ fn loses_view(
     ensures { Decides result (Loses (step_view step.now) (Some (node_view document.now number))
         (Some (node_view other.now there))) }
 {
-    document.is_whole(number);
-    other.is_whole(there);
+    document.lemma_children(number);
+    other.lemma_children(there);
     let kind = document.kind(number);
     if kind != other.kind(there) {
         return false;
@@ -207,10 +207,10 @@ fn loses_part(
 {
     document.lemma_tree();
     other.lemma_tree();
-    document.is_whole(number);
-    other.is_whole(there);
-    document.stands(number);
-    other.stands(there);
+    document.lemma_children(number);
+    other.lemma_children(there);
+    document.lemma_exists(number);
+    other.lemma_exists(there);
     if !loses_view(document, number, other, there, step) {
         return false;
     }
@@ -231,7 +231,7 @@ pub fn has_lost(document: &Document, other: &Document, place: &[Step]) -> bool
     let Some((number, there)) = equal_around_unordered(document, other, front(place, kept)) else {
         return false;
     };
-    document.is_whole(number);
-    document.stands(number);
+    document.lemma_children(number);
+    document.lemma_exists(number);
     loses_part(document, number, other, there, &place[kept])
 }

@@ -5,7 +5,7 @@ ghost use Rattle.edit_document.specs.Compared.{HasNamesOf, SameButOrderBelow};
 ghost use Rattle.edit_document.specs.Items.{node_place, node_view};
 ghost use Rattle.edit_tree.specs.IntendedTrees.{SameButOrder};
 
-use crate::beside::counterpart;
+use crate::equal_around::counterpart;
 use crate::compare::{part_at, same_view};
 use edit_document::Document;
 
@@ -44,8 +44,8 @@ pub(crate) fn same_but_order(
     ensures { Decides result (SameButOrder (Some (node_view document.now number))
         (Some (node_view other.now there))) }
 {
-    document.is_whole(number);
-    other.is_whole(there);
+    document.lemma_children(number);
+    other.lemma_children(there);
     let kind = document.kind(number);
     if kind < 8 {
         return same_view(document, number, other, there);
@@ -78,10 +78,10 @@ pub(crate) fn same_unordered(
 {
     document.lemma_tree();
     other.lemma_tree();
-    document.is_whole(number);
-    other.is_whole(there);
-    document.stands(number);
-    other.stands(there);
+    document.lemma_children(number);
+    other.lemma_children(there);
+    document.lemma_exists(number);
+    other.lemma_exists(there);
     if depth == 0 {
         unreachable!()
     }

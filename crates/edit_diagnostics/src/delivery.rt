@@ -3,7 +3,7 @@ ghost use Rattle.std.specs.Prelude.{◌≡◌};
 
 use crate::suggestions::suggestions;
 use edit_base::{Error, MissingNames};
-use edit_steps::Refusal;
+use edit_steps::RunError;
 use edit_upgrade::UpgradePlan;
 use std::alloc::{AllocError, Global};
 
@@ -21,7 +21,7 @@ fn names_near(
 }
 
 /// Adds to `Error::Locked` the first manifest that would change.
-fn explain_locked(alloc: Global, refusal: Refusal, plan: &UpgradePlan) -> Refusal
+fn explain_locked(alloc: Global, refusal: RunError, plan: &UpgradePlan) -> RunError
     ensures { result.error ≡ refusal.error }
 {
     let place = match plan.outputs.first() {
@@ -31,7 +31,7 @@ fn explain_locked(alloc: Global, refusal: Refusal, plan: &UpgradePlan) -> Refusa
     let count = plan.outputs.len();
     let cause = format!(in alloc; "manifests that would change: {count}").ok();
     let help = String::from_str(alloc, "leave out `--locked` to write them").ok();
-    Refusal {
+    RunError {
         place,
         cause,
         help,
@@ -41,7 +41,7 @@ fn explain_locked(alloc: Global, refusal: Refusal, plan: &UpgradePlan) -> Refusa
 
 /// Explains an error of a plan that is not carried out: adds the manifest that `--locked` forbids to
 /// change, or the nearest name of an entry for a missing one.
-pub fn explain_delivery(alloc: Global, refusal: Refusal, plan: &UpgradePlan) -> Refusal
+pub fn explain_delivery(alloc: Global, refusal: RunError, plan: &UpgradePlan) -> RunError
     ensures { result.error ≡ refusal.error }
 {
     let help = match &refusal.error {
@@ -49,7 +49,7 @@ pub fn explain_delivery(alloc: Global, refusal: Refusal, plan: &UpgradePlan) -> 
         Error::DependenciesMissing(missing) => names_near(alloc, missing, plan),
         _ => return refusal,
     };
-    Refusal {
+    RunError {
         help: help.unwrap_or(None),
         ..refusal
     }

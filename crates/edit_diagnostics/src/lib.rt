@@ -18,5 +18,5 @@ mod upgrade;
 
 pub use delivery::explain_delivery;
 pub use set_version::explain_set_version;
-pub use suggestions::nearest;
+pub use suggestions::nearest_name;
 pub use upgrade::explain_upgrade;

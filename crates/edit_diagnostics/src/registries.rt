@@ -6,7 +6,7 @@ use crate::sources::registry_cause;
 use edit_base::Error;
 use edit_base::paths::folder;
 use edit_manifest::Manifest;
-use edit_manifest::entries::{Entry, Said, entries};
+use edit_manifest::entries::{Entry, ReadEntry, entries};
 use edit_metadata::Input;
 use edit_record::Source;
 use edit_sources::Config;
@@ -31,7 +31,7 @@ pub(crate) struct Fault {
 
 /// The lookup of an entry; `None` where it is no entry of a registry.
 pub(crate) fn lookup_of(entry: &Entry) -> Option<Lookup<'_>> {
-    let Said::Read(dependency) = &entry.said else {
+    let ReadEntry::Read(dependency) = &entry.said else {
         return None;
     };
     match &dependency.source {
@@ -44,7 +44,7 @@ pub(crate) fn lookup_of(entry: &Entry) -> Option<Lookup<'_>> {
 }
 
 /// Whether the lookup of an entry fails with this error before an index file is read.
-fn gives(
+fn has_lookup_error(
     alloc: Global,
     error: &Error,
     lookup: Lookup<'_>,
@@ -88,7 +88,7 @@ fn fault_in(alloc: Global, error: &Error, input: &Input, configs: &[Config]) -> 
         let Some(lookup) = lookup_of(entry) else {
             continue;
         };
-        if gives(alloc, error, lookup, &mut definitions) {
+        if has_lookup_error(alloc, error, lookup, &mut definitions) {
             return Some(Fault {
                 place: entry_position(alloc, input, document, &entry.place),
                 cause: cause_of(alloc, error, lookup, configs),

@@ -42,7 +42,7 @@ fn package_at_path<'a>(
 }
 
 /// Explains an error of an entry's requirement.
-fn explained(
+fn explain_requirement(
     alloc: Global,
     input: &Input,
     document: &Document,
@@ -83,7 +83,7 @@ fn find_unraisable_in(
             continue;
         }
         if let Some(package) = package_at_path(alloc, input, entry, selection, workspace) {
-            return explained(alloc, input, &manifest.document, entry, package);
+            return explain_requirement(alloc, input, &manifest.document, entry, package);
         }
     }
     None

@@ -8,7 +8,7 @@ use edit_base::paths::join;
 use edit_base::{Error, MissingNames};
 use edit_metadata::{Input, Workspace};
 use edit_set_version::{Selection, TargetVersion};
-use edit_steps::{Refusal, at_input};
+use edit_steps::{RunError, at_input};
 use std::alloc::{AllocError, Global};
 
 /// The help for an excluded member that inherits the version of the workspace.
@@ -52,7 +52,7 @@ fn shared_version(alloc: Global, workspace: &Workspace) -> Option<Explanation> {
 }
 
 /// Explains an error of a plan of new versions.
-fn explained(
+fn explain_plan_error(
     alloc: Global,
     error: &Error,
     target: &TargetVersion,
@@ -85,19 +85,19 @@ pub fn explain_set_version(
     selection: &Selection,
     workspace: &Workspace,
     inputs: &[Input],
-) -> Refusal
+) -> RunError
     ensures { result.error ≡ error }
 {
     if matches!(&error, Error::NotToml { .. } | Error::NotUtf8) {
         return at_input(alloc, error, inputs);
     }
-    match explained(alloc, &error, target, selection, workspace, inputs) {
-        Some(found) => Refusal {
+    match explain_plan_error(alloc, &error, target, selection, workspace, inputs) {
+        Some(found) => RunError {
             error,
             place: found.place,
             cause: found.cause,
             help: found.help,
         },
-        None => Refusal::from(error),
+        None => RunError::from(error),
     }
 }

@@ -34,7 +34,7 @@ fn edits(alloc: Global, name: &str, other: &str) -> Result<Option<usize>, AllocE
 
 /// The first of these names with the least edit distance from a name; `None` where the name is empty, no
 /// name is near enough, or memory runs out.
-pub fn nearest<'a>(alloc: Global, name: &str, names: &[&'a str]) -> Option<&'a str>
+pub fn nearest_name<'a>(alloc: Global, name: &str, names: &[&'a str]) -> Option<&'a str>
     ensures among { IfSome result (λ s. Contains (map (λ t. t.now) names.now) s.now) }
     ensures empty { name.now ≡ [] → IsNone result }
 {
@@ -63,7 +63,7 @@ pub(crate) fn suggestions(
     let mut help = String::new(alloc);
     let names = &names[..names.len().min(MOST_NAMES)];
     for name in missing.names.iter().take(MOST_MISSING) {
-        if let Some(near) = nearest(alloc, name.as_str(), names) {
+        if let Some(near) = nearest_name(alloc, name.as_str(), names) {
             if !help.is_empty() {
                 help.push_str("; ")?;
             }

@@ -7,8 +7,8 @@ use crate::registries::first_fault;
 use crate::sources::registry_help;
 use edit_base::Error;
 use edit_metadata::Input;
-use edit_steps::upgrade_read::{Asked, SharedConfigs};
-use edit_steps::{Refusal, absolute, at_first, at_input};
+use edit_steps::upgrade_read::{SourceRequest, SharedConfigs};
+use edit_steps::{RunError, absolute_path, at_first, at_input};
 use edit_store::Store;
 use std::alloc::Global;
 
@@ -23,7 +23,7 @@ fn at_index<S: Store>(
     inputs: &[Input],
     configs: &SharedConfigs,
     files: &mut S,
-) -> Refusal
+) -> RunError
     ensures same { result.error ≡ error }
     ensures reads { OnlyReads (S.view files.old) (S.view files.new) }
 {
@@ -34,22 +34,22 @@ fn at_index<S: Store>(
         return refusal;
     }
     let cause = String::from_str(alloc, INDEX_LINE).ok();
-    Refusal { cause, ..refusal }
+    RunError { cause, ..refusal }
 }
 
 /// Adds to an error of an entry's lookup the place of the entry.
-fn at_entry(alloc: Global, error: Error, inputs: &[Input], configs: &SharedConfigs) -> Refusal
+fn at_entry(alloc: Global, error: Error, inputs: &[Input], configs: &SharedConfigs) -> RunError
     ensures { result.error ≡ error }
 {
     let help = registry_help(alloc, &error);
     match first_fault(alloc, &error, inputs, configs) {
-        Some(fault) => Refusal {
+        Some(fault) => RunError {
             error,
             place: fault.place,
             cause: fault.cause,
             help,
         },
-        None => Refusal {
+        None => RunError {
             error,
             place: None,
             cause: None,
@@ -59,8 +59,8 @@ fn at_entry(alloc: Global, error: Error, inputs: &[Input], configs: &SharedConfi
 }
 
 /// The absolute path of the given index folder.
-fn folder_named(alloc: Global, asked: &Asked<'_>, current: &str) -> Option<String> {
-    absolute(alloc, current, asked.index_dir?).ok()
+fn folder_named(alloc: Global, asked: &SourceRequest<'_>, current: &str) -> Option<String> {
+    absolute_path(alloc, current, asked.index_dir?).ok()
 }
 
 /// Explains an error of the plan of an upgrade over these manifests, with place and help: the manifest that
@@ -69,17 +69,17 @@ fn folder_named(alloc: Global, asked: &Asked<'_>, current: &str) -> Option<Strin
 pub fn explain_upgrade<S: Store>(
     alloc: Global,
     error: Error,
-    asked: &Asked<'_>,
+    asked: &SourceRequest<'_>,
     current: &str,
     inputs: &[Input],
     configs: &SharedConfigs,
     files: &mut S,
-) -> Refusal
+) -> RunError
     ensures same { result.error ≡ error }
     ensures reads { OnlyReads (S.view files.old) (S.view files.new) }
 {
     match &error {
-        Error::Memory => Refusal::from(error),
+        Error::Memory => RunError::from(error),
         Error::NotToml { .. } | Error::NotUtf8 => at_input(alloc, error, inputs),
         Error::IndexLine { .. } | Error::Device(_) => {
             let dir = folder_named(alloc, asked, current);

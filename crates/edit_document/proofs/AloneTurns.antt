@@ -13,7 +13,7 @@ use Rattle.edit_tree.specs.DocumentViews.{DocumentViews}
 use Rattle.edit_tree.specs.Statements.{behind_part, PlacedPair, placed_statements, line_pairs, inner_pairs}
 use Rattle.edit_tree.specs.Tree.{kind_at, view_at, view_of_kind}
 use Rattle.edit_document.specs.declared.one_statement.Statements.TheVariants.{AsMember}
-use Rattle.edit_document.specs.OneStatement.{Answers}
+use Rattle.edit_document.specs.OneStatement.{IsStatementCount}
 use Rattle.edit_tree.proofs.NamedHeads.{one_statement_is}
 use Rattle.edit_tree.proofs.OneStatements.{unpaired, none_alone, at_cons}
 use Rattle.edit_tree.proofs.SamePlace.{other_place, last_same}
@@ -72,7 +72,7 @@ Reaches d place i n =
 
 pub reaches_next : (d : DocumentViews) (place : Place) (i n m : ℕ) → Reaches d place i n
     → ((form : Text) (upper : Place) (name : List ℕ) → IsDocument d.bytes form
-    → node_place d n ≡ at upper (key name) → Answers form d n (AsMember m))
+    → node_place d n ≡ at upper (key name) → IsStatementCount form d n (AsMember m))
     → (form : Text) → IsDocument d.bytes form → Reaches d place (i + 1) m
 reaches_next d place i n m r answers form manifest =
     let a = answers form r.2.0 r.2.1 manifest r.2.2 in

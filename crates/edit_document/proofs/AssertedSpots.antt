@@ -10,7 +10,7 @@ use Rattle.edit_syntax.specs.Grammar.{array}
 use Rattle.edit_tree.specs.Assertions.{Step, key, index, Place, at, same_place, Kind, dotted, leaf, super, header_kind, array_kind, element_kind, Assertion, are_compatible, AreShort}
 use Rattle.edit_tree.specs.Tree.{members_of, kind_at, count_elements}
 use Rattle.edit_document.specs.Items.{key_names}
-use Rattle.edit_tree.specs.Redefinition.{defined_by, joins, merged_definition}
+use Rattle.edit_tree.specs.Redefinition.{defined_by, can_extend, merged_definition}
 use Rattle.edit_tree.specs.Nodes.{Shape, scalar, section, sections, ModelNode, names_of, StandsAt, below, IsBelow, IsTree}
 use Rattle.edit_tree.specs.Nodes as shapes
 use Rattle.edit_tree.specs.Walk.{model_node_at, with_definition}
@@ -79,7 +79,7 @@ pub record Tells (made : List Assertion) (written : List Placed) (s : ModelNode)
   pub kind : Kind
   pub first : first_kind made s.place ≡ Some kind
   pub shape : s.shape ≡ shape_of_kind kind
-  pub joined : (s.place ≡ [] → ⊥) → (k : Kind) → allowed made s.place k ≡ joins s.taken (defined_by k)
+  pub joined : (s.place ≡ [] → ⊥) → (k : Kind) → allowed made s.place k ≡ can_extend s.taken (defined_by k)
   pub names : names_of s ≡ key_names (members_of made s.place)
   pub count : is_headed kind ≡ true → length s.elements ≡ elements_below made s.place
   pub span : s.span ≡ span_at written s.place
@@ -207,15 +207,15 @@ nothing_under made written spots p x st ne none = nothing_at made written spots 
 -- ---- a place that is taken again
 
 and_joins : (made : List Assertion) (p : Place) (k l : Kind) (taken : DefinedBy)
-    → allowed made p l ≡ joins taken (defined_by l) → joins taken (defined_by k) ≡ true
-    → (allowed made p l && are_compatible k l) ≡ joins (merged_definition taken (defined_by k)) (defined_by l)
+    → allowed made p l ≡ can_extend taken (defined_by l) → can_extend taken (defined_by k) ≡ true
+    → (allowed made p l && are_compatible k l) ≡ can_extend (merged_definition taken (defined_by k)) (defined_by l)
 and_joins made p k l taken e fits = ap₂ (λ (x : Bool) (y : Bool). x && y) e (together_is k l) ∙
     sym (stronger_is taken (defined_by k) (defined_by l) fits)
 
 module _ (made : List Assertion) (written : List Placed) (spots : List ModelNode) (j : ℕ) (s : ModelNode)
     (a : Assertion) (st : Stands made written spots) (here : slice_get spots j ≡ Some s)
     (place : a.place ≡ s.place) (inner : s.place ≡ [] → ⊥)
-    (fits : joins s.taken (defined_by a.kind) ≡ true) (plain : is_element a.kind ≡ false) where
+    (fits : can_extend s.taken (defined_by a.kind) ≡ true) (plain : is_element a.kind ≡ false) where
   told : Tells made written s
   told = st.tells j s here
 

@@ -2,7 +2,7 @@
 use Rattle.std.proofs.Common.{◌≡◌, ℕ, ◌≤◌, Bool, true, false, List, [], ◌∷◌, Option, Some, None, Result, Err, refl, sym, ap, subst, ◌∙◌, ◌⊎◌, inl, inr, arith}
 use Rattle.std.specs.Prelude.{map, IsUtf8, MatchResult, string_bytes}
 use Rattle.std.specs.List.{AllByRecursion}
-use Rattle.edit_syntax.specs.declared.read.marks.Mark.{Mark}
+use Rattle.edit_syntax.specs.declared.read.syntax_tokens.SyntaxToken.{SyntaxToken}
 use Rattle.edit_tree.specs.declared.nodes.Node.{Node}
 use Rattle.edit_document.specs.declared.document.Document.TheInside.{Inside}
 use Rattle.edit_syntax.specs.Grammar.{array, Text, lines, byte_order_mark, Spells}
@@ -19,7 +19,7 @@ use Rattle.edit_tree.specs.Written.{values}
 use Rattle.edit_document.specs.DocumentLayout.{placed, model_nodes_of, node_views, document_view_by, IsRead}
 use Rattle.edit_tree.specs.Pieces.{IsRange}
 use Rattle.edit_syntax.specs.Reading.{◌>>=◌}
-use Rattle.edit_tree.specs.Walk.{State, start, walked, without_pending}
+use Rattle.edit_tree.specs.Walk.{State, start, state_after, without_pending}
 use Rattle.edit_tree.specs.WalkState.{IsToken, KeepsState}
 use Rattle.edit_syntax.proofs.TextLaws.{read_again}
 use Rattle.edit_tree.proofs.Ends.{Ends}
@@ -50,7 +50,7 @@ pub tokens_of : (bytes : List ℕ) (form : Text) → Read bytes form
 tokens_of bytes form r = text_tokens bytes form r.spells.well_formed r.utf8 (ends_all bytes form r)
 
 pub walk_of : (bytes : List ℕ) (form : Text) → Read bytes form
-    → Walks (assertions form) (map placed (values form)) (walked bytes (tokens_of_text form) start)
+    → Walks (assertions form) (map placed (values form)) (state_after bytes (tokens_of_text form) start)
 walk_of bytes form r = text_walked bytes form r.spells.well_formed r.utf8 (ends_all bytes form r)
 
 -- ---- the form of a text, and what it shows
@@ -64,17 +64,17 @@ pub record Walked (bytes : List ℕ) (form : Text) (nodes : List Node) : Type 0 
   pub manifest : IsDocument bytes form
 
 pub walked_is : (bytes : List ℕ) (form : Text) (nodes : List Node) → Read bytes form
-    → KeepsState bytes nodes (walked bytes (tokens_of_text form) start) → Walked bytes form nodes
+    → KeepsState bytes nodes (state_after bytes (tokens_of_text form) start) → Walked bytes form nodes
 walked_is bytes form nodes r keeps = go (walk_of bytes form r)
   where
-    go : Walks (assertions form) (map placed (values form)) (walked bytes (tokens_of_text form) start)
+    go : Walks (assertions form) (map placed (values form)) (state_after bytes (tokens_of_text form) start)
         → Walked bytes form nodes
     go (ended now tables e st) =
         let manifest : IsDocument bytes form =
         record { grammar = r.spells; short = st.clear.short; no_clash = st.clear.apart } in
         record {
           spots = now;
-          found = ap (λ (o : Option Text). o >>= λ f. walked bytes (tokens_of_text f) start >>= λ s. Some s.spots)
+          found = ap (λ (o : Option Text). o >>= λ f. state_after bytes (tokens_of_text f) start >>= λ s. Some s.spots)
               (manifest_form bytes form manifest) ∙ ap (λ (o : Option State). o >>= λ s. Some s.spots) e;
           stands = st;
           holds = subst (KeepsState bytes nodes) e keeps;
@@ -84,10 +84,10 @@ walked_is bytes form nodes r keeps = go (walk_of bytes form r)
 
 -- what is no document is not walked over
 pub refused_is : (bytes : List ℕ) (form : Text) → IsDocument bytes form → IsUtf8 bytes
-    → walked bytes (tokens_of_text form) start ≡ None → ⊥
+    → state_after bytes (tokens_of_text form) start ≡ None → ⊥
 refused_is bytes form m u none = go (walk_of bytes form (read_of bytes form m u))
   where
-    go : Walks (assertions form) (map placed (values form)) (walked bytes (tokens_of_text form) start) → ⊥
+    go : Walks (assertions form) (map placed (values form)) (state_after bytes (tokens_of_text form) start) → ⊥
     go (ended now tables e st) = let clash : None ≡ Some (without_pending now tables) = sym none ∙ e in cc
     go (stuck e clash) = clash (record { apart = m.no_clash; short = m.short })
 
@@ -121,25 +121,25 @@ read_is inside form range w = record {
 
 -- ---- what reading answers
 
-abbrev pub Found : List ℕ → List Mark → Type 0
+abbrev pub Found : List ℕ → List SyntaxToken → Type 0
 Found bytes marks = (form : Text) × Spells bytes form × (text_depth form ≤ 80) × (marks ≡ tokens_of_text form)
 
-read_form : (bytes seen : List ℕ) (marks : List Mark) → IsUtf8 bytes → seen ≡ bytes → (f : Found seen marks)
+read_form : (bytes seen : List ℕ) (marks : List SyntaxToken) → IsUtf8 bytes → seen ≡ bytes → (f : Found seen marks)
     → Read bytes f.0
 read_form bytes seen marks u same f =
     record { spells = subst (λ (b : List ℕ). Spells b f.0) same f.1; utf8 = u }
 
-pub read_done : (bytes seen : List ℕ) (marks slice : List Mark) (nodes : List Node) → IsUtf8 bytes
+pub read_done : (bytes seen : List ℕ) (marks slice : List SyntaxToken) (nodes : List Node) → IsUtf8 bytes
     → seen ≡ bytes → Found seen marks → slice ≡ marks
-    → (AllByRecursion (IsToken bytes) slice → KeepsState bytes nodes (walked bytes slice start))
+    → (AllByRecursion (IsToken bytes) slice → KeepsState bytes nodes (state_after bytes slice start))
     → (form : Text) × Walked bytes form nodes
 read_done bytes seen marks slice nodes u same f whole keeps =
     let r = read_form bytes seen marks u same f in
     let all : slice ≡ tokens_of_text f.0 = whole ∙ f.3 in
     let k : AllByRecursion (IsToken bytes) (tokens_of_text f.0)
-    → KeepsState bytes nodes (walked bytes (tokens_of_text f.0) start) =
-    subst (λ (ms : List Mark). AllByRecursion (IsToken bytes) ms
-    → KeepsState bytes nodes (walked bytes ms start)) all keeps in
+    → KeepsState bytes nodes (state_after bytes (tokens_of_text f.0) start) =
+    subst (λ (ms : List SyntaxToken). AllByRecursion (IsToken bytes) ms
+    → KeepsState bytes nodes (state_after bytes ms start)) all keeps in
     (f.0, walked_is bytes f.0 nodes r (k (tokens_of bytes f.0 r)))
 
 pub shows_any : (bytes : List ℕ) (r : ℕ × ℕ) (form f : Text) (nodes : List Node) → Walked bytes form nodes
@@ -157,9 +157,9 @@ memory_or n Memory h = inl refl
 memory_or n _ h = absurd h
 
 -- a document is refused for want of memory alone
-pub refused_memory : (bytes seen : List ℕ) (marks slice : List Mark) (form : Text) (e : Error) (n : ℕ)
+pub refused_memory : (bytes seen : List ℕ) (marks slice : List SyntaxToken) (form : Text) (e : Error) (n : ℕ)
     → IsUtf8 bytes → seen ≡ bytes → Found seen marks → slice ≡ marks → IsTokenizeError n e
-    → (AllByRecursion (IsToken bytes) slice → NotMemory e → walked bytes slice start ≡ None)
+    → (AllByRecursion (IsToken bytes) slice → NotMemory e → state_after bytes slice start ≡ None)
     → IsDocument bytes form → IsMemory e
 refused_memory bytes seen marks slice form e n u same f whole refusal stop m =
     elim (memory_or n e refusal) [
@@ -168,16 +168,16 @@ refused_memory bytes seen marks slice form e n u same f whole refusal stop m =
           let r = read_form bytes seen marks u same f in
           let all : slice ≡ tokens_of_text f.0 = whole ∙ f.3 in
           let s : AllByRecursion (IsToken bytes) (tokens_of_text f.0) → NotMemory e
-          → walked bytes (tokens_of_text f.0) start ≡ None =
-          subst (λ (ms : List Mark). AllByRecursion (IsToken bytes) ms → NotMemory e
-          → walked bytes ms start ≡ None) all stop in
+          → state_after bytes (tokens_of_text f.0) start ≡ None =
+          subst (λ (ms : List SyntaxToken). AllByRecursion (IsToken bytes) ms → NotMemory e
+          → state_after bytes ms start ≡ None) all stop in
           let none = s (tokens_of bytes f.0 r) other in
           let here : form_of bytes ≡ Some f.0 = read_again 80 bytes f.0
           (record { spells = r.spells; shallow = f.2 }) in
           let one : Some f.0 ≡ Some form = sym here ∙ manifest_form bytes form m in
           let same_form : f.0 ≡ form = cc in
           absurd (refused_is bytes form m u
-          (subst (λ (g : Text). walked bytes (tokens_of_text g) start ≡ None) same_form none))
+          (subst (λ (g : Text). state_after bytes (tokens_of_text g) start ≡ None) same_form none))
     ]
 
 pub answer_memory : (r : Result DocumentViews Error) (e e2 : Error) (P : DocumentViews → Type 0)
@@ -191,8 +191,8 @@ pub no_document : (bytes : List ℕ) → IsUtf8 bytes → model_nodes_of bytes �
     → IsDocument bytes form → ⊥
 no_document bytes u none form m =
     refused_is bytes form m u
-    (stops (walked bytes (tokens_of_text form) start)
-    (ap (λ (o : Option Text). o >>= λ f. walked bytes (tokens_of_text f) start >>= λ s. Some s.spots)
+    (stops (state_after bytes (tokens_of_text form) start)
+    (ap (λ (o : Option Text). o >>= λ f. state_after bytes (tokens_of_text f) start >>= λ s. Some s.spots)
     (sym (manifest_form bytes form m)) ∙ none))
   where
     stops : (o : Option State) → (o >>= λ s. Some s.spots) ≡ None → o ≡ None

@@ -12,8 +12,8 @@ use Rattle.edit_tree.specs.Tree.{View, string, truth, whole, fractional, moment,
 use Rattle.edit_tree.specs.DocumentViews.{node_at}
 use Rattle.edit_syntax.specs.FormOf.{form_of}
 use Rattle.edit_syntax.specs.SyntaxTokens.{tokens_of_text}
-use Rattle.edit_syntax.specs.Reading.{◌>>=◌, read_text, lines_at, is_marked, past_mark}
-use Rattle.edit_tree.specs.Walk.{State, start, walked}
+use Rattle.edit_syntax.specs.Reading.{◌>>=◌, read_text, lines_at, is_marked, skip_byte_order_mark}
+use Rattle.edit_tree.specs.Walk.{State, start, state_after}
 use Rattle.edit_tree.specs.Written.{values}
 use Rattle.edit_document.specs.DocumentLayout.{placed, model_nodes_of, node_views}
 use Rattle.edit_syntax.proofs.TextLaws.{lines_found, lines_read}
@@ -37,12 +37,12 @@ IsNone bytes = (form : Text) → IsDocument bytes form → ⊥
 -- what is read is in the grammar
 pub form_spells : (bytes : List ℕ) (form : Text) → form_of bytes ≡ Some form → Spells bytes form
 unfolding read_text
-form_spells bytes form e = go (lines_at 80 (length (past_mark bytes) + 1) (past_mark bytes)) refl
+form_spells bytes form e = go (lines_at 80 (length (skip_byte_order_mark bytes) + 1) (skip_byte_order_mark bytes)) refl
   where
     never : (f : Text) → None ≡ Some f → ⊥
     never f h = cc
 
-    go : (o : Option Lines) → lines_at 80 (length (past_mark bytes) + 1) (past_mark bytes) ≡ o
+    go : (o : Option Lines) → lines_at 80 (length (skip_byte_order_mark bytes) + 1) (skip_byte_order_mark bytes) ≡ o
         → Spells bytes form
     go None h = let no : None ≡ Some form =
         sym (ap (λ (o : Option Lines). o >>= λ ls. Some (record { marked = is_marked bytes; lines = ls }))
@@ -51,14 +51,14 @@ form_spells bytes form e = go (lines_at 80 (length (past_mark bytes) + 1) (past_
         let is : Some (record { marked = is_marked bytes; lines = ls })
         ≡ Some form = sym (ap
         (λ (o : Option Lines). o >>= λ ls. Some (record { marked = is_marked bytes; lines = ls })) h) ∙ e in
-        let r = lines_read 80 (past_mark bytes) ls h in
+        let r = lines_read 80 (skip_byte_order_mark bytes) ls h in
         subst (Spells bytes) (same_Some _ _ is) (lines_found 80 bytes ls r.0 r.1.valid r.1.shallow).spells
 
 -- ---- the tree
 
 -- the nodes of the walk over the marks of a form
 abbrev nodes_along : List ℕ → Option Text → List (Place × View)
-nodes_along bytes o = node_views (o >>= λ form. walked bytes (tokens_of_text form) start >>= λ st. Some st.spots)
+nodes_along bytes o = node_views (o >>= λ form. state_after bytes (tokens_of_text form) start >>= λ st. Some st.spots)
 
 abbrev nodes_after : Option State → List (Place × View)
 nodes_after o = node_views (o >>= λ st. Some st.spots)
@@ -72,7 +72,7 @@ node_shows bytes place view utf8 e = go (form_of bytes) refl
     never h = cc
 
     walk : (form : Text) → form_of bytes ≡ Some form → (r : Read bytes form)
-        → Walked (assertions form) (map placed (values form)) (walked bytes (tokens_of_text form) start)
+        → Walked (assertions form) (map placed (values form)) (state_after bytes (tokens_of_text form) start)
         → Shows bytes place view
     walk form h r (ended now tables w st) = record {
       form = form;

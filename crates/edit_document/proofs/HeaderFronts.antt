@@ -4,7 +4,7 @@ use Rattle.std.specs.Prelude.{slice_get, nat_lt, unwrap_or}
 use Rattle.std.proofs.lemmas.Bool.Decides.{nat_tests}
 use Rattle.std.proofs.lemmas.Option.{slice_get_past}
 use Rattle.edit_tree.specs.declared.nodes.DefinedBy.TheVariants.{Super}
-use Rattle.edit_tree.specs.Assertions.{key, index, Place, at, Kind, dotted, leaf, super, header_kind, array_kind, element_kind, Assertion, asserts, elements_at, resolved}
+use Rattle.edit_tree.specs.Assertions.{key, index, Place, at, Kind, dotted, leaf, super, header_kind, array_kind, element_kind, Assertion, asserts, elements_at, last_element_or_self}
 use Rattle.edit_syntax.specs.Grammar.{Value, basic, literal, multi_basic, multi_literal, boolean, integer, float, datetime, array, inline}
 use Rattle.edit_tree.specs.Tree.{kind_at}
 use Rattle.edit_document.specs.DocumentLayout.{shape_of_value, Placed}
@@ -19,7 +19,7 @@ use Rattle.edit_document.proofs.AssertedSpots.{shape_of_kind, Stands, was_assert
 use Rattle.edit_document.proofs.MemberAssertions.{Makes, makes_along, again_makes, added_makes}
 
 resolved_by : (earlier : List Assertion) (p : Place) (n : ℕ) → elements_at earlier p ≡ n
-    → resolved earlier p ≡ cond (nat_lt 0 n) (at p (index (n - 1))) p
+    → last_element_or_self earlier p ≡ cond (nat_lt 0 n) (at p (index (n - 1))) p
 resolved_by earlier p n e = ap (λ (m : ℕ). cond (nat_lt 0 m) (at p (index (m - 1))) p) e
 
 -- what has no table of its own among its elements
@@ -56,7 +56,7 @@ pub super_makes : (made earlier : List Assertion) (written : List Placed) (spots
     (s : ModelNode) (name : List ℕ) (by : Place) → Stands made written spots → slice_get spots t ≡ Some s
     → ((p : Place) → elements_at earlier p ≡ elements_below made p)
     → ((p : Place) → (elements_at earlier p ≡ 0) ⊎ (kind_at made p ≡ Some array_kind))
-    → Makes made written spots (asserts by (resolved earlier (at s.place (key name))) super) []
+    → Makes made written spots (asserts by (last_element_or_self earlier (at s.place (key name))) super) []
     (member_defined spots t name section Super None)
 super_makes made earlier written spots t s name by st here even alone = go (below s (key name)) refl
   where
@@ -64,18 +64,18 @@ super_makes made earlier written spots t s name by st here even alone = go (belo
     p = at s.place (key name)
 
     a : Assertion
-    a = asserts by (resolved earlier (at s.place (key name))) super
+    a = asserts by (last_element_or_self earlier (at s.place (key name))) super
 
     taken_at : (j e : ℕ) (d : ModelNode) (q : Place) → below s (key name) ≡ Some j
         → target_of spots j Super ≡ e
-        → slice_get spots e ≡ Some d → d.place ≡ q → resolved earlier (at s.place (key name)) ≡ q
+        → slice_get spots e ≡ Some d → d.place ≡ q → last_element_or_self earlier (at s.place (key name)) ≡ q
         → (q ≡ [] → ⊥)
-        → Makes made written spots (asserts by (resolved earlier (at s.place (key name))) super) []
+        → Makes made written spots (asserts by (last_element_or_self earlier (at s.place (key name))) super) []
         (member_defined spots t name section Super None)
     taken_at j e d q b target stands place is inner =
         makes_along (asserted_old spots t j name section Super None (child_is spots t s name here ∙ b) ∙
         ap (λ (n : ℕ). with_index n (node_extended spots n Super)) target)
-        (again_makes made written spots e d (asserts by (resolved earlier (at s.place (key name))) super) st
+        (again_makes made written spots e d (asserts by (last_element_or_self earlier (at s.place (key name))) super) st
         stands (is ∙ sym place) (λ root. inner (sym place ∙ root)) refl)
 
     counted : (j : ℕ) (d : ModelNode) → (stands : slice_get spots j ≡ Some d)
@@ -92,7 +92,7 @@ super_makes made earlier written spots t s name by st here even alone = go (belo
     some : (j : ℕ) (d : ModelNode) (n : ℕ) → below s (key name) ≡ Some j
         → (stands : slice_get spots j ≡ Some d)
         → (st.tells j d stands).kind ≡ array_kind → d.place ≡ at s.place (key name) → length d.elements ≡ n
-        → Makes made written spots (asserts by (resolved earlier (at s.place (key name))) super) []
+        → Makes made written spots (asserts by (last_element_or_self earlier (at s.place (key name))) super) []
         (member_defined spots t name section Super None)
     some j d zero b stands kind place size =
         let none : last_of d.elements ≡ None = slice_get_past d.elements (length d.elements - 1)
@@ -133,7 +133,7 @@ super_makes made earlier written spots t s name by st here even alone = go (belo
     -- no array of tables
     none : (j : ℕ) (d : ModelNode) → below s (key name) ≡ Some j → (stands : slice_get spots j ≡ Some d)
         → ((st.tells j d stands).kind ≡ array_kind → ⊥) → d.place ≡ at s.place (key name)
-        → Makes made written spots (asserts by (resolved earlier (at s.place (key name))) super) []
+        → Makes made written spots (asserts by (last_element_or_self earlier (at s.place (key name))) super) []
         (member_defined spots t name section Super None)
     none j d b stands other place =
         let told = st.tells j d stands in
@@ -151,7 +151,7 @@ super_makes made earlier written spots t s name by st here even alone = go (belo
         (resolved_by earlier (at s.place (key name)) 0 zero_elements) (not_root s.place (key name))
 
     go : (o : Option ℕ) → below s (key name) ≡ o
-        → Makes made written spots (asserts by (resolved earlier (at s.place (key name))) super) []
+        → Makes made written spots (asserts by (last_element_or_self earlier (at s.place (key name))) super) []
         (member_defined spots t name section Super None)
     go None e =
         let nothing = nothing_below_spot made written spots t s (key name) st here e in
@@ -159,10 +159,10 @@ super_makes made earlier written spots t s name by st here even alone = go (belo
         even (at s.place (key name)) ∙ elements_none made (at s.place (key name))
         (λ y. nothing_under made written spots (at s.place (key name)) y st
         (not_root s.place (key name)) nothing) in
-        let is : resolved earlier (at s.place (key name)) ≡ at s.place (key name) =
+        let is : last_element_or_self earlier (at s.place (key name)) ≡ at s.place (key name) =
         resolved_by earlier (at s.place (key name)) 0 zero_elements in
         makes_along (asserted_new spots t name section Super None (child_is spots t s name here ∙ e))
-        (added_makes made written spots t s name (asserts by (resolved earlier (at s.place (key name))) super)
+        (added_makes made written spots t s name (asserts by (last_element_or_self earlier (at s.place (key name))) super)
         None st here e is refl)
     go (Some j) e =
         let d = st.tree.down t j s (key name) here e in

@@ -13,7 +13,7 @@ use Rattle.edit_document.specs.DocumentLayout.{placed}
 use Rattle.edit_tree.specs.EditBytes.{is_within}
 use Rattle.edit_document.specs.ItemRemoval.{is_named}
 use Rattle.edit_tree.specs.Nodes.{ModelNode}
-use Rattle.edit_tree.specs.Redefinition.{defined_by, joins, is_own}
+use Rattle.edit_tree.specs.Redefinition.{defined_by, can_extend, is_own}
 use Rattle.edit_tree.specs.Written.{values}
 use Rattle.edit_tree.proofs.AlonePlaces.{dotted_open, first_allows}
 use Rattle.edit_tree.proofs.ArrayCounts.{arrays_alone}
@@ -95,7 +95,7 @@ own_or (x ∷ xs) p = go (owns x.kind && same_place x.place p) refl (own_or xs p
     go false e (inl a) = inl (a.0, inr a.1, a.2, a.3)
     go false e (inr bare) = inr (e, bare)
 
-own_array : (t : DefinedBy) → is_own t ≡ true → joins t Array ≡ true → ⊥
+own_array : (t : DefinedBy) → is_own t ≡ true → can_extend t Array ≡ true → ⊥
 own_array Value e f = true≢false (sym f)
 own_array Header e f = true≢false (sym f)
 own_array Element e f = true≢false (sym f)
@@ -103,7 +103,7 @@ own_array Dotted e f = true≢false (sym e)
 own_array Super e f = true≢false (sym e)
 own_array Array e f = true≢false (sym e)
 
-own_dotted : (t : DefinedBy) → is_own t ≡ true → joins t Dotted ≡ true → ⊥
+own_dotted : (t : DefinedBy) → is_own t ≡ true → can_extend t Dotted ≡ true → ⊥
 own_dotted Value e f = true≢false (sym f)
 own_dotted Header e f = true≢false (sym f)
 own_dotted Element e f = true≢false (sym f)
@@ -116,7 +116,7 @@ own_dotted Array e f = true≢false (sym e)
 module _ (form : Text) (spots : List ModelNode) (n : ℕ) (s : ModelNode)
     (st : Stands (assertions form) (map placed (values form)) spots)
     (here : slice_get spots n ≡ Some s) (inner : s.place ≡ [] → ⊥) where
-  joined : (k : Kind) → allowed (assertions form) s.place k ≡ joins s.taken (defined_by k)
+  joined : (k : Kind) → allowed (assertions form) s.place k ≡ can_extend s.taken (defined_by k)
   joined k = (st.tells n s here).joined inner k
 
   taken_open : is_own s.taken ≡ false → IsOpen s.place (assertions form)
@@ -124,10 +124,10 @@ module _ (form : Text) (spots : List ModelNode) (n : ℕ) (s : ModelNode)
     where
       go : (t : DefinedBy) → s.taken ≡ t → is_own t ≡ false → IsOpen s.place (assertions form)
       go Dotted is f = dotted_open (assertions form) s.place
-          (joined (dotted false) ∙ ap (λ t. joins t Dotted) is)
+          (joined (dotted false) ∙ ap (λ t. can_extend t Dotted) is)
       go Super is f = dotted_open (assertions form) s.place
-          (joined (dotted false) ∙ ap (λ t. joins t Dotted) is)
-      go Array is f = array_open (assertions form) s.place (joined array_kind ∙ ap (λ t. joins t Array) is)
+          (joined (dotted false) ∙ ap (λ t. can_extend t Dotted) is)
+      go Array is f = array_open (assertions form) s.place (joined array_kind ∙ ap (λ t. can_extend t Array) is)
       go Value is f = absurd (true≢false f)
       go Header is f = absurd (true≢false f)
       go Element is f = absurd (true≢false f)

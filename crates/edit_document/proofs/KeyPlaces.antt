@@ -5,13 +5,13 @@ use Rattle.edit_syntax.specs.declared.span.Span.{Span}
 use Rattle.edit_tree.specs.declared.nodes.DefinedBy.{DefinedBy}
 use Rattle.edit_tree.specs.declared.nodes.DefinedBy.TheVariants.{Dotted, Value, Super}
 use Rattle.edit_syntax.specs.Grammar.{Value as Written}
-use Rattle.edit_tree.specs.Assertions.{key, Place, at, Kind, dotted, leaf, super, array_kind, Assertion, asserts, named, of_key, elements_at, resolved, fronts, header_place}
+use Rattle.edit_tree.specs.Assertions.{key, Place, at, Kind, dotted, leaf, super, array_kind, Assertion, asserts, named, of_key, elements_at, last_element_or_self, fronts, header_place}
 use Rattle.edit_tree.specs.Tree.{kind_at}
 use Rattle.edit_syntax.specs.Reading.{◌>>=◌}
 use Rattle.edit_document.specs.DocumentLayout.{shape_of_value, Placed}
 use Rattle.edit_tree.specs.Redefinition.{defined_by}
 use Rattle.edit_tree.specs.Nodes.{Shape, section, ModelNode, StandsAt}
-use Rattle.edit_tree.specs.Walk.{member_defined, front_shape, reached}
+use Rattle.edit_tree.specs.Walk.{member_defined, front_shape, fronts_followed}
 use Rattle.edit_tree.proofs.KeyFronts.{reached_none, reached_more}
 use Rattle.edit_tree.proofs.MoreAssertions.{kind_stays, IsClear, clear_front}
 use Rattle.edit_tree.proofs.MoreMembers.{is_element, elements_below, elements_stay}
@@ -43,7 +43,7 @@ lands_made spots made written more a r (fails h c) = misses h c
 -- the last part of a key, from the table in which it stands
 abbrev pub landed : List ModelNode → ℕ → List (List ℕ) → Shape → DefinedBy → List ℕ → Shape → DefinedBy → Option Span
     → Option (List ModelNode × ℕ)
-landed spots t names shape front name last taken span = reached spots t names shape front >>= λ r.
+landed spots t names shape front name last taken span = fronts_followed spots t names shape front >>= λ r.
     member_defined r.0 r.1 name last taken span
 
 landed_none : (spots : List ModelNode) (t : ℕ) (shape : Shape) (front : DefinedBy) (name : List ℕ) (last : Shape)
@@ -61,10 +61,10 @@ landed_more : (spots : List ModelNode) (t : ℕ) (n : List ℕ) (names : List (L
 landed_more spots t n names shape front name last taken span o e =
     ap (λ (x : Option (List ModelNode × ℕ)). x >>= λ r. member_defined r.0 r.1 name last taken span)
     (reached_more spots t n names shape front ∙
-    ap (λ (x : Option (List ModelNode × ℕ)). x >>= λ q. reached q.0 q.1 names shape front) e) ∙ go o
+    ap (λ (x : Option (List ModelNode × ℕ)). x >>= λ q. fronts_followed q.0 q.1 names shape front) e) ∙ go o
   where
     go : (o : Option (List ModelNode × ℕ))
-        → ((o >>= λ q. reached q.0 q.1 names shape front) >>= λ r. member_defined r.0 r.1 name last taken span)
+        → ((o >>= λ q. fronts_followed q.0 q.1 names shape front) >>= λ r. member_defined r.0 r.1 name last taken span)
         ≡ (o >>= λ r. landed r.0 r.1 names shape front name last taken span)
     go None = refl
     go (Some r) = refl
@@ -169,10 +169,10 @@ header_lands spots t p n [] earlier by by2 k made written st there even alone pl
     (lands_made spots made written [] a (member_defined spots t n (shape_of_kind k) (defined_by k) None)
     (member_makes made written spots t there.0 n a None st there.1 place plain kind (inl refl))))
 header_lands spots t p n (m ∷ ns) earlier by by2 k made written st there even alone plain kind =
-    let q = resolved earlier (at p (key n)) in
-    let a : Assertion = asserts by (resolved earlier (at p (key n))) super in
+    let q = last_element_or_self earlier (at p (key n)) in
+    let a : Assertion = asserts by (last_element_or_self earlier (at p (key n))) super in
     let first : Makes made written spots a [] (member_defined spots t n section Super None) =
-    subst (λ (r : Place). Makes made written spots (asserts by (resolved earlier (at r (key n))) super) []
+    subst (λ (r : Place). Makes made written spots (asserts by (last_element_or_self earlier (at r (key n))) super) []
     (member_defined spots t n section Super None)) there.2
     (super_makes made earlier written spots t there.0 n by st there.1 even alone) in
     let rest = fronts earlier by q (m ∷ ns) ++ asserts by2 (header_place earlier q (m ∷ ns)) k ∷ [] in

@@ -1,7 +1,7 @@
 -- The walk over the tokens of a key and of what it names, against its assertions.
 use Rattle.std.proofs.Common.{◌≡◌, ℕ, ◌<◌, Bool, true, false, List, [], ◌∷◌, ◌++◌, length, Option, Some, None, refl, sym, ap, subst, ◌∙◌, arith}
 use Rattle.std.proofs.lemmas.Option.{slice_get_past}
-use Rattle.edit_syntax.specs.declared.read.marks.Mark.{Mark}
+use Rattle.edit_syntax.specs.declared.read.syntax_tokens.SyntaxToken.{SyntaxToken}
 use Rattle.edit_syntax.specs.declared.span.Span.{Span}
 use Rattle.edit_tree.specs.declared.nodes.DefinedBy.{DefinedBy}
 use Rattle.edit_tree.specs.declared.nodes.DefinedBy.TheVariants.{Dotted, Value}
@@ -11,7 +11,7 @@ use Rattle.edit_tree.specs.Tree.{kind_at, count_elements}
 use Rattle.edit_document.specs.DocumentLayout.{shape_of_value, Placed}
 use Rattle.edit_syntax.specs.Reading.{◌>>=◌}
 use Rattle.edit_tree.specs.Nodes.{Shape, ModelNode, StandsAt, below}
-use Rattle.edit_tree.specs.Walk.{State, last_of, element_added, member_defined, front_shape, reached, without_pending, is_dotted_within, pending_defined, value_added_at, walked}
+use Rattle.edit_tree.specs.Walk.{State, last_of, element_added, member_defined, front_shape, fronts_followed, without_pending, is_dotted_within, pending_defined, value_added_at, state_after}
 use Rattle.edit_tree.proofs.MoreAssertions.{first_kind, IsClear, clear_front}
 use Rattle.edit_tree.proofs.MoreMembers.{is_headed}
 use Rattle.edit_tree.proofs.Trees.{Grows, grows_then}
@@ -35,24 +35,24 @@ pub leads_along : {before : List ModelNode} {made : List Assertion} {written : L
 leads_along e (leads now h s g) = leads now (e ∙ h) s g
 leads_along e (stops h c) = stops (e ∙ h) c
 
-pub leads_then : (bytes : List ℕ) (xs ys : List Mark) (st : State) (before : List ModelNode)
+pub leads_then : (bytes : List ℕ) (xs ys : List SyntaxToken) (st : State) (before : List ModelNode)
     (made more : List Assertion) (written added : List Placed) (tables tables2 : List ℕ)
-    → Leads before made written tables (walked bytes xs st)
+    → Leads before made written tables (state_after bytes xs st)
     → ((now : List ModelNode) → Stands made written now → Grows before now
-    → Leads now (made ++ more) (written ++ added) tables2 (walked bytes ys (without_pending now tables)))
-    → Leads before (made ++ more) (written ++ added) tables2 (walked bytes (xs ++ ys) st)
+    → Leads now (made ++ more) (written ++ added) tables2 (state_after bytes ys (without_pending now tables)))
+    → Leads before (made ++ more) (written ++ added) tables2 (state_after bytes (xs ++ ys) st)
 leads_then bytes xs ys st before made more written added tables tables2 (leads now e s grows) then =
     go (then now s grows)
   where
-    path : walked bytes (xs ++ ys) st ≡ walked bytes ys (without_pending now tables)
-    path = walked_append bytes xs ys st ∙ ap (λ (o : Option State). o >>= walked bytes ys) e
+    path : state_after bytes (xs ++ ys) st ≡ state_after bytes ys (without_pending now tables)
+    path = walked_append bytes xs ys st ∙ ap (λ (o : Option State). o >>= state_after bytes ys) e
 
-    go : Leads now (made ++ more) (written ++ added) tables2 (walked bytes ys (without_pending now tables))
-        → Leads before (made ++ more) (written ++ added) tables2 (walked bytes (xs ++ ys) st)
+    go : Leads now (made ++ more) (written ++ added) tables2 (state_after bytes ys (without_pending now tables))
+        → Leads before (made ++ more) (written ++ added) tables2 (state_after bytes (xs ++ ys) st)
     go (leads later f s2 g) = leads later (path ∙ f) s2 (grows_then before now later grows g)
     go (stops f c) = stops (path ∙ f) c
 leads_then bytes xs ys st before made more written added tables tables2 (stops e clash) then =
-    stops (walked_append bytes xs ys st ∙ ap (λ (o : Option State). o >>= walked bytes ys) e)
+    stops (walked_append bytes xs ys st ∙ ap (λ (o : Option State). o >>= state_after bytes ys) e)
     (λ clear. clash (clear_front made more clear))
 
 -- ---- the waiting key settles
@@ -76,7 +76,7 @@ settled_landed spots tables t n ns front shape taken span =
     let st : State = record { spots = spots; tables = tables; fronts = fore n ns; name = Some (rear n ns) } in
     ap (λ (x : State). pending_defined x t front shape taken span) (waits_are spots tables n ns) ∙
     settled_is st t front shape taken span (rear n ns) refl
-    ∙ join (reached spots t (fore n ns) (front_shape (is_dotted_within (length tables) front)) front)
+    ∙ join (fronts_followed spots t (fore n ns) (front_shape (is_dotted_within (length tables) front)) front)
   where
     join : (o : Option (List ModelNode × ℕ))
         → (o >>= λ r. member_defined r.0 r.1 (rear n ns) shape taken span >>= λ q. with_number tables q)

@@ -13,9 +13,9 @@ use Rattle.edit_tree.specs.declared.nodes.DefinedBy.TheVariants as takings
 use Rattle.edit_tree.specs.declared.nodes.DefinedBy.TheVariants.{Dotted, Super, Header, Array, Element}
 use Rattle.edit_tree.specs.Assertions.{Step, key, index, Place, at, Kind, Assertion}
 use Rattle.edit_document.specs.DocumentLayout.{Placed}
-use Rattle.edit_tree.specs.Redefinition.{defined_by, joins}
+use Rattle.edit_tree.specs.Redefinition.{defined_by, can_extend}
 use Rattle.edit_tree.specs.Nodes.{ModelNode, StandsAt, below}
-use Rattle.edit_tree.specs.Walk.{model_node_at, target_of, with_definition, node_extended, with_member, with_element, added, element_added, with_index, member_defined}
+use Rattle.edit_tree.specs.Walk.{model_node_at, target_of, with_definition, node_extended, with_member, with_element, member_added, element_added, with_index, member_defined}
 use Rattle.edit_tree.proofs.SamePlace.{not_root}
 use Rattle.edit_syntax.proofs.ListElements.{get_front, get_last, equal_or}
 use Rattle.edit_tree.proofs.SpotNodes.{child_is}
@@ -44,7 +44,7 @@ makes_along e (fails h c) = fails (e ∙ h) c
 
 again_is : (spots : List ModelNode) (j : ℕ) (s : ModelNode) (taken : DefinedBy) (b : Bool)
     → slice_get spots j ≡ Some s
-    → joins s.taken taken ≡ b → node_extended spots j taken
+    → can_extend s.taken taken ≡ b → node_extended spots j taken
     ≡ cond b (Some (slice_set spots j (with_definition s taken))) None
 unfolding node_extended
 again_is spots j s taken b e h = rw (e, h) refl
@@ -53,9 +53,9 @@ pub again_makes : (made : List Assertion) (written : List Placed) (spots : List 
     (a : Assertion) → Stands made written spots → slice_get spots j ≡ Some s → a.place ≡ s.place
     → (s.place ≡ [] → ⊥) → is_element a.kind ≡ false
     → Makes made written spots a [] (with_index j (node_extended spots j (defined_by a.kind)))
-again_makes made written spots j s a st here place inner plain = go (joins s.taken (defined_by a.kind)) refl
+again_makes made written spots j s a st here place inner plain = go (can_extend s.taken (defined_by a.kind)) refl
   where
-    go : (b : Bool) → joins s.taken (defined_by a.kind) ≡ b
+    go : (b : Bool) → can_extend s.taken (defined_by a.kind) ≡ b
         → Makes made written spots a [] (with_index j (node_extended spots j (defined_by a.kind)))
     go true fits =
         let now = slice_set spots j (with_definition s (defined_by a.kind)) in
@@ -68,7 +68,7 @@ again_makes made written spots j s a st here place inner plain = go (joins s.tak
         fails (ap (with_index j) (again_is spots j s (defined_by a.kind) false here stops))
         (λ clear.
         let fits : allowed made a.place a.kind ≡ true = clash_last made a clear in
-        let says : allowed made a.place a.kind ≡ joins s.taken (defined_by a.kind) =
+        let says : allowed made a.place a.kind ≡ can_extend s.taken (defined_by a.kind) =
         ap (λ (q : Place). allowed made q a.kind) place ∙ (st.tells j s here).joined inner a.kind in
         let clash : true ≡ false = sym fits ∙ says ∙ stops in
         cc)
@@ -138,7 +138,7 @@ pub added_makes : (made : List Assertion) (written : List Placed) (spots : List 
     → slice_get spots t ≡ Some s → below s (key name) ≡ None → a.place ≡ at s.place (key name)
     → is_element a.kind ≡ false
     → Makes made written spots a (noted a.place span)
-    (added spots t name (shape_of_kind a.kind) (defined_by a.kind) span)
+    (member_added spots t name (shape_of_kind a.kind) (defined_by a.kind) span)
 added_makes made written spots t s name a span st here none place plain =
     elim (cases_lt (length s.place) 80) [
       | inl few ↦
@@ -149,7 +149,7 @@ added_makes made written spots t s name a span st here none place plain =
           let unindexed : (k : Kind) → first_kind made s.place ≡ Some k → is_headed k ≡ true
           → is_element a.kind ≡ false = λ k f e. plain in
           let last = model_node_at a.place (shape_of_kind a.kind) (defined_by a.kind) span in
-          let is : added spots t name (shape_of_kind a.kind) (defined_by a.kind) span
+          let is : member_added spots t name (shape_of_kind a.kind) (defined_by a.kind) span
           ≡ Some (slice_set spots t s2 ++ last ∷ [], length spots) =
           added_made spots t name (shape_of_kind a.kind) (defined_by a.kind) span s here few
           ∙ ap (λ (p : Place). Some (
@@ -172,7 +172,7 @@ added_makes made written spots t s name a span st here none place plain =
 abbrev pub IsSpanFor : Kind → Option Span → Type 0
 IsSpanFor k span = (span ≡ None) ⊎ (defined_by k ≡ takings.Value)
 
-no_value_again : (t : DefinedBy) → joins t takings.Value ≡ true → ⊥
+no_value_again : (t : DefinedBy) → can_extend t takings.Value ≡ true → ⊥
 no_value_again Dotted e = cc
 no_value_again takings.Value e = cc
 no_value_again Super e = cc
@@ -190,9 +190,9 @@ more_none made written spots a span r j s st here place inner (inl e) m =
 more_none made written spots a span r j s st here place inner (inr e) (fails h c) = fails h c
 more_none made written spots a span r j s st here place inner (inr e) (makes now k h stands p g) =
     let fits : allowed made a.place a.kind ≡ true = clash_last made a stands.clear in
-    let says : allowed made a.place a.kind ≡ joins s.taken (defined_by a.kind) =
+    let says : allowed made a.place a.kind ≡ can_extend s.taken (defined_by a.kind) =
     ap (λ (q : Place). allowed made q a.kind) place ∙ (st.tells j s here).joined inner a.kind in
-    absurd (no_value_again s.taken (ap (joins s.taken) (sym e) ∙ sym says ∙ fits))
+    absurd (no_value_again s.taken (ap (can_extend s.taken) (sym e) ∙ sym says ∙ fits))
 
 -- a member is asserted, by any kind but that of a header that goes on below it
 pub member_makes : (made : List Assertion) (written : List Placed) (spots : List ModelNode) (t : ℕ) (s : ModelNode)

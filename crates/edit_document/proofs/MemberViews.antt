@@ -6,7 +6,7 @@ use Rattle.std.specs.Borrow.{Bor}
 use Rattle.std.proofs.lemmas.Option.{slice_get_past, slice_get_within, slice_get_read}
 use Rattle.std.proofs.lemmas.List.{length-map, map-append, take_more, take-append-drop}
 use Rattle.edit_syntax.specs.declared.span.Span.{Span}
-use Rattle.edit_tree.specs.declared.nodes.Words.{Words}
+use Rattle.edit_tree.specs.declared.nodes.DecodedText.{DecodedText}
 use Rattle.edit_tree.specs.declared.nodes.Content.{Content}
 use Rattle.edit_tree.specs.declared.nodes.Content.TheVariants as content
 use Rattle.edit_tree.specs.declared.nodes.Node.{Node}
@@ -16,7 +16,7 @@ use Rattle.edit_tree.specs.Assertions.{Step, key, index, Place, at}
 use Rattle.edit_tree.specs.Tree.{View}
 use Rattle.edit_tree.specs.DocumentViews.{DocumentViews, tree_of}
 use Rattle.edit_tree.specs.Nodes.{ModelNode, view_of_shape, model_node_view, shape_of, entries_of, elements_of, number_in, below, IsTree}
-use Rattle.edit_document.specs.Items.{step_view, place_view, viewed, node_place, node_view, key_names, names_in, count_in, Numbers, Shows}
+use Rattle.edit_document.specs.Items.{step_view, place_view, viewed, node_place, node_view, key_names, names_in, count_in, IsNodeIndex, Shows}
 use Rattle.edit_tree.proofs.SamePlace.{last_same, not_root}
 use Rattle.edit_syntax.proofs.ListElements.{slice_get_same}
 use Rattle.edit_tree.proofs.SpotNodes.{below_node}
@@ -36,7 +36,7 @@ count_members text node = length-map (names_of_node text node) key ∙
     length-map (entries_of text node.members) (λ e. e.0)
 
 abbrev pub IsText : Content → Type 0
-IsText x = (s : Words) × (x ≡ content.Text s)
+IsText x = (s : DecodedText) × (x ≡ content.Text s)
 
 abbrev pub IsTruth : Content → Type 0
 IsTruth x = (b : Bool) × (x ≡ content.Truth b)
@@ -168,7 +168,7 @@ absent spots tree n s x stands none i t g p =
 -- the number of what stands one step below a node
 pub part_here : (shown : DocumentViews) (nodes : List Node) (n : ℕ) (node : Node) (x : Step) (r : Option ℕ)
     → (opens : Opened shown nodes) → (f : Found shown nodes opens.spots n node) → r ≡ below f.spot x
-    → Numbers shown (at (node_place shown n) x) r
+    → IsNodeIndex shown (at (node_place shown n) x) r
 part_here shown nodes n node x None opens f e = rw (f.place, opens.nodes_are)
     (node_none opens.spots (at f.spot.place x) (absent opens.spots opens.tree n f.spot x f.stands (sym e)))
 part_here shown nodes n node x (Some m) opens f e =
@@ -187,14 +187,14 @@ part_here shown nodes n node x (Some m) opens f e =
 pub member_here : (shown : DocumentViews) (nodes : List Node) (n : ℕ) (node : Node) (name : List ℕ) (r : Option ℕ)
     → (opens : Opened shown nodes) → Found shown nodes opens.spots n node
     → r ≡ number_in (entries_of shown.bytes node.members) name
-    → Numbers shown (at (node_place shown n) (key name)) r
+    → IsNodeIndex shown (at (node_place shown n) (key name)) r
 member_here shown nodes n node name r opens f e = part_here shown nodes n node (key name) r opens f
     (e ∙ sym (below_node node f.spot name f.keeps))
 
 pub element_here : (shown : DocumentViews) (nodes : List Node) (n : ℕ) (node : Node) (i : ℕ) (r : Option ℕ)
     → (opens : Opened shown nodes) → Found shown nodes opens.spots n node
     → r ≡ slice_get (elements_of node.members) i
-    → Numbers shown (at (node_place shown n) (index i)) r
+    → IsNodeIndex shown (at (node_place shown n) (index i)) r
 element_here shown nodes n node i r opens f e = part_here shown nodes n node (index i) r opens f
     (e ∙ ap (λ (es : List ℕ). slice_get es i) f.keeps.elements)
 

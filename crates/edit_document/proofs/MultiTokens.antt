@@ -5,15 +5,15 @@ use Rattle.std.specs.List.{AllByRecursion}
 use Rattle.std.specs.Str.Parse.{digits_value}
 use Rattle.std.proofs.lemmas.Bool.Decides.{nat_tests}
 use Rattle.std.proofs.lemmas.Str.{IsUtf8-append, IsUtf8-encode}
-use Rattle.edit_syntax.specs.declared.read.marks.MarkKind.TheVariants as kinds
+use Rattle.edit_syntax.specs.declared.read.syntax_tokens.TokenKind.TheVariants as kinds
 use Rattle.edit_syntax.specs.Characters.{quote, apostrophe, backslash, is_blank, All}
-use Rattle.edit_syntax.specs.Strings.{LineEnd, lf, crlf, line_end, Space, blank, break, spaces, IsSpace, Piece, plain, letter, short, long, feed, fold, delimiter, pieces, IsMultiPiece, IsRawPiece, IsScalarCode, is_escape, escaped, is_hex, says, decoded_multi}
+use Rattle.edit_syntax.specs.Strings.{LineEnd, lf, crlf, line_end, Space, blank, break, spaces, IsSpace, Piece, plain, letter, short, long, feed, fold, delimiter, pieces, IsMultiPiece, IsRawPiece, IsScalarCode, is_escape, letter_value, is_hex, decoded_pieces, decoded_multi}
 use Rattle.edit_syntax.specs.Grammar.{three, multi_basic, multi_literal, value, IsValue}
 use Rattle.edit_tree.specs.Tree.{string}
 use Rattle.edit_syntax.specs.Reading.{◌>>=◌}
 use Rattle.edit_tree.specs.Nodes.{scalar}
 use Rattle.edit_document.specs.DocumentLayout.{span_of}
-use Rattle.edit_syntax.specs.SyntaxTokens.{mark}
+use Rattle.edit_syntax.specs.SyntaxTokens.{token_between}
 use Rattle.edit_tree.specs.Walk.{suffix, multi_value, as_text, State, value_added, step}
 use Rattle.edit_tree.specs.Walk as walk
 use Rattle.edit_tree.specs.WalkState.{IsToken}
@@ -77,40 +77,40 @@ byte_text xs b tail said_behind more u = subst IsUtf8 (append_assoc xs (b ∷ []
     (more (xs ++ b ∷ []) (subst IsUtf8 (sym (append_assoc xs (b ∷ []) tail)) u))
 
 multi_text : (m : ℕ) (xs : List ℕ) (ps : List Piece) (rest : List ℕ) → m < 128 → AllByRecursion IsAny ps
-    → IsUtf8 (xs ++ pieces m ps (m ∷ rest)) → IsUtf8 (xs ++ says m ps)
+    → IsUtf8 (xs ++ pieces m ps (m ∷ rest)) → IsUtf8 (xs ++ decoded_pieces m ps)
 multi_text m xs [] rest small h u = subst IsUtf8 (sym (append-nil xs)) (text_before xs rest m small u)
-multi_text m xs (plain b ∷ ps) rest small h u = byte_text xs b (pieces m ps (m ∷ rest)) (says m ps)
+multi_text m xs (plain b ∷ ps) rest small h u = byte_text xs b (pieces m ps (m ∷ rest)) (decoded_pieces m ps)
     (λ ys v. multi_text m ys ps rest small h.1 v) u
 multi_text m xs (letter c ∷ ps) rest small h u =
     let low = escape_small c h.0 in
     let tail = pieces m ps (m ∷ rest) in
     let more = multi_text m [] ps rest small h.1
     (text_behind [] tail c low (text_behind xs (c ∷ tail) backslash (lit< tt) u)) in
-    IsUtf8-append xs (escaped c ∷ says m ps) (text_before xs (c ∷ tail) backslash (lit< tt) u)
-    (IsUtf8-append (escaped c ∷ []) (says m ps) (one_text (escaped c) (escaped_small c low)) more)
+    IsUtf8-append xs (letter_value c ∷ decoded_pieces m ps) (text_before xs (c ∷ tail) backslash (lit< tt) u)
+    (IsUtf8-append (letter_value c ∷ []) (decoded_pieces m ps) (one_text (letter_value c) (escaped_small c low)) more)
 multi_text m xs (short ds ∷ ps) rest small h u =
     let tail = pieces m ps (m ∷ rest) in
     let behind = text_behind [] (ds ++ tail) 117 (lit< tt)
     (text_behind xs (117 ∷ (ds ++ tail)) backslash (lit< tt) u) in
     let more = multi_text m [] ps rest small h.1 (past_ascii is_hex hex_small ds tail h.0.1 behind) in
-    IsUtf8-append xs (encode_utf8 (digits_value 16 ds) ++ says m ps)
+    IsUtf8-append xs (encode_utf8 (digits_value 16 ds) ++ decoded_pieces m ps)
     (text_before xs (117 ∷ (ds ++ tail)) backslash (lit< tt) u)
-    (IsUtf8-append (encode_utf8 (digits_value 16 ds)) (says m ps)
+    (IsUtf8-append (encode_utf8 (digits_value 16 ds)) (decoded_pieces m ps)
     (IsUtf8-encode (digits_value 16 ds) (scalar_is (digits_value 16 ds) h.0.2)) more)
 multi_text m xs (long ds ∷ ps) rest small h u =
     let tail = pieces m ps (m ∷ rest) in
     let behind = text_behind [] (ds ++ tail) 85 (lit< tt)
     (text_behind xs (85 ∷ (ds ++ tail)) backslash (lit< tt) u) in
     let more = multi_text m [] ps rest small h.1 (past_ascii is_hex hex_small ds tail h.0.1 behind) in
-    IsUtf8-append xs (encode_utf8 (digits_value 16 ds) ++ says m ps)
+    IsUtf8-append xs (encode_utf8 (digits_value 16 ds) ++ decoded_pieces m ps)
     (text_before xs (85 ∷ (ds ++ tail)) backslash (lit< tt) u)
-    (IsUtf8-append (encode_utf8 (digits_value 16 ds)) (says m ps)
+    (IsUtf8-append (encode_utf8 (digits_value 16 ds)) (decoded_pieces m ps)
     (IsUtf8-encode (digits_value 16 ds) (scalar_is (digits_value 16 ds) h.0.2)) more)
-multi_text m xs (feed lf ∷ ps) rest small h u = byte_text xs 10 (pieces m ps (m ∷ rest)) (says m ps)
+multi_text m xs (feed lf ∷ ps) rest small h u = byte_text xs 10 (pieces m ps (m ∷ rest)) (decoded_pieces m ps)
     (λ ys v. multi_text m ys ps rest small h.1 v) u
 multi_text m xs (feed crlf ∷ ps) rest small h u =
-    byte_text xs 13 (10 ∷ pieces m ps (m ∷ rest)) (10 ∷ says m ps)
-    (λ ys v. byte_text ys 10 (pieces m ps (m ∷ rest)) (says m ps)
+    byte_text xs 13 (10 ∷ pieces m ps (m ∷ rest)) (10 ∷ decoded_pieces m ps)
+    (λ ys v. byte_text ys 10 (pieces m ps (m ∷ rest)) (decoded_pieces m ps)
     (λ zs w. multi_text m zs ps rest small h.1 w) v) u
 multi_text m xs (fold ws e more ∷ ps) rest small h u =
     let tail = pieces m ps (m ∷ rest) in
@@ -118,9 +118,9 @@ multi_text m xs (fold ws e more ∷ ps) rest small h u =
     let past = past_spaces more tail h.0.1
     (past_end e (spaces more tail)
     (past_ascii is_blank blank_small ws (line_end e (spaces more tail)) h.0.0 behind)) in
-    IsUtf8-append xs (says m ps) (text_before xs (ws ++ line_end e (spaces more tail)) backslash (lit< tt) u)
+    IsUtf8-append xs (decoded_pieces m ps) (text_before xs (ws ++ line_end e (spaces more tail)) backslash (lit< tt) u)
     (multi_text m [] ps rest small h.1 past)
-multi_text m xs (delimiter ∷ ps) rest small h u = byte_text xs m (pieces m ps (m ∷ rest)) (says m ps)
+multi_text m xs (delimiter ∷ ps) rest small h u = byte_text xs m (pieces m ps (m ∷ rest)) (decoded_pieces m ps)
     (λ ys v. multi_text m ys ps rest small h.1 v) u
 
 -- without the newline that comes first
@@ -167,9 +167,9 @@ multi_says bytes m ps rest small h again whole u ends =
 
 said_basic : (bytes : List ℕ) (ps : List Piece) (rest : List ℕ) → IsValue (multi_basic ps) → IsUtf8 bytes
     → Ends bytes (value (multi_basic ps) rest)
-    → walk.said bytes (mark kinds.MultiBasicString (value (multi_basic ps) rest) rest)
+    → walk.token_value bytes (token_between kinds.MultiBasicString (value (multi_basic ps) rest) rest)
     ≡ Some (decoded_multi quote ps)
-unfolding walk.said
+unfolding walk.token_value
 said_basic bytes ps rest h u ends =
     multi_says bytes quote ps rest (lit< tt) (basic_any ps h.0)
     (ap (option_map (λ (p : List Piece × List ℕ). decoded_multi quote p.0))
@@ -177,9 +177,9 @@ said_basic bytes ps rest h u ends =
 
 said_literal : (bytes : List ℕ) (ps : List Piece) (rest : List ℕ) → IsValue (multi_literal ps) → IsUtf8 bytes
     → Ends bytes (value (multi_literal ps) rest)
-    → walk.said bytes (mark kinds.MultiLiteralString (value (multi_literal ps) rest) rest)
+    → walk.token_value bytes (token_between kinds.MultiLiteralString (value (multi_literal ps) rest) rest)
     ≡ Some (decoded_multi apostrophe ps)
-unfolding walk.said
+unfolding walk.token_value
 said_literal bytes ps rest h u ends =
     multi_says bytes apostrophe ps rest (lit< tt) (raw_any ps h.0)
     (ap (option_map (λ (p : List Piece × List ℕ). decoded_multi apostrophe p.0))
@@ -191,7 +191,7 @@ tripled m ps rest = ap (three m) (pieces_rest m ps (three m rest))
 
 pub multi_basic_token : (bytes : List ℕ) (ps : List Piece) (rest : List ℕ) → IsValue (multi_basic ps)
     → IsUtf8 bytes → Ends bytes (value (multi_basic ps) rest)
-    → IsToken bytes (mark kinds.MultiBasicString (value (multi_basic ps) rest) rest)
+    → IsToken bytes (token_between kinds.MultiBasicString (value (multi_basic ps) rest) rest)
 multi_basic_token bytes ps rest h u ends e =
     let w = tripled quote ps rest in (
       decoded_multi quote ps,
@@ -209,7 +209,7 @@ multi_basic_token bytes ps rest h u ends e =
 
 pub multi_literal_token : (bytes : List ℕ) (ps : List Piece) (rest : List ℕ) → IsValue (multi_literal ps)
     → IsUtf8 bytes → Ends bytes (value (multi_literal ps) rest)
-    → IsToken bytes (mark kinds.MultiLiteralString (value (multi_literal ps) rest) rest)
+    → IsToken bytes (token_between kinds.MultiLiteralString (value (multi_literal ps) rest) rest)
 multi_literal_token bytes ps rest h u ends e =
     let w = tripled apostrophe ps rest in (
       decoded_multi apostrophe ps,
@@ -227,7 +227,7 @@ multi_literal_token bytes ps rest h u ends e =
 
 pub multi_basic_step : (bytes : List ℕ) (ps : List Piece) (rest : List ℕ) → IsValue (multi_basic ps)
     → IsUtf8 bytes → Ends bytes (value (multi_basic ps) rest) → (st : State)
-    → step bytes (mark kinds.MultiBasicString (value (multi_basic ps) rest) rest) st
+    → step bytes (token_between kinds.MultiBasicString (value (multi_basic ps) rest) rest) st
     ≡ value_added st (scalar (string (decoded_multi quote ps))) (Some (span_of (multi_basic ps) rest))
 unfolding step
 multi_basic_step bytes ps rest h u ends st =
@@ -236,7 +236,7 @@ multi_basic_step bytes ps rest h u ends st =
 
 pub multi_literal_step : (bytes : List ℕ) (ps : List Piece) (rest : List ℕ) → IsValue (multi_literal ps)
     → IsUtf8 bytes → Ends bytes (value (multi_literal ps) rest) → (st : State)
-    → step bytes (mark kinds.MultiLiteralString (value (multi_literal ps) rest) rest) st
+    → step bytes (token_between kinds.MultiLiteralString (value (multi_literal ps) rest) rest) st
     ≡ value_added st (scalar (string (decoded_multi apostrophe ps))) (Some (span_of (multi_literal ps) rest))
 unfolding step
 multi_literal_step bytes ps rest h u ends st =

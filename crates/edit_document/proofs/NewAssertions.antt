@@ -8,7 +8,7 @@ use Rattle.edit_tree.specs.Assertions.{Step, key, index, Place, at, Kind, Assert
 use Rattle.edit_tree.specs.Tree.{members_of, kind_at}
 use Rattle.edit_document.specs.Items.{name_of_step, key_names}
 use Rattle.edit_document.specs.DocumentLayout.{Placed, span_at}
-use Rattle.edit_tree.specs.Redefinition.{defined_by, joins}
+use Rattle.edit_tree.specs.Redefinition.{defined_by, can_extend}
 use Rattle.edit_tree.specs.Nodes.{ModelNode, names_of, StandsAt, below}
 use Rattle.edit_tree.specs.Walk.{model_node_at}
 use Rattle.edit_tree.proofs.SamePlace.{last_same, not_root, not_below, place_or}
@@ -81,7 +81,7 @@ module _ (made : List Assertion) (written : List Placed) (spots : List ModelNode
         first = first_stays made a s.place k.kind k.first;
         shape = shows.shape ∙ k.shape;
         joined = λ root l. allowed_else made a s.place l apart ∙ k.joined root l ∙
-            ap (λ w. joins w (defined_by l)) (sym shows.taken);
+            ap (λ w. can_extend w (defined_by l)) (sym shows.taken);
         names =
             shows.names ∙ ap (λ (ns : List (List ℕ)). ns ++ key_names (x ∷ [])) k.names ∙
             sym (filter_map-append name_of_step (members_of made s.place) (x ∷ []))

@@ -12,9 +12,9 @@ use Rattle.edit_tree.specs.Assertions.{Step, key, Place, at, assertions, IsDocum
 use Rattle.edit_document.specs.Compared.{AreNames, nth_part}
 use Rattle.edit_document.specs.DocumentLayout.{placed, IsRead, document_view_of}
 use Rattle.edit_tree.specs.EditBytes.{is_one_statement}
-use Rattle.edit_document.specs.Items.{names_in, node_place, node_view, Numbers}
+use Rattle.edit_document.specs.Items.{names_in, node_place, node_view, IsNodeIndex}
 use Rattle.edit_tree.specs.Nodes.{names_of}
-use Rattle.edit_document.specs.OneStatement.{HasMember, Answers}
+use Rattle.edit_document.specs.OneStatement.{HasMember, IsStatementCount}
 use Rattle.edit_tree.specs.DocumentViews.{DocumentViews, tree_of}
 use Rattle.edit_tree.specs.Written.{values}
 use Rattle.edit_document.proofs.AssertedSpots.{Stands}
@@ -75,7 +75,7 @@ module _ (d : DocumentViews) (nodes : List Node) (opens : Opened d nodes) (n : �
       ap (λ v. names_in v) (view_spot d opens.spots n f.spot opens.nodes_are opens.tree f.stands)
       ∙ names_seen form opens.spots n f.spot st f.stands upper name there (taken Dotted e)
 
-  pub only_answer : node.taken ≡ Dotted → (m : ℕ) → HasMember d n (Some m) → Answers form d n (AsMember m)
+  pub only_answer : node.taken ≡ Dotted → (m : ℕ) → HasMember d n (Some m) → IsStatementCount form d n (AsMember m)
   only_answer e m h = (
     here_is ∙ only_states form opens.spots n f.spot st f.stands upper name there (taken Dotted e) h.0
         (sym (names_are e) ∙ h.1)
@@ -105,7 +105,7 @@ pub only_found : (d : DocumentViews) (n : ℕ) (name : List ℕ) (r : Option ℕ
     → length (names_in (node_view d n)) ≡ 1 → slice_get (names_in (node_view d n)) 0 ≡ Some name
     → ((step : Step) (i : ℕ) → nth_part (node_view d n) i ≡ Some step
     → tree_of d (at (node_place d n) step) ≡ None → ⊥) → AreNames (node_view d n)
-    → Numbers d (at (node_place d n) (key name)) r → HasMember d n r
+    → IsNodeIndex d (at (node_place d n) (key name)) r → HasMember d n r
 only_found d n name None one first stands names none = absurd (stands (key name) 0 (names 0 name first) none)
 only_found d n name (Some m) one first stands names h =
     (name, single (names_in (node_view d n)) name one first, (h.2, h.1))

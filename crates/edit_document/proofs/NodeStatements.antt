@@ -10,7 +10,7 @@ use Rattle.edit_document.specs.DocumentLayout.{placed}
 use Rattle.edit_tree.specs.EditBytes.{is_one_statement}
 use Rattle.edit_document.specs.Items.{names_in, key_names}
 use Rattle.edit_tree.specs.Nodes.{ModelNode, names_of, view_of_shape}
-use Rattle.edit_tree.specs.Redefinition.{defined_by, joins}
+use Rattle.edit_tree.specs.Redefinition.{defined_by, can_extend}
 use Rattle.edit_tree.specs.Tree.{kind_at, members_of}
 use Rattle.edit_tree.specs.Written.{values}
 use Rattle.edit_tree.proofs.AlonePlaces.{header_none, array_none, headed_here, first_allows}
@@ -93,7 +93,7 @@ module _ (form : Text) (spots : List ModelNode) (n : ℕ) (s : ModelNode)
   member_defined : kind_at (assertions form) s.place ≡ Some (st.tells n s here).kind
   member_defined = was_asserted (st.tells n s here) inner
 
-  joined : (k : Kind) → allowed (assertions form) s.place k ≡ joins s.taken (defined_by k)
+  joined : (k : Kind) → allowed (assertions form) s.place k ≡ can_extend s.taken (defined_by k)
   joined k = (st.tells n s here).joined inner k
 
   keyed : IsKeyed s.place
@@ -114,7 +114,7 @@ module _ (form : Text) (spots : List ModelNode) (n : ℕ) (s : ModelNode)
       through k e f =
           true≢false (sym (first_allows (assertions form) s.place k super st.clear.apart e f
           (λ l g. goes_through k l f g))
-          ∙ joined super ∙ ap (λ t. joins t Super) taken)
+          ∙ joined super ∙ ap (λ t. can_extend t Super) taken)
 
       go : (k : Kind) → kind_at (assertions form) s.place ≡ Some k → (v : Value) × (k ≡ leaf v)
       go (leaf v) e = (v, refl)
@@ -125,7 +125,7 @@ module _ (form : Text) (spots : List ModelNode) (n : ℕ) (s : ModelNode)
       go array_kind e =
           absurd (true≢false (sym
           (first_allows (assertions form) s.place array_kind array_kind st.clear.apart e refl array_through)
-          ∙ joined array_kind ∙ ap (λ t. joins t Array) taken))
+          ∙ joined array_kind ∙ ap (λ t. can_extend t Array) taken))
 
   pub value_states : s.taken ≡ ByValue → is_one_statement form s.place ≡ true
   value_states taken =
@@ -138,26 +138,26 @@ module _ (form : Text) (spots : List ModelNode) (n : ℕ) (s : ModelNode)
   pub super_states : s.taken ≡ Super → is_one_statement form s.place ≡ false
   super_states taken =
       alone_is ∙ none_alone (assertions form) s.place
-      (header_none (assertions form) s.place (joined header_kind ∙ ap (λ t. joins t Header) taken))
+      (header_none (assertions form) s.place (joined header_kind ∙ ap (λ t. can_extend t Header) taken))
 
   pub array_states : s.taken ≡ Array → is_one_statement form s.place ≡ false
   array_states taken =
       alone_is ∙ none_alone (assertions form) s.place
-      (array_none (assertions form) s.place (joined array_kind ∙ ap (λ t. joins t Array) taken))
+      (array_none (assertions form) s.place (joined array_kind ∙ ap (λ t. can_extend t Array) taken))
 
   -- a header is none
-  pub headed_states : (t : DefinedBy) → s.taken ≡ t → joins t Super ≡ true → joins t Dotted ≡ false
+  pub headed_states : (t : DefinedBy) → s.taken ≡ t → can_extend t Super ≡ true → can_extend t Dotted ≡ false
       → is_one_statement form s.place ≡ false
   headed_states t taken e f =
       alone_is ∙ headed_alone (assertions form) s.place (headed_up form s.place
-      (headed_here (assertions form) s.place (joined super ∙ ap (λ t. joins t Super) taken ∙ e)
-      (joined (dotted false) ∙ ap (λ t. joins t Dotted) taken ∙ f)))
+      (headed_here (assertions form) s.place (joined super ∙ ap (λ t. can_extend t Super) taken ∙ e)
+      (joined (dotted false) ∙ ap (λ t. can_extend t Dotted) taken ∙ f)))
 
   -- ---- tables that dotted keys alone go through
 
   module _ (taken : s.taken ≡ Dotted) where
     free : allowed (assertions form) s.place (dotted false) ≡ true
-    free = joined (dotted false) ∙ ap (λ t. joins t Dotted) taken
+    free = joined (dotted false) ∙ ap (λ t. can_extend t Dotted) taken
 
     fits : are_compatible (st.tells n s here).kind (dotted false) ≡ true
     fits = first_fits (assertions form) s.place (st.tells n s here).kind (dotted false) member_defined free

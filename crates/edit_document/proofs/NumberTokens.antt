@@ -2,9 +2,9 @@
 use Rattle.std.proofs.Common.{◌≡◌, ℕ, ◌<◌, ◌-◌, true, List, [], ◌∷◌, ◌++◌, length, take, Option, Some, refl, sym, ap, subst, ◌∙◌, arith}
 use Rattle.std.specs.List.{AllByRecursion}
 use Rattle.std.proofs.lemmas.Bool.Decides.{nat_tests}
-use Rattle.edit_syntax.specs.declared.read.marks.Mark.{Mark}
-use Rattle.edit_syntax.specs.declared.read.marks.MarkKind.{MarkKind}
-use Rattle.edit_syntax.specs.declared.read.marks.MarkKind.TheVariants as kinds
+use Rattle.edit_syntax.specs.declared.read.syntax_tokens.SyntaxToken.{SyntaxToken}
+use Rattle.edit_syntax.specs.declared.read.syntax_tokens.TokenKind.{TokenKind}
+use Rattle.edit_syntax.specs.declared.read.syntax_tokens.TokenKind.TheVariants as kinds
 use Rattle.edit_syntax.specs.Characters.{is_ascii, All}
 use Rattle.edit_syntax.specs.Grammar.{Value, integer, float, datetime, value, IsValue}
 use Rattle.edit_syntax.specs.Reading.{◌>>=◌}
@@ -12,8 +12,8 @@ use Rattle.edit_tree.specs.Nodes.{scalar_shape}
 use Rattle.edit_document.specs.DocumentLayout.{span_of, shape_of_value}
 use Rattle.edit_syntax.specs.Decoding.{HasDecodedValue, delimited}
 use Rattle.edit_syntax.specs.AppendedTokens.{value_kind}
-use Rattle.edit_syntax.specs.SyntaxTokens.{mark}
-use Rattle.edit_tree.specs.Walk.{said, suffix, as_text, State, value_added, step}
+use Rattle.edit_syntax.specs.SyntaxTokens.{token_between}
+use Rattle.edit_tree.specs.Walk.{token_value, suffix, as_text, State, value_added, step}
 use Rattle.edit_tree.specs.WalkState.{IsToken, IsDecodedAt}
 use Rattle.edit_syntax.proofs.DigitLaws.{IsNumber}
 use Rattle.edit_syntax.proofs.ValueEdges.{value_rest, integer_ascii, float_ascii, datetime_ascii}
@@ -41,10 +41,10 @@ number_plain (datetime d) h s = let a = datetime_ascii d h in (a.0, all_ascii (v
 number_plain _ h s = absurd s
 
 -- the mark of a number
-abbrev number_mark : Value → List ℕ → Mark
-number_mark v rest = mark (value_kind v) (value v rest) rest
+abbrev number_mark : Value → List ℕ → SyntaxToken
+number_mark v rest = token_between (value_kind v) (value v rest) rest
 
-plain_told : (k : MarkKind) (bytes text rest word : List ℕ) → text ≡ word ++ rest → IsPlain word
+plain_told : (k : TokenKind) (bytes text rest word : List ℕ) → text ≡ word ++ rest → IsPlain word
     → Ends bytes text → as_text (take (length text - length rest) (suffix bytes (length text))) ≡ Some word
 plain_told k bytes text rest word e plain ends =
     let P : List ℕ → Type 0 = λ t. as_text (take (length t - length rest) (suffix bytes (length t)))
@@ -53,8 +53,8 @@ plain_told k bytes text rest word e plain ends =
     (subst (Ends bytes) e ends))
 
 number_said : (bytes : List ℕ) (v : Value) (rest : List ℕ) → IsValue v → IsNumber v
-    → Ends bytes (value v rest) → said bytes (number_mark v rest) ≡ Some (value v [])
-unfolding said
+    → Ends bytes (value v rest) → token_value bytes (number_mark v rest) ≡ Some (value v [])
+unfolding token_value
 number_said bytes (integer n) rest h s ends = plain_told kinds.Integer bytes (value (integer n) rest) rest
     (value (integer n) []) (value_rest (integer n) rest) (number_plain (integer n) h s) ends
 number_said bytes (float f) rest h s ends = plain_told kinds.Float bytes (value (float f) rest) rest
@@ -64,10 +64,10 @@ number_said bytes (datetime d) rest h s ends = plain_told kinds.DateTime bytes (
 number_said bytes _ rest h s ends = absurd s
 
 -- a token that nothing delimits stands in the text with this meaning
-token_at : (k : MarkKind) (bytes text word rest : List ℕ) → text ≡ word ++ rest
+token_at : (k : TokenKind) (bytes text word rest : List ℕ) → text ≡ word ++ rest
     → delimited k word rest ≡ word ++ rest → HasDecodedValue k word word → (ends : Ends bytes text)
-    → said bytes (mark k text rest) ≡ Some word
-    → (name : List ℕ) × (said bytes (mark k text rest) ≡ Some name) × IsDecodedAt bytes (mark k text rest) name
+    → token_value bytes (token_between k text rest) ≡ Some word
+    → (name : List ℕ) × (token_value bytes (token_between k text rest) ≡ Some name) × IsDecodedAt bytes (token_between k text rest) name
 token_at k bytes text word rest e d says ends is =
     let whole = e ∙ sym d in
     let at = ends.1 ∙ ap (λ (t : List ℕ). ends.0 ++ t) whole in

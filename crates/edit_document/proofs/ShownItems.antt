@@ -8,7 +8,7 @@ use Rattle.edit_tree.specs.Tree.{View, string, truth, whole, fractional, moment,
 use Rattle.edit_tree.specs.NewItems.{NewValue, NewItem, a_value, a_table}
 use Rattle.edit_tree.specs.IntendedTrees.{new_view, view_of_members, item_view}
 use Rattle.edit_tree.specs.DocumentViews.{DocumentViews, tree_of}
-use Rattle.edit_document.specs.Items.{key_names, names_in, node_place, node_view, Numbers}
+use Rattle.edit_document.specs.Items.{key_names, names_in, node_place, node_view, IsNodeIndex}
 use Rattle.edit_document.specs.Compared.{kind_of, nth_part, AreSteps, AreKeys, AreApart, ShowsValue, ShowsMembers, ShowsItem, members_tree}
 use Rattle.edit_tree.proofs.SamePlace.{same_bytes_self, same_bytes_is}
 use Rattle.edit_document.proofs.SameParts.{one_down, NothingElse, NoneBelow}
@@ -251,7 +251,7 @@ Pairs d p o m = (o ≡ Some m.0) × ShowsValue d (at p (key m.0)) m.1
 -- a member that is found
 pub pair_found : (d : DocumentViews) (p : Place) (o : Option (List ℕ)) (m : Pair) (n : ℕ) (r : Bool)
     → o ≡ Some m.0
-    → Numbers d (at p (key m.0)) (Some n) → Decides r (ShowsValue d (node_place d n) m.1)
+    → IsNodeIndex d (at p (key m.0)) (Some n) → Decides r (ShowsValue d (node_place d n) m.1)
     → Decides r (Pairs d p o m)
 pair_found d p o m n r name numbers decided =
     let there : Decides r (ShowsValue d (at p (key m.0)) m.1) =

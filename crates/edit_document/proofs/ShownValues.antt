@@ -9,7 +9,7 @@ use Rattle.edit_tree.specs.Tree.{View, string, truth, whole, fractional, moment,
 use Rattle.edit_tree.specs.NewItems.{NewValue, a_string, a_truth, a_list}
 use Rattle.edit_tree.specs.IntendedTrees.{new_view}
 use Rattle.edit_tree.specs.DocumentViews.{DocumentViews, tree_of}
-use Rattle.edit_document.specs.Items.{node_place, node_view, count_in, Numbers}
+use Rattle.edit_document.specs.Items.{node_place, node_view, count_in, IsNodeIndex}
 use Rattle.edit_document.specs.Compared.{kind_of, word_of, nth_part, ShowsValue}
 use Rattle.edit_document.proofs.SameParts.{one_down, NothingElse, NoneBelow}
 use Rattle.edit_document.proofs.Wholes.{element_was}
@@ -170,7 +170,7 @@ module _ (d : DocumentViews) (n : ℕ) (here : At d n) where
           let clash : key name ≡ index j = p.1 in cc)
 
 -- what stands at a place shows what its node shows
-pub shown_at : (d : DocumentViews) (p : Place) (m : ℕ) (v : NewValue) (r : Bool) → Numbers d p (Some m)
+pub shown_at : (d : DocumentViews) (p : Place) (m : ℕ) (v : NewValue) (r : Bool) → IsNodeIndex d p (Some m)
     → Decides r (ShowsValue d (node_place d m) v) → Decides r (ShowsValue d p v)
 shown_at d p m v r numbers decided = subst (λ (q : Place). Decides r (ShowsValue d q v)) numbers.1 decided
 

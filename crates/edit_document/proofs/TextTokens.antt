@@ -2,14 +2,14 @@
 use Rattle.std.proofs.Common.{◌≡◌, ℕ, true, false, List, [], ◌∷◌, ◌++◌, length, refl, ap, ◌∙◌}
 use Rattle.std.specs.Prelude.{IsUtf8}
 use Rattle.std.specs.List.{AllByRecursion}
-use Rattle.edit_syntax.specs.declared.read.marks.Mark.{Mark}
-use Rattle.edit_syntax.specs.declared.read.marks.MarkKind.TheVariants as kinds
+use Rattle.edit_syntax.specs.declared.read.syntax_tokens.SyntaxToken.{SyntaxToken}
+use Rattle.edit_syntax.specs.declared.read.syntax_tokens.TokenKind.TheVariants as kinds
 use Rattle.edit_syntax.specs.Characters.{quote, comma, equals, left_bracket, right_bracket, right_brace, is_blank, is_literal_ch, All}
-use Rattle.edit_syntax.specs.Strings.{◌·◌, line_end, Piece, pieces, says, IsBasicPiece, Part, bare, basic_part, literal_part, part, IsPart, name, basic_text, literal_text, Dotted, dotted, Key, IsKey}
+use Rattle.edit_syntax.specs.Strings.{◌·◌, line_end, Piece, pieces, decoded_pieces, IsBasicPiece, Part, bare, basic_part, literal_part, part, IsPart, name, basic_text, literal_text, Dotted, dotted, Key, IsKey}
 use Rattle.edit_syntax.specs.Strings as strings
 use Rattle.edit_syntax.specs.Grammar.{gap, Value, basic, literal, multi_basic, multi_literal, boolean, integer, float, datetime, array, inline, value, IsValue, Elements, no_elements, last_element, element, elements, AreElements, Members, no_members, last_member, member, members, AreMembers, Statement, pair, header, element_header, statement, IsStatement, comment, empty_line, full_line, Lines, one_line, more_lines, lines, AreLines, Text}
-use Rattle.edit_syntax.specs.SyntaxTokens.{mark, token_of_part, tokens_of_dotted, tokens_of_key, tokens_of_value, tokens_of_elements, tokens_of_members, tokens_of_statement, tokens_of_lines, tokens_of_text}
-use Rattle.edit_tree.specs.Walk.{said}
+use Rattle.edit_syntax.specs.SyntaxTokens.{token_between, token_of_part, tokens_of_dotted, tokens_of_key, tokens_of_value, tokens_of_elements, tokens_of_members, tokens_of_statement, tokens_of_lines, tokens_of_text}
+use Rattle.edit_tree.specs.Walk.{token_value}
 use Rattle.edit_tree.specs.WalkState.{IsToken}
 use Rattle.edit_syntax.proofs.PutBefore.{pieces_rest}
 use Rattle.edit_tree.proofs.Ends.{Ends, ends_past, ends_one, ends_part, ends_pair, ends_gap, ends_value, ends_line, ends_line_end}
@@ -17,10 +17,10 @@ use Rattle.edit_tree.proofs.WalkedTokens.{said_basic, said_literal, said_part}
 use Rattle.edit_document.proofs.NumberTokens.{number_token}
 use Rattle.edit_document.proofs.MultiTokens.{multi_basic_token, multi_literal_token}
 
-abbrev AreTokens : List ℕ → List Mark → Type 0
+abbrev AreTokens : List ℕ → List SyntaxToken → Type 0
 AreTokens bytes marks = AllByRecursion (IsToken bytes) marks
 
-tokens_append : (bytes : List ℕ) (xs ys : List Mark) → AreTokens bytes xs → AreTokens bytes ys
+tokens_append : (bytes : List ℕ) (xs ys : List SyntaxToken) → AreTokens bytes xs → AreTokens bytes ys
     → AreTokens bytes (xs ++ ys)
 tokens_append bytes [] ys h g = g
 tokens_append bytes (x ∷ xs) ys h g = (h.0, tokens_append bytes xs ys h.1 g)
@@ -39,7 +39,7 @@ part_token bytes (bare text) rest h u ends e = (
   (ends.0, text, rest, ends.1, refl, refl, (h.0, h.1, refl)),
 )
 part_token bytes (basic_part ps) rest h u ends e = (
-  says quote ps,
+  decoded_pieces quote ps,
   said_part bytes (basic_part ps) rest h u ends,
   (
     ends.0,
@@ -59,10 +59,10 @@ part_token bytes (literal_part text) rest h u ends e = (
 
 basic_token : (bytes : List ℕ) (ps : List Piece) (rest : List ℕ) → AllByRecursion IsBasicPiece ps
     → IsUtf8 bytes → Ends bytes (basic_text ps rest)
-    → IsToken bytes (mark kinds.BasicString (basic_text ps rest) rest)
-unfolding said
+    → IsToken bytes (token_between kinds.BasicString (basic_text ps rest) rest)
+unfolding token_value
 basic_token bytes ps rest h u ends e = (
-  says quote ps,
+  decoded_pieces quote ps,
   said_basic bytes ps rest 0 h u ends,
   (
     ends.0,
@@ -77,8 +77,8 @@ basic_token bytes ps rest h u ends e = (
 
 literal_token : (bytes text rest : List ℕ) → All is_literal_ch text → IsUtf8 bytes
     → Ends bytes (literal_text text rest)
-    → IsToken bytes (mark kinds.LiteralString (literal_text text rest) rest)
-unfolding said
+    → IsToken bytes (token_between kinds.LiteralString (literal_text text rest) rest)
+unfolding token_value
 literal_token bytes text rest h u ends e =
     (text, said_literal bytes text rest 0 h u ends, (ends.0, text, rest, ends.1, refl, refl, (h, refl)))
 
@@ -122,7 +122,7 @@ mutual
       (ends_one bytes 91 (gap g (elements es (right_bracket ∷ rest))) ends) in (
         (λ e. absurd cc),
         tokens_append bytes (tokens_of_elements es (right_bracket ∷ rest))
-            (mark kinds.CloseArray (right_bracket ∷ rest) rest ∷ [])
+            (token_between kinds.CloseArray (right_bracket ∷ rest) rest ∷ [])
             (elements_tokens bytes es (right_bracket ∷ rest) h.1 u inside) ((λ e. absurd cc), tt),
       )
   value_tokens bytes (inline g ms) rest h u ends =
@@ -131,7 +131,7 @@ mutual
       (ends_one bytes 123 (gap g (members ms (right_brace ∷ rest))) ends) in (
         (λ e. absurd cc),
         tokens_append bytes (tokens_of_members ms (right_brace ∷ rest))
-            (mark kinds.CloseTable (right_brace ∷ rest) rest ∷ [])
+            (token_between kinds.CloseTable (right_brace ∷ rest) rest ∷ [])
             (members_tokens bytes ms (right_brace ∷ rest) h.1 u inside) ((λ e. absurd cc), tt),
       )
 
@@ -181,7 +181,7 @@ statement_tokens bytes (header a k b) rest h u ends =
     ends_past bytes a (strings.key k (b ++ (right_bracket ∷ rest)))
     (ends_one bytes left_bracket (a ++ strings.key k (b ++ (right_bracket ∷ rest))) ends) in
     tokens_append bytes (tokens_of_key k (b ++ (right_bracket ∷ rest)))
-    (mark kinds.Header (statement (header a k b) rest) rest ∷ [])
+    (token_between kinds.Header (statement (header a k b) rest) rest ∷ [])
     (key_tokens bytes k (b ++ (right_bracket ∷ rest)) h.1 u key_ends) ((λ e. absurd cc), tt)
 statement_tokens bytes (element_header a k b) rest h u ends =
     let end = b ++ (right_bracket ∷ (right_bracket ∷ rest)) in
@@ -189,7 +189,7 @@ statement_tokens bytes (element_header a k b) rest h u ends =
     (ends_one bytes left_bracket (a ++ strings.key k end)
     (ends_one bytes left_bracket (left_bracket ∷ (a ++ strings.key k end)) ends)) in
     tokens_append bytes (tokens_of_key k end)
-    (mark kinds.ElementHeader (statement (element_header a k b) rest) rest ∷ [])
+    (token_between kinds.ElementHeader (statement (element_header a k b) rest) rest ∷ [])
     (key_tokens bytes k end h.1 u key_ends) ((λ e. absurd cc), tt)
 
 lines_tokens : (bytes : List ℕ) (ls : Lines) → AreLines ls → IsUtf8 bytes → Ends bytes (lines ls)

@@ -3,16 +3,16 @@ use Rattle.std.proofs.Common.{◌≡◌, ℕ, Bool, true, false, cond, List, [],
 use Rattle.std.specs.Prelude.{slice_get}
 use Rattle.std.proofs.lemmas.List.{append-nil}
 use Rattle.std.proofs.lemmas.Option.{same_Some}
-use Rattle.edit_syntax.specs.declared.read.marks.MarkKind.TheVariants as kinds
+use Rattle.edit_syntax.specs.declared.read.syntax_tokens.TokenKind.TheVariants as kinds
 use Rattle.edit_tree.specs.declared.nodes.DefinedBy.TheVariants.{Super, Header, Array, Element}
 use Rattle.edit_syntax.specs.Strings.{name, Dotted as DottedPart, Key}
-use Rattle.edit_tree.specs.Assertions.{key, index, Place, at, same_place, are_compatible, resolved, Kind, dotted, leaf, super, header_kind, array_kind, element_kind, Assertion, asserts, names, elements_at, fronts, header_place}
+use Rattle.edit_tree.specs.Assertions.{key, index, Place, at, same_place, are_compatible, last_element_or_self, Kind, dotted, leaf, super, header_kind, array_kind, element_kind, Assertion, asserts, names, elements_at, fronts, header_place}
 use Rattle.edit_tree.specs.Tree.{kind_at}
 use Rattle.edit_document.specs.DocumentLayout.{Placed}
 use Rattle.edit_syntax.specs.Reading.{◌>>=◌}
 use Rattle.edit_tree.specs.Nodes.{section, sections, ModelNode, StandsAt}
-use Rattle.edit_tree.specs.Walk.{State, element_added, without_pending, pending_defined, turned, headed, array_table_opened, step, walked}
-use Rattle.edit_syntax.specs.SyntaxTokens.{mark}
+use Rattle.edit_tree.specs.Walk.{State, element_added, without_pending, pending_defined, with_only_table, table_opened, array_table_opened, step, state_after}
+use Rattle.edit_syntax.specs.SyntaxTokens.{token_between}
 use Rattle.edit_tree.proofs.SamePlace.{not_root}
 use Rattle.edit_tree.proofs.MoreAssertions.{first_kind, first_is, kind_stays, kind_new, IsClear, clear_front, clash_last, allowed}
 use Rattle.edit_tree.proofs.MoreMembers.{is_headed, elements_below, elements_stay}
@@ -26,12 +26,12 @@ use Rattle.edit_tree.proofs.WalkedTokens.{waits}
 use Rattle.edit_document.proofs.KeyWalks.{Leads, leads, stops, Enters, enters, bars, settled_enters}
 use Rattle.std.proofs.lemmas.Bool.{and_parts}
 
-header_step : (bytes from rest : List ℕ) (st : State) → step bytes (mark kinds.Header from rest) st
-    ≡ headed st
+header_step : (bytes from rest : List ℕ) (st : State) → step bytes (token_between kinds.Header from rest) st
+    ≡ table_opened st
 unfolding step
 header_step bytes from rest st = refl
 
-element_step : (bytes from rest : List ℕ) (st : State) → step bytes (mark kinds.ElementHeader from rest) st
+element_step : (bytes from rest : List ℕ) (st : State) → step bytes (token_between kinds.ElementHeader from rest) st
     ≡ array_table_opened st
 unfolding step
 element_step bytes from rest st = refl
@@ -68,7 +68,7 @@ pub header_stated : (bytes : List ℕ) (spots : List ModelNode) (t : ℕ) (made 
     → PlacedStatement spots (made ++ (fronts made (header_place made [] (names k)) [] (names k) ++ asserts
     (header_place made [] (names k)) (header_place made [] (names k)) header_kind ∷ [])) written
     (header_place made [] (names k))
-    (walked bytes (mark kinds.Header whole rest ∷ []) (waits (without_pending spots (t ∷ [])) (names k)))
+    (state_after bytes (token_between kinds.Header whole rest ∷ []) (waits (without_pending spots (t ∷ [])) (names k)))
 header_stated bytes spots t made written k whole rest st even =
     let q = header_place made [] (names k) in
     let root = st.tree.root in
@@ -78,9 +78,9 @@ header_stated bytes spots t made written k whole rest st even =
     go (settled_enters spots (t ∷ []) 0 (name k.first) (key_names k) Super section Header None
     (made ++ (fronts made q [] (names k) ++ asserts q q header_kind ∷ [])) written q lands)
   where
-    path : walked bytes (mark kinds.Header whole rest ∷ []) (waits (without_pending spots (t ∷ [])) (names k))
-        ≡ headed (waits (without_pending spots (t ∷ [])) (names k))
-    path = walked_one bytes (mark kinds.Header whole rest) (waits (without_pending spots (t ∷ [])) (names k)) ∙
+    path : state_after bytes (token_between kinds.Header whole rest ∷ []) (waits (without_pending spots (t ∷ [])) (names k))
+        ≡ table_opened (waits (without_pending spots (t ∷ [])) (names k))
+    path = walked_one bytes (token_between kinds.Header whole rest) (waits (without_pending spots (t ∷ [])) (names k)) ∙
         header_step bytes whole rest (waits (without_pending spots (t ∷ [])) (names k))
 
     go : Enters spots (made ++ (fronts made (header_place made [] (names k)) [] (names k) ++ asserts
@@ -90,10 +90,10 @@ header_stated bytes spots t made written k whole rest st even =
         → PlacedStatement spots (made ++ (fronts made (header_place made [] (names k)) [] (names k) ++ asserts
         (header_place made [] (names k)) (header_place made [] (names k)) header_kind ∷ [])) written
         (header_place made [] (names k))
-        (walked bytes (mark kinds.Header whole rest ∷ []) (waits (without_pending spots (t ∷ [])) (names k)))
+        (state_after bytes (token_between kinds.Header whole rest ∷ []) (waits (without_pending spots (t ∷ [])) (names k)))
     go (enters now j e s p g) =
-        placed_statements now j (path ∙ ap (λ (o : Option (State × ℕ)). o >>= λ r. Some (turned r)) e) s p g
-    go (bars e c) = halts (path ∙ ap (λ (o : Option (State × ℕ)). o >>= λ r. Some (turned r)) e) c
+        placed_statements now j (path ∙ ap (λ (o : Option (State × ℕ)). o >>= λ r. Some (with_only_table r)) e) s p g
+    go (bars e c) = halts (path ∙ ap (λ (o : Option (State × ℕ)). o >>= λ r. Some (with_only_table r)) e) c
 
 -- ---- headers of elements
 
@@ -137,7 +137,7 @@ array_place made by q inner clear = first_is (made ++ asserts by q array_kind �
 header_inner : (earlier : List Assertion) (p : Place) (n : List ℕ) (ns : List (List ℕ))
     → header_place earlier p (n ∷ ns) ≡ [] → ⊥
 header_inner earlier p n [] e = not_root p (key n) e
-header_inner earlier p n (m ∷ ns) e = header_inner earlier (resolved earlier (at p (key n))) m ns e
+header_inner earlier p n (m ∷ ns) e = header_inner earlier (last_element_or_self earlier (at p (key n))) m ns e
 
 -- headers that go on below their places are no elements
 fronts_stay : (made earlier : List Assertion) (by p : Place) (ns : List (List ℕ)) (q : Place)
@@ -145,10 +145,10 @@ fronts_stay : (made earlier : List Assertion) (by p : Place) (ns : List (List �
 fronts_stay made earlier by p [] q = ap (λ (xs : List Assertion). elements_below xs q) (append-nil made)
 fronts_stay made earlier by p (n ∷ []) q = ap (λ (xs : List Assertion). elements_below xs q) (append-nil made)
 fronts_stay made earlier by p (n ∷ m ∷ ns) q =
-    let a : Assertion = asserts by (resolved earlier (at p (key n))) super in
+    let a : Assertion = asserts by (last_element_or_self earlier (at p (key n))) super in
     ap (λ (xs : List Assertion). elements_below xs q)
-    (sym (append_assoc made (a ∷ []) (fronts earlier by (resolved earlier (at p (key n))) (m ∷ ns))))
-    ∙ fronts_stay (made ++ a ∷ []) earlier by (resolved earlier (at p (key n))) (m ∷ ns) q ∙
+    (sym (append_assoc made (a ∷ []) (fronts earlier by (last_element_or_self earlier (at p (key n))) (m ∷ ns))))
+    ∙ fronts_stay (made ++ a ∷ []) earlier by (last_element_or_self earlier (at p (key n))) (m ∷ ns) q ∙
     elements_stay made a q refl
 
 module _ (bytes : List ℕ) (spots : List ModelNode) (t : ℕ) (made : List Assertion) (written : List Placed)
@@ -171,13 +171,13 @@ module _ (bytes : List ℕ) (spots : List ModelNode) (t : ℕ) (made : List Asse
   abbrev waiting : State
   waiting = waits (without_pending spots (t ∷ [])) (names k)
 
-  element_path : walked bytes (mark kinds.ElementHeader whole rest ∷ []) waiting ≡ array_table_opened waiting
-  element_path = walked_one bytes (mark kinds.ElementHeader whole rest) waiting ∙
+  element_path : state_after bytes (token_between kinds.ElementHeader whole rest ∷ []) waiting ≡ array_table_opened waiting
+  element_path = walked_one bytes (token_between kinds.ElementHeader whole rest) waiting ∙
       element_step bytes whole rest waiting
 
   abbrev with_element_of : State × ℕ → Option State
   with_element_of r = element_added r.0.spots r.1 section Element None >>= λ e. Some
-      (turned (record r.0 { spots = e.0 }, e.1))
+      (with_only_table (record r.0 { spots = e.0 }, e.1))
 
   all_made : (made ++ (supers ++ one_array ∷ [])) ++ one_element ∷ []
       ≡ made ++ (supers ++ one_array ∷ one_element ∷ [])
@@ -218,23 +218,23 @@ module _ (bytes : List ℕ) (spots : List ModelNode) (t : ℕ) (made : List Asse
       → Makes (made ++ (supers ++ one_array ∷ [])) written now one_element []
       (element_added now j section Element None)
       → PlacedStatement spots (made ++ (supers ++ one_array ∷ one_element ∷ [])) written own
-      (walked bytes (mark kinds.ElementHeader whole rest ∷ []) waiting)
+      (state_after bytes (token_between kinds.ElementHeader whole rest ∷ []) waiting)
   element_second now j e grows (makes later i f s p g) =
       placed_statements later i
       (element_path ∙ ap (λ (o : Option (State × ℕ)). o >>= λ r. with_element_of r) e ∙
-      ap (λ (o : Option (List ModelNode × ℕ)). o >>= λ x. Some (turned (without_pending x.0 (t ∷ []), x.1))) f)
+      ap (λ (o : Option (List ModelNode × ℕ)). o >>= λ x. Some (with_only_table (without_pending x.0 (t ∷ []), x.1))) f)
       (subst (λ (xs : List Assertion). Stands xs written later) all_made
       (subst (λ (w : List Placed). Stands ((made ++ (supers ++ one_array ∷ [])) ++ one_element ∷ []) w later)
       (append-nil written) s)) p (grows_then spots now later grows g)
   element_second now j e grows (fails f c) =
       halts (element_path ∙ ap (λ (o : Option (State × ℕ)). o >>= λ r. with_element_of r) e ∙
-      ap (λ (o : Option (List ModelNode × ℕ)). o >>= λ x. Some (turned (without_pending x.0 (t ∷ []), x.1))) f)
+      ap (λ (o : Option (List ModelNode × ℕ)). o >>= λ x. Some (with_only_table (without_pending x.0 (t ∷ []), x.1))) f)
       (λ clear. c (subst IsClear (sym all_made) clear))
 
   element_first : Enters spots (made ++ (supers ++ one_array ∷ [])) written (t ∷ []) array_at
       (pending_defined waiting 0 Super sections Array None)
       → PlacedStatement spots (made ++ (supers ++ one_array ∷ one_element ∷ [])) written own
-      (walked bytes (mark kinds.ElementHeader whole rest ∷ []) waiting)
+      (state_after bytes (token_between kinds.ElementHeader whole rest ∷ []) waiting)
   element_first (enters now j e s p g) =
       let place : one_element.place ≡ at p.0.place (index (length p.0.elements)) =
       ap (λ (n : ℕ). at array_at (index n)) (sym (counted now p.0 j s p.1 p.2)) ∙
@@ -253,7 +253,7 @@ module _ (bytes : List ℕ) (spots : List ModelNode) (t : ℕ) (made : List Asse
       (subst IsClear (sym all_made) clear)))
 
   pub element_stated : PlacedStatement spots (made ++ (supers ++ one_array ∷ one_element ∷ [])) written own
-      (walked bytes (mark kinds.ElementHeader whole rest ∷ []) waiting)
+      (state_after bytes (token_between kinds.ElementHeader whole rest ∷ []) waiting)
   element_stated =
       element_first (settled_enters spots (t ∷ []) 0 (name k.first) (key_names k) Super sections Array None
       (made ++ (supers ++ one_array ∷ [])) written array_at

@@ -4,12 +4,12 @@ use Rattle.std.proofs.Common.{◌≡◌, ℕ, ◌+◌, true, false, List, [], �
 use Rattle.std.specs.Prelude.{IsUtf8}
 use Rattle.std.proofs.lemmas.Bool.Decides.{nat_tests}
 use Rattle.std.proofs.lemmas.List.{append-nil}
-use Rattle.edit_syntax.specs.declared.read.marks.Mark.{Mark}
-use Rattle.edit_syntax.specs.declared.read.marks.MarkKind.TheVariants as kinds
+use Rattle.edit_syntax.specs.declared.read.syntax_tokens.SyntaxToken.{SyntaxToken}
+use Rattle.edit_syntax.specs.declared.read.syntax_tokens.TokenKind.TheVariants as kinds
 use Rattle.edit_syntax.specs.declared.span.Span.{Span}
 use Rattle.edit_tree.specs.declared.nodes.DefinedBy.TheVariants.{Dotted}
 use Rattle.edit_syntax.specs.Characters.{quote}
-use Rattle.edit_syntax.specs.Strings.{Piece, says, basic_text, literal_text}
+use Rattle.edit_syntax.specs.Strings.{Piece, decoded_pieces, basic_text, literal_text}
 use Rattle.edit_syntax.specs.Grammar.{Value, basic, literal, boolean, value, IsValue}
 use Rattle.edit_tree.specs.Assertions.{index, Place, at, Assertion, of_value}
 use Rattle.edit_tree.specs.Tree.{string, truth, kind_at}
@@ -18,8 +18,8 @@ use Rattle.edit_document.specs.DocumentLayout.{shape_of_value, span_of, Placed, 
 use Rattle.edit_syntax.specs.Reading.{◌>>=◌}
 use Rattle.edit_tree.specs.Nodes.{Shape, scalar, ModelNode, StandsAt}
 use Rattle.edit_tree.specs.Nodes as shapes
-use Rattle.edit_tree.specs.Walk.{State, said, without_pending, is_dotted_within, value_added_at, value_added, opened, value_closed, step, walked}
-use Rattle.edit_syntax.specs.SyntaxTokens.{mark}
+use Rattle.edit_tree.specs.Walk.{State, token_value, without_pending, is_dotted_within, value_added_at, value_added, value_opened, value_closed, step, state_after}
+use Rattle.edit_syntax.specs.SyntaxTokens.{token_between}
 use Rattle.edit_tree.proofs.Ends.{Ends}
 use Rattle.edit_tree.proofs.MoreAssertions.{IsClear, clear_front}
 use Rattle.edit_tree.proofs.Trees.{Grows, grows_then}
@@ -37,32 +37,32 @@ spans ws = map placed ws
 
 -- ---- scalars
 
-abbrev pub IsStep : List ℕ → Mark → Shape → Span → Type 0
+abbrev pub IsStep : List ℕ → SyntaxToken → Shape → Span → Type 0
 IsStep bytes m shape span = (st : State) → step bytes m st ≡ value_added st shape (Some span)
 
 pub basic_step : (bytes : List ℕ) (ps : List Piece) (rest : List ℕ) → IsValue (basic ps) → IsUtf8 bytes
-    → Ends bytes (basic_text ps rest) → IsStep bytes (mark kinds.BasicString (basic_text ps rest) rest)
-    (scalar (string (says quote ps))) (span_of (basic ps) rest)
-unfolding step said
+    → Ends bytes (basic_text ps rest) → IsStep bytes (token_between kinds.BasicString (basic_text ps rest) rest)
+    (scalar (string (decoded_pieces quote ps))) (span_of (basic ps) rest)
+unfolding step token_value
 basic_step bytes ps rest h u ends st =
     ap (λ (o : Option (List ℕ)). o >>= λ x. value_added st (scalar (string x)) (Some (span_of (basic ps) rest)))
     (said_basic bytes ps rest 0 h u ends)
 
 pub literal_step : (bytes text rest : List ℕ) → IsValue (literal text) → IsUtf8 bytes
     → Ends bytes (literal_text text rest)
-    → IsStep bytes (mark kinds.LiteralString (literal_text text rest) rest) (scalar (string text))
+    → IsStep bytes (token_between kinds.LiteralString (literal_text text rest) rest) (scalar (string text))
     (span_of (literal text) rest)
-unfolding step said
+unfolding step token_value
 literal_step bytes text rest h u ends st =
     ap (λ (o : Option (List ℕ)). o >>= λ x. value_added st (scalar (string x))
     (Some (span_of (literal text) rest))) (said_literal bytes text rest 0 h u ends)
 
-pub true_step : (bytes rest : List ℕ) → IsStep bytes (mark kinds.True (value (boolean true) rest) rest)
+pub true_step : (bytes rest : List ℕ) → IsStep bytes (token_between kinds.True (value (boolean true) rest) rest)
     (scalar (truth true)) (span_of (boolean true) rest)
 unfolding step
 true_step bytes rest st = refl
 
-pub false_step : (bytes rest : List ℕ) → IsStep bytes (mark kinds.False (value (boolean false) rest) rest)
+pub false_step : (bytes rest : List ℕ) → IsStep bytes (token_between kinds.False (value (boolean false) rest) rest)
     (scalar (truth false)) (span_of (boolean false) rest)
 unfolding step
 false_step bytes rest st = refl
@@ -116,52 +116,52 @@ written_by b v rest = b.written ++ spans (placed_value b.place v rest ∷ inside
 abbrev pub LeadsBy : Before → Value → List ℕ → Option State → Type 0
 LeadsBy b v rest r = Leads b.spots (made_by b v) (written_by b v rest) b.tables r
 
-pub scalar_leads : (bytes : List ℕ) (mk : Mark) (b : Before) (v : Value) (rest : List ℕ)
+pub scalar_leads : (bytes : List ℕ) (mk : SyntaxToken) (b : Before) (v : Value) (rest : List ℕ)
     → IsStep bytes mk (shape_of_value v) (span_of v rest) → of_value b.place v ≡ []
-    → inside b.place v rest ≡ [] → IsBefore b → LeadsBy b v rest (walked bytes (mk ∷ []) b.waiting)
+    → inside b.place v rest ≡ [] → IsBefore b → LeadsBy b v rest (state_after bytes (mk ∷ []) b.waiting)
 scalar_leads bytes mk b v rest act none empty h =
     subst (λ (xs : List Assertion). Leads b.spots (b.made ++ (b.keyed v ++ xs))
     (b.written ++ spans (placed_value b.place v rest ∷ inside b.place v rest)) b.tables
-    (walked bytes (mk ∷ []) b.waiting)) (sym none)
+    (state_after bytes (mk ∷ []) b.waiting)) (sym none)
     (subst (λ (ws : List PlacedValue). Leads b.spots (b.made ++ (b.keyed v ++ []))
-    (b.written ++ spans (placed_value b.place v rest ∷ ws)) b.tables (walked bytes (mk ∷ []) b.waiting)) (sym empty)
+    (b.written ++ spans (placed_value b.place v rest ∷ ws)) b.tables (state_after bytes (mk ∷ []) b.waiting)) (sym empty)
     (subst (λ (xs : List Assertion). Leads b.spots (b.made ++ xs)
-    (b.written ++ (b.place, span_of v rest) ∷ []) b.tables (walked bytes (mk ∷ []) b.waiting))
+    (b.written ++ (b.place, span_of v rest) ∷ []) b.tables (state_after bytes (mk ∷ []) b.waiting))
     (sym (append-nil (b.keyed v)))
     (go (h.enters_at v (span_of v rest)))))
   where
-    path : walked bytes (mk ∷ []) b.waiting
+    path : state_after bytes (mk ∷ []) b.waiting
         ≡ (value_added_at b.waiting (shape_of_value v) (Some (span_of v rest)) >>= λ r. Some r.0)
     path = walked_one bytes mk b.waiting ∙ act b.waiting
 
     go : Enters b.spots (b.made ++ b.keyed v) (b.written ++ (b.place, span_of v rest) ∷ []) b.tables b.place
         (value_added_at b.waiting (shape_of_value v) (Some (span_of v rest)))
         → Leads b.spots (b.made ++ b.keyed v) (b.written ++ (b.place, span_of v rest) ∷ []) b.tables
-        (walked bytes (mk ∷ []) b.waiting)
+        (state_after bytes (mk ∷ []) b.waiting)
     go (enters now j e s p g) = leads now (path ∙ ap (λ (o : Option (State × ℕ)). o >>= λ r. Some r.0) e) s g
     go (bars e c) = stops (path ∙ ap (λ (o : Option (State × ℕ)). o >>= λ r. Some r.0) e) c
 
 -- ---- arrays and inline tables
 
 pub open_array : (bytes from rest : List ℕ) (st : State)
-    → step bytes (mark kinds.OpenArray from rest) st ≡ opened st shapes.listed
+    → step bytes (token_between kinds.OpenArray from rest) st ≡ value_opened st shapes.listed
     (Some (record { from = length from; to = length rest }))
 unfolding step
 open_array bytes from rest st = refl
 
 pub close_array : (bytes from rest : List ℕ) (st : State)
-    → step bytes (mark kinds.CloseArray from rest) st ≡ value_closed st (length rest)
+    → step bytes (token_between kinds.CloseArray from rest) st ≡ value_closed st (length rest)
 unfolding step
 close_array bytes from rest st = refl
 
 pub open_table : (bytes from rest : List ℕ) (st : State)
-    → step bytes (mark kinds.OpenTable from rest) st ≡ opened st shapes.inline
+    → step bytes (token_between kinds.OpenTable from rest) st ≡ value_opened st shapes.inline
     (Some (record { from = length from; to = length rest }))
 unfolding step
 open_table bytes from rest st = refl
 
 pub close_table : (bytes from rest : List ℕ) (st : State)
-    → step bytes (mark kinds.CloseTable from rest) st ≡ value_closed st (length rest)
+    → step bytes (token_between kinds.CloseTable from rest) st ≡ value_closed st (length rest)
 unfolding step
 close_table bytes from rest st = refl
 
@@ -173,10 +173,10 @@ deeper base t j =
     grind (arith, nat_tests)
 
 -- a value that holds others: its first mark opens it, its last mark ends it
-module _ (bytes : List ℕ) (v : Value) (rest behind : List ℕ) (first_mark last_mark : Mark) (marks : List Mark)
+module _ (bytes : List ℕ) (v : Value) (rest behind : List ℕ) (first_mark last_mark : SyntaxToken) (marks : List SyntaxToken)
     (b : Before) (h : IsBefore b)
     (opens : (st : State)
-    → step bytes first_mark st ≡ opened st (shape_of_value v)
+    → step bytes first_mark st ≡ value_opened st (shape_of_value v)
     (Some (record { from = length (value v rest); to = length behind })))
     (ends_here : (st : State) → step bytes last_mark st ≡ value_closed st (length rest)) where
   abbrev first_span : Span
@@ -200,8 +200,8 @@ module _ (bytes : List ℕ) (v : Value) (rest behind : List ℕ) (first_mark las
       (b.written ++ (b.place, record { from = length (value v rest); to = length behind }) ∷ []) now
       → StandsAt now j b.place → Grows b.spots now
       → Leads now (keyed_made ++ inner) ((b.written ++ (b.place, first_span) ∷ []) ++ inner_spans)
-      (b.tables ++ j ∷ []) (walked bytes marks (without_pending now (b.tables ++ j ∷ [])))
-      → LeadsBy b v rest (walked bytes (marks ++ last_mark ∷ []) (without_pending now (b.tables ++ j ∷ [])))
+      (b.tables ++ j ∷ []) (state_after bytes marks (without_pending now (b.tables ++ j ∷ [])))
+      → LeadsBy b v rest (state_after bytes (marks ++ last_mark ∷ []) (without_pending now (b.tables ++ j ∷ [])))
   closing now j st_open there grows (leads later e st g2) =
       let none = unwritten_at b v h st_open.clear in
       let st2 : Stands (keyed_made ++ inner) (b.written ++ (b.place, first_span) ∷ inner_spans) later =
@@ -209,20 +209,20 @@ module _ (bytes : List ℕ) (v : Value) (rest behind : List ℕ) (first_mark las
       (append_assoc b.written ((b.place, first_span) ∷ []) inner_spans) st in
       let done = closed_leads b.spots later (keyed_made ++ inner) b.written inner_spans b.place first_span
       b.tables j (length rest) st2 none (g2 j b.place there) (grows_then b.spots now later grows g2) in
-      let path : walked bytes (marks ++ last_mark ∷ []) (without_pending now (b.tables ++ j ∷ []))
+      let path : state_after bytes (marks ++ last_mark ∷ []) (without_pending now (b.tables ++ j ∷ []))
       ≡ value_closed (without_pending later (b.tables ++ j ∷ [])) (length rest) =
       walked_append bytes marks (last_mark ∷ []) (without_pending now (b.tables ++ j ∷ []))
-      ∙ ap (λ (o : Option State). o >>= walked bytes (last_mark ∷ [])) e ∙
+      ∙ ap (λ (o : Option State). o >>= state_after bytes (last_mark ∷ [])) e ∙
       walked_one bytes last_mark (without_pending later (b.tables ++ j ∷ [])) ∙
       ends_here (without_pending later (b.tables ++ j ∷ [])) in
       subst (λ (xs : List Assertion). Leads b.spots xs
       (b.written ++ spans (placed_value b.place v rest ∷ inside b.place v rest)) b.tables
-      (walked bytes (marks ++ last_mark ∷ []) (without_pending now (b.tables ++ j ∷ [])))) all_made
+      (state_after bytes (marks ++ last_mark ∷ []) (without_pending now (b.tables ++ j ∷ [])))) all_made
       (leads_along path done)
   closing now j st_open there grows (stops e clash) =
       stops
       (walked_append bytes marks (last_mark ∷ []) (without_pending now (b.tables ++ j ∷ [])) ∙
-      ap (λ (o : Option State). o >>= walked bytes (last_mark ∷ [])) e)
+      ap (λ (o : Option State). o >>= state_after bytes (last_mark ∷ [])) e)
       (λ clear. clash (subst IsClear (sym all_made) clear))
 
   pub holder_leads : ((now : List ModelNode) (j : ℕ)
@@ -232,15 +232,15 @@ module _ (bytes : List ℕ) (v : Value) (rest behind : List ℕ) (first_mark las
       → Leads now ((b.made ++ b.keyed v) ++ of_value b.place v)
       ((b.written ++ (b.place, record { from = length (value v rest); to = length behind }) ∷ []) ++ spans
       (inside b.place v rest)) (b.tables ++ j ∷ [])
-      (walked bytes marks (without_pending now (b.tables ++ j ∷ []))))
-      → LeadsBy b v rest (walked bytes (first_mark ∷ (marks ++ last_mark ∷ [])) b.waiting)
+      (state_after bytes marks (without_pending now (b.tables ++ j ∷ []))))
+      → LeadsBy b v rest (state_after bytes (first_mark ∷ (marks ++ last_mark ∷ [])) b.waiting)
   holder_leads into = go (h.enters_at v first_span)
     where
       go : Enters b.spots (b.made ++ b.keyed v)
           (b.written ++ (b.place, record { from = length (value v rest); to = length behind }) ∷ []) b.tables
           b.place (value_added_at b.waiting (shape_of_value v)
           (Some (record { from = length (value v rest); to = length behind })))
-          → LeadsBy b v rest (walked bytes (first_mark ∷ (marks ++ last_mark ∷ [])) b.waiting)
+          → LeadsBy b v rest (state_after bytes (first_mark ∷ (marks ++ last_mark ∷ [])) b.waiting)
       go (enters now j e st there grows) =
           let first : step bytes first_mark b.waiting ≡ Some (without_pending now (b.tables ++ j ∷ [])) =
           opens b.waiting ∙ ap

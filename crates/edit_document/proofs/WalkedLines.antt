@@ -2,8 +2,8 @@
 use Rattle.std.proofs.Common.{◌≡◌, ℕ, false, List, [], ◌∷◌, ◌++◌, map, Option, Some, None, refl, sym, ap, subst, ◌∙◌, append_assoc}
 use Rattle.std.specs.Prelude.{IsUtf8}
 use Rattle.std.proofs.lemmas.List.{append-nil, map-append}
-use Rattle.edit_syntax.specs.declared.read.marks.Mark.{Mark}
-use Rattle.edit_syntax.specs.declared.read.marks.MarkKind.TheVariants as kinds
+use Rattle.edit_syntax.specs.declared.read.syntax_tokens.SyntaxToken.{SyntaxToken}
+use Rattle.edit_syntax.specs.declared.read.syntax_tokens.TokenKind.TheVariants as kinds
 use Rattle.edit_syntax.specs.Characters.{equals, left_bracket, right_bracket}
 use Rattle.edit_syntax.specs.Strings.{◌·◌, LineEnd, line_end, name, Dotted as DottedPart, Key}
 use Rattle.edit_syntax.specs.Strings as strings
@@ -13,8 +13,8 @@ use Rattle.edit_tree.specs.Written.{in_statement, in_lines, values}
 use Rattle.edit_document.specs.DocumentLayout.{Placed, placed}
 use Rattle.edit_syntax.specs.Reading.{◌>>=◌}
 use Rattle.edit_tree.specs.Nodes.{ModelNode, StandsAt}
-use Rattle.edit_tree.specs.Walk.{State, without_pending, start, walked}
-use Rattle.edit_syntax.specs.SyntaxTokens.{mark, tokens_of_value, tokens_of_statement, tokens_of_lines, tokens_of_text}
+use Rattle.edit_tree.specs.Walk.{State, without_pending, start, state_after}
+use Rattle.edit_syntax.specs.SyntaxTokens.{token_between, tokens_of_value, tokens_of_statement, tokens_of_lines, tokens_of_text}
 use Rattle.edit_tree.proofs.Ends.{Ends, ends_past, ends_one, ends_pair, ends_line, ends_line_end}
 use Rattle.edit_tree.proofs.MoreAssertions.{IsClear, clear_front}
 use Rattle.edit_document.proofs.AssertedSpots.{Stands, stands_start}
@@ -33,14 +33,14 @@ statement_stated : (bytes : List ℕ) (s : Statement) (rest : List ℕ) (spots :
     → Ends bytes (statement s rest)
     → Stands made written spots → IsEven made → StandsAt spots t p
     → PlacedStatement spots (made ++ of_statement made p s) (written ++ spans (in_statement p s rest))
-    (prefix_after made p s) (walked bytes (tokens_of_statement s rest) (without_pending spots (t ∷ [])))
+    (prefix_after made p s) (state_after bytes (tokens_of_statement s rest) (without_pending spots (t ∷ [])))
 statement_stated bytes (pair k a b v) rest spots made written t p h u ends st even there =
     let before = pair_before spots made written [] t p false (name k.first) (key_names k) in
     stated_along (walked_key bytes k (a ++ (equals ∷ (b ++ value v rest))) (tokens_of_value v rest)
     (without_pending spots (t ∷ [])) h.0 u ends)
     (pair_stated spots (made ++ of_statement made p (pair k a b v))
     (written ++ spans (in_statement p (pair k a b v) rest)) t p
-    (walked bytes (tokens_of_value v rest) (waits (without_pending spots (t ∷ [])) (names k))) there
+    (state_after bytes (tokens_of_value v rest) (waits (without_pending spots (t ∷ [])) (names k))) there
     (value_leads bytes v rest before h.3 u (ends_pair bytes k a b (value v rest) ends)
     (pair_is_before spots made written [] t p false (name k.first) (key_names k) st there refl)))
 statement_stated bytes (header a k b) rest spots made written t p h u ends st even there =
@@ -50,9 +50,9 @@ statement_stated bytes (header a k b) rest spots made written t p h u ends st ev
     (ends_one bytes left_bracket (a ++ strings.key k (b ++ (right_bracket ∷ rest))) ends) in
     subst (λ (w : List Placed). PlacedStatement spots (made ++ of_statement made p (header a k b)) w
     (prefix_after made p (header a k b))
-    (walked bytes (tokens_of_statement (header a k b) rest) (without_pending spots (t ∷ []))))
+    (state_after bytes (tokens_of_statement (header a k b) rest) (without_pending spots (t ∷ []))))
     (sym (append-nil written))
-    (stated_along (walked_key bytes k (b ++ (right_bracket ∷ rest)) (mark kinds.Header whole rest ∷ [])
+    (stated_along (walked_key bytes k (b ++ (right_bracket ∷ rest)) (token_between kinds.Header whole rest ∷ [])
     (without_pending spots (t ∷ [])) h.1 u key_ends)
     (header_stated bytes spots t made written k whole rest st even))
 statement_stated bytes (element_header a k b) rest spots made written t p h u ends st even there =
@@ -63,9 +63,9 @@ statement_stated bytes (element_header a k b) rest spots made written t p h u en
     (ends_one bytes left_bracket (left_bracket ∷ (a ++ strings.key k end)) ends)) in
     subst (λ (w : List Placed). PlacedStatement spots (made ++ of_statement made p (element_header a k b)) w
     (prefix_after made p (element_header a k b))
-    (walked bytes (tokens_of_statement (element_header a k b) rest) (without_pending spots (t ∷ []))))
+    (state_after bytes (tokens_of_statement (element_header a k b) rest) (without_pending spots (t ∷ []))))
     (sym (append-nil written))
-    (stated_along (walked_key bytes k end (mark kinds.ElementHeader whole rest ∷ [])
+    (stated_along (walked_key bytes k end (token_between kinds.ElementHeader whole rest ∷ [])
     (without_pending spots (t ∷ [])) h.1 u key_ends)
     (element_stated bytes spots t made written k whole rest st even))
 
@@ -87,24 +87,24 @@ clear_lines made p (more_lines (full_line a s b c) e ls) h =
     (clear_lines (made ++ of_statement made p s) (prefix_after made p s) ls h)
 
 -- a statement and then lines
-then_lines : (bytes : List ℕ) (xs ys : List Mark) (st : State) (spots : List ModelNode)
+then_lines : (bytes : List ℕ) (xs ys : List SyntaxToken) (st : State) (spots : List ModelNode)
     (made finally : List Assertion) (written rest : List Placed) (p : Place)
-    → PlacedStatement spots made written p (walked bytes xs st) → (IsClear finally → IsClear made)
+    → PlacedStatement spots made written p (state_after bytes xs st) → (IsClear finally → IsClear made)
     → ((now : List ModelNode) (j : ℕ) → Stands made written now → StandsAt now j p
-    → Walked finally rest (walked bytes ys (without_pending now (j ∷ []))))
-    → Walked finally rest (walked bytes (xs ++ ys) st)
+    → Walked finally rest (state_after bytes ys (without_pending now (j ∷ []))))
+    → Walked finally rest (state_after bytes (xs ++ ys) st)
 then_lines bytes xs ys st spots made finally written rest p (placed_statements now j e s there g) back then =
     go (then now j s there)
   where
-    path : walked bytes (xs ++ ys) st ≡ walked bytes ys (without_pending now (j ∷ []))
-    path = walked_append bytes xs ys st ∙ ap (λ (o : Option State). o >>= walked bytes ys) e
+    path : state_after bytes (xs ++ ys) st ≡ state_after bytes ys (without_pending now (j ∷ []))
+    path = walked_append bytes xs ys st ∙ ap (λ (o : Option State). o >>= state_after bytes ys) e
 
-    go : Walked finally rest (walked bytes ys (without_pending now (j ∷ [])))
-        → Walked finally rest (walked bytes (xs ++ ys) st)
+    go : Walked finally rest (state_after bytes ys (without_pending now (j ∷ [])))
+        → Walked finally rest (state_after bytes (xs ++ ys) st)
     go (ended later tables f s2) = ended later tables (path ∙ f) s2
     go (stuck f c) = stuck (path ∙ f) c
 then_lines bytes xs ys st spots made finally written rest p (halts e c) back then =
-    stuck (walked_append bytes xs ys st ∙ ap (λ (o : Option State). o >>= walked bytes ys) e)
+    stuck (walked_append bytes xs ys st ∙ ap (λ (o : Option State). o >>= state_after bytes ys) e)
     (λ clear. c (back clear))
 
 last_line : {spots : List ModelNode} {made : List Assertion} {written : List Placed} {p : Place} {r : Option State}
@@ -116,7 +116,7 @@ pub lines_walked : (bytes : List ℕ) (ls : Lines) (spots : List ModelNode) (mad
     (written : List Placed) (t : ℕ) (p : Place) → AreLines ls → IsUtf8 bytes → Ends bytes (lines ls)
     → Stands made written spots → IsEven made → StandsAt spots t p
     → Walked (of_lines made p ls) (written ++ spans (in_lines made p ls))
-    (walked bytes (tokens_of_lines ls) (without_pending spots (t ∷ [])))
+    (state_after bytes (tokens_of_lines ls) (without_pending spots (t ∷ [])))
 lines_walked bytes (one_line (empty_line a c)) spots made written t p h u ends st even there =
     ended spots (t ∷ []) (walked_none bytes (without_pending spots (t ∷ [])))
     (subst (λ (w : List Placed). Stands made w spots) (sym (append-nil written)) st)
@@ -142,7 +142,7 @@ lines_walked bytes (more_lines (full_line a s b c) e ls) spots made written t p 
     (λ now j st2 there2. lines_walked bytes ls now next (written ++ here) j
     (prefix_after made p s) h.1 u more_ends st2 (even_statement made p s even) there2) in
     subst (λ (w : List Placed). Walked (of_lines made p (more_lines (full_line a s b c) e ls)) w
-    (walked bytes (tokens_of_lines (more_lines (full_line a s b c) e ls)) (without_pending spots (t ∷ []))))
+    (state_after bytes (tokens_of_lines (more_lines (full_line a s b c) e ls)) (without_pending spots (t ∷ []))))
     (append_assoc written here (spans (in_lines next (prefix_after made p s) ls)) ∙
     ap (λ (w : List Placed). written ++ w)
     (sym (map-append placed (in_statement p s after) (in_lines next (prefix_after made p s) ls)))) all
@@ -150,7 +150,7 @@ lines_walked bytes (more_lines (full_line a s b c) e ls) spots made written t p 
 -- the walk over the marks of a text
 pub text_walked : (bytes : List ℕ) (form : Text) → AreLines form.lines → IsUtf8 bytes
     → Ends bytes (lines form.lines)
-    → Walked (assertions form) (map placed (values form)) (walked bytes (tokens_of_text form) start)
+    → Walked (assertions form) (map placed (values form)) (state_after bytes (tokens_of_text form) start)
 text_walked bytes form h u ends = lines_walked bytes form.lines _ [] [] 0 [] h u ends stands_start
     (λ p. refl) stands_start.tree.root
 

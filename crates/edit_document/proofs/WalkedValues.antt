@@ -2,7 +2,7 @@
 use Rattle.std.proofs.Common.{◌≡◌, ℕ, suc, ◌+◌, true, false, List, [], ◌∷◌, ◌++◌, length, map, refl, sym, ap, subst, ◌∙◌, append_assoc, arith}
 use Rattle.std.specs.Prelude.{IsUtf8}
 use Rattle.std.proofs.lemmas.List.{append-nil, map-append}
-use Rattle.edit_syntax.specs.declared.read.marks.MarkKind.TheVariants as kinds
+use Rattle.edit_syntax.specs.declared.read.syntax_tokens.TokenKind.TheVariants as kinds
 use Rattle.edit_syntax.specs.declared.span.Span.{Span}
 use Rattle.edit_tree.specs.declared.nodes.DefinedBy.TheVariants.{Dotted}
 use Rattle.edit_syntax.specs.Characters.{comma, equals, right_bracket, right_brace}
@@ -13,8 +13,8 @@ use Rattle.edit_tree.specs.Tree.{count_elements}
 use Rattle.edit_tree.specs.Written.{placed_value, inside, in_elements, in_members}
 use Rattle.edit_document.specs.DocumentLayout.{Placed, placed}
 use Rattle.edit_tree.specs.Nodes.{ModelNode, StandsAt}
-use Rattle.edit_tree.specs.Walk.{without_pending, is_dotted_within, walked}
-use Rattle.edit_syntax.specs.SyntaxTokens.{mark, tokens_of_key, tokens_of_value, tokens_of_elements, tokens_of_members}
+use Rattle.edit_tree.specs.Walk.{without_pending, is_dotted_within, state_after}
+use Rattle.edit_syntax.specs.SyntaxTokens.{token_between, tokens_of_key, tokens_of_value, tokens_of_elements, tokens_of_members}
 use Rattle.edit_tree.proofs.Ends.{Ends, ends_one, ends_pair, ends_gap, ends_value}
 use Rattle.edit_tree.proofs.Trees.{grows_same}
 use Rattle.edit_document.proofs.AssertedSpots.{Stands}
@@ -44,33 +44,33 @@ member_is_before spots made written base t p k st there deep =
 mutual
   pub value_leads : (bytes : List ℕ) (v : Value) (rest : List ℕ) (b : Before) → IsValue v → IsUtf8 bytes
       → Ends bytes (value v rest) → IsBefore b
-      → LeadsBy b v rest (walked bytes (tokens_of_value v rest) b.waiting)
+      → LeadsBy b v rest (state_after bytes (tokens_of_value v rest) b.waiting)
   value_leads bytes (basic ps) rest b h u ends at_value =
-      scalar_leads bytes (mark kinds.BasicString (basic_text ps rest) rest) b (basic ps) rest
+      scalar_leads bytes (token_between kinds.BasicString (basic_text ps rest) rest) b (basic ps) rest
       (basic_step bytes ps rest h u ends) refl refl at_value
   value_leads bytes (literal text) rest b h u ends at_value =
-      scalar_leads bytes (mark kinds.LiteralString (literal_text text rest) rest) b (literal text) rest
+      scalar_leads bytes (token_between kinds.LiteralString (literal_text text rest) rest) b (literal text) rest
       (literal_step bytes text rest h u ends) refl refl at_value
   value_leads bytes (multi_basic ps) rest b h u ends at_value =
-      scalar_leads bytes (mark kinds.MultiBasicString (value (multi_basic ps) rest) rest) b
+      scalar_leads bytes (token_between kinds.MultiBasicString (value (multi_basic ps) rest) rest) b
       (multi_basic ps) rest (multi_basic_step bytes ps rest h u ends) refl refl at_value
   value_leads bytes (multi_literal ps) rest b h u ends at_value =
-      scalar_leads bytes (mark kinds.MultiLiteralString (value (multi_literal ps) rest) rest) b
+      scalar_leads bytes (token_between kinds.MultiLiteralString (value (multi_literal ps) rest) rest) b
       (multi_literal ps) rest (multi_literal_step bytes ps rest h u ends) refl refl at_value
   value_leads bytes (boolean true) rest b h u ends at_value =
-      scalar_leads bytes (mark kinds.True (value (boolean true) rest) rest) b (boolean true) rest
+      scalar_leads bytes (token_between kinds.True (value (boolean true) rest) rest) b (boolean true) rest
       (true_step bytes rest) refl refl at_value
   value_leads bytes (boolean false) rest b h u ends at_value =
-      scalar_leads bytes (mark kinds.False (value (boolean false) rest) rest) b (boolean false) rest
+      scalar_leads bytes (token_between kinds.False (value (boolean false) rest) rest) b (boolean false) rest
       (false_step bytes rest) refl refl at_value
   value_leads bytes (integer i) rest b h u ends at_value =
-      scalar_leads bytes (mark kinds.Integer (value (integer i) rest) rest) b (integer i) rest
+      scalar_leads bytes (token_between kinds.Integer (value (integer i) rest) rest) b (integer i) rest
       (number_step bytes (integer i) rest h tt ends) refl refl at_value
   value_leads bytes (float f) rest b h u ends at_value =
-      scalar_leads bytes (mark kinds.Float (value (float f) rest) rest) b (float f) rest
+      scalar_leads bytes (token_between kinds.Float (value (float f) rest) rest) b (float f) rest
       (number_step bytes (float f) rest h tt ends) refl refl at_value
   value_leads bytes (datetime d) rest b h u ends at_value =
-      scalar_leads bytes (mark kinds.DateTime (value (datetime d) rest) rest) b (datetime d) rest
+      scalar_leads bytes (token_between kinds.DateTime (value (datetime d) rest) rest) b (datetime d) rest
       (number_step bytes (datetime d) rest h tt ends) refl refl at_value
   value_leads bytes (array g es) rest b h u ends at_value =
       let end = right_bracket ∷ rest in
@@ -83,8 +83,8 @@ mutual
         to = length (gap g (elements es (right_bracket ∷ rest)));
       } in
       holder_leads bytes (array g es) rest (gap g (elements es (right_bracket ∷ rest)))
-      (mark kinds.OpenArray (value (array g es) rest) (gap g (elements es (right_bracket ∷ rest))))
-      (mark kinds.CloseArray (right_bracket ∷ rest) rest)
+      (token_between kinds.OpenArray (value (array g es) rest) (gap g (elements es (right_bracket ∷ rest))))
+      (token_between kinds.CloseArray (right_bracket ∷ rest) rest)
       (tokens_of_elements es (right_bracket ∷ rest)) b at_value
       (open_array bytes (value (array g es) rest) (gap g (elements es (right_bracket ∷ rest))))
       (close_array bytes (right_bracket ∷ rest) rest)
@@ -102,8 +102,8 @@ mutual
         to = length (gap g (members ms (right_brace ∷ rest)));
       } in
       holder_leads bytes (inline g ms) rest (gap g (members ms (right_brace ∷ rest)))
-      (mark kinds.OpenTable (value (inline g ms) rest) (gap g (members ms (right_brace ∷ rest))))
-      (mark kinds.CloseTable (right_brace ∷ rest) rest) (tokens_of_members ms (right_brace ∷ rest)) b at_value
+      (token_between kinds.OpenTable (value (inline g ms) rest) (gap g (members ms (right_brace ∷ rest))))
+      (token_between kinds.CloseTable (right_brace ∷ rest) rest) (tokens_of_members ms (right_brace ∷ rest)) b at_value
       (open_table bytes (value (inline g ms) rest) (gap g (members ms (right_brace ∷ rest))))
       (close_table bytes (right_brace ∷ rest) rest)
       (λ now j st there grows. members_lead bytes ms (right_brace ∷ rest) now
@@ -115,7 +115,7 @@ mutual
       → AreElements es → IsUtf8 bytes → Ends bytes (elements es rest)
       → Stands made written spots → IsArrayAt spots made t p i total → i + count_elements es ≡ total
       → Leads spots (made ++ of_elements p i es) (written ++ spans (in_elements p i es rest)) (base ++ t ∷ [])
-      (walked bytes (tokens_of_elements es rest) (without_pending spots (base ++ t ∷ [])))
+      (state_after bytes (tokens_of_elements es rest) (without_pending spots (base ++ t ∷ [])))
   elements_lead bytes no_elements rest spots made written base t p i total h u ends st a count =
       leads spots (walked_none bytes (without_pending spots (base ++ t ∷ [])))
       (subst (λ (xs : List Assertion). Stands xs (written ++ []) spots) (sym (append-nil made))
@@ -132,7 +132,7 @@ mutual
       (ends_one bytes comma (gap h2 (elements es rest))
       (ends_gap bytes g (comma ∷ gap h2 (elements es rest)) (ends_value bytes v after ends))) in
       let first : Leads spots (made ++ asserted_one) (written ++ spans one) (base ++ t ∷ [])
-      (walked bytes (tokens_of_value v after) (without_pending spots (base ++ t ∷ []))) =
+      (state_after bytes (tokens_of_value v after) (without_pending spots (base ++ t ∷ []))) =
       value_leads bytes v after before h.0 u ends
       (element_is_before spots made written base t p i total st a (omega arith)) in
       let all = leads_then bytes (tokens_of_value v after) (tokens_of_elements es rest)
@@ -150,10 +150,10 @@ mutual
       append_assoc written (spans one) (spans (in_elements p (suc i) es rest)) ∙
       ap (λ (w : List Placed). written ++ w) (sym (map-append placed one (in_elements p (suc i) es rest))) in
       subst (λ (xs : List Assertion). Leads spots xs (written ++ spans (one ++ in_elements p (suc i) es rest))
-      (base ++ t ∷ []) (walked bytes (tokens_of_elements (element v g h2 es) rest)
+      (base ++ t ∷ []) (state_after bytes (tokens_of_elements (element v g h2 es) rest)
       (without_pending spots (base ++ t ∷ [])))) same_made
       (subst (λ (w : List Placed). Leads spots ((made ++ asserted_one) ++ of_elements p (suc i) es) w
-      (base ++ t ∷ []) (walked bytes (tokens_of_elements (element v g h2 es) rest)
+      (base ++ t ∷ []) (state_after bytes (tokens_of_elements (element v g h2 es) rest)
       (without_pending spots (base ++ t ∷ [])))) same_spans all)
 
   pub members_lead : (bytes : List ℕ) (ms : Members) (rest : List ℕ) (spots : List ModelNode)
@@ -162,7 +162,7 @@ mutual
       → Stands made written spots → StandsAt spots t p → is_dotted_within (length (base ++ t ∷ [])) Dotted
       ≡ true
       → Leads spots (made ++ of_members p ms) (written ++ spans (in_members p ms rest)) (base ++ t ∷ [])
-      (walked bytes (tokens_of_members ms rest) (without_pending spots (base ++ t ∷ [])))
+      (state_after bytes (tokens_of_members ms rest) (without_pending spots (base ++ t ∷ [])))
   members_lead bytes no_members rest spots made written base t p h u ends st there deep =
       leads spots (walked_none bytes (without_pending spots (base ++ t ∷ [])))
       (subst (λ (xs : List Assertion). Stands xs (written ++ []) spots) (sym (append-nil made))
@@ -184,7 +184,7 @@ mutual
       (ends_one bytes comma (gap d (members ms rest))
       (ends_gap bytes c (comma ∷ gap d (members ms rest)) (ends_value bytes v after value_ends))) in
       let first : Leads spots (made ++ asserted_one) (written ++ spans one) (base ++ t ∷ [])
-      (walked bytes (tokens_of_key k (a ++ (equals ∷ (b ++ value v after))) ++ tokens_of_value v after)
+      (state_after bytes (tokens_of_key k (a ++ (equals ∷ (b ++ value v after))) ++ tokens_of_value v after)
       (without_pending spots (base ++ t ∷ []))) =
       leads_along (walked_key bytes k (a ++ (equals ∷ (b ++ value v after))) (tokens_of_value v after)
       (without_pending spots (base ++ t ∷ [])) h.0 u ends)
@@ -203,8 +203,8 @@ mutual
       append_assoc written (spans one) (spans (in_members p ms rest)) ∙
       ap (λ (w : List Placed). written ++ w) (sym (map-append placed one (in_members p ms rest))) in
       subst (λ (xs : List Assertion). Leads spots xs (written ++ spans (one ++ in_members p ms rest))
-      (base ++ t ∷ []) (walked bytes (tokens_of_members (member k a b v c d ms) rest)
+      (base ++ t ∷ []) (state_after bytes (tokens_of_members (member k a b v c d ms) rest)
       (without_pending spots (base ++ t ∷ [])))) same_made
       (subst (λ (w : List Placed). Leads spots ((made ++ asserted_one) ++ of_members p ms) w (base ++ t ∷ [])
-      (walked bytes (tokens_of_members (member k a b v c d ms) rest) (without_pending spots (base ++ t ∷ []))))
+      (state_after bytes (tokens_of_members (member k a b v c d ms) rest) (without_pending spots (base ++ t ∷ []))))
       same_spans all)

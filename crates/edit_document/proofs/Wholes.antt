@@ -11,7 +11,7 @@ use Rattle.edit_syntax.specs.Grammar.{Value, Text, array, inline, basic, literal
 use Rattle.edit_tree.specs.Assertions.{Step, key, index, Kind, dotted, leaf, super, header_kind, array_kind, element_kind, Assertion, assertions}
 use Rattle.edit_tree.specs.Tree.{View}
 use Rattle.edit_syntax.specs.Reading.{◌>>=◌}
-use Rattle.edit_tree.specs.Walk.{State, start, walked}
+use Rattle.edit_tree.specs.Walk.{State, start, state_after}
 use Rattle.edit_syntax.specs.SyntaxTokens.{tokens_of_text}
 use Rattle.edit_tree.specs.Written.{values}
 use Rattle.edit_document.specs.DocumentLayout.{placed, Placed, model_nodes_of, IsRead, shape_of_value}
@@ -36,11 +36,11 @@ stands_of inside read u = go (walk_of bytes form (read_of bytes form read.manife
     form : Text
     form = read.form
 
-    go : Walks (assertions form) (map placed (values form)) (walked bytes (tokens_of_text form) start)
+    go : Walks (assertions form) (map placed (values form)) (state_after bytes (tokens_of_text form) start)
         → Stands (assertions form) (map placed (values form)) read.spots
     go (ended now tables e st) =
         let made : model_nodes_of bytes ≡ Some now =
-        ap (λ (o : Option Text). o >>= λ f. walked bytes (tokens_of_text f) start >>= λ s. Some s.spots)
+        ap (λ (o : Option Text). o >>= λ f. state_after bytes (tokens_of_text f) start >>= λ s. Some s.spots)
         (manifest_form bytes form read.manifest) ∙ ap (λ (o : Option State). o >>= λ s. Some s.spots) e in
         subst (λ (ss : List ModelNode). Stands (assertions form) (map placed (values form)) ss)
         (same_Some now read.spots (sym made ∙ read.found)) st

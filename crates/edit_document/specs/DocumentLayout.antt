@@ -3,7 +3,7 @@ use Rattle.std.specs.Prelude.{◌≡◌, ℕ, List, [], ◌∷◌, length, map, 
 use Rattle.edit_syntax.specs.declared.span.Span.{Span}
 use Rattle.edit_document.specs.declared.document.Document.TheInside.{Inside}
 use Rattle.edit_syntax.specs.Characters.{quote, apostrophe}
-use Rattle.edit_syntax.specs.Strings.{says, decoded_multi}
+use Rattle.edit_syntax.specs.Strings.{decoded_pieces, decoded_multi}
 use Rattle.edit_syntax.specs.Numbers.{integer_text, float_text, datetime_text}
 use Rattle.edit_syntax.specs.Grammar.{Value, basic, literal, multi_basic, multi_literal, boolean, integer, float, datetime, array, inline, value, Text}
 use Rattle.edit_tree.specs.Assertions.{IsDocument, Place, same_place}
@@ -15,12 +15,12 @@ use Rattle.edit_tree.specs.DocumentViews.{DocumentViews, node_at}
 use Rattle.edit_tree.specs.Nodes.{Shape, scalar, ModelNode, model_node_view, RepresentsNodes, IsTree}
 use Rattle.edit_tree.specs.Nodes as shapes
 use Rattle.edit_syntax.specs.FormOf.{form_of}
-use Rattle.edit_tree.specs.Walk.{start, walked}
+use Rattle.edit_tree.specs.Walk.{start, state_after}
 use Rattle.edit_tree.specs.Written.{PlacedValue, values}
 
 -- the shape of a value, without its members and elements
 abbrev pub shape_of_value : Value → Shape
-shape_of_value (basic ps) = scalar (string (says quote ps))
+shape_of_value (basic ps) = scalar (string (decoded_pieces quote ps))
 shape_of_value (literal text) = scalar (string text)
 shape_of_value (multi_basic ps) = scalar (string (decoded_multi quote ps))
 shape_of_value (multi_literal ps) = scalar (string (decoded_multi apostrophe ps))
@@ -54,7 +54,7 @@ span_at (w ∷ ws) place = if same_place w.0 place then Some w.1 else span_at ws
 
 -- the nodes that the walk over the tokens of a text builds
 abbrev pub model_nodes_of : List ℕ → Option (List ModelNode)
-model_nodes_of bytes = form_of bytes >>= λ form. walked bytes (tokens_of_text form) start >>= λ st. Some st.spots
+model_nodes_of bytes = form_of bytes >>= λ form. state_after bytes (tokens_of_text form) start >>= λ st. Some st.spots
 
 -- the places and views of these nodes; empty where there are none
 abbrev pub node_views : Option (List ModelNode) → List (Place × View)

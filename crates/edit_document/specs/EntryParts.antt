@@ -4,8 +4,8 @@ use Rattle.std.specs.List.{filter_map, flat_map, range_with_len}
 use Rattle.std.proofs.Props.{props}
 use Rattle.edit_document.specs.declared.entry_part.Part.{Part}
 use Rattle.edit_document.specs.declared.entry_part.Part.TheVariants.{Whole, Member, Element, MemberElement}
-use Rattle.edit_document.specs.declared.entry_part.Said.{Said}
-use Rattle.edit_document.specs.declared.entry_part.Said.TheVariants.{Text, Truth, List as Listed, Members}
+use Rattle.edit_document.specs.declared.entry_part.PartValue.{PartValue}
+use Rattle.edit_document.specs.declared.entry_part.PartValue.TheVariants.{Text, Truth, List as Listed, Members}
 use Rattle.edit_tree.specs.Assertions.{key, index, Place}
 use Rattle.edit_tree.specs.Tree.{View, string, truth, static_array}
 use Rattle.edit_tree.specs.DocumentViews.{DocumentViews}
@@ -65,7 +65,7 @@ IsPart-prop item part = hlevel props
 -- ---- values of parts
 
 -- the view of a value of a part
-abbrev pub part_value_view : Said → View
+abbrev pub part_value_view : PartValue → View
 part_value_view (Text s) = string s.now
 part_value_view (Truth b) = truth b
 part_value_view (Listed l) = static_array (length l.now)

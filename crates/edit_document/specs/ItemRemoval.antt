@@ -7,7 +7,7 @@ use Rattle.edit_tree.specs.Assertions.{Step, key, index, Place, at, same_place, 
 use Rattle.edit_document.specs.Compared.{nth_part, SameButOrderBelow, IsNumber}
 use Rattle.edit_tree.specs.EditBytes.{is_within}
 use Rattle.edit_document.specs.Items.{place_view, node_place, node_view, names_in}
-use Rattle.edit_tree.specs.IntendedTrees.{Tree, Vanishes, moved, is_member, SameButOrder, Loses}
+use Rattle.edit_tree.specs.IntendedTrees.{Tree, Vanishes, place_after_removal, is_member, SameButOrder, Loses}
 use Rattle.edit_tree.specs.DocumentViews.{DocumentViews, tree_of}
 
 -- ---- trees
@@ -21,7 +21,7 @@ pub record LosesPart (t : Step) (old new : Tree) : Type 0 where
   pub here : Loses t (old []) (new [])
   pub nothing_there : is_member (t ∷ []) ≡ true → new (t ∷ []) ≡ None
   pub elsewhere : (s : Step) (q : Place) → (s ≡ t → ⊥)
-      → SameButOrder (old (s ∷ q)) (new (moved (t ∷ []) (s ∷ q)))
+      → SameButOrder (old (s ∷ q)) (new (place_after_removal (t ∷ []) (s ∷ q)))
 
 -- The result has the indices of the nodes at a place in two documents that are equal except at and below it
 -- and for the order of members; it is `None` only where they differ elsewhere or the second has no item
@@ -80,7 +80,7 @@ moved_index (index i) j = if nat_lt i j then j - 1 else j
 
 -- the place of a child at step `s` after the child at step `t` is removed
 abbrev pub moved_place : Step → Place → Step → Place
-moved_place t p s = p ++ moved (t ∷ []) (s ∷ [])
+moved_place t p s = p ++ place_after_removal (t ∷ []) (s ∷ [])
 
 -- the trees at the child of this index and at its new place, after a child is removed, are equal except for
 -- the order of members

@@ -117,7 +117,7 @@ Shows (table_array n) seen.Tables = ⊤
 Shows _ _ = ⊥
 
 -- the index of the node at a place, or `None` where there is no item
-abbrev pub Numbers : DocumentViews → Place → Option ℕ → Type 0
-Numbers d place r = MatchOption r (tree_of d place
+abbrev pub IsNodeIndex : DocumentViews → Place → Option ℕ → Type 0
+IsNodeIndex d place r = MatchOption r (tree_of d place
     ≡ None) (λ n. (tree_of d place ≡ Some (node_view d n)) × (node_place d n ≡ place)
     × (n < length d.nodes))

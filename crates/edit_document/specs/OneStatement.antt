@@ -16,9 +16,9 @@ HasMember d n r = MatchOption r (length (names_in (node_view d n)) ≡ 1 → ⊥
     × IsNumber d (at (node_place d n) (key name)) m)
 
 -- one pair and no header name the node; or none, several or a header do; or those that name its only member
-abbrev pub Answers : Text → DocumentViews → ℕ → Statements → Type 0
-Answers form d n One = is_one_statement form (node_place d n) ≡ true
-Answers form d n Other = is_one_statement form (node_place d n) ≡ false
-Answers form d n (AsMember m) =
+abbrev pub IsStatementCount : Text → DocumentViews → ℕ → Statements → Type 0
+IsStatementCount form d n One = is_one_statement form (node_place d n) ≡ true
+IsStatementCount form d n Other = is_one_statement form (node_place d n) ≡ false
+IsStatementCount form d n (AsMember m) =
     (is_one_statement form (node_place d n) ≡ is_one_statement form (node_place d m))
     × ((name : List ℕ) × IsNumber d (at (node_place d n) (key name)) m)

@@ -9,7 +9,7 @@ ghost use Rattle.edit_tree.specs.Assertions.{IsDocument};
 ghost use Rattle.edit_tree.specs.Redefinition as taking;
 
 use crate::document::Document;
-use edit_tree::nodes::{Content, DefinedBy, cut, decoded_str};
+use edit_tree::nodes::{Content, DefinedBy, decoded_str, span_text};
 
 /// Whether a node was defined by a value or by its own header, not only by keys that pass through it.
 fn is_own(taken: DefinedBy) -> bool
@@ -42,16 +42,16 @@ impl Document {
     }
 
     /// The decoded text of a string, or a number, a date or a time as written.
-    pub fn word(&self, number: usize) -> Option<&str>
+    pub fn scalar_text(&self, number: usize) -> Option<&str>
         requires { number < length self.now.nodes }
         ensures { option_map (λ s. s.now) result ≡ word_of (node_view self.now number) }
     {
         let node = &self.nodes[number];
         match &node.content {
             Content::Text(words) => Some(decoded_str(self.text.as_str(), words)),
-            Content::Integer(span) => Some(cut(self.text.as_str(), *span)),
-            Content::Float(span) => Some(cut(self.text.as_str(), *span)),
-            Content::DateTime(span) => Some(cut(self.text.as_str(), *span)),
+            Content::Integer(span) => Some(span_text(self.text.as_str(), *span)),
+            Content::Float(span) => Some(span_text(self.text.as_str(), *span)),
+            Content::DateTime(span) => Some(span_text(self.text.as_str(), *span)),
             Content::Truth(_)
             | Content::Array
             | Content::Tables
@@ -62,7 +62,7 @@ impl Document {
 
     /// For proofs: a node has only its members and elements below it, and lies at most 80 steps below the
     /// root. Does nothing.
-    pub fn is_whole(&self, number: usize)
+    pub fn lemma_children(&self, number: usize)
         requires { number < length self.now.nodes }
         ensures { IsWhole self.now number }
     {

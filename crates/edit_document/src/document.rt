@@ -9,11 +9,11 @@ ghost use Rattle.edit_syntax.specs.Grammar.{Text};
 ghost use Rattle.edit_tree.specs.DocumentViews.{tree_of, ShowsTree};
 ghost use Rattle.edit_document.specs.Ranges.{HasRange};
 ghost use Rattle.edit_syntax.specs.SyntaxTokens.{IsTokenizeError};
-ghost use Rattle.edit_document.specs.Items.{node_place, node_view, names_in, count_in, place_view, Shows, Numbers};
+ghost use Rattle.edit_document.specs.Items.{node_place, node_view, names_in, count_in, place_view, Shows, IsNodeIndex};
 
 use crate::item::Item;
 use edit_base::errors::CargoResult;
-use edit_syntax::read::read_marks;
+use edit_syntax::read::tokenize;
 use edit_tree::Step;
 use edit_tree::nodes::{Content, Node, decoded_str};
 use edit_tree::walk::nodes_of;
@@ -68,7 +68,7 @@ impl Document {
         ensures pieces { IfOk result (λ d. length d.pieces ≤ 1) }
         ensures error { IfErr result (IsTokenizeError (length text.now)) }
     {
-        let marks = read_marks(alloc, text.as_bytes())?;
+        let marks = tokenize(alloc, text.as_bytes())?;
         let nodes = nodes_of(alloc, text, marks.as_slice())?;
         drop(marks);
         let written = (0, text.len());
@@ -88,7 +88,7 @@ impl Document {
     }
 
     /// The content of the node at an index.
-    pub(crate) fn seen(&self, number: usize) -> Datum<'_>
+    pub(crate) fn datum(&self, number: usize) -> Datum<'_>
         requires { number < length self.now.nodes }
         ensures { Shows (node_view self.now number) result }
     {
@@ -163,14 +163,14 @@ impl Document {
     /// The node of the member of this key.
     pub fn member(&self, number: usize, key: &str) -> Option<usize>
         requires { number < length self.now.nodes }
-        ensures { Numbers self.now (at (node_place self.now number) (key_step key.now)) result }
+        ensures { IsNodeIndex self.now (at (node_place self.now number) (key_step key.now)) result }
     {
         let node = &self.nodes[number];
         node.members.get(self.text.as_str(), key)
     }
 
     /// For proofs: a place exists where the node is. Does nothing.
-    pub fn stands(&self, number: usize)
+    pub fn lemma_exists(&self, number: usize)
         requires { number < length self.now.nodes }
         ensures { tree_of self.now (node_place self.now number) ≡ Some (node_view self.now number) }
     {
@@ -180,7 +180,7 @@ impl Document {
     /// The node of the element at an index.
     pub fn element(&self, number: usize, index: usize) -> Option<usize>
         requires { number < length self.now.nodes }
-        ensures { Numbers self.now (at (node_place self.now number) (index_step index)) result }
+        ensures { IsNodeIndex self.now (at (node_place self.now number) (index_step index)) result }
     {
         let node = &self.nodes[number];
         node.members.elements().get(index).copied()
@@ -196,8 +196,8 @@ impl Document {
     }
 
     /// The index of the node at a place.
-    pub fn number(&self, place: &[Step]) -> Option<usize>
-        ensures { Numbers self.now (place_view place.now) result }
+    pub fn node_index(&self, place: &[Step]) -> Option<usize>
+        ensures { IsNodeIndex self.now (place_view place.now) result }
     {
         self.lemma_tree();
         let mut number = 0;
@@ -207,7 +207,7 @@ impl Document {
                 Step::Index(index) => number = self.element(number, *index)?,
             }
         }
-        self.stands(number);
+        self.lemma_exists(number);
         Some(number)
     }
 
@@ -225,7 +225,7 @@ impl Document {
         ensures { IfDocument self.now.bytes (λ form. HasRange form (place_view place.now) result) }
     {
         let len = self.text.len();
-        let number = self.number(place)?;
+        let number = self.node_index(place)?;
         let span = self.nodes[number].span?;
         Some((
             len.saturating_sub(span.from as usize),
@@ -237,7 +237,7 @@ impl Document {
     pub fn item(&self, place: &[Step]) -> Option<Item<'_>>
         ensures { Finds self.now (place_view place.now) result }
     {
-        match self.number(place) {
+        match self.node_index(place) {
             Some(number) => Some(Item::new(self, number)),
             None => None,
         }

@@ -22,7 +22,7 @@ pub(crate) enum Part<'a> {
 
 /// The value of a new entry or of one of its parts.
 #[derive(Clone, Copy)]
-pub(crate) enum Said<'a> {
+pub(crate) enum PartValue<'a> {
     Text(&'a str),
     Truth(bool),
     List(&'a [String]),
@@ -38,7 +38,7 @@ pub(crate) struct EntryPart<'a> {
     ghost stands: { IsPart (new_item_view item.now) part } by { IsPart-prop (new_item_view item.now) part },
 }
 
-impl<'a> Said<'a> {
+impl<'a> PartValue<'a> {
     ghost use Rattle.std.specs.Prelude.{◌≡◌, ◌∷◌, [], Some, false, option_map};
     ghost use Rattle.edit_tree.specs.Assertions.{index as index_step};
     ghost use Rattle.edit_document.specs.EntryParts.{part_value_view};
@@ -47,23 +47,23 @@ impl<'a> Said<'a> {
     ghost use Rattle.edit_tree.specs.Tree.{string};
 
     /// The value of a `NewValue`.
-    fn value(value: &'a NewValue) -> Said<'a>
+    fn value(value: &'a NewValue) -> PartValue<'a>
         ensures { new_view (new_value_view value.now) [] ≡ Some (part_value_view result) }
     {
         match value {
-            NewValue::Str(text) => Said::Text(text.as_str()),
-            NewValue::Bool(truth) => Said::Truth(*truth),
-            NewValue::Strings(list) => Said::List(list.as_slice()),
+            NewValue::Str(text) => PartValue::Text(text.as_str()),
+            NewValue::Bool(truth) => PartValue::Truth(*truth),
+            NewValue::Strings(list) => PartValue::List(list.as_slice()),
         }
     }
 
     /// The value of a `NewItem`.
-    fn entry(item: &'a NewItem) -> Said<'a>
+    fn entry(item: &'a NewItem) -> PartValue<'a>
         ensures { item_view false (new_item_view item.now) [] ≡ Some (part_value_view result) }
     {
         match item {
-            NewItem::Value(value) => Said::value(value),
-            NewItem::Inline { members, dotted } => Said::Members(members.as_slice(), *dotted),
+            NewItem::Value(value) => PartValue::value(value),
+            NewItem::Inline { members, dotted } => PartValue::Members(members.as_slice(), *dotted),
         }
     }
 
@@ -83,7 +83,7 @@ impl<'a> Said<'a> {
 }
 
 /// The first member of this name.
-fn named<'a>(members: &'a [(String, NewValue)], name: &str) -> Option<&'a (String, NewValue)>
+fn first_named<'a>(members: &'a [(String, NewValue)], name: &str) -> Option<&'a (String, NewValue)>
     ensures { option_map (λ m. new_pair_view m.now) result
         ≡ find (λ m. same_bytes m.0 name.now) (new_pair_views members.now) }
 {
@@ -119,7 +119,7 @@ impl<'a> EntryPart<'a> {
     ghost use Rattle.edit_tree.specs.DocumentViews.{tree_of};
 
     /// The entry itself as a part.
-    pub(crate) fn whole(item: &'a NewItem) -> EntryPart<'a>
+    pub(crate) fn entry_root(item: &'a NewItem) -> EntryPart<'a>
         ensures { (result.item.now ≡ item.now) × (part_place result.part ≡ []) }
     {
         EntryPart {
@@ -129,33 +129,33 @@ impl<'a> EntryPart<'a> {
     }
 
     /// The value of the part.
-    fn said(self) -> Said<'a>
+    fn part_value(self) -> PartValue<'a>
         ensures { part_shown self.entry ≡ part_value_view result }
     {
         match self.part {
-            Part::Whole => Said::entry(self.item),
-            Part::Member(member) => Said::value(&member.1),
-            Part::Element(value, index) => Said::Text(Said::text(value, index).unwrap()),
-            Part::MemberElement(member, index) => Said::Text(Said::text(&member.1, index).unwrap()),
+            Part::Whole => PartValue::entry(self.item),
+            Part::Member(member) => PartValue::value(&member.1),
+            Part::Element(value, index) => PartValue::Text(PartValue::text(value, index).unwrap()),
+            Part::MemberElement(member, index) => PartValue::Text(PartValue::text(&member.1, index).unwrap()),
         }
     }
 
     /// For proofs: the part exists. Does nothing.
-    pub(crate) fn stands(self)
+    pub(crate) fn lemma_exists(self)
         ensures { tree_of (entry_of self.entry) (part_place self.entry.part) ≡ Some (part_shown self.entry) }
     {
         let _part = self.part;
     }
 
     /// The content of the part, without its members.
-    pub(crate) fn seen(self) -> Datum<'a>
+    pub(crate) fn datum(self) -> Datum<'a>
         ensures { Shows (part_shown self.entry) result }
     {
-        match self.said() {
-            Said::Text(text) => Datum::Text(text),
-            Said::Truth(truth) => Datum::Truth(truth),
-            Said::List(_) => Datum::Array,
-            Said::Members(_, dotted) => if dotted { Datum::Table } else { Datum::Inline },
+        match self.part_value() {
+            PartValue::Text(text) => Datum::Text(text),
+            PartValue::Truth(truth) => Datum::Truth(truth),
+            PartValue::List(_) => Datum::Array,
+            PartValue::Members(_, dotted) => if dotted { Datum::Table } else { Datum::Inline },
         }
     }
 
@@ -163,10 +163,10 @@ impl<'a> EntryPart<'a> {
     pub(crate) fn count(self) -> usize
         ensures { result ≡ count_in (part_shown self.entry) }
     {
-        match self.said() {
-            Said::Text(_) | Said::Truth(_) => 0,
-            Said::List(list) => list.len(),
-            Said::Members(members, _) => members.len(),
+        match self.part_value() {
+            PartValue::Text(_) | PartValue::Truth(_) => 0,
+            PartValue::List(list) => list.len(),
+            PartValue::Members(members, _) => members.len(),
         }
     }
 
@@ -174,9 +174,9 @@ impl<'a> EntryPart<'a> {
     pub(crate) fn name_count(self) -> usize
         ensures { result ≡ length (names_in (part_shown self.entry)) }
     {
-        match self.said() {
-            Said::Text(_) | Said::Truth(_) | Said::List(_) => 0,
-            Said::Members(members, _) => members.len(),
+        match self.part_value() {
+            PartValue::Text(_) | PartValue::Truth(_) | PartValue::List(_) => 0,
+            PartValue::Members(members, _) => members.len(),
         }
     }
 
@@ -184,9 +184,9 @@ impl<'a> EntryPart<'a> {
     pub(crate) fn name(self, index: usize) -> Option<&'a str>
         ensures { option_map (λ s. s.now) result ≡ slice_get (names_in (part_shown self.entry)) index }
     {
-        match self.said() {
-            Said::Text(_) | Said::Truth(_) | Said::List(_) => None,
-            Said::Members(members, _) => nth_name(members, index),
+        match self.part_value() {
+            PartValue::Text(_) | PartValue::Truth(_) | PartValue::List(_) => None,
+            PartValue::Members(members, _) => nth_name(members, index),
         }
     }
 
@@ -200,7 +200,7 @@ impl<'a> EntryPart<'a> {
             Part::Whole => match item {
                 NewItem::Value(_) => None,
                 NewItem::Inline { members, .. } => {
-                    match named(members.as_slice(), name) {
+                    match first_named(members.as_slice(), name) {
                         Some(member) => Some(EntryPart {
                             item,
                             part: Part::Member(member),
@@ -221,7 +221,7 @@ impl<'a> EntryPart<'a> {
         let item = self.item;
         match self.part {
             Part::Whole => match item {
-                NewItem::Value(value) => match Said::text(value, index) {
+                NewItem::Value(value) => match PartValue::text(value, index) {
                     Some(_) => Some(EntryPart {
                         item,
                         part: Part::Element(value, index),
@@ -230,7 +230,7 @@ impl<'a> EntryPart<'a> {
                 },
                 NewItem::Inline { .. } => None,
             },
-            Part::Member(member) => match Said::text(&member.1, index) {
+            Part::Member(member) => match PartValue::text(&member.1, index) {
                 Some(_) => Some(EntryPart {
                     item,
                     part: Part::MemberElement(member, index),

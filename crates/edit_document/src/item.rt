@@ -91,7 +91,7 @@ impl<'a> Item<'a> {
     {
         match part {
             Some(part) => {
-                part.stands();
+                part.lemma_exists();
                 Some(Item::of_part(part))
             }
             None => None,
@@ -99,22 +99,22 @@ impl<'a> Item<'a> {
     }
 
     /// For proofs: the place of the item exists. Does nothing.
-    pub fn stands(self)
+    pub fn lemma_exists(self)
         ensures { tree_of (document_of self.entry) (place_of self.entry) ≡ Some (view_of self.entry) }
     {
         match self.source {
-            Source::Node(node) => node.document.stands(node.number),
-            Source::Part(part) => part.stands(),
+            Source::Node(node) => node.document.lemma_exists(node.number),
+            Source::Part(part) => part.lemma_exists(),
         }
     }
 
     /// The content of the item, without its members.
-    fn seen(self) -> Datum<'a>
+    fn datum(self) -> Datum<'a>
         ensures { Shows (view_of self.entry) result }
     {
         match self.source {
-            Source::Node(node) => node.document.seen(node.number),
-            Source::Part(part) => part.seen(),
+            Source::Node(node) => node.document.datum(node.number),
+            Source::Part(part) => part.datum(),
         }
     }
 
@@ -122,7 +122,7 @@ impl<'a> Item<'a> {
     pub fn as_str(self) -> Option<&'a str>
         ensures { option_map (λ s. s.now) result ≡ string_in (view_of self.entry) }
     {
-        match self.seen() {
+        match self.datum() {
             Datum::Text(text) => Some(text),
             Datum::Truth(_) | Datum::Inline | Datum::Table | Datum::Tables => None,
             Datum::Integer | Datum::Float | Datum::DateTime | Datum::Array => None,
@@ -133,7 +133,7 @@ impl<'a> Item<'a> {
     pub fn as_bool(self) -> Option<bool>
         ensures { result ≡ truth_in (view_of self.entry) }
     {
-        match self.seen() {
+        match self.datum() {
             Datum::Truth(truth) => Some(truth),
             Datum::Text(_) | Datum::Inline | Datum::Table | Datum::Tables => None,
             Datum::Integer | Datum::Float | Datum::DateTime | Datum::Array => None,
@@ -146,7 +146,7 @@ impl<'a> Item<'a> {
             (λ i. (is_static_array (view_of self.entry) ≡ true)
             × (document_of i ≡ document_of self.entry) × (place_of i ≡ place_of self.entry)) }
     {
-        match self.seen() {
+        match self.datum() {
             Datum::Text(_) | Datum::Truth(_) | Datum::Inline | Datum::Table | Datum::Tables => None,
             Datum::Integer | Datum::Float | Datum::DateTime => None,
             Datum::Array => Some(self),
@@ -217,7 +217,7 @@ impl<'a> Item<'a> {
     pub fn is_str(self) -> bool
         ensures { result ≡ is_string (view_of self.entry) }
     {
-        match self.seen() {
+        match self.datum() {
             Datum::Text(_) => true,
             Datum::Truth(_) | Datum::Inline | Datum::Table | Datum::Tables => false,
             Datum::Integer | Datum::Float | Datum::DateTime | Datum::Array => false,
@@ -228,7 +228,7 @@ impl<'a> Item<'a> {
     pub fn is_table_like(self) -> bool
         ensures { result ≡ is_tabular (view_of self.entry) }
     {
-        match self.seen() {
+        match self.datum() {
             Datum::Text(_) | Datum::Truth(_) | Datum::Tables => false,
             Datum::Integer | Datum::Float | Datum::DateTime | Datum::Array => false,
             Datum::Inline | Datum::Table => true,
@@ -239,7 +239,7 @@ impl<'a> Item<'a> {
     pub fn is_inline_table(self) -> bool
         ensures { result ≡ is_inline (view_of self.entry) }
     {
-        match self.seen() {
+        match self.datum() {
             Datum::Inline => true,
             Datum::Text(_) | Datum::Truth(_) | Datum::Table | Datum::Tables => false,
             Datum::Integer | Datum::Float | Datum::DateTime | Datum::Array => false,
@@ -251,7 +251,7 @@ impl<'a> Item<'a> {
     pub fn type_name(self) -> &'static str
         ensures { result.now ≡ type_name_of (view_of self.entry) }
     {
-        match self.seen() {
+        match self.datum() {
             Datum::Text(_) => "string",
             Datum::Truth(_) => "boolean",
             Datum::Integer => "integer",

@@ -20,4 +20,4 @@ pub use edit_base::{
 pub use edit_tree::{Place, Step};
 pub use item::{Item, Keys};
 pub use new_item::{NewItem, NewValue};
-pub use place::{copied_place, member_place};
+pub use place::{clone_place, member_place};

@@ -1,6 +1,6 @@
 //! Writes string literals (TOML 1.0.0, "String").
 ghost use Rattle.std.specs.Prelude.{◌≡◌, ◌<◌, ◌++◌, true, string_bytes, OnOk};
-ghost use Rattle.edit_tree.specs.Literals.{hex_digit as digit_of, escaped, is_escaped, literal_body, literal_bytes};
+ghost use Rattle.edit_tree.specs.Literals.{hex_digit as digit_of, escaped_byte, is_escaped, literal_body, literal_bytes};
 
 use std::alloc::AllocError;
 
@@ -40,7 +40,7 @@ fn needs_escape(byte: u8) -> bool
 /// Appends the escape for a byte that has to be escaped.
 fn push_escape(out: &mut String, byte: u8) -> Result<(), AllocError>
     requires { is_escaped byte ≡ true }
-    ensures { OnOk result (string_bytes out.new ≡ string_bytes out.old ++ escaped byte) }
+    ensures { OnOk result (string_bytes out.new ≡ string_bytes out.old ++ escaped_byte byte) }
 {
     match byte {
         b'"' => out.push_str("\\\""),

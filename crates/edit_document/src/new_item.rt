@@ -44,7 +44,7 @@ impl NewItem {
             tree_of (document_of result) q ≡ item_view false (new_item_view self.now) q }
         ensures place { place_of result ≡ [] }
     {
-        Item::of_part(EntryPart::whole(self))
+        Item::of_part(EntryPart::entry_root(self))
     }
 
     /// The entry written as a value: a literal, `{ k = v, k = v }`, or `{}` (TOML 1.0.0, "Keys" to "Inline

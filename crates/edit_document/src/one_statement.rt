@@ -5,7 +5,7 @@ ghost use Rattle.edit_tree.specs.Assertions.{IsDocument, Place, at, key as key_s
 ghost use Rattle.edit_tree.specs.EditBytes.{is_one_statement};
 ghost use Rattle.edit_document.specs.Forms.{IfDocument};
 ghost use Rattle.edit_document.specs.Items.{node_place, place_view};
-ghost use Rattle.edit_document.specs.OneStatement.{HasMember, Answers};
+ghost use Rattle.edit_document.specs.OneStatement.{HasMember, IsStatementCount};
 
 use crate::document::Document;
 use edit_tree::Step;
@@ -44,7 +44,7 @@ impl Document {
         requires { number < length self.now.nodes }
         ensures { HasMember self.now number result }
     {
-        self.is_whole(number);
+        self.lemma_children(number);
         if self.name_count(number) != 1 {
             return None;
         }
@@ -59,7 +59,7 @@ impl Document {
         requires { number < length self.now.nodes }
         ensures { (form : Text) → (upper : Place) → (name : List ℕ) → IsDocument self.now.bytes form
             → node_place self.now number ≡ at upper (key_step name)
-            → Answers form self.now number result }
+            → IsStatementCount form self.now number result }
     {
         let _text = self.text.as_str();
         let node = &self.nodes[number];
@@ -85,7 +85,7 @@ impl Document {
         if !is_member(place) {
             return false;
         }
-        let Some(first) = self.number(place) else {
+        let Some(first) = self.node_index(place) else {
             return false;
         };
         let mut number = first;
@@ -96,7 +96,7 @@ impl Document {
                 Statements::AsMember(next) => number = next,
             }
         }
-        self.is_whole(number);
+        self.lemma_children(number);
         false
     }
 }

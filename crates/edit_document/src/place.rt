@@ -23,7 +23,7 @@ fn clone_step(alloc: Global, step: &Step) -> CargoResult<Step>
 }
 
 /// A copy of a place.
-pub fn copied_place(alloc: Global, steps: &[Step]) -> CargoResult<Place>
+pub fn clone_place(alloc: Global, steps: &[Step]) -> CargoResult<Place>
     ensures ok { IfOk result (λ p. place_view p.items ≡ place_view steps.now) }
     ensures error { IfErr result IsMemory }
 {
@@ -40,7 +40,7 @@ pub fn member_place(alloc: Global, steps: &[Step], name: &str) -> CargoResult<Pl
     ensures ok { IfOk result (λ p. place_view p.items ≡ at (place_view steps.now) (key name.now)) }
     ensures error { IfErr result IsMemory }
 {
-    let mut place = copied_place(alloc, steps)?;
+    let mut place = clone_place(alloc, steps)?;
     let name = String::from_str(alloc, name)?;
     place.push(Step::Key(name))?;
     Ok(place)

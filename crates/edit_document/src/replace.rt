@@ -7,7 +7,7 @@ ghost use Rattle.edit_document.specs.Items.{place_view};
 ghost use Rattle.edit_tree.specs.Literals.{literal_bytes};
 ghost use Rattle.edit_tree.specs.Pieces.{IsAmong, IsSwapped};
 ghost use Rattle.edit_document.specs.Ranges.{one_edit, edit_views};
-ghost use Rattle.edit_tree.specs.Replaces.{Edits, replaced, written, tree_without_below, AreValues, AreDistinct, AreOutside, Replaces};
+ghost use Rattle.edit_tree.specs.Replaces.{Edits, replaced, tree_with_strings, tree_without_below, AreValues, AreDistinct, AreOutside, Replaces};
 ghost use Rattle.edit_tree.specs.Assertions.{Place as PlaceSeen};
 ghost use Rattle.edit_tree.specs.DocumentViews.{tree_of};
 ghost use Rattle.edit_document.specs.Splices.{range_of, spliced, AreInOrder, IsRangeFor, Locates};
@@ -121,7 +121,7 @@ impl Document {
             Replaces (edit_views edits.now) self.now.bytes (string_bytes s)) }
         ensures tree { IfOk result (λ s. IfDocument (string_bytes s) (λ form. (at : PlaceSeen)
             → let edits = edit_views edits.now in
-            view_at form at ≡ written edits (tree_without_below edits (tree_of self.now)) at)) }
+            view_at form at ≡ tree_with_strings edits (tree_without_below edits (tree_of self.now)) at)) }
         ensures error { IfErr result IsMemory }
     {
         self.lemma_form();
@@ -141,7 +141,7 @@ impl Document {
             Replaces (one_edit (place_view place.now) text.now) self.old.bytes self.new.bytes) }
         ensures tree { IfOk result (λ _. (at : PlaceSeen)
             → let edit = one_edit (place_view place.now) text.now in
-            tree_of self.new at ≡ written edit (tree_without_below edit (tree_of self.old)) at) }
+            tree_of self.new at ≡ tree_with_strings edit (tree_without_below edit (tree_of self.old)) at) }
         ensures piece { IfOk result (λ _. IsAmong (literal_bytes text.now) self.new.pieces) }
         ensures pieces { IfOk result (λ _. length self.new.pieces ≤ length self.old.pieces + 2) }
         ensures err { IfErr result (λ _. self.new ≡ self.old) }

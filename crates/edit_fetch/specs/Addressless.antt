@@ -27,8 +27,8 @@ pub record IsAddressless (configs : List Config) (key : List ℕ) : Type 0 where
   pub first : is_empty_definition (first key (all_definitions configs)) ≡ true
 
 -- the placeholder URL of a source: `source:` and its key
-abbrev pub stand_in_address : List ℕ → List ℕ
-stand_in_address key = codes "source:" ++ key
+abbrev pub placeholder_address : List ℕ → List ℕ
+placeholder_address key = codes "source:" ++ key
 
 -- the line that sets the URL of a source
 unfoldable pub source_line : List ℕ → List ℕ → List ℕ
@@ -37,4 +37,4 @@ source_line key address =
 
 -- the line that gives a source its placeholder URL
 abbrev pub placeholder_line : AddresslessSource → List ℕ
-placeholder_line s = source_line s.key.now (stand_in_address s.key.now)
+placeholder_line s = source_line s.key.now (placeholder_address s.key.now)

@@ -11,7 +11,7 @@ use Rattle.edit_fetch.specs.Tokens.{token_of}
 use Rattle.edit_fetch.specs.Transfers.{requests_text}
 use Rattle.edit_fetch.specs.declared.plan.FetchPlan.{FetchPlan}
 use Rattle.edit_fetch.specs.declared.transfers.Request.{Request}
-use Rattle.edit_store.specs.Store.{Files, raised}
+use Rattle.edit_store.specs.Store.{Files, IsRaisedCount}
 
 -- whether the entries of a registry are fetched: it uses the sparse protocol
 abbrev pub is_sparse_registry : List ℕ → Bool
@@ -72,7 +72,7 @@ HasSameFilesElsewhere room old new =
 pub record HasFailedIn (before now : ℕ) (e : Error) : Type 0 where
   pub call : DeviceCall
   pub is : e ≡ Device call
-  pub counted : raised before now
+  pub counted : IsRaisedCount before now
 
 -- the text is not a valid file of lookups
 abbrev pub IsUnreadable : List ℕ → Type 0

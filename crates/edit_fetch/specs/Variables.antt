@@ -38,8 +38,8 @@ registry_key part = map key_byte part
 abbrev pub dashed_byte : ℕ → ℕ
 dashed_byte b = if b == 95 then 45 else b
 
-abbrev pub dashed : List ℕ → List ℕ
-dashed key = map dashed_byte key
+abbrev pub key_with_dashes : List ℕ → List ℕ
+key_with_dashes key = map dashed_byte key
 
 -- the line that sets the index of a registry
 unfoldable pub registry_line : List ℕ → List ℕ → List ℕ
@@ -48,7 +48,7 @@ registry_line key index = codes "registries." ++ (key ++ (codes ".index = " ++ v
 -- the line for a key and, where it contains `_`, the line for the key with `-` instead
 unfoldable pub registry_lines : List ℕ → List ℕ → List ℕ
 registry_lines key index =
-    registry_line key index ++ (if list_any (λ b. b == 95) key then registry_line (dashed key) index else [])
+    registry_line key index ++ (if list_any (λ b. b == 95) key then registry_line (key_with_dashes key) index else [])
 
 -- the lines for a variable, given its name and its value
 unfoldable pub variable_lines : List ℕ × List ℕ → List ℕ

@@ -2,7 +2,7 @@
 ghost use Rattle.std.specs.Prelude.{◌≡◌, ◌++◌, All, IfOk, OnOk, find, option_map, string_bytes};
 ghost use Rattle.std.specs.List.{flat_map};
 ghost use Rattle.std.specs.Str.{bytes_eq};
-ghost use Rattle.edit_fetch.specs.Addressless.{IsAddressless, is_empty_definition, is_empty_source, is_own_key, source_line, stand_in_address, placeholder_line};
+ghost use Rattle.edit_fetch.specs.Addressless.{IsAddressless, is_empty_definition, is_empty_source, is_own_key, source_line, placeholder_address, placeholder_line};
 ghost use Rattle.edit_sources.specs.Configured.{all_definitions, configuration, source_view};
 ghost use Rattle.edit_sources.specs.SourceReplacement.{definitions_of, first};
 
@@ -108,8 +108,8 @@ pub fn addressless_sources<'a>(
 }
 
 /// The placeholder URL of a source without one: `source:` and its key. No registry has that scheme.
-pub fn stand_in_address(alloc: Global, key: &str) -> Result<String, AllocError>
-    ensures { IfOk result (λ s. string_bytes s ≡ stand_in_address key.now) }
+pub fn placeholder_address(alloc: Global, key: &str) -> Result<String, AllocError>
+    ensures { IfOk result (λ s. string_bytes s ≡ placeholder_address key.now) }
 {
     format!(in alloc; "source:{key}")
 }
@@ -133,7 +133,7 @@ pub fn sources_text(alloc: Global, sources: &[AddresslessSource<'_>]) -> Result<
 {
     let mut text = Vec::new(alloc);
     for source in sources {
-        let address = stand_in_address(alloc, source.key)?;
+        let address = placeholder_address(alloc, source.key)?;
         push_source(&mut text, source.key.as_bytes(), address.as_bytes())?;
     }
     Ok(text)
@@ -188,7 +188,7 @@ git = 'https://git.example/'
         let config = Config::read(rt.alloc(), "first.toml", &text)?;
         assert_eq!(rt; config.sources.len(), 2);
         for (key, source) in &config.sources {
-            let address = stand_in_address(rt.alloc(), key.as_str())?;
+            let address = placeholder_address(rt.alloc(), key.as_str())?;
             assert_eq!(rt; source.registry.as_deref(), Some(address.as_str()));
         }
         Ok(())

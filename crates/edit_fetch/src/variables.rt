@@ -1,7 +1,7 @@
 //! Registries that environment variables define, as lines of a configuration file of cargo.
 ghost use Rattle.std.specs.Prelude.{◌≡◌, ◌++◌, ◌<◌, ◌==◌, IfOk, OnOk, length, map};
 ghost use Rattle.std.specs.List.{flat_map, list_any};
-ghost use Rattle.edit_fetch.specs.Variables.{dashed, dashed_byte, default_registry_text, has_index_affixes, is_index_variable, is_name, is_name_byte, key_byte, registry_key, registry_line, registry_lines, registry_part, variable_lines, variable_texts};
+ghost use Rattle.edit_fetch.specs.Variables.{key_with_dashes, dashed_byte, default_registry_text, has_index_affixes, is_index_variable, is_name, is_name_byte, key_byte, registry_key, registry_line, registry_lines, registry_part, variable_lines, variable_texts};
 
 use crate::toml_text::push_value_line;
 use edit_sources::registry::CRATES_IO_INDEX;
@@ -70,8 +70,8 @@ fn dashed_byte(byte: u8) -> u8
 }
 
 /// Replaces each `_` of a key by `-`.
-fn dashed(alloc: Global, key: &[u8]) -> Result<Vec<u8>, AllocError>
-    ensures { IfOk result (λ v. v.items ≡ dashed key.now) }
+fn key_with_dashes(alloc: Global, key: &[u8]) -> Result<Vec<u8>, AllocError>
+    ensures { IfOk result (λ v. v.items ≡ key_with_dashes key.now) }
 {
     let mut dashed = Vec::new(alloc);
     for byte in key {
@@ -107,7 +107,7 @@ fn push_both(alloc: Global, text: &mut Vec<u8>, key: &[u8], index: &[u8]) -> Res
 {
     push_registry(text, key, index)?;
     if has_underscore(key) {
-        let key = dashed(alloc, key)?;
+        let key = key_with_dashes(alloc, key)?;
         push_registry(text, &key, index)?;
     }
     Ok(())

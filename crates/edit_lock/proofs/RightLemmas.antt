@@ -8,7 +8,7 @@ use Rattle.std.proofs.lemmas.Slice.Eq.{bytes_eq-Decides}
 use Rattle.edit_lock.specs.LockFile.{Package, spec_of}
 use Rattle.edit_lock.specs.ValidCalls.{IsValidCall, NamesLocked}
 use Rattle.edit_lock.specs.ValidCalls.NamesLocked.{locked, no_arguments, other}
-use Rattle.edit_lock.specs.AdaptedCalls.{Call, changes, is_dropped_argument, locks, name_in, names_package, package_arguments, adapted_argument, adapted_arguments, standing_calls, replacement_specs}
+use Rattle.edit_lock.specs.AdaptedCalls.{Call, changes, is_dropped_argument, locks, name_in, names_package, package_arguments, adapted_argument, adapted_arguments, adapt_calls, replacement_specs}
 
 -- ---- packages that are locked
 
@@ -111,9 +111,9 @@ call-step packages call calls true e named all =
 call-step packages call calls false e named all = all
 
 pub calls-right : (before now : List Package) (offline : Bool) (calls : List Call)
-    → All (IsValidCall now) (standing_calls (changes before now) offline calls)
+    → All (IsValidCall now) (adapt_calls (changes before now) offline calls)
 calls-right before now offline [] = All-nil (IsValidCall now)
 calls-right before now offline (call ∷ calls) =
     let own = adapted_arguments (changes before now) offline [] call in
-    call-step now own (standing_calls (changes before now) offline calls) (names_package own) refl
+    call-step now own (adapt_calls (changes before now) offline calls) (names_package own) refl
     (arguments-named before now offline [] call) (calls-right before now offline calls)

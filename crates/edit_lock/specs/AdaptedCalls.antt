@@ -68,5 +68,5 @@ abbrev pub names_package : Call → Bool
 names_package call = list_any (λ argument. bytes_eq argument (codes "--package")) call
 
 -- calls adapted to a lock file, without those that have no package left
-abbrev pub standing_calls : Changes → Bool → List Call → List Call
-standing_calls c offline calls = filter names_package (map (adapted_arguments c offline []) calls)
+abbrev pub adapt_calls : Changes → Bool → List Call → List Call
+adapt_calls c offline calls = filter names_package (map (adapted_arguments c offline []) calls)

@@ -4,8 +4,8 @@
 mod calls_file;
 mod index;
 mod lock;
-mod standing;
+mod adapted_calls;
 
 pub use calls_file::read_calls;
 pub use lock::{Lock, LockedPackage};
-pub use standing::standing_calls;
+pub use adapted_calls::adapt_calls;

@@ -4,7 +4,7 @@ use Rattle.std.specs.Prelude.{codes}
 use Rattle.std.specs.List.{before_first, after_first}
 use Rattle.std.proofs.lemmas.Bool.{false_from_ne_true}
 use Rattle.std.proofs.lemmas.Bool.Decides.{nat_tests}
-use Rattle.edit_lookups.specs.UserinfoAddresses.{shown_address, userinfo_len}
+use Rattle.edit_lookups.specs.UserinfoAddresses.{strip_userinfo, userinfo_len}
 
 head-off : (xs : List ℕ) → ((r : List ℕ) → xs ≢ 47 ∷ r) → eqb (get_or xs 0 0) 47 ≡ false
 head-off [] h = refl
@@ -18,14 +18,14 @@ cut address =
     (drop 1 (after_first (λ b. eqb b 47) address))
 
 pub shown-plain : (address rest : List ℕ) → rest ≡ after_first (λ b. eqb b 47) address
-    → ((r : List ℕ) → rest ≢ 47 ∷ r) → shown_address address ≡ address
+    → ((r : List ℕ) → rest ≢ 47 ∷ r) → strip_userinfo address ≡ address
 shown-plain address rest e h =
     ap (λ t. cond t (cut address) address)
     (ap (λ xs. eqb (get_or xs 0 0) 47) (sym e) ∙ head-off rest h)
 
 pub shown-cut : (address scheme rest host : List ℕ) → scheme ≡ before_first (λ b. eqb b 47) address
     → rest ≡ after_first (λ b. eqb b 47) address → rest ≡ 47 ∷ host
-    → shown_address address ≡ (scheme ++ codes "//") ++ drop (userinfo_len host) host
+    → strip_userinfo address ≡ (scheme ++ codes "//") ++ drop (userinfo_len host) host
 shown-cut address scheme rest host es er eh =
     let at : after_first (λ b. eqb b 47) address ≡ 47 ∷ host = sym er ∙ eh in
     ap (λ xs. cond (eqb (get_or xs 0 0) 47) (cut address) address) at

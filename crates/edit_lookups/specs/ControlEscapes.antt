@@ -11,5 +11,5 @@ escaped_char c =
     if is_control c then codes "\\u{" ++ radix_digits 16 Bool.false c ++ codes "}" else encode_utf8 c
 
 -- a text with each control character escaped
-abbrev pub escaped : List ℕ → List ℕ
-escaped text = flat_map escaped_char (chars text)
+abbrev pub escape_controls : List ℕ → List ℕ
+escape_controls text = flat_map escaped_char (chars text)

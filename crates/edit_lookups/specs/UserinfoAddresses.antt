@@ -21,8 +21,8 @@ userinfo_len (b ∷ rest) =
     else one_more (b == 64) (userinfo_len rest)
 
 -- an address without the userinfo after its `//`, which has to begin at its first slash
-abbrev pub shown_address : List ℕ → List ℕ
-shown_address address =
+abbrev pub strip_userinfo : List ℕ → List ℕ
+strip_userinfo address =
     let rest = after_first (λ b. b == 47) address in
     if slice_index rest 0 == 47
     then before_first (λ b. b == 47) address ++ codes "//" ++ drop (userinfo_len (drop 1 rest)) (drop 1 rest)

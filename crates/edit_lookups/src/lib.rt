@@ -2,14 +2,14 @@
 //! beside them, and their addresses in messages.
 #![tactic(auto)]
 
-pub mod cached;
-pub mod escaped;
+pub mod cache_paths;
+pub mod control_escaping;
 pub mod lookups;
-pub mod shown;
+pub mod userinfo;
 pub mod validators;
 
-pub use cached::{cached_path, registry_folder, validator_path};
-pub use escaped::push_escaped;
+pub use cache_paths::{cached_path, registry_folder, validator_path};
+pub use control_escaping::push_escaped;
 pub use lookups::{Lookup, read_lookups};
-pub use shown::shown_address;
+pub use userinfo::strip_userinfo;
 pub use validators::{usable_etag, validator_line};

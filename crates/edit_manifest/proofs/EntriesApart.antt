@@ -10,7 +10,7 @@ use Rattle.edit_tree.specs.Replaces.{is_string}
 use Rattle.edit_tree.specs.Tree.{view_at}
 use Rattle.edit_tree.proofs.SamePlace.{last_same, other_place, same_bytes_self, same_place_self}
 use Rattle.edit_manifest.specs.Kinds.{is_kind}
-use Rattle.edit_manifest.specs.Tables.{Tree, dependency_tables, is_table_like, keyed, member_names, shared, tables_at, tables_of_target, tables_under, target_table, target_tables}
+use Rattle.edit_manifest.specs.Tables.{Tree, dependency_tables, is_table_like, place_of_keys, member_names, workspace_table_keys, tables_at, tables_of_target, tables_under, target_table, target_tables}
 use Rattle.edit_manifest.specs.Entries.{Entry, entries, entries_of, entry_at, literal_at, version_place}
 use Rattle.edit_manifest.proofs.EntryPlaces.{IsLiteral, IsTable, flat-all, front, literal-front, tables-all}
 use Rattle.edit_manifest.proofs.Texts.{bytes-is}
@@ -63,21 +63,21 @@ flat-apart pre f (n ∷ ns) h b d =
     (λ m other. all-map (Begins (at pre (key m))) (λ q. same_place p q ≡ false) (f m)
     (λ q c. begun-apart pre n m p q other begun c) (b m))) (b n))
 
-at-begins : (t : Tree) (names : List (List ℕ)) (p : Place) → Begins p (keyed names)
+at-begins : (t : Tree) (names : List (List ℕ)) (p : Place) → Begins p (place_of_keys names)
     → AllByRecursion (Begins p) (tables_at t names)
-at-begins t names p h = elim (cases_Bool (is_table_like (t (keyed names)))) [
+at-begins t names p h = elim (cases_Bool (is_table_like (t (place_of_keys names)))) [
   | inl holds ↦ rw holds (h, tt)
   | inr fails ↦ rw fails tt
 ]
 
 at-one : (t : Tree) (names : List (List ℕ)) → Differ same_place (tables_at t names)
-at-one t names = elim (cases_Bool (is_table_like (t (keyed names)))) [
+at-one t names = elim (cases_Bool (is_table_like (t (place_of_keys names)))) [
   | inl holds ↦ rw holds (tt, tt)
   | inr fails ↦ rw fails tt
 ]
 
 abbrev target_place : List ℕ → Place
-target_place x = keyed (codes "target" ∷ x ∷ [])
+target_place x = place_of_keys (codes "target" ∷ x ∷ [])
 
 target-begins : (t : Tree) (x name : List ℕ)
     → AllByRecursion (Begins (at (target_place x) (key name))) (target_table t x name)
@@ -116,16 +116,16 @@ of_target-apart form x =
 
 targets-apart : (form : grammar.Text) → Differ same_place (target_tables (view_at form))
 targets-apart form =
-    flat-apart (keyed (codes "target" ∷ [])) (tables_of_target (view_at form))
-    (member_names (view_at form (keyed (codes "target" ∷ []))))
-    (form-names form (keyed (codes "target" ∷ []))) (of_target-begins (view_at form)) (of_target-apart form)
+    flat-apart (place_of_keys (codes "target" ∷ [])) (tables_of_target (view_at form))
+    (member_names (view_at form (place_of_keys (codes "target" ∷ []))))
+    (form-names form (place_of_keys (codes "target" ∷ []))) (of_target-begins (view_at form)) (of_target-apart form)
 
-targets-begin : (t : Tree) → AllByRecursion (Begins (keyed (codes "target" ∷ []))) (target_tables t)
+targets-begin : (t : Tree) → AllByRecursion (Begins (place_of_keys (codes "target" ∷ []))) (target_tables t)
 targets-begin t =
-    flat-all (Begins (keyed (codes "target" ∷ []))) (tables_of_target t)
-    (member_names (t (keyed (codes "target" ∷ []))))
-    (λ x. all-map (Begins (target_place x)) (Begins (keyed (codes "target" ∷ []))) (tables_of_target t x)
-    (λ q b. begins-front (keyed (codes "target" ∷ [])) (key x ∷ []) q b) (of_target-begins t x))
+    flat-all (Begins (place_of_keys (codes "target" ∷ []))) (tables_of_target t)
+    (member_names (t (place_of_keys (codes "target" ∷ []))))
+    (λ x. all-map (Begins (target_place x)) (Begins (place_of_keys (codes "target" ∷ []))) (tables_of_target t x)
+    (λ q b. begins-front (place_of_keys (codes "target" ∷ [])) (key x ∷ []) q b) (of_target-begins t x))
 
 abbrev UnderName : Tree → List ℕ → Type 0
 UnderName t name = AllByRecursion (Begins (at [] (key name))) (tables_under t name)
@@ -136,9 +136,9 @@ under-begins t name = elim (cases_Bool (is_kind name)) [
   | inr fails ↦ elim (cases_Bool (bytes_eq name (codes "workspace"))) [
     | inl workspace ↦
         rw (fails, workspace) (subst
-        (λ (n : List ℕ). AllByRecursion (Begins (at [] (key n))) (tables_at t shared))
+        (λ (n : List ℕ). AllByRecursion (Begins (at [] (key n))) (tables_at t workspace_table_keys))
         (sym (bytes-is name (codes "workspace") workspace))
-        (at-begins t shared (key (codes "workspace") ∷ []) (key (codes "dependencies") ∷ [], refl)))
+        (at-begins t workspace_table_keys (key (codes "workspace") ∷ []) (key (codes "dependencies") ∷ [], refl)))
     | inr other ↦ elim (cases_Bool (bytes_eq name (codes "target"))) [
       | inl target ↦
           rw (fails, other, target) (subst
@@ -153,7 +153,7 @@ under-apart : (form : grammar.Text) (name : List ℕ) → Differ same_place (tab
 under-apart form name = elim (cases_Bool (is_kind name)) [
   | inl holds ↦ rw holds (at-one (view_at form) (name ∷ []))
   | inr fails ↦ elim (cases_Bool (bytes_eq name (codes "workspace"))) [
-    | inl workspace ↦ rw (fails, workspace) (at-one (view_at form) shared)
+    | inl workspace ↦ rw (fails, workspace) (at-one (view_at form) workspace_table_keys)
     | inr other ↦ elim (cases_Bool (bytes_eq name (codes "target"))) [
       | inl target ↦ rw (fails, other, target) (targets-apart form)
       | inr nothing ↦ rw (fails, other, nothing) tt

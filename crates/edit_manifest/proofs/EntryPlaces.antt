@@ -7,7 +7,7 @@ use Rattle.std.proofs.lemmas.Bool.{cases_Bool}
 use Rattle.edit_tree.specs.Assertions.{Place, Step, at, key, index, same_bytes, same_place}
 use Rattle.edit_tree.proofs.SamePlace.{same_place_is, same_step_self}
 use Rattle.edit_manifest.specs.Kinds.{is_kind, kind_name}
-use Rattle.edit_manifest.specs.Tables.{Tree, dependency_tables, is_table_like, keyed, member_names, shared, tables_at, tables_of_target, tables_under, target_table, target_tables}
+use Rattle.edit_manifest.specs.Tables.{Tree, dependency_tables, is_table_like, place_of_keys, member_names, workspace_table_keys, tables_at, tables_of_target, tables_under, target_table, target_tables}
 use Rattle.edit_manifest.specs.declared.dep_table.DepKind.TheVariants.{Build, Development, Normal}
 use Rattle.edit_manifest.specs.Entries.{version_place}
 use Rattle.edit_manifest.proofs.Texts.{bytes-is, or-cases}
@@ -16,9 +16,9 @@ use Rattle.edit_manifest.proofs.Texts.{bytes-is, or-cases}
 
 -- a place that may be a dependency table
 pub data IsTable : Place → Type 0 where
-  of_kind : (k : List ℕ) → is_kind k ≡ true → IsTable (keyed (k ∷ []))
-  of_workspace : IsTable (keyed shared)
-  of_target : (x k : List ℕ) → is_kind k ≡ true → IsTable (keyed (codes "target" ∷ x ∷ k ∷ []))
+  of_kind : (k : List ℕ) → is_kind k ≡ true → IsTable (place_of_keys (k ∷ []))
+  of_workspace : IsTable (place_of_keys workspace_table_keys)
+  of_target : (x k : List ℕ) → is_kind k ≡ true → IsTable (place_of_keys (codes "target" ∷ x ∷ k ∷ []))
 
 -- how many steps lead to an entry below this member of the root
 abbrev steps_by : Bool → Bool → ℕ
@@ -120,9 +120,9 @@ flat-all P f [] h = tt
 flat-all P f (x ∷ xs) h = all-append P (f x) (flat_map f xs) (h x) (flat-all P f xs h)
 
 -- what may stand at most once
-pub at-all : (P : Place → Type 0) (t : Tree) (names : List (List ℕ)) → P (keyed names)
+pub at-all : (P : Place → Type 0) (t : Tree) (names : List (List ℕ)) → P (place_of_keys names)
     → AllByRecursion P (tables_at t names)
-at-all P t names h = elim (cases_Bool (is_table_like (t (keyed names)))) [
+at-all P t names h = elim (cases_Bool (is_table_like (t (place_of_keys names)))) [
   | inl holds ↦ rw holds (h, tt)
   | inr fails ↦ rw fails tt
 ]
@@ -135,15 +135,15 @@ target-all t x name = elim (cases_Bool (is_kind name)) [
 
 targets-all : (t : Tree) → AllByRecursion IsTable (target_tables t)
 targets-all t =
-    flat-all IsTable (tables_of_target t) (member_names (t (keyed (codes "target" ∷ []))))
-    (λ x. flat-all IsTable (target_table t x) (member_names (t (keyed (codes "target" ∷ x ∷ []))))
+    flat-all IsTable (tables_of_target t) (member_names (t (place_of_keys (codes "target" ∷ []))))
+    (λ x. flat-all IsTable (target_table t x) (member_names (t (place_of_keys (codes "target" ∷ x ∷ []))))
     (target-all t x))
 
 under-all : (t : Tree) (name : List ℕ) → AllByRecursion IsTable (tables_under t name)
 under-all t name = elim (cases_Bool (is_kind name)) [
   | inl holds ↦ rw holds (at-all IsTable t (name ∷ []) (of_kind name holds))
   | inr fails ↦ elim (cases_Bool (bytes_eq name (codes "workspace"))) [
-    | inl workspace ↦ rw (fails, workspace) (at-all IsTable t shared of_workspace)
+    | inl workspace ↦ rw (fails, workspace) (at-all IsTable t workspace_table_keys of_workspace)
     | inr other ↦ elim (cases_Bool (bytes_eq name (codes "target"))) [
       | inl target ↦ rw (fails, other, target) (targets-all t)
       | inr nothing ↦ rw (fails, other, nothing) tt

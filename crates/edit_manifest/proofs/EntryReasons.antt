@@ -5,10 +5,10 @@ use Rattle.edit_tree.specs.DocumentViews.{DocumentViews, tree_of}
 use Rattle.edit_record.specs.EntryRecords.{unknown_entry}
 use Rattle.edit_record.specs.ReadEntries.{below, entry_record, record_of}
 use Rattle.edit_manifest.specs.EntryViews.{IsReason}
-use Rattle.edit_manifest.specs.declared.entries.found.Said.{Said}
+use Rattle.edit_manifest.specs.declared.entries.found.ReadEntry.{ReadEntry}
 
 -- the error of an item, seen in an equal document, at an equal place and under an equal key
-pub reason_at : (d d' : DocumentViews) (p p' : Place) (root name name' : List ℕ) (s : Said)
+pub reason_at : (d d' : DocumentViews) (p p' : Place) (root name name' : List ℕ) (s : ReadEntry)
     → d ≡ d' → p ≡ p' → name ≡ name'
     → IsReason (record_of (tree_of d) p root name) s → IsReason (record_of (tree_of d') p' root name') s
 reason_at d d' p p' root name name' s same_document same_place same_name reason =
@@ -17,7 +17,7 @@ reason_at d d' p p' root name name' s same_document same_place same_name reason 
     (subst (λ x. IsReason (record_of (tree_of d) p root x) s) same_name reason))
 
 -- the error where there is no item
-pub reason_nowhere : (d : DocumentViews) (p p' : Place) (root name name' : List ℕ) (s : Said)
+pub reason_nowhere : (d : DocumentViews) (p p' : Place) (root name name' : List ℕ) (s : ReadEntry)
     → tree_of d p ≡ None → p ≡ p' → name ≡ name' → IsReason (Err (unknown_entry name)) s
     → IsReason (record_of (tree_of d) p' root name') s
 reason_nowhere d p p' root name name' s nothing same_place same_name reason =

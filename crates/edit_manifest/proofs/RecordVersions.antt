@@ -6,41 +6,41 @@ use Rattle.edit_tree.specs.Assertions.{Place, key, same_place}
 use Rattle.edit_tree.specs.Replaces.{is_string}
 use Rattle.edit_tree.specs.Tree.{View, fractional, inline_table, moment, static_array, string, table, table_array, truth, whole}
 use Rattle.edit_version.specs.Requirement.{cut}
-use Rattle.edit_record.specs.EntryRecords.{EntryRecord, Origin, bare_record, Refusal, from_git, from_path, from_registry, from_workspace, origin_version}
-use Rattle.edit_record.specs.ReadEntries.{Tree, and_then, below, entry_record, first_origin, if_there, names_by, ok_map, options_at, origin_at, record_of, repository, table_record, text_at, text_of, truth_at, version_at, workspace_origin}
+use Rattle.edit_record.specs.EntryRecords.{EntryRecord, Origin, bare_record, EntryError, from_git, from_path, from_registry, from_workspace, origin_version}
+use Rattle.edit_record.specs.ReadEntries.{Tree, and_then, below, entry_record, first_origin, if_there, names_by, ok_map, options_at, origin_at, record_of, repository, table_record, text_at, text_of, bool_at, version_at, workspace_origin}
 use Rattle.edit_manifest.specs.Entries.{literal_at, version_place}
 
 -- ---- answers, one after the other
 
-and-then-map : {A B C : Type 0} (m : Result A Refusal)
-    (f : A → Result C Refusal) (g : A → Result B Refusal) (h : B → C)
+and-then-map : {A B C : Type 0} (m : Result A EntryError)
+    (f : A → Result C EntryError) (g : A → Result B EntryError) (h : B → C)
     → ((x : A) → f x ≡ ok_map h (g x)) → and_then m f ≡ ok_map h (and_then m g)
 and-then-map (Ok x) f g h e = e x
 and-then-map (Err r) f g h e = refl
 
-and-then-moved : {A B C : Type 0} (m : Result A Refusal) (v : A → A)
-    (f : A → Result C Refusal) (g : A → Result B Refusal) (h : B → C)
+and-then-moved : {A B C : Type 0} (m : Result A EntryError) (v : A → A)
+    (f : A → Result C EntryError) (g : A → Result B EntryError) (h : B → C)
     → ((x : A) → f (v x) ≡ ok_map h (g x)) → and_then (ok_map v m) f ≡ ok_map h (and_then m g)
 and-then-moved (Ok x) v f g h e = e x
 and-then-moved (Err r) v f g h e = refl
 
-ok-map-both : {A B C : Type 0} (m : Result A Refusal) (f : A → C) (g : A → B) (h : B → C)
+ok-map-both : {A B C : Type 0} (m : Result A EntryError) (f : A → C) (g : A → B) (h : B → C)
     → ((x : A) → f x ≡ h (g x)) → ok_map f m ≡ ok_map h (ok_map g m)
 ok-map-both (Ok x) f g h e = ap (λ y. Ok y) (e x)
 ok-map-both (Err r) f g h e = refl
 
-and-then-ok : {A B : Type 0} (m : Result A Refusal) (f : A → Result B Refusal) (y : B) → and_then m f ≡ Ok y
+and-then-ok : {A B : Type 0} (m : Result A EntryError) (f : A → Result B EntryError) (y : B) → and_then m f ≡ Ok y
     → (x : A) × (m ≡ Ok x) × (f x ≡ Ok y)
 and-then-ok (Ok x) f y h = (x, refl, h)
 and-then-ok (Err r) f y h = cc h
 
-abbrev okay : {A : Type 0} → A → Result A Refusal
+abbrev okay : {A : Type 0} → A → Result A EntryError
 okay x = Ok x
 
 ok-inj : {A : Type 0} (x y : A) → okay x ≡ okay y → x ≡ y
 ok-inj x y h = cc h
 
-ok-map-ok : {A B : Type 0} (m : Result A Refusal) (f : A → B) (y : B) → ok_map f m ≡ Ok y
+ok-map-ok : {A B : Type 0} (m : Result A EntryError) (f : A → B) (y : B) → ok_map f m ≡ Ok y
     → (x : A) × (m ≡ Ok x) × (f x ≡ y)
 ok-map-ok (Ok x) f y h = (x, refl, ok-inj (f x) y h)
 ok-map-ok (Err r) f y h = cc h
@@ -80,12 +80,12 @@ origin-by b o root dep s u None (Some path) =
 origin-by b o root dep s u None None = refl
 
 -- the record behind its name and its source
-abbrev rest_record : Tree → List ℕ → Option (List ℕ) → Origin → Result EntryRecord Refusal
+abbrev rest_record : Tree → List ℕ → Option (List ℕ) → Origin → Result EntryRecord EntryError
 rest_record t dep named origin = ok_map (λ options. record {
   name = (names_by named dep).0;
-  optional = truth_at t (codes "optional");
+  optional = bool_at t (codes "optional");
   features = options.1;
-  default_features = truth_at t (codes "default-features");
+  default_features = bool_at t (codes "default-features");
   inherited_features = None;
   origin = Some origin;
   registry = options.0;
@@ -102,7 +102,7 @@ table-versioned b o root dep s u =
     (λ named. and_then (origin_at (with_text b o s) root dep) (rest_record (with_text b o s) dep named))
     (versioned (cut u))
     (λ named.
-    ap (λ (m : Result Origin Refusal). and_then m (rest_record (with_text b o u) dep named))
+    ap (λ (m : Result Origin EntryError). and_then m (rest_record (with_text b o u) dep named))
     (origin-by b o root dep s u (b (key (codes "git") ∷ [])) (b (key (codes "path") ∷ [])))
     ∙ and-then-moved (origin_at (with_text b o s) root dep) (with_version (cut u))
     (rest_record (with_text b o u) dep named)
@@ -271,6 +271,6 @@ pub version-stands : (t : Tree) (place : Place) (root dep v : List ℕ) (r : Ent
 version-stands t place root dep v r h g =
     by-view t place root dep v r (t place) refl (ok-of (record_of t place root dep) h) g
   where
-    ok-of : (m : Result EntryRecord Refusal) → result_ok m ≡ Some r → m ≡ Ok r
+    ok-of : (m : Result EntryRecord EntryError) → result_ok m ≡ Some r → m ≡ Ok r
     ok-of (Ok x) e = cc e
     ok-of (Err x) e = cc e

@@ -3,7 +3,7 @@ use Rattle.std.proofs.Common.{◌≡◌, ℕ, false, ◌&&◌, ◌||◌, cond, L
 use Rattle.std.specs.Prelude.{Result, Ok, codes}
 use Rattle.edit_tree.specs.Assertions.{Place, Step, at, key}
 use Rattle.edit_document.specs.Ranges.{one_edit}
-use Rattle.edit_tree.specs.Replaces.{tree_without_below, is_below, written}
+use Rattle.edit_tree.specs.Replaces.{tree_without_below, is_below, tree_with_strings}
 use Rattle.edit_tree.specs.Tree.{View, string, truth, whole, fractional, moment, static_array, table_array, inline_table, table}
 use Rattle.edit_tree.proofs.SamePlace.{not_below, other_place, same_place_self, same_step_self}
 use Rattle.edit_manifest.specs.Tables.{Tree}
@@ -16,7 +16,7 @@ not_above (x ∷ p) s = ap (λ b. b && is_below (at p s) p) (same_step_self x) �
 
 -- the tree with a string at a place
 abbrev pub edited : Place → List ℕ → Tree → Tree
-edited place text t q = written (one_edit place text) (tree_without_below (one_edit place text) t) q
+edited place text t q = tree_with_strings (one_edit place text) (tree_without_below (one_edit place text) t) q
 
 edited_here : (place : Place) (text : List ℕ) (t : Tree) → edited place text t place ≡ Some (string text)
 edited_here place text t =

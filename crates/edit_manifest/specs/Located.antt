@@ -6,7 +6,7 @@ use Rattle.edit_base.specs.declared.errors.DeviceCall.{DeviceCall}
 use Rattle.edit_base.specs.declared.errors.Error.{Error}
 use Rattle.edit_base.specs.declared.errors.Error.TheVariants.{Device, ManifestNotFound, NoPath}
 use Rattle.edit_store.specs.Climbs.{Climbs}
-use Rattle.edit_store.specs.Store.{Files, HasKindAt, raised}
+use Rattle.edit_store.specs.Store.{Files, HasKindAt, IsRaisedCount}
 use Rattle.edit_store.specs.declared.store.Kind.TheVariants.{File, Folder, Absent}
 
 -- the path of the manifest in a folder
@@ -87,4 +87,4 @@ NamesStart current None e = (place : List ℕ) × IsNormalOf current place × Na
 
 -- lack of memory, or the device failed in this call and the count of faults rose
 abbrev pub IsFault : DeviceCall → ℕ → ℕ → Error → Type 0
-IsFault call before now e = IsMemory e ⊎ ((e ≡ Device call) × raised before now)
+IsFault call before now e = IsMemory e ⊎ ((e ≡ Device call) × IsRaisedCount before now)

@@ -15,8 +15,8 @@ abbrev pub Tree : Type 0
 Tree = Place → Option View
 
 -- the place that these keys lead to from the root
-abbrev pub keyed : List (List ℕ) → Place
-keyed names = map key names
+abbrev pub place_of_keys : List (List ℕ) → Place
+place_of_keys names = map key names
 
 -- the keys of a table or an inline table, in order; none for anything else
 abbrev pub member_names : Option View → List (List ℕ)
@@ -30,15 +30,15 @@ is_table_like None = false
 
 -- the place that these keys lead to, if it is a table or an inline table
 abbrev pub table_at : Tree → List (List ℕ) → Option Place
-table_at t names = if is_table_like (t (keyed names)) then Some (keyed names) else None
+table_at t names = if is_table_like (t (place_of_keys names)) then Some (place_of_keys names) else None
 
 -- the place that these keys lead to, if it is a table or an inline table, as a list
 abbrev pub tables_at : Tree → List (List ℕ) → List Place
 tables_at t names = option_to_list (table_at t names)
 
 -- the keys of the table `workspace.dependencies`
-abbrev pub shared : List (List ℕ)
-shared = codes "workspace" ∷ kind_name Normal ∷ []
+abbrev pub workspace_table_keys : List (List ℕ)
+workspace_table_keys = codes "workspace" ∷ kind_name Normal ∷ []
 
 -- the table of a key of a target, if it is one of the three kinds
 abbrev pub target_table : Tree → List ℕ → List ℕ → List Place
@@ -48,17 +48,17 @@ target_table t target name =
 -- the dependency tables of a target, in the order of its keys
 abbrev pub tables_of_target : Tree → List ℕ → List Place
 tables_of_target t target =
-    flat_map (target_table t target) (member_names (t (keyed (codes "target" ∷ target ∷ []))))
+    flat_map (target_table t target) (member_names (t (place_of_keys (codes "target" ∷ target ∷ []))))
 
 -- the dependency tables of all targets, target by target
 abbrev pub target_tables : Tree → List Place
-target_tables t = flat_map (tables_of_target t) (member_names (t (keyed (codes "target" ∷ []))))
+target_tables t = flat_map (tables_of_target t) (member_names (t (place_of_keys (codes "target" ∷ []))))
 
 -- the dependency tables at or below a key of the root
 abbrev pub tables_under : Tree → List ℕ → List Place
 tables_under t name =
     if is_kind name then tables_at t (name ∷ [])
-    else (if bytes_eq name (codes "workspace") then tables_at t shared
+    else (if bytes_eq name (codes "workspace") then tables_at t workspace_table_keys
     else (if bytes_eq name (codes "target") then target_tables t else []))
 
 -- the dependency tables, key by key of the root

@@ -7,31 +7,31 @@ use Rattle.edit_base.specs.Errors.{IsMemory}
 use Rattle.edit_tree.specs.Assertions.{Place, at, key}
 use Rattle.edit_document.specs.Items.{string_in, truth_in}
 use Rattle.edit_document.specs.Ranges.{one_edit}
-use Rattle.edit_tree.specs.Replaces.{Replaces, tree_without_below, written}
+use Rattle.edit_tree.specs.Replaces.{Replaces, tree_without_below, tree_with_strings}
 use Rattle.edit_tree.specs.DocumentViews.{DocumentViews, tree_of}
 use Rattle.edit_document.specs.Forms.{IfDocument}
 use Rattle.edit_tree.specs.Tree.{View, string, table, inline_table, is_value_at}
 use Rattle.edit_version.specs.ReadVersion.{version_read}
 use Rattle.semver.specs.Parse.{Parts}
-use Rattle.edit_manifest.specs.Tables.{Tree, keyed}
+use Rattle.edit_manifest.specs.Tables.{Tree, place_of_keys}
 
 -- ---- versions of packages and workspaces
 
 -- `package.version`
 abbrev pub package_version : Place
-package_version = keyed (codes "package" ∷ codes "version" ∷ [])
+package_version = place_of_keys (codes "package" ∷ codes "version" ∷ [])
 
 -- `workspace.package.version`
 abbrev pub shared_version : Place
-shared_version = keyed (codes "workspace" ∷ codes "package" ∷ codes "version" ∷ [])
+shared_version = place_of_keys (codes "workspace" ∷ codes "package" ∷ codes "version" ∷ [])
 
 -- `package.version.workspace`
-abbrev pub inherited : Place
-inherited = keyed (codes "package" ∷ codes "version" ∷ codes "workspace" ∷ [])
+abbrev pub inheritance_place : Place
+inheritance_place = place_of_keys (codes "package" ∷ codes "version" ∷ codes "workspace" ∷ [])
 
 -- the package inherits its version from the workspace: the value is true
 abbrev pub is_inherited : Tree → Bool
-is_inherited t = unwrap_or (option_and_then truth_in (t inherited)) false
+is_inherited t = unwrap_or (option_and_then truth_in (t inheritance_place)) false
 
 -- the version of the workspace, if it is a string with a valid version
 abbrev pub workspace_version : Tree → Option Parts
@@ -82,7 +82,7 @@ version_place t place = version_place_in place (t place) (t (version_member plac
 pub record SetsVersion (place : Place) (text : List ℕ) (old new : DocumentViews) : Type 0 where
   pub bytes : Replaces (one_edit place text) old.bytes new.bytes
   pub tree : (q : Place) → tree_of new q
-      ≡ written (one_edit place text) (tree_without_below (one_edit place text) (tree_of old)) q
+      ≡ tree_with_strings (one_edit place text) (tree_without_below (one_edit place text) (tree_of old)) q
 
 -- the item at the place is not written as a value
 abbrev pub IsNoValue : DocumentViews → Place → Type 0

@@ -3,5 +3,5 @@
 mod found;
 mod places;
 
-pub use found::{Entry, Said, entries};
+pub use found::{Entry, ReadEntry, entries};
 pub use places::literal_place;

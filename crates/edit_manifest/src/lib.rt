@@ -8,7 +8,7 @@ pub mod locate;
 pub mod manifest;
 pub mod tables;
 pub mod versions;
-pub mod ways;
+pub mod key_places;
 
 pub use dep_table::{DepKind, DepTable};
 pub use edit_base::{

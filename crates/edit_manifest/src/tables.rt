@@ -5,11 +5,11 @@ ghost use Rattle.edit_base.specs.Paths.{texts};
 ghost use Rattle.edit_document.specs.Items.{place_view};
 ghost use Rattle.edit_tree.specs.DocumentViews.{tree_of};
 ghost use Rattle.edit_manifest.specs.Places.{places_view};
-ghost use Rattle.edit_manifest.specs.Tables.{dependency_tables, shared, table_at, tables_at, tables_of_target, tables_under, target_tables};
+ghost use Rattle.edit_manifest.specs.Tables.{dependency_tables, workspace_table_keys, table_at, tables_at, tables_of_target, tables_under, target_tables};
 
 use crate::dep_table::{NORMAL, is_kind};
 use crate::manifest::Manifest;
-use crate::ways::place_of;
+use crate::key_places::place_of;
 use edit_base::errors::CargoResult;
 use edit_document::{Document, Place};
 use std::alloc::{AllocError, Global};
@@ -97,7 +97,7 @@ fn push_shared(
     tables: &mut Vec<Place>,
 ) -> Result<(), AllocError>
     ensures ok { OnOk result (places_view tables.new.items
-        ≡ places_view tables.old.items ++ tables_at (tree_of document.now) shared) }
+        ≡ places_view tables.old.items ++ tables_at (tree_of document.now) workspace_table_keys) }
 {
     let names = ["workspace", NORMAL];
     push_table(alloc, document, &names, tables)
@@ -142,7 +142,7 @@ pub fn dependency_tables(alloc: Global, document: &Document) -> CargoResult<Vec<
 }
 
 impl Manifest {
-    ghost use Rattle.edit_manifest.specs.Tables.{shared};
+    ghost use Rattle.edit_manifest.specs.Tables.{workspace_table_keys};
 
     /// The places of the dependency tables, in the order of the manifest's keys from the root down.
     pub fn get_dependency_tables_mut(&self, alloc: Global) -> CargoResult<Vec<Place>>
@@ -156,7 +156,7 @@ impl Manifest {
     /// The place of `workspace.dependencies`, if it is a table or an inline table.
     pub fn get_workspace_dependency_table_mut(&self, alloc: Global) -> CargoResult<Option<Place>>
         ensures ok { IfOk result (λ o. option_map (λ p. place_view p.items) o
-            ≡ table_at (tree_of self.now.document) shared) }
+            ≡ table_at (tree_of self.now.document) workspace_table_keys) }
         ensures error { IfErr result IsMemory }
     {
         let names = ["workspace", NORMAL];

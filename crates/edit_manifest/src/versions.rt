@@ -5,14 +5,14 @@ ghost use Rattle.edit_base.specs.Paths.{texts};
 ghost use Rattle.edit_document.specs.ItemViews.{document_of, place_of as item_place};
 ghost use Rattle.edit_document.specs.Items.{place_view};
 ghost use Rattle.edit_tree.specs.DocumentViews.{tree_of};
-ghost use Rattle.edit_manifest.specs.Tables.{keyed};
+ghost use Rattle.edit_manifest.specs.Tables.{place_of_keys};
 ghost use Rattle.edit_manifest.specs.Versions.{IsUnset, IsUnsetDependency, SetsDependency, SetsVersion, dep_version, is_inherited, package_version, shared_version, version_place, workspace_version};
 ghost use Rattle.semver.specs.Identifiers.{parts_of, version_text};
 
 use crate::manifest::Manifest;
-use crate::ways::{bool_at_keys, place_of, string_at};
+use crate::key_places::{bool_at_keys, place_of, string_at};
 use edit_base::errors::{CargoResult, Error};
-use edit_document::{Document, Item, Place, Step, copied_place, member_place};
+use edit_document::{Document, Item, Place, Step, clone_place, member_place};
 use edit_version::read_version;
 use semver::Version;
 use std::alloc::Global;
@@ -24,10 +24,10 @@ fn set_version_at(
     names: &[&str],
     version: &Version,
 ) -> CargoResult<()>
-    ensures set { OnOk result (SetsVersion (keyed (texts names.now)) (version_text version.now)
+    ensures set { OnOk result (SetsVersion (place_of_keys (texts names.now)) (version_text version.now)
         document.old document.new) }
     ensures err { IfErr result (λ _. document.new ≡ document.old) }
-    ensures error { IfErr result (IsUnset document.old (keyed (texts names.now))) }
+    ensures error { IfErr result (IsUnset document.old (place_of_keys (texts names.now))) }
 {
     let place = place_of(alloc, names)?;
     let text = format!(in alloc; "{version}")?;
@@ -90,7 +90,7 @@ pub fn get_dep_version<'a>(item: Item<'a>) -> CargoResult<&'a str>
     ensures error { IfErr result
         (λ e. dep_version (tree_of (document_of item.entry)) (item_place item.entry) ≡ Err e) }
 {
-    item.stands();
+    item.lemma_exists();
     if let Some(text) = item.as_str() {
         return Ok(text);
     }
@@ -117,7 +117,7 @@ fn version_place(alloc: Global, document: &Document, place: &[Step]) -> CargoRes
         return Err(Error::InvalidDependency);
     };
     if item.is_str() {
-        return copied_place(alloc, place);
+        return clone_place(alloc, place);
     }
     if !item.is_table_like() {
         return Err(Error::InvalidDependency);

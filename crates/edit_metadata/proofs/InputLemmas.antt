@@ -7,7 +7,7 @@ use Rattle.std.proofs.lemmas.List.Elements.{All-append, All-push, Contains-appen
 use Rattle.std.proofs.lemmas.List.Sums.{fold-append}
 use Rattle.edit_base.specs.declared.errors.DeviceCall.TheVariants as call
 use Rattle.edit_base.specs.declared.errors.Error.{Error}
-use Rattle.edit_store.specs.Store.{IsCallError, StoreView, OnlyReads, raised}
+use Rattle.edit_store.specs.Store.{IsCallError, StoreView, OnlyReads, IsRaisedCount}
 use Rattle.edit_version.specs.RustVersions.{Numbers, numbers_of}
 use Rattle.edit_metadata.specs.Inputs.{IsNoInput, ManifestModel, input_paths, least, min_rust_version, manifest_of, member_manifests}
 use Rattle.edit_metadata.specs.Metadata.{PackageModel, members}
@@ -120,7 +120,7 @@ has-path is i input path within at same =
 
 -- ---- errors
 
-raised_later : (a b c : ℕ) → a ≤ b → raised b c → raised a c
+raised_later : (a b c : ℕ) → a ≤ b → IsRaisedCount b c → IsRaisedCount a c
 raised_later a b c le (inl lt) = inl (omega arith)
 raised_later a b c le (inr ends) = ⊎_elim (λ same. inr (same ∙ ends.0, ends.1)) (λ lt. inl (omega arith))
     (eq-or-lt_of_le le)

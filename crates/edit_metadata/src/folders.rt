@@ -54,7 +54,7 @@ fn first_duplicate<'a>(alloc: Global, texts: &'a [String]) -> Result<Option<&'a 
 }
 
 /// Returns `Error::FolderTwice` for the folder that two members share.
-fn shared(alloc: Global, folder: &str) -> Error
+fn folder_twice_error(alloc: Global, folder: &str) -> Error
     ensures { IsMemory result ⊎ NamesFolder folder.now result }
 {
     match String::from_str(alloc, folder) {
@@ -71,7 +71,7 @@ pub(crate) fn check_folders(alloc: Global, packages: &[Package]) -> CargoResult<
 {
     let folders = member_folders(alloc, packages)?;
     match first_duplicate(alloc, &folders)? {
-        Some(folder) => Err(shared(alloc, folder)),
+        Some(folder) => Err(folder_twice_error(alloc, folder)),
         None => Ok(()),
     }
 }

@@ -10,23 +10,23 @@ use Rattle.edit_upgrade.specs.declared.decision.options.Options.{Options}
 use Rattle.edit_upgrade.specs.declared.upgrade.Look.{Look}
 use Rattle.edit_upgrade.specs.declared.upgrade.UpgradePlan.{UpgradePlan}
 use Rattle.edit_upgrade.specs.UpdateCalls.{is_among}
-use Rattle.edit_program.specs.Absent.{absent, absent_at, absent_note, absent_text, listed, names_note}
+use Rattle.edit_program.specs.Absent.{absent_names, absent_at, absent_note, absent_text, abbreviate_names, names_note}
 
 -- the names in a row, as the note has them where it has all
-abbrev joined : List (List ℕ) → List ℕ
-joined names = join_by (λ name. name) (codes ", ") names
+abbrev join_names : List (List ℕ) → List ℕ
+join_names names = join_by (λ name. name) (codes ", ") names
 
 -- the names as the note has them where it has not all
 abbrev cut : List (List ℕ) → List ℕ
-cut names = joined (take 5 names) ++ (codes " and " ++ (decimal (length names - 5) ++ codes " more"))
+cut names = join_names (take 5 names) ++ (codes " and " ++ (decimal (length names - 5) ++ codes " more"))
 
 -- at most five names
 pub few_listed : (names : List (String Global)) → length names ≤ 5
-    → joined (map string_bytes names) ≡ listed (map string_bytes names)
+    → join_names (map string_bytes names) ≡ abbreviate_names (map string_bytes names)
 few_listed names few =
     let count = length-map names string_bytes in
     let is_few = le-leb (length (map string_bytes names)) 5 (omega (arith, few, count)) in
-    sym (ap (λ b. if b then joined (map string_bytes names) else cut (map string_bytes names)) is_few)
+    sym (ap (λ b. if b then join_names (map string_bytes names) else cut (map string_bytes names)) is_few)
 
 -- the note on crates of which there are some
 some_absent : (names : List (String Global)) → (length names == 0) ≡ false
@@ -36,10 +36,10 @@ some_absent (name ∷ names) some = refl
 
 -- tests that agree on each name leave the same crates
 pub same_absent : (one other : List ℕ → Bool) (looks : List Look) → ((name : List ℕ) → one name ≡ other name)
-    → absent one looks ≡ absent other looks
+    → absent_names one looks ≡ absent_names other looks
 same_absent one other [] same = refl
 same_absent one other (look ∷ looks) same =
-    ap (λ b. (if is_none look.answer && not b then string_bytes look.name ∷ [] else []) ++ absent one looks)
+    ap (λ b. (if is_none look.answer && not b then string_bytes look.name ∷ [] else []) ++ absent_names one looks)
     (same (string_bytes look.name))
     ∙ ap (λ names. absent_at other look ++ names) (same_absent one other looks same)
 
@@ -47,7 +47,7 @@ same_absent one other (look ∷ looks) same =
 pub absent_said : (p : UpgradePlan) (o : Options) (offline : Bool) (exclude : List (String Global))
     (looks : List Look) (names slice : List (String Global)) (text message : List ℕ) → offline ≡ false
     → exclude ≡ o.exclude.items → looks ≡ p.looks.items
-    → map string_bytes names ≡ absent (is_among (map string_bytes exclude)) looks
+    → map string_bytes names ≡ absent_names (is_among (map string_bytes exclude)) looks
     → (length names == 0) ≡ false → slice ≡ names → text ≡ absent_text (map string_bytes slice)
     → message ≡ text → message_text false (codes "note") message ≡ absent_note p o offline
 absent_said p o offline exclude looks names slice text message online excluded looked are some is said shown =
@@ -56,7 +56,7 @@ absent_said p o offline exclude looks names slice text message online excluded l
     ∙ ap (λ (xs : List (String Global)). said_as (absent_text (map string_bytes xs))) is
     ∙ some_absent names some
     ∙ ap names_note are
-    ∙ ap (λ (xs : List (String Global)). names_note (absent (is_among (map string_bytes xs)) looks)) excluded
-    ∙ ap (λ (xs : List Look). names_note (absent (is_among (map string_bytes o.exclude.items)) xs)) looked
+    ∙ ap (λ (xs : List (String Global)). names_note (absent_names (is_among (map string_bytes xs)) looks)) excluded
+    ∙ ap (λ (xs : List Look). names_note (absent_names (is_among (map string_bytes o.exclude.items)) xs)) looked
     ∙ sym (ap (λ b. if b then []
-    else names_note (absent (is_among (map string_bytes o.exclude.items)) p.looks.items)) online)
+    else names_note (absent_names (is_among (map string_bytes o.exclude.items)) p.looks.items)) online)

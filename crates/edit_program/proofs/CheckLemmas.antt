@@ -5,11 +5,11 @@ use Rattle.std.proofs.lemmas.List.Elements.{All-nil}
 use Rattle.clap.specs.Words.{Row}
 use Rattle.edit_report.specs.Applied.{AreWritten, path_of}
 use Rattle.edit_report.specs.declared.output.Output.{Output}
-use Rattle.edit_program.specs.SetVersions.{AreVersionsSet, written}
-use Rattle.edit_program.specs.declared.set_version_run.words.SetVersionWords.{SetVersionWords}
+use Rattle.edit_program.specs.SetVersions.{AreVersionsSet, outputs_to_write}
+use Rattle.edit_program.specs.declared.set_version_run.set_version_args.SetVersionArgs.{SetVersionArgs}
 use Rattle.edit_store.specs.Store.{SameFiles, StoreView}
 use Rattle.edit_program.specs.Upgrading.{IsUpgraded, delivery_by}
-use Rattle.edit_program.specs.declared.upgrade_run.words.UpgradeWords.{UpgradeWords}
+use Rattle.edit_program.specs.declared.upgrade_run.upgrade_args.UpgradeArgs.{UpgradeArgs}
 use Rattle.edit_program.proofs.DryRuns.{dry_keeps}
 use Rattle.edit_program.specs.ParsedOptions.{is_dry, is_given}
 use Rattle.edit_program.specs.Presented.{status_after}
@@ -47,7 +47,7 @@ pub check_after : (rows : List Row) (due : Bool) (s : ℕ) → s ≡ status_afte
 check_after rows due s is one = check_by (is_given (codes "check") rows) due s is one
 
 -- an upgrade at a dry run leaves each file as it was
-pub dry_upgrade : (due : Bool) (HasFields HasDecodedValue : List ℕ → Type 0) (words : UpgradeWords) (run : Run)
+pub dry_upgrade : (due : Bool) (HasFields HasDecodedValue : List ℕ → Type 0) (words : UpgradeArgs) (run : Run)
     → words.options.dry_run ≡ true → IsUpgraded due HasFields HasDecodedValue words run
     → SameFiles run.old.file_at run.new.file_at
 dry_upgrade due HasFields HasDecodedValue words run dry h =
@@ -60,9 +60,9 @@ nothing_written [] old new is are path = are.others path (All-nil (λ (o : Outpu
 nothing_written (o ∷ outputs) old new is are path = cc
 
 -- and so does a setting of versions
-pub dry_versions : (HasFields IsErrorOf : List ℕ → Type 0) (words : SetVersionWords) (current : List ℕ) (due : Bool)
+pub dry_versions : (HasFields IsErrorOf : List ℕ → Type 0) (words : SetVersionArgs) (current : List ℕ) (due : Bool)
     (old new : StoreView) → words.dry_run ≡ true → AreVersionsSet HasFields IsErrorOf words current due old new
     → SameFiles old.file_at new.file_at
 dry_versions HasFields IsErrorOf words current due old new dry set =
-    nothing_written (written words set.plan.outputs.items) old new
+    nothing_written (outputs_to_write words set.plan.outputs.items) old new
     (ap (λ (b : Bool). if b then [] else set.plan.outputs.items) dry) set.leaves.0

@@ -2,18 +2,18 @@
 use Rattle.std.proofs.Common.{ℕ, List, inl, inr}
 use Rattle.std.specs.Prelude.{◌⊎◌}
 use Rattle.clap.specs.Words.{Row}
-use Rattle.edit_program.specs.SetVersions.{IsCutShort}
-use Rattle.edit_program.specs.declared.set_version_run.words.SetVersionWords.{SetVersionWords}
+use Rattle.edit_program.specs.SetVersions.{IsSettingInterrupted}
+use Rattle.edit_program.specs.declared.set_version_run.set_version_args.SetVersionArgs.{SetVersionArgs}
 use Rattle.edit_store.specs.Store.{SameFiles, StoreView}
 use Rattle.edit_program.specs.Upgrading.{IsBroken}
-use Rattle.edit_program.specs.declared.upgrade_run.words.UpgradeWords.{UpgradeWords}
+use Rattle.edit_program.specs.declared.upgrade_run.upgrade_args.UpgradeArgs.{UpgradeArgs}
 use Rattle.edit_program.specs.Commands.{HasBroken, HasStoppedSetting}
 use Rattle.edit_program.specs.Run.{Run}
-use Rattle.edit_program.specs.UpgradeAsked.{HasUpgradeArgs}
-use Rattle.edit_program.specs.VersionWords.{HasSetVersionArgs}
+use Rattle.edit_program.specs.ParsedUpgrade.{HasUpgradeArgs}
+use Rattle.edit_program.specs.ParsedSetVersion.{HasSetVersionArgs}
 
 -- an upgrade that broke off is one for what the matches ask
-pub broken_for : (rows : List Row) (HasFields : List ℕ → Type 0) (run : Run) (asked : UpgradeWords)
+pub broken_for : (rows : List Row) (HasFields : List ℕ → Type 0) (run : Run) (asked : UpgradeArgs)
     → HasUpgradeArgs rows asked
     → SameFiles run.old.file_at run.new.file_at ⊎ IsBroken HasFields asked run
     → SameFiles run.old.file_at run.new.file_at ⊎ HasBroken rows HasFields run
@@ -23,8 +23,8 @@ broken_for rows HasFields run asked asks (inr broken) =
 
 -- and so is a setting of versions
 pub stopped_for : (rows : List Row) (HasFields IsErrorOf : List ℕ → Type 0) (current : List ℕ) (old new : StoreView)
-    (asked : SetVersionWords) → HasSetVersionArgs rows asked
-    → SameFiles old.file_at new.file_at ⊎ IsCutShort HasFields IsErrorOf asked current old new
+    (asked : SetVersionArgs) → HasSetVersionArgs rows asked
+    → SameFiles old.file_at new.file_at ⊎ IsSettingInterrupted HasFields IsErrorOf asked current old new
     → SameFiles old.file_at new.file_at ⊎ HasStoppedSetting rows HasFields IsErrorOf current old new
 stopped_for rows HasFields IsErrorOf current old new asked asks (inl same) = inl same
 stopped_for rows HasFields IsErrorOf current old new asked asks (inr stopped) =

@@ -15,7 +15,7 @@ use Rattle.edit_metadata.specs.Metadata.{WorkspaceModel}
 use Rattle.edit_metadata.specs.declared.input.Input.{Input}
 use Rattle.edit_set_version.specs.BumpCauses.{IsUnbumped}
 use Rattle.edit_set_version.specs.Bumps.{Bumped, Target}
-use Rattle.edit_set_version.specs.Chosen.{Asked, Member}
+use Rattle.edit_set_version.specs.Chosen.{SelectionView, Member}
 use Rattle.edit_set_version.specs.PlanCauses.{IsExcludeError, IsManifestError, IsMissing, IsVersionError}
 use Rattle.edit_set_version.specs.PlanCauses.IsManifestError.{literal as no_literal, requirement as no_rise}
 use Rattle.edit_set_version.specs.PlanCauses.IsVersionError.{excluded as is_excluded, version as is_unbumped}
@@ -30,7 +30,7 @@ use Rattle.edit_steps.specs.Faults.{CountsFault}
 use Rattle.edit_steps.specs.Sources.{AreDocuments}
 use Rattle.edit_tree.specs.DocumentViews.{DocumentViews}
 use Rattle.std.proofs.lemmas.List.{length-map}
-use Rattle.edit_store.specs.Store.{IsCallError, StoreView, raised}
+use Rattle.edit_store.specs.Store.{IsCallError, StoreView, IsRaisedCount}
 use Rattle.edit_upgrade.specs.Caches.{StopsDocuments, StopsInputs, cache_view}
 use Rattle.edit_upgrade.specs.Causes.{HasBadEntry, StopsAt}
 use Rattle.edit_upgrade.specs.Causes.StopsAt.{no_address as lacks_address, no_answer as lacks_answer}
@@ -89,7 +89,7 @@ options_count o e (inl word) = word_counts word.word e word.refused
 options_count o e (inr memory) = memory_counts e memory.0
 
 entry_counts : (configs : List Config) (gives : Outcomes) (old : CachedAnswers) (before now : ℕ) (entry : RowEntry)
-    (e : Error) → StopsAt configs gives old before now entry e → number_of e ≡ 3 → raised before now
+    (e : Error) → StopsAt configs gives old before now entry e → number_of e ≡ 3 → IsRaisedCount before now
 entry_counts configs gives old before now entry e (lacks_address named at none) device =
     url_counts configs named e none device
 entry_counts configs gives old before now entry e (lacks_answer address name needs none (inl given)) device =
@@ -100,7 +100,7 @@ entry_counts configs gives old before now entry e (lacks_answer address name nee
 documents_count : {I : Type 0} (view : I → IndexView) (o : Options) (inputs : List Input)
     (configs : List (Vec Config)) (old new : IndexCache I) (e : Error)
     → IsPlanError o (StopsDocuments inputs configs (cache_view view old) (cache_view view new)) e
-    → number_of e ≡ 3 → raised (view (index_of old)).faults (view (index_of new)).faults
+    → number_of e ≡ 3 → IsRaisedCount (view (index_of old)).faults (view (index_of new)).faults
 documents_count view o inputs configs old new e (inl options) = options_count o e options
 documents_count view o inputs configs old new e (inr (words, inl memory)) = memory_counts e memory
 documents_count view o inputs configs old new e (inr (words, inr first)) =
@@ -109,7 +109,7 @@ documents_count view o inputs configs old new e (inr (words, inr first)) =
 inputs_count : {I : Type 0} (view : I → IndexView) (o : Options) (inputs : List Input)
     (configs : List (Vec Config)) (old new : IndexCache I) (e : Error)
     → IsPlanError o (StopsInputs inputs configs (cache_view view old) (cache_view view new)) e
-    → number_of e ≡ 3 → raised (view (index_of old)).faults (view (index_of new)).faults
+    → number_of e ≡ 3 → IsRaisedCount (view (index_of old)).faults (view (index_of new)).faults
 inputs_count view o inputs configs old new e (inl options) = options_count o e options
 inputs_count {I} view o inputs configs old new e (inr (words, first)) = by first.stops
   where
@@ -117,13 +117,13 @@ inputs_count {I} view o inputs configs old new e (inr (words, first)) = by first
         ⊎ HasBadEntry first.own.items (cache_view view old).gives (cache_view view old).kept
         (cache_view view new).kept (view (index_of old)).faults (view (index_of new)).faults
         first.input.bytes.items e
-        → number_of e ≡ 3 → raised (view (index_of old)).faults (view (index_of new)).faults
+        → number_of e ≡ 3 → IsRaisedCount (view (index_of old)).faults (view (index_of new)).faults
     by (inl bad) = manifest_counts first.input.bytes.items e bad
     by (inr entry) = entry_counts first.own.items _ _ _ _ entry.stops.entry e entry.stops.stops
 
 below_counts : {I : Type 0} (view : I → IndexView) (index : I) (old new : IndexCache I) (e : Error)
     → index_of old ≡ index
-    → (number_of e ≡ 3 → raised (view (index_of old)).faults (view (index_of new)).faults)
+    → (number_of e ≡ 3 → IsRaisedCount (view (index_of old)).faults (view (index_of new)).faults)
     → CountsIndexFault view index e
 below_counts {I} view index old new e is counts device =
     subst (λ (i : I). HasFailedBelow view i) is (index_of new, counts device)
@@ -186,7 +186,7 @@ held_counts : {P : Type 0} (held others : List Member) (e : Error) → IsExclude
 held_counts held others (error.Device _) h device = absurd h
 held_counts held others other h device = cc device
 
-project_counts : {P : Type 0} (t : Target) (a : Asked) (p : Project) (e : Error)
+project_counts : {P : Type 0} (t : Target) (a : SelectionView) (p : Project) (e : Error)
     → IsVersionError t a p e
     → number_of e ≡ 3 → P
 project_counts t a p e (is_excluded held) = held_counts _ _ e held
@@ -199,7 +199,7 @@ manifests_count bs inputs p e (no_rise literals unraised) =
     raise_counts _ unraised.cause.first.text e unraised.cause.cause
 
 -- why a plan of versions is refused is no error of the device
-pub versions_count : {P : Type 0} (t : Target) (a : Asked) (w : WorkspaceModel) (inputs : List Input)
+pub versions_count : {P : Type 0} (t : Target) (a : SelectionView) (w : WorkspaceModel) (inputs : List Input)
     (e : Error) → IsCauseOf t a w inputs e → number_of e ≡ 3 → P
 versions_count t a w inputs e (of_memory memory) = memory_counts e memory
 versions_count t a w inputs e (of_package none) = missing_counts _ e none
@@ -217,7 +217,7 @@ call_counts of old new e (inl memory) = memory_counts e memory
 call_counts of old new e (inr failed) = λ device. failed.1
 
 -- a count that rose from a later one rose from an earlier one
-raised_later : (a b c : ℕ) → a ≤ b → raised b c → raised a c
+raised_later : (a b c : ℕ) → a ≤ b → IsRaisedCount b c → IsRaisedCount a c
 raised_later a b c le (inl rose) = inl (omega (arith, le, rose))
 raised_later a b c le (inr ends) = elim (eq-or-lt_of_le le) [
   | inl same ↦ inr (same ∙ ends.0, ends.1)

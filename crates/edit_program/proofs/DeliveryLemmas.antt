@@ -16,19 +16,19 @@ use Rattle.edit_metadata.specs.declared.input.Input.{Input}
 use Rattle.edit_report.specs.Applied.{AreWritten, HaveDistinctPaths, path_of}
 use Rattle.edit_report.specs.declared.output.Output.{Output}
 use Rattle.edit_steps.proofs.DistinctPaths.{none_differ}
-use Rattle.edit_store.specs.Store.{IsCallError, StoreView, raised}
+use Rattle.edit_store.specs.Store.{IsCallError, StoreView, IsRaisedCount}
 use Rattle.edit_upgrade.specs.UpdateCalls.{Call}
 use Rattle.edit_upgrade.specs.Inputs.{below}
 use Rattle.edit_upgrade.specs.declared.decision.options.Options.{Options}
 use Rattle.edit_upgrade.specs.declared.upgrade.Warning.{Warning}
 use Rattle.edit_program.specs.CallsFile.{calls_files, due_path, file_of}
 use Rattle.edit_program.specs.TellingCauses.{HasBadPackageArg, IsDeliveryCause, LacksNames}
-use Rattle.edit_program.specs.Delivered.{AreBothWritten, IsBehind, IsDelivered, IsWrittenAfterPrint, written}
+use Rattle.edit_program.specs.Delivered.{AreBothWritten, IsBehind, IsDelivered, IsWrittenAfterPrint, upgrade_outputs_to_write}
 use Rattle.edit_program.specs.Delivery.{Delivery, calls_against}
 use Rattle.edit_lock.specs.Views.{lock_view}
 use Rattle.edit_upgrade.specs.Views.{calls_view}
 use Rattle.edit_lock.specs.declared.lock.Lock.{Lock}
-use Rattle.edit_program.specs.Said.{input_report, input_report_at, warning, warning_on, warnings_at}
+use Rattle.edit_program.specs.StderrText.{input_report, input_report_at, warning, warning_on, warnings_at}
 use Rattle.edit_program.specs.PrintedPlan.{diffs_if, messages_as}
 use Rattle.edit_program.specs.Tables.{tables}
 use Rattle.edit_program.proofs.PartLemmas.{made_of_part}
@@ -77,7 +77,7 @@ end_cause HasFields d old new e told (inr (inr lacks)) = inr (inr (inr (told, la
 
 -- what is to be written goes to paths of its own
 pub written_differ : (o : Options) (outputs : List Output) → HaveDistinctPaths outputs
-    → HaveDistinctPaths (written o outputs)
+    → HaveDistinctPaths (upgrade_outputs_to_write o outputs)
 written_differ o outputs differ = go (o.dry_run || o.locked)
   where
     go : (held : Bool) → HaveDistinctPaths (if held then [] else outputs)
@@ -95,7 +95,7 @@ behind_first Leaves first last old mid new tells before behind = record {
   behind = behind;
 }
 
-raised_later : (a b c : ℕ) → a ≤ b → raised b c → raised a c
+raised_later : (a b c : ℕ) → a ≤ b → IsRaisedCount b c → IsRaisedCount a c
 raised_later a b c le (inl lt) = inl (omega arith)
 raised_later a b c le (inr ends) = ⊎_elim (λ same. inr (same ∙ ends.0, ends.1)) (λ lt. inl (omega arith))
     (eq-or-lt_of_le le)
@@ -125,7 +125,7 @@ pub told_to : (Leaves : List Output → List Output → StoreView → StoreView 
     ++ (messages_as d.presentation.format d.plan d.inputs d.options calls
     ++ diffs_if d.presentation.diff d.current d.inputs d.plan.outputs.items))
     → (d.options.locked ≡ true → d.plan.outputs.items ≡ [])
-    → outputs ≡ written d.options d.plan.outputs.items → file ≡ made
+    → outputs ≡ upgrade_outputs_to_write d.options d.plan.outputs.items → file ≡ made
     → map file_of made ≡ calls_files (due_path d.options d.calls_path) calls
     → Leaves outputs file old new → IsWrittenAfterPrint Leaves HasFields d old new
 told_to Leaves HasFields d old new calls outputs made file of shows unlocked is same are leaves = record {

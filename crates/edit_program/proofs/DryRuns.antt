@@ -6,11 +6,11 @@ use Rattle.edit_report.specs.Applied.{AreWritten}
 use Rattle.edit_report.specs.declared.output.Output.{Output}
 use Rattle.edit_store.specs.Store.{SameFiles, StoreView}
 use Rattle.edit_program.specs.CallsFile.{calls_files, due_path, file_of}
-use Rattle.edit_program.specs.Delivered.{AreBothWritten, IsWrittenAfterPrint, written}
+use Rattle.edit_program.specs.Delivered.{AreBothWritten, IsWrittenAfterPrint, upgrade_outputs_to_write}
 use Rattle.edit_program.specs.Delivery.{Delivery}
 
 -- no output is to be written
-none_written : (o : Options) (outputs : List Output) → o.dry_run ≡ true → written o outputs ≡ []
+none_written : (o : Options) (outputs : List Output) → o.dry_run ≡ true → upgrade_outputs_to_write o outputs ≡ []
 none_written o outputs dry = ap (λ b. if b || o.locked then [] else outputs) dry
 
 -- nor is a file of calls
@@ -34,5 +34,5 @@ dry_keeps HasFields d old new dry told path =
     kept told.calls told.leaves.mid new
     (no_files told.calls (told.are ∙ ap (λ p. calls_files p d.calls) (none_due d.options d.calls_path dry)))
     told.leaves.behind path
-    ∙ kept (written d.options d.plan.outputs.items) old told.leaves.mid
+    ∙ kept (upgrade_outputs_to_write d.options d.plan.outputs.items) old told.leaves.mid
     (none_written d.options d.plan.outputs.items dry) told.leaves.before path

@@ -11,11 +11,11 @@ use Rattle.edit_sources.specs.LocalIndex.{local_view, store_of}
 use Rattle.edit_sources.specs.declared.file_index.FileIndex.{FileIndex}
 use Rattle.edit_sources.specs.declared.index_dir.dir_index.DirIndex.{DirIndex}
 use Rattle.edit_sources.specs.declared.local_index.LocalIndex.{LocalIndex}
-use Rattle.edit_store.specs.Store.{StoreView, raised}
+use Rattle.edit_store.specs.Store.{StoreView, IsRaisedCount}
 use Rattle.edit_program.specs.Counted.{CountsIndexFault, CountsStoreFault}
 
 -- a count of faults that stays 0 does not rise
-pub none_raised : raised 0 0 → ⊥
+pub none_raised : IsRaisedCount 0 0 → ⊥
 none_raised (inl rose) = omega (arith, rose)
 none_raised (inr ends) = omega (arith, ends.0)
 
@@ -26,9 +26,9 @@ pub store_fails : {I T : Type 0} (view : I → IndexView) (index : I) (files : T
 store_fails {I} {T} view index files store store_of e same is counts device =
     let failed = counts device in (
       store_of failed.0,
-      subst (λ (s : T). raised (files s).faults (files (store_of failed.0)).faults) is
-          (subst (λ (n : ℕ). raised n (files (store_of failed.0)).faults) (same index)
-          (subst (λ (n : ℕ). raised (view index).faults n) (same failed.0) failed.1)),
+      subst (λ (s : T). IsRaisedCount (files s).faults (files (store_of failed.0)).faults) is
+          (subst (λ (n : ℕ). IsRaisedCount n (files (store_of failed.0)).faults) (same index)
+          (subst (λ (n : ℕ). IsRaisedCount (view index).faults n) (same failed.0) failed.1)),
     )
 
 -- a plan over the index in files

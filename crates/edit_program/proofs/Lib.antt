@@ -1,10 +1,10 @@
 pub mod AbsentLemmas
-pub mod AskedLemmas
+pub mod ArgsLemmas
 pub mod CheckLemmas
 pub mod CommandCases
 pub mod CommandLemmas
 pub mod RunLemmas
-pub mod ShownLemmas
+pub mod ClapMessageLemmas
 pub mod TwiceLemmas
 pub mod PlanLemmas
 pub mod OrderLemmas

@@ -24,7 +24,7 @@ use Rattle.edit_steps.specs.Sources.{AreRead}
 use Rattle.edit_steps.specs.declared.upgrade_read.sources.Sources.{Sources}
 use Rattle.edit_program.specs.UpgradeCauses.{IsLookupsCause}
 use Rattle.edit_program.specs.Planned.{IsPlanCause, IsPlanned, to_lookup_request, empty_answers}
-use Rattle.edit_program.specs.declared.upgrade_run.words.UpgradeWords.{UpgradeWords}
+use Rattle.edit_program.specs.declared.upgrade_run.upgrade_args.UpgradeArgs.{UpgradeArgs}
 
 -- the looks of a plan over an index that has no name are those that are needed
 pub looks_needed : (o : Options) (inputs : List Input) (configs : List (Vec Config)) (plan : UpgradePlan)
@@ -57,14 +57,14 @@ lines_refused o inputs configs plan e planned (inr bad) =
 -- ---- causes
 
 -- what the words name is not read
-pub unread_cause : (words : UpgradeWords) (current : List ℕ) (home : Option (List ℕ)) (old new : StoreView)
+pub unread_cause : (words : UpgradeArgs) (current : List ℕ) (home : Option (List ℕ)) (old new : StoreView)
     (e : Error) → IsReadCause current home (to_lookup_request words) old new e
     → IsLookupsCause words current home old new e
 unread_cause words current home old new e (inl failed) = inl failed
 unread_cause words current home old new e (inr wrong) = inr (inr (λ t. inl (wrong t)))
 
 -- there is no plan for it
-pub unplanned_cause : (words : UpgradeWords) (current : List ℕ) (home : Option (List ℕ)) (old new : StoreView)
+pub unplanned_cause : (words : UpgradeArgs) (current : List ℕ) (home : Option (List ℕ)) (old new : StoreView)
     (s : Sources) (e : Error)
     → (old.tells ≡ true → AreRead old.file_at current home (to_lookup_request words) s)
     → IsMemory e ⊎ IsPlanCause words.options s.target.inputs.items (lists_for s.configs) no_view e

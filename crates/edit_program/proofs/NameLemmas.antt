@@ -12,7 +12,7 @@ use Rattle.std.proofs.lemmas.Bool.{le-leb}
 use Rattle.std.proofs.lemmas.List.{length-map}
 use Rattle.edit_report.specs.Table.{name_text}
 use Rattle.edit_report.specs.declared.row.Row.{Row}
-use Rattle.edit_program.specs.Said.{add_name, names_text, reason_in_notes, with_name}
+use Rattle.edit_program.specs.StderrText.{add_name, names_text, reason_in_notes, with_name}
 
 -- one name more in a set
 inserted : (names : List (String Global)) (name : String Global)

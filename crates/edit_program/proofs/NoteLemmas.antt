@@ -10,7 +10,7 @@ use Rattle.edit_upgrade.specs.declared.decision.options.Options.{Options}
 use Rattle.edit_report.specs.declared.row.Row.{Row}
 use Rattle.edit_upgrade.specs.declared.upgrade.UpgradePlan.{UpgradePlan}
 use Rattle.edit_program.specs.Absent.{absent_note}
-use Rattle.edit_program.specs.Said.{hidden, hidden_note, hidden_text, note, notes, reason_line, warning, message_if}
+use Rattle.edit_program.specs.StderrText.{hidden_rows, hidden_note, hidden_text, note, notes, reason_line, warning, message_if}
 
 -- the line of one reason more
 pub line_more : (rows : List Row) (texts : List (List ℕ)) (items : List (Bor (List ℕ))) (i : ℕ)
@@ -36,15 +36,15 @@ some_hidden v (r ∷ items) some = refl
 
 -- the note on the rows that are not shown
 pub hidden_said : (v w : ℤ) (all : List Row) (items slice : List (Bor Row)) (text message : List ℕ) → w ≡ v
-    → map (λ r. r.now) items ≡ hidden w all → (length items == 0) ≡ false → slice ≡ items
+    → map (λ r. r.now) items ≡ hidden_rows w all → (length items == 0) ≡ false → slice ≡ items
     → text ≡ hidden_text w (map (λ r. r.now) slice) → message ≡ text
-    → note message ≡ hidden_note v (hidden v all)
+    → note message ≡ hidden_note v (hidden_rows v all)
 hidden_said v w all items slice text message known are some is said shown =
     ap note (shown ∙ said)
     ∙ ap (λ (xs : List (Bor Row)). note (hidden_text w (map (λ r. r.now) xs))) is
     ∙ some_hidden w items some
     ∙ ap (hidden_note w) are
-    ∙ ap (λ n. hidden_note n (hidden n all)) known
+    ∙ ap (λ n. hidden_note n (hidden_rows n all)) known
 
 -- all notes on a plan
 pub notes_said : (p : UpgradePlan) (o : Options) (offline : Bool) (a b c d e f : Option (List ℕ))
@@ -52,7 +52,7 @@ pub notes_said : (p : UpgradePlan) (o : Options) (offline : Bool) (a b c d e f :
     (note (codes "Re-run with `--pinned` to upgrade pinned version requirements")))
     → Appends b c (message_if p.incompatible_present
     (note (codes "Re-run with `--incompatible` to upgrade incompatible version requirements")))
-    → Appends c d (hidden_note o.verbosity (hidden o.verbosity p.rows.items))
+    → Appends c d (hidden_note o.verbosity (hidden_rows o.verbosity p.rows.items))
     → Appends d e (message_if o.dry_run (warning (codes "aborting upgrade due to dry run")))
     → Appends e f (absent_note p o offline)
     → Appends a f (notes p o offline)

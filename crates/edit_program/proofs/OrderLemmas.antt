@@ -11,10 +11,10 @@ use Rattle.std.proofs.lemmas.Bool.{eqb-true}
 use Rattle.edit_metadata.specs.declared.input.Input.{Input}
 use Rattle.edit_upgrade.specs.Inputs.{RowsInOrder, WarningsInOrder, below}
 use Rattle.edit_upgrade.specs.Lines.{line_of}
-use Rattle.edit_upgrade.specs.Lists.{Told, warning_view}
+use Rattle.edit_upgrade.specs.Lists.{WarningView, warning_view}
 use Rattle.edit_upgrade.specs.Rows.{Line}
 use Rattle.edit_upgrade.specs.declared.upgrade.UpgradePlan.{UpgradePlan}
-use Rattle.edit_program.specs.Said.{AreWarningsInOrder}
+use Rattle.edit_program.specs.StderrText.{AreWarningsInOrder}
 use Rattle.edit_program.specs.Tables.{AreInOrder}
 
 module _ {A : Type 0} (number : A → ℕ) where
@@ -102,4 +102,4 @@ rows_in_order inputs p turns =
 pub warnings_in_order : (inputs : List Input) (p : UpgradePlan) → WarningsInOrder inputs p
     → AreWarningsInOrder p.warnings.items
 warnings_in_order inputs p turns =
-    in_order_by (λ (told : Told). told.input) warning_view (length inputs) p.warnings.items turns
+    in_order_by (λ (told : WarningView). told.input) warning_view (length inputs) p.warnings.items turns

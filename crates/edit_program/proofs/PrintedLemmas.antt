@@ -4,15 +4,15 @@ use Rattle.std.specs.Prelude.{codes}
 use Rattle.std.specs.Io.KnownBytes.{Appends}
 use Rattle.std.proofs.KnownBytes.{Appends-trans}
 use Rattle.edit_set_version.specs.PlanLines.{ReportLine}
-use Rattle.edit_program.specs.Printed.{printed, statuses_in, warning_if}
-use Rattle.edit_program.specs.declared.set_version_run.words.SetVersionWords.{SetVersionWords}
+use Rattle.edit_program.specs.Printed.{set_version_stderr_text, statuses_in, warning_if}
+use Rattle.edit_program.specs.declared.set_version_run.set_version_args.SetVersionArgs.{SetVersionArgs}
 
 -- all that standard error has
-pub printed_all : (words : SetVersionWords) (lines : List ReportLine) (a b c d : Option (List ℕ))
+pub printed_all : (words : SetVersionArgs) (lines : List ReportLine) (a b c d : Option (List ℕ))
     → Appends a b (warning_if words.all
     (codes "The flag `--all` has been deprecated in favor of `--workspace`"))
     → Appends b c (statuses_in words.presentation.format lines)
     → Appends c d (warning_if words.dry_run (codes "aborting set-version due to dry run"))
-    → Appends a d (printed words lines)
+    → Appends a d (set_version_stderr_text words lines)
 printed_all words lines a b c d first second third =
     Appends-trans a b d _ _ first (Appends-trans b c d _ _ second third)

@@ -3,7 +3,7 @@ use Rattle.std.proofs.Common.{◌≡◌, ◌≤◌, ◌≢◌, ℕ, zero, suc, L
 use Rattle.std.specs.Prelude.{◌⊎◌, IfErr, IfOk, OnErr}
 use Rattle.clap.specs.Words.{Row, Text}
 use Rattle.edit_base.specs.Errors.{IsMemory}
-use Rattle.edit_steps.specs.declared.refusal.Refusal.{Refusal}
+use Rattle.edit_steps.specs.declared.run_error.RunError.{RunError}
 use Rattle.edit_store.specs.Store.{SameFiles}
 use Rattle.edit_program.specs.ParsedOptions.{is_given}
 use Rattle.edit_program.specs.Commands.{HasSubcommandUsageError, IsBrokenBy, IsCauseBy, IsDoneBy}
@@ -11,7 +11,7 @@ use Rattle.edit_program.specs.Run.{Run}
 use Rattle.edit_program.specs.Runs.{HasUsageError, HasCheckFlag, HasFound, HasParsedArgs, IsDone, IsEnded, IsRunFailure, IsRunCause}
 
 -- a fault of the subcommand is one of the words
-pub command_fault : (words : List Text) (name : Text) (rows : List Row) (r : Result ℕ Refusal)
+pub command_fault : (words : List Text) (name : Text) (rows : List Row) (r : Result ℕ RunError)
     → HasParsedArgs words name rows → IfOk r (λ s. s ≡ 2 → HasSubcommandUsageError name rows)
     → IfOk r (λ s. s ≡ 2 → HasUsageError words)
 command_fault words name rows (Ok s) entered fault =
@@ -20,7 +20,7 @@ command_fault words name rows (Err x) entered fault = tt
 
 -- a subcommand that ends with a status is a run that does
 pub command_ended : (words : List Text) (name : Text) (rows : List Row) (HasFields IsErrorOf : List ℕ → Type 0)
-    (run : Run) (r : Result ℕ Refusal) (Q : Type 0)
+    (run : Run) (r : Result ℕ RunError) (Q : Type 0)
     → HasParsedArgs words name rows → IfOk r (λ s. s ≤ 2)
     → IfOk r (λ s. s ≡ 1 → Q → SameFiles run.old.file_at run.new.file_at)
     → IfOk r (λ s. s ≢ 2 → Q → IsDoneBy name rows s HasFields IsErrorOf run)
@@ -45,7 +45,7 @@ command_ended words name rows HasFields IsErrorOf run (Err x) Q entered small ke
 
 -- a subcommand that was refused is a run that was
 pub command_refused : (words : List Text) (name : Text) (rows : List Row) (HasFields IsErrorOf : List ℕ → Type 0)
-    (run : Run) (r : Result ℕ Refusal) (Q : Type 0)
+    (run : Run) (r : Result ℕ RunError) (Q : Type 0)
     → HasParsedArgs words name rows
     → OnErr r (Q → SameFiles run.old.file_at run.new.file_at
     ⊎ IsBrokenBy name rows HasFields IsErrorOf run)
@@ -61,7 +61,7 @@ command_refused words name rows HasFields IsErrorOf run (Err x) Q entered refuse
 
 -- and so is why it was
 pub command_why : (words : List Text) (name : Text) (rows : List Row) (HasFields : List ℕ → Type 0)
-    (run : Run) (r : Result ℕ Refusal)
+    (run : Run) (r : Result ℕ RunError)
     → HasParsedArgs words name rows
     → IfErr r (λ x. IsMemory x.error ⊎ IsCauseBy name rows HasFields run x.error)
     → IfErr r (λ x. IsRunCause words HasFields run x.error)
@@ -71,7 +71,7 @@ command_why words name rows HasFields run (Err x) entered (inr cause) =
     inr (inr (record { name = name; rows = rows; entered = entered; holds = cause }))
 
 -- a subcommand that asks to check is a run that does
-pub command_asked : (words : List Text) (name : Text) (rows : List Row) (r : Result ℕ Refusal)
+pub command_asked : (words : List Text) (name : Text) (rows : List Row) (r : Result ℕ RunError)
     → HasParsedArgs words name rows → IfOk r (λ s. s ≡ 1 → is_given (codes "check") rows ≡ true)
     → IfOk r (λ s. s ≡ 1 → HasCheckFlag words)
 command_asked words name rows (Ok s) entered asked =

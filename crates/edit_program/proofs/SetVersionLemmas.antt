@@ -20,13 +20,13 @@ use Rattle.edit_steps.specs.Workspaces.{HasNoWorkspace}
 use Rattle.edit_store.specs.Store.{IsCallError, SameFiles, StoreView}
 use Rattle.edit_program.specs.SetVersionCauses.{IsSetVersionCause}
 use Rattle.edit_program.specs.Plans.{IsVersionPlan}
-use Rattle.edit_program.specs.Printed.{printed, shown}
-use Rattle.edit_program.specs.SetVersions.{IsPlannedTo, IsRead, written}
-use Rattle.edit_program.specs.declared.set_version_run.words.SetVersionWords.{SetVersionWords}
+use Rattle.edit_program.specs.Printed.{set_version_stderr_text, set_version_stdout_text}
+use Rattle.edit_program.specs.SetVersions.{IsPlannedTo, IsRead, outputs_to_write}
+use Rattle.edit_program.specs.declared.set_version_run.set_version_args.SetVersionArgs.{SetVersionArgs}
 
 -- what is to be written goes to paths of its own
-pub written_differ : (words : SetVersionWords) (is : List Input) (outputs : List Output) → HaveOwnPaths is
-    → OutputsInOrder is outputs → HaveDistinctPaths (written words outputs)
+pub written_differ : (words : SetVersionArgs) (is : List Input) (outputs : List Output) → HaveOwnPaths is
+    → OutputsInOrder is outputs → HaveDistinctPaths (outputs_to_write words outputs)
 written_differ words is outputs own in_order = go words.dry_run
   where
     go : (dry : Bool) → HaveDistinctPaths (if dry then [] else outputs)
@@ -35,10 +35,10 @@ written_differ words is outputs own in_order = go words.dry_run
 
 -- what was read, planned and printed, and what is left of the files
 pub planned_to : (Leaves : List Output → StoreView → StoreView → Type 0) (HasFields IsErrorOf : List ℕ → Type 0)
-    (words : SetVersionWords) (current : List ℕ) (old new : StoreView) (w : WorkspaceModel) (is : List Input)
+    (words : SetVersionArgs) (current : List ℕ) (old new : StoreView) (w : WorkspaceModel) (is : List Input)
     (plan : SetVersionPlan) → (old.tells ≡ true → IsRead words current old.file_at w is)
     → IsVersionPlan (target_of words.target) (selection_view words.selection) w is plan
-    → HasFields (shown words w.root is plan) → IsErrorOf (printed words (plan_lines_view plan))
+    → HasFields (set_version_stdout_text words w.root is plan) → IsErrorOf (set_version_stderr_text words (plan_lines_view plan))
     → Leaves plan.outputs.items old new → old.tells ≡ true
     → IsPlannedTo Leaves HasFields IsErrorOf words current old new
 planned_to Leaves HasFields IsErrorOf words current old new w is plan read planned shows tells leaves t = record {
@@ -53,14 +53,14 @@ planned_to Leaves HasFields IsErrorOf words current old new w is plan read plann
 }
 
 -- what is printed was not taken, or memory ran out for it, before a file was written
-pub stream_cause : (words : SetVersionWords) (current : List ℕ) (old new : StoreView) (e : Error)
+pub stream_cause : (words : SetVersionArgs) (current : List ℕ) (old new : StoreView) (e : Error)
     → SameFiles old.file_at new.file_at → IsMemory e ⊎ (e ≡ Unwritten)
     → IsSetVersionCause words current old new e
 stream_cause words current old new e same (inl memory) = inl (inl memory)
 stream_cause words current old new e same (inr unwritten) = inr (same, inr (inl unwritten))
 
 -- a workspace that is not read
-pub workspace_cause : (words : SetVersionWords) (current : List ℕ) (old new : StoreView) (e : Error)
+pub workspace_cause : (words : SetVersionArgs) (current : List ℕ) (old new : StoreView) (e : Error)
     → SameFiles old.file_at new.file_at
     → IsCallError call.Read old new e
     ⊎ (old.tells ≡ true → HasNoWorkspace old.file_at current words.metadata_json.now e)
@@ -69,7 +69,7 @@ workspace_cause words current old new e same (inl refused) = inr (same, inl refu
 workspace_cause words current old new e same (inr wrong) = inr (same, inr (inr (λ t. inl (wrong t))))
 
 -- a plan that is not made
-pub plan_cause : (words : SetVersionWords) (current : List ℕ) (old new : StoreView) (w : WorkspaceModel)
+pub plan_cause : (words : SetVersionArgs) (current : List ℕ) (old new : StoreView) (w : WorkspaceModel)
     (is : List Input) (e : Error) → SameFiles old.file_at new.file_at
     → (old.tells ≡ true → IsRead words current old.file_at w is)
     → IsCauseOf (target_of words.target) (selection_view words.selection) w is e

@@ -1,6 +1,6 @@
 -- Two of three flags are given, as the program tests it.
 use Rattle.std.proofs.Common.{◌≡◌, ◌&&◌, ◌||◌, Bool, None, Some, codes, false, refl, sym, true}
-use Rattle.edit_program.specs.VersionWords.{conflict_among}
+use Rattle.edit_program.specs.ParsedSetVersion.{conflict_among}
 
 pub twice_all : (a w p : Bool) → p ≡ true → a ≡ true → true ≡ ((a && w) || (p && (a || w)))
 twice_all true true p there all = refl

@@ -26,18 +26,18 @@ use Rattle.edit_steps.specs.declared.upgrade_read.sources.Sources.{Sources}
 use Rattle.edit_steps.specs.declared.upgrade_read.target.Target.{Target}
 use Rattle.edit_program.proofs.StagingLemmas.{all_stopped_after, behind_after}
 use Rattle.edit_program.specs.TellingCauses.{IsDeliveryCause, IsStopped}
-use Rattle.edit_program.specs.Delivered.{AreBothWritten, HaveStopped, IsCutShort, IsDelivered, IsWrittenAfterPrint, written}
+use Rattle.edit_program.specs.Delivered.{AreBothWritten, HaveStopped, IsDeliveryInterrupted, IsDelivered, IsWrittenAfterPrint, upgrade_outputs_to_write}
 use Rattle.edit_program.specs.Delivery.{Delivery, calls_against, calls_of}
 use Rattle.edit_program.specs.LockRead.{HasNoLock, IsLockRead}
 use Rattle.edit_program.specs.UpgradeCauses.{IsUpgradeCause}
 use Rattle.edit_program.specs.Planned.{IsPlanCause, to_request, index_view}
 use Rattle.edit_program.specs.Run.{run_at}
-use Rattle.edit_program.specs.Said.{said}
+use Rattle.edit_program.specs.StderrText.{upgrade_stderr_text}
 use Rattle.edit_program.specs.Upgrading.{IsUpgradeResult, IsBroken, IsPathOf, IsPlannedFor, IsRead, IsUpgraded, delivery_by, diff_root, has_outputs}
-use Rattle.edit_program.specs.declared.upgrade_run.words.UpgradeWords.{UpgradeWords}
+use Rattle.edit_program.specs.declared.upgrade_run.upgrade_args.UpgradeArgs.{UpgradeArgs}
 
 -- the outputs of a plan go to paths of their own
-pub plan_paths : (words : UpgradeWords) (s : Sources) (local : StoreView) (plan : UpgradePlan)
+pub plan_paths : (words : UpgradeArgs) (s : Sources) (local : StoreView) (plan : UpgradePlan)
     → HaveOwnPaths s.target.inputs.items → IsPlannedFor words s local plan
     → HaveDistinctPaths plan.outputs.items
 plan_paths words s local plan own planned =
@@ -57,7 +57,7 @@ same_lock None lock is = ap (option_map lock_view) is
 same_lock (Some l) lock is = ap (option_map lock_view) is
 
 -- a plan for these manifests as the arguments ask for it, where diffs name files from this folder
-abbrev delivery_at : UpgradeWords → UpgradePlan → List Input → Option WorkspaceModel → List ℕ → Option (List ℕ)
+abbrev delivery_at : UpgradeArgs → UpgradePlan → List Input → Option WorkspaceModel → List ℕ → Option (List ℕ)
     → Option (List Package) → Delivery
 delivery_at words plan inputs workspace root path lock = record {
   plan = plan;
@@ -71,7 +71,7 @@ delivery_at words plan inputs workspace root path lock = record {
 }
 
 -- what is delivered is what the arguments ask for
-pub same_delivery : (words : UpgradeWords) (current root : List ℕ) (plan : UpgradePlan) (target : Target)
+pub same_delivery : (words : UpgradeArgs) (current root : List ℕ) (plan : UpgradePlan) (target : Target)
     (path : Option (List ℕ)) (lock : Option (List Package)) (inputs : List Input) (r : Option (Bor Workspace))
     → root ≡ diff_root current (option_map (λ x. workspace_view x.now) r)
     → inputs ≡ target.inputs.items → option_copied r ≡ target.workspace
@@ -86,12 +86,12 @@ same_delivery words current root plan target path lock inputs r from same is =
 
 -- a plan was delivered, and the answer is whether it changes a manifest
 pub answered : (due : Bool) (HasFields HasDecodedValue : List ℕ → Type 0) (old new : StoreView) (task d : Delivery) → task ≡ d
-    → due ≡ has_outputs d.plan → IsDelivered HasFields task old new → HasDecodedValue (said task)
+    → due ≡ has_outputs d.plan → IsDelivered HasFields task old new → HasDecodedValue (upgrade_stderr_text task)
     → IsUpgradeResult due HasFields HasDecodedValue old new d
 answered due HasFields HasDecodedValue old new task d same is delivered says = record {
   is = is;
   delivered = subst (λ x. IsDelivered HasFields x old new) same delivered;
-  says = subst (λ x. HasDecodedValue (said x)) same says;
+  says = subst (λ x. HasDecodedValue (upgrade_stderr_text x)) same says;
 }
 
 -- ---- behind reads
@@ -105,11 +105,11 @@ told_after Leaves HasFields d old mid new after told = record {
   unlocked = told.unlocked;
   calls = told.calls;
   are = told.are;
-  leaves = after (written d.options d.plan.outputs.items) told.calls told.leaves;
+  leaves = after (upgrade_outputs_to_write d.options d.plan.outputs.items) told.calls told.leaves;
 }
 
 -- a plan that was delivered
-pub upgraded : (due : Bool) (HasFields HasDecodedValue : List ℕ → Type 0) (words : UpgradeWords) (current : List ℕ)
+pub upgraded : (due : Bool) (HasFields HasDecodedValue : List ℕ → Type 0) (words : UpgradeArgs) (current : List ℕ)
     (home : Option (List ℕ)) (local old mid new : StoreView) (s : Sources) (plan : UpgradePlan)
     (path : Option (List ℕ)) (lock : Option (List Package)) → OnlyReads old mid
     → (old.tells ≡ true → IsRead words current home old.file_at s) → IsPlannedFor words s local plan
@@ -141,7 +141,7 @@ upgraded due HasFields HasDecodedValue words current home local old mid new s pl
     }
 
 cut_after : (HasFields : List ℕ → Type 0) (d : Delivery) (old mid new : StoreView) → OnlyReads old mid
-    → IsCutShort HasFields d mid new → IsCutShort HasFields d old new
+    → IsDeliveryInterrupted HasFields d mid new → IsDeliveryInterrupted HasFields d old new
 cut_after HasFields d old mid new reads (inl stopped) =
     inl (told_after HaveStopped HasFields d old mid new
     (λ first last. all_stopped_after first last old mid new reads) stopped)
@@ -150,14 +150,14 @@ cut_after HasFields d old mid new reads (inr whole) =
     (λ first last. behind_after AreWritten first last old mid new reads) whole)
 
 -- and one whose delivery was refused
-pub broken : (HasFields : List ℕ → Type 0) (words : UpgradeWords) (current : List ℕ)
+pub broken : (HasFields : List ℕ → Type 0) (words : UpgradeArgs) (current : List ℕ)
     (home : Option (List ℕ)) (local old mid new : StoreView) (s : Sources) (plan : UpgradePlan)
     (path : Option (List ℕ)) (lock : Option (List Package)) → OnlyReads old mid
     → (old.tells ≡ true → IsRead words current home old.file_at s) → IsPlannedFor words s local plan
     → IsPathOf current (given words.update_calls) path
     → (old.tells ≡ true → IsLockRead old.file_at current (given words.lock_file) lock)
     → SameFiles mid.file_at new.file_at
-    ⊎ IsCutShort HasFields (delivery_by words current plan s.target path lock) mid new
+    ⊎ IsDeliveryInterrupted HasFields (delivery_by words current plan s.target path lock) mid new
     → old.tells ≡ true
     → SameFiles old.file_at new.file_at ⊎ IsBroken HasFields words (run_at current home local old new)
 broken HasFields words current home local old mid new s plan path lock reads read planned at locked (inl kept) t =
@@ -178,7 +178,7 @@ broken HasFields words current home local old mid new s plan path lock reads rea
 -- ---- causes
 
 -- what the arguments name is not read
-pub read_cause : (HasFields : List ℕ → Type 0) (words : UpgradeWords) (current : List ℕ) (home : Option (List ℕ))
+pub read_cause : (HasFields : List ℕ → Type 0) (words : UpgradeArgs) (current : List ℕ) (home : Option (List ℕ))
     (local old new : StoreView) (e : Error) → SameFiles old.file_at new.file_at
     → IsReadCause current home (to_request words) old new e
     → IsUpgradeCause HasFields words (run_at current home local old new) e
@@ -187,7 +187,7 @@ read_cause HasFields words current home local old new e same (inr wrong) =
     inr (inr (inr (inr (λ t. inl (same, inr (inl (wrong t)))))))
 
 -- nor its lock file
-pub lock_cause : (HasFields : List ℕ → Type 0) (words : UpgradeWords) (current : List ℕ) (home : Option (List ℕ))
+pub lock_cause : (HasFields : List ℕ → Type 0) (words : UpgradeArgs) (current : List ℕ) (home : Option (List ℕ))
     (local old new : StoreView) (e : Error) → SameFiles old.file_at new.file_at
     → IsReadCause current home (to_request words) old new e
     ⊎ (old.tells ≡ true → HasNoLock old.file_at current (given words.lock_file) e)
@@ -198,7 +198,7 @@ lock_cause HasFields words current home local old new e same (inr none) =
     inr (inr (inr (inr (λ t. inl (same, inl (none t))))))
 
 -- there is no plan for it
-pub plan_cause : (HasFields : List ℕ → Type 0) (words : UpgradeWords) (current : List ℕ) (home : Option (List ℕ))
+pub plan_cause : (HasFields : List ℕ → Type 0) (words : UpgradeArgs) (current : List ℕ) (home : Option (List ℕ))
     (local old new : StoreView) (s : Sources) (e : Error) → SameFiles old.file_at new.file_at
     → (old.tells ≡ true → IsRead words current home old.file_at s)
     → IsMemory e ⊎ IsPlanCause words.options s.target.inputs.items (lists_for s.configs)
@@ -228,7 +228,7 @@ stopped_later HasFields d old mid new e reads (inr lacks) = inr (
 )
 
 -- the plan is not delivered
-pub stop_cause : (HasFields : List ℕ → Type 0) (words : UpgradeWords) (current : List ℕ) (home : Option (List ℕ))
+pub stop_cause : (HasFields : List ℕ → Type 0) (words : UpgradeArgs) (current : List ℕ) (home : Option (List ℕ))
     (local old mid new : StoreView) (s : Sources) (plan : UpgradePlan) (path : Option (List ℕ))
     (lock : Option (List Package)) (e : Error)
     → OnlyReads old mid

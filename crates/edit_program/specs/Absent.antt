@@ -17,12 +17,12 @@ absent_at is_excluded look = if is_absent is_excluded look then string_bytes loo
 
 -- the names of the crates that the index does not have and that are not excluded, in the order of the
 -- lookups (own)
-abbrev pub absent : (List ℕ → Bool) → List Look → List (List ℕ)
-absent is_excluded looks = flat_map (absent_at is_excluded) looks
+abbrev pub absent_names : (List ℕ → Bool) → List Look → List (List ℕ)
+absent_names is_excluded looks = flat_map (absent_at is_excluded) looks
 
 -- names as the note lists them: at most five, and the number of the others (own)
-abbrev pub listed : List (List ℕ) → List ℕ
-listed names =
+abbrev pub abbreviate_names : List (List ℕ) → List ℕ
+abbreviate_names names =
     if nat_le (length names) 5 then join_by (λ name. name) (codes ", ") names
     else join_by (λ name. name) (codes ", ") (take 5 names)
     ++ (codes " and " ++ (decimal (length names - 5) ++ codes " more"))
@@ -35,7 +35,7 @@ crate_or_crates count = if count == 1 then codes "crate" else codes "crates"
 abbrev pub absent_text : List (List ℕ) → List ℕ
 absent_text names =
     codes "no index entry was found for "
-    ++ (decimal (length names) ++ (codes " " ++ (crate_or_crates (length names) ++ (codes ": " ++ listed names))))
+    ++ (decimal (length names) ++ (codes " " ++ (crate_or_crates (length names) ++ (codes ": " ++ abbreviate_names names))))
 
 -- the note on crates of these names, where there are any (own)
 abbrev pub names_note : List (List ℕ) → List ℕ
@@ -47,4 +47,4 @@ names_note (name ∷ names) = message_text false (codes "note") (absent_text (na
 abbrev pub absent_note : UpgradePlan → Options → Bool → List ℕ
 absent_note plan options offline =
     if offline then []
-    else names_note (absent (is_among (map string_bytes options.exclude.items)) plan.looks.items)
+    else names_note (absent_names (is_among (map string_bytes options.exclude.items)) plan.looks.items)

@@ -3,23 +3,23 @@ use Rattle.std.specs.Prelude.{◌≡◌, ◌≢◌, ◌⊎◌, ℕ, Bool, List, 
 use Rattle.clap.specs.Words.{Row, Text}
 use Rattle.edit_base.specs.declared.errors.Error.{Error}
 use Rattle.edit_program.specs.SetVersionCauses.{IsSetVersionCause}
-use Rattle.edit_program.specs.SetVersions.{AreVersionsSet, IsCutShort}
-use Rattle.edit_program.specs.declared.set_version_run.words.SetVersionWords.{SetVersionWords}
+use Rattle.edit_program.specs.SetVersions.{AreVersionsSet, IsSettingInterrupted}
+use Rattle.edit_program.specs.declared.set_version_run.set_version_args.SetVersionArgs.{SetVersionArgs}
 use Rattle.edit_store.specs.Store.{SameFiles, StoreView}
 use Rattle.edit_program.specs.UpgradeCauses.{IsLookupsCause, IsUpgradeCause}
 use Rattle.edit_program.specs.Looking.{AreLookupsPrinted}
 use Rattle.edit_program.specs.Upgrading.{IsBroken, IsUpgraded}
-use Rattle.edit_program.specs.declared.upgrade_run.words.UpgradeWords.{UpgradeWords}
+use Rattle.edit_program.specs.declared.upgrade_run.upgrade_args.UpgradeArgs.{UpgradeArgs}
 use Rattle.edit_program.specs.Presented.{status_after}
 use Rattle.edit_program.specs.Run.{Run}
-use Rattle.edit_program.specs.UpgradeAsked.{HasUpgradeArgs, HaveUpgradeFault}
-use Rattle.edit_program.specs.VersionWords.{HasSetVersionArgs, HaveVersionFault}
+use Rattle.edit_program.specs.ParsedUpgrade.{HasUpgradeArgs, HaveUpgradeFault}
+use Rattle.edit_program.specs.ParsedSetVersion.{HasSetVersionArgs, HaveVersionFault}
 
 -- the selected manifests are upgraded, after the plan is printed; the status is 1 where `--check` is given
 -- and the plan has an output
 pub record HasUpgraded (rows : List Row) (status : ℕ) (HasFields HasDecodedValue : List ℕ → Type 0) (run : Run)
     : Type 0 where
-  pub asked : UpgradeWords
+  pub asked : UpgradeArgs
   pub asks : HasUpgradeArgs rows asked
   pub due : Bool
   pub upgraded : IsUpgraded due HasFields HasDecodedValue asked run
@@ -27,20 +27,20 @@ pub record HasUpgraded (rows : List Row) (status : ℕ) (HasFields HasDecodedVal
 
 -- the upgrade of the selected manifests failed, at a write or after all of them
 pub record HasBroken (rows : List Row) (HasFields : List ℕ → Type 0) (run : Run) : Type 0 where
-  pub asked : UpgradeWords
+  pub asked : UpgradeArgs
   pub asks : HasUpgradeArgs rows asked
   pub broken : IsBroken HasFields asked run
 
 -- the cause of an error of `upgrade` with these arguments
 pub record HasUpgradeCause (rows : List Row) (HasFields : List ℕ → Type 0) (run : Run) (e : Error) : Type 0 where
-  pub asked : UpgradeWords
+  pub asked : UpgradeArgs
   pub asks : HasUpgradeArgs rows asked
   pub cause : IsUpgradeCause HasFields asked run e
 
 -- the lookups that the upgrade needs are printed, and each file is unchanged
 pub record HasPrintedLookups (rows : List Row) (HasFields : List ℕ → Type 0) (current : List ℕ) (home : Option (List ℕ))
     (old new : StoreView) : Type 0 where
-  pub asked : UpgradeWords
+  pub asked : UpgradeArgs
   pub asks : HasUpgradeArgs rows asked
   pub looked : AreLookupsPrinted HasFields asked current home old.file_at
   pub unchanged : SameFiles old.file_at new.file_at
@@ -48,7 +48,7 @@ pub record HasPrintedLookups (rows : List Row) (HasFields : List ℕ → Type 0)
 -- the cause of an error of `looks` with these arguments; each file is unchanged
 pub record HasLookupsCause (rows : List Row) (current : List ℕ) (home : Option (List ℕ)) (old new : StoreView)
     (e : Error) : Type 0 where
-  pub asked : UpgradeWords
+  pub asked : UpgradeArgs
   pub asks : HasUpgradeArgs rows asked
   pub cause : IsLookupsCause asked current home old new e
   pub unchanged : SameFiles old.file_at new.file_at
@@ -57,7 +57,7 @@ pub record HasLookupsCause (rows : List Row) (current : List ℕ) (home : Option
 -- the plan has an output
 pub record HasSetVersions (rows : List Row) (status : ℕ) (HasFields IsErrorOf : List ℕ → Type 0) (current : List ℕ)
     (old new : StoreView) : Type 0 where
-  pub asked : SetVersionWords
+  pub asked : SetVersionArgs
   pub asks : HasSetVersionArgs rows asked
   pub due : Bool
   pub set : AreVersionsSet HasFields IsErrorOf asked current due old new
@@ -66,14 +66,14 @@ pub record HasSetVersions (rows : List Row) (status : ℕ) (HasFields IsErrorOf 
 -- the requested versions are planned and printed, but writing stopped at an output
 pub record HasStoppedSetting (rows : List Row) (HasFields IsErrorOf : List ℕ → Type 0) (current : List ℕ)
     (old new : StoreView) : Type 0 where
-  pub asked : SetVersionWords
+  pub asked : SetVersionArgs
   pub asks : HasSetVersionArgs rows asked
-  pub stopped : IsCutShort HasFields IsErrorOf asked current old new
+  pub stopped : IsSettingInterrupted HasFields IsErrorOf asked current old new
 
 -- the cause of an error of `set-version` with these arguments
 pub record HasSetVersionCause (rows : List Row) (current : List ℕ) (old new : StoreView) (e : Error)
     : Type 0 where
-  pub asked : SetVersionWords
+  pub asked : SetVersionArgs
   pub asks : HasSetVersionArgs rows asked
   pub cause : IsSetVersionCause asked current old new e
 

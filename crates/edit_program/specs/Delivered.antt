@@ -6,11 +6,11 @@ use Rattle.edit_store.specs.Store.{StoreView}
 use Rattle.edit_upgrade.specs.declared.decision.options.Options.{Options}
 use Rattle.edit_program.specs.CallsFile.{calls_files, due_path, file_of}
 use Rattle.edit_program.specs.Delivery.{Delivery}
-use Rattle.edit_program.specs.PrintedPlan.{shown}
+use Rattle.edit_program.specs.PrintedPlan.{upgrade_stdout_text}
 
 -- the outputs to write: none with `--dry-run` or `--locked`
-abbrev pub written : Options → List Output → List Output
-written o outputs = if o.dry_run || o.locked then [] else outputs
+abbrev pub upgrade_outputs_to_write : Options → List Output → List Output
+upgrade_outputs_to_write o outputs = if o.dry_run || o.locked then [] else outputs
 
 -- the first outputs are written, and after them this holds of the last
 pub record IsBehind (Leaves : List Output → StoreView → StoreView → Type 0) (first last : List Output)
@@ -33,11 +33,11 @@ HaveStopped first last old new =
 -- file of the calls; a locked plan has no outputs
 pub record IsWrittenAfterPrint (Leaves : List Output → List Output → StoreView → StoreView → Type 0)
     (HasFields : List ℕ → Type 0) (d : Delivery) (old new : StoreView) : Type 0 where
-  pub shows : HasFields (shown d)
+  pub shows : HasFields (upgrade_stdout_text d)
   pub unlocked : d.options.locked ≡ true → d.plan.outputs.items ≡ []
   pub calls : List Output
   pub are : map file_of calls ≡ calls_files (due_path d.options d.calls_path) d.calls
-  pub leaves : Leaves (written d.options d.plan.outputs.items) calls old new
+  pub leaves : Leaves (upgrade_outputs_to_write d.options d.plan.outputs.items) calls old new
 
 -- the plan is printed, its outputs and the file of the calls are written, and no name is missing
 pub record IsDelivered (HasFields : List ℕ → Type 0) (d : Delivery) (old new : StoreView) : Type 0 where
@@ -45,6 +45,6 @@ pub record IsDelivered (HasFields : List ℕ → Type 0) (d : Delivery) (old new
   pub complete : map string_bytes d.plan.missing.items ≡ []
 
 -- an error after the plan is printed: writing stopped, or everything is written
-abbrev pub IsCutShort : (List ℕ → Type 0) → Delivery → StoreView → StoreView → Type 0
-IsCutShort HasFields d old new =
+abbrev pub IsDeliveryInterrupted : (List ℕ → Type 0) → Delivery → StoreView → StoreView → Type 0
+IsDeliveryInterrupted HasFields d old new =
     IsWrittenAfterPrint HaveStopped HasFields d old new ⊎ IsWrittenAfterPrint AreBothWritten HasFields d old new

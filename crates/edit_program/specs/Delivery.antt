@@ -3,7 +3,7 @@ use Rattle.std.specs.Prelude.{ℕ, Bool, List, [], Option, Some, None, option_ma
 use Rattle.std.specs.Option.{option_map_or}
 use Rattle.edit_upgrade.specs.declared.decision.options.Options.{Options}
 use Rattle.edit_lock.specs.LockFile.{Package}
-use Rattle.edit_lock.specs.AdaptedCalls.{changes, standing_calls}
+use Rattle.edit_lock.specs.AdaptedCalls.{changes, adapt_calls}
 use Rattle.edit_lock.specs.Views.{lock_view}
 use Rattle.edit_metadata.specs.Metadata.{WorkspaceModel}
 use Rattle.edit_metadata.specs.declared.input.Input.{Input}
@@ -22,7 +22,7 @@ calls_of plan options workspace = option_map_or (update_calls (call_options plan
 -- valid for it fetch nothing
 abbrev pub calls_against : Option (List Package) → Bool → List Call → List Call
 calls_against None offline calls = calls
-calls_against (Some packages) offline calls = standing_calls (changes packages packages) offline calls
+calls_against (Some packages) offline calls = adapt_calls (changes packages packages) offline calls
 
 -- a plan for inputs with its options, the folder and the format that it is printed in, the calls that
 -- follow, and the path of the file for them

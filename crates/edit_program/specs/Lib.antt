@@ -5,8 +5,8 @@ pub mod Merged
 pub mod Presented
 pub mod Run
 pub mod Runs
-pub mod UpgradeAsked
-pub mod VersionWords
+pub mod ParsedUpgrade
+pub mod ParsedSetVersion
 pub mod LockRead
 pub mod LookLines
 pub mod Needed
@@ -23,7 +23,7 @@ pub mod Tables
 pub mod Delivery
 pub mod PrintedPlan
 pub mod CallsFile
-pub mod Said
+pub mod StderrText
 pub mod Delivered
 pub mod TellingCauses
 pub mod Counted

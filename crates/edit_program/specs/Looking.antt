@@ -16,7 +16,7 @@ use Rattle.edit_steps.specs.Shared.{lists_for}
 use Rattle.edit_steps.specs.Sources.{AreRead}
 use Rattle.edit_steps.specs.declared.upgrade_read.sources.Sources.{Sources}
 use Rattle.edit_program.specs.Planned.{IsPlanned, to_lookup_request}
-use Rattle.edit_program.specs.declared.upgrade_run.words.UpgradeWords.{UpgradeWords}
+use Rattle.edit_program.specs.declared.upgrade_run.upgrade_args.UpgradeArgs.{UpgradeArgs}
 
 -- the lines of the lookups that a plan for these inputs makes over an empty index, in the order in which
 -- the inputs need them: one for each pair of address and name
@@ -29,7 +29,7 @@ pub record AreLinesOf (o : Options) (inputs : List Input) (configs : List (Vec C
   pub is : text ≡ flat_map look_as_line plan.looks.items
 
 -- the given files were read, but no index, and the lines of the lookups are printed
-pub record AreLookupsPrinted (HasFields : List ℕ → Type 0) (words : UpgradeWords) (current : List ℕ)
+pub record AreLookupsPrinted (HasFields : List ℕ → Type 0) (words : UpgradeArgs) (current : List ℕ)
     (home : Option (List ℕ)) (files : Files) : Type 0 where
   pub sources : Sources
   pub text : List ℕ

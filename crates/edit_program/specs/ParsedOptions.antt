@@ -3,7 +3,7 @@ use Rattle.std.specs.Prelude.{◌≡◌, ◌⊎◌, ◌||◌, ◌-◌, ℕ, ℤ,
 use Rattle.std.specs.Str.{bytes_eq}
 use Rattle.clap.specs.Words.{Row, Text, all_of, count_of, first_of}
 use Rattle.edit_upgrade.specs.declared.decision.options.Options.{Options}
-use Rattle.edit_upgrade.specs.Words.{excluded_of, words_of}
+use Rattle.edit_upgrade.specs.Words.{excluded_of, package_args_of}
 
 -- the value of an option of `upgrade`, or this default where it has none
 abbrev pub value_of : Text → Text → List Row → Text
@@ -49,7 +49,7 @@ pub record HasOptions (rows : List Row) (o : Options) : Type 0 where
   pub verbosity : o.verbosity
       ≡ verbosity_of (count_of (codes "verbose") rows) (count_of (codes "quiet") rows)
   pub never_lower : o.never_lower ≡ is_given (codes "never-lower") rows
-  pub packages : words_of o ≡ values_of (codes "package") rows
+  pub packages : package_args_of o ≡ values_of (codes "package") rows
   pub exclusions : excluded_of o ≡ values_of (codes "exclude") rows
 
 -- one of the options has an invalid value

@@ -21,10 +21,10 @@ use Rattle.edit_upgrade.specs.declared.upgrade.UpgradePlan.{UpgradePlan}
 use Rattle.edit_steps.specs.RequestView.{RequestView, rust_request}
 use Rattle.edit_steps.specs.declared.upgrade_read.index.IndexSource.{IndexSource}
 use Rattle.edit_steps.specs.declared.upgrade_read.index.IndexSource.TheVariants as source
-use Rattle.edit_program.specs.declared.upgrade_run.words.UpgradeWords.{UpgradeWords}
+use Rattle.edit_program.specs.declared.upgrade_run.upgrade_args.UpgradeArgs.{UpgradeArgs}
 
 -- the files to read, from the arguments
-abbrev pub to_request : UpgradeWords → RequestView
+abbrev pub to_request : UpgradeArgs → RequestView
 to_request words = record {
   manifest = given words.manifest_path;
   metadata = given words.metadata_json;
@@ -36,7 +36,7 @@ to_request words = record {
 }
 
 -- the files to read where only the lookups are requested: no index
-abbrev pub to_lookup_request : UpgradeWords → RequestView
+abbrev pub to_lookup_request : UpgradeArgs → RequestView
 to_lookup_request words = record {
   manifest = given words.manifest_path;
   metadata = given words.metadata_json;

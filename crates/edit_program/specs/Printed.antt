@@ -11,7 +11,7 @@ use Rattle.edit_shown.specs.Diffs.{diffs}
 use Rattle.edit_shown.specs.Messages.{changes}
 use Rattle.edit_shown.specs.declared.presentation.MessageFormat.{MessageFormat}
 use Rattle.edit_shown.specs.declared.presentation.MessageFormat.TheVariants.{Human, Json, Markdown}
-use Rattle.edit_program.specs.declared.set_version_run.words.SetVersionWords.{SetVersionWords}
+use Rattle.edit_program.specs.declared.set_version_run.set_version_args.SetVersionArgs.{SetVersionArgs}
 
 -- a warning, where it is due
 abbrev pub warning_if : Bool → List ℕ → List ℕ
@@ -28,8 +28,8 @@ statuses_in Json lines = []
 statuses_in Markdown lines = statuses lines
 
 -- on standard error: the warning for `--all`, the lines, and the warning of a dry run
-abbrev pub printed : SetVersionWords → List ReportLine → List ℕ
-printed words lines =
+abbrev pub set_version_stderr_text : SetVersionArgs → List ReportLine → List ℕ
+set_version_stderr_text words lines =
     warning_if words.all (codes "The flag `--all` has been deprecated in favor of `--workspace`")
     ++ (statuses_in words.presentation.format lines
     ++ warning_if words.dry_run (codes "aborting set-version due to dry run"))
@@ -45,7 +45,7 @@ abbrev pub diffs_if : Bool → List ℕ → List Input → List Output → List 
 diffs_if asked root inputs outputs = if asked then diffs root inputs outputs else []
 
 -- on standard output: the lines as messages and the diffs of the manifests, where they are requested
-abbrev pub shown : SetVersionWords → List ℕ → List Input → SetVersionPlan → List ℕ
-shown words root inputs plan =
+abbrev pub set_version_stdout_text : SetVersionArgs → List ℕ → List Input → SetVersionPlan → List ℕ
+set_version_stdout_text words root inputs plan =
     messages_in words.presentation.format (plan_lines_view plan)
     ++ diffs_if words.presentation.diff root inputs plan.outputs.items

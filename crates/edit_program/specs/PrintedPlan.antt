@@ -24,8 +24,8 @@ abbrev pub diffs_if : Bool → List ℕ → List Input → List Output → List 
 diffs_if due current inputs outputs = if due then diffs current inputs outputs else []
 
 -- the tables, or the plan as JSON or as one table; then the diffs of manifests
-abbrev pub shown : Delivery → List ℕ
-shown d =
+abbrev pub upgrade_stdout_text : Delivery → List ℕ
+upgrade_stdout_text d =
     tables d.presentation.format d.options.verbosity d.plan.rows.items (length d.inputs)
     ++ (messages_as d.presentation.format d.plan d.inputs d.options d.calls
     ++ diffs_if d.presentation.diff d.current d.inputs d.plan.outputs.items)

@@ -12,20 +12,20 @@ use Rattle.edit_set_version.specs.declared.plan.SetVersionPlan.{SetVersionPlan}
 use Rattle.edit_steps.specs.Workspaces.{IsWorkspaceRead}
 use Rattle.edit_store.specs.Store.{Files, StoreView}
 use Rattle.edit_program.specs.Plans.{IsVersionPlan}
-use Rattle.edit_program.specs.Printed.{printed, shown}
-use Rattle.edit_program.specs.declared.set_version_run.words.SetVersionWords.{SetVersionWords}
+use Rattle.edit_program.specs.Printed.{set_version_stderr_text, set_version_stdout_text}
+use Rattle.edit_program.specs.declared.set_version_run.set_version_args.SetVersionArgs.{SetVersionArgs}
 
 -- no Rust version is requested
 abbrev pub no_rust : RustOptions
 no_rust = record { given = None; ignored = true }
 
 -- the given workspace was read, with its manifests
-abbrev pub IsRead : SetVersionWords → List ℕ → Files → WorkspaceModel → List Input → Type 0
+abbrev pub IsRead : SetVersionArgs → List ℕ → Files → WorkspaceModel → List Input → Type 0
 IsRead words current files w is = IsWorkspaceRead files current words.metadata_json.now no_rust w is
 
 -- the outputs to write: none with a dry run
-abbrev pub written : SetVersionWords → List Output → List Output
-written words outputs = if words.dry_run then [] else outputs
+abbrev pub outputs_to_write : SetVersionArgs → List Output → List Output
+outputs_to_write words outputs = if words.dry_run then [] else outputs
 
 -- whether a plan has an output
 abbrev pub has_some : List Output → Bool
@@ -33,33 +33,33 @@ has_some outputs = not (length outputs == 0)
 
 -- the workspace was read, the plan was made and printed, and this holds of its outputs
 pub record IsPlannedTo (Leaves : List Output → StoreView → StoreView → Type 0) (HasFields IsErrorOf : List ℕ → Type 0)
-    (words : SetVersionWords) (current : List ℕ) (old new : StoreView) : Type 0 where
+    (words : SetVersionArgs) (current : List ℕ) (old new : StoreView) : Type 0 where
   pub workspace : WorkspaceModel
   pub inputs : List Input
   pub plan : SetVersionPlan
   pub read : IsRead words current old.file_at workspace inputs
   pub planned : IsVersionPlan (target_of words.target) (selection_view words.selection) workspace inputs plan
-  pub shows : HasFields (shown words workspace.root inputs plan)
-  pub tells : IsErrorOf (printed words (plan_lines_view plan))
+  pub shows : HasFields (set_version_stdout_text words workspace.root inputs plan)
+  pub tells : IsErrorOf (set_version_stderr_text words (plan_lines_view plan))
   pub leaves : Leaves plan.outputs.items old new
 
 -- the outputs are written, none with a dry run; the flag is set where there are outputs
-abbrev pub AreDelivered : SetVersionWords → Bool → List Output → StoreView → StoreView → Type 0
-AreDelivered words due outputs old new = AreWritten (written words outputs) old new × (due ≡ has_some outputs)
+abbrev pub AreDelivered : SetVersionArgs → Bool → List Output → StoreView → StoreView → Type 0
+AreDelivered words due outputs old new = AreWritten (outputs_to_write words outputs) old new × (due ≡ has_some outputs)
 
 -- the writing stopped at an output
-abbrev pub HasStoppedAt : SetVersionWords → List Output → StoreView → StoreView → Type 0
-HasStoppedAt words outputs old new = HasStopped (written words outputs) old new
+abbrev pub HasStoppedAt : SetVersionArgs → List Output → StoreView → StoreView → Type 0
+HasStoppedAt words outputs old new = HasStopped (outputs_to_write words outputs) old new
 
 -- each output of the plan is in its file, and no other file changed; `due` is set where the plan has an
 -- output
-abbrev pub AreVersionsSet : (List ℕ → Type 0) → (List ℕ → Type 0) → SetVersionWords → List ℕ → Bool
+abbrev pub AreVersionsSet : (List ℕ → Type 0) → (List ℕ → Type 0) → SetVersionArgs → List ℕ → Bool
     → StoreView → StoreView → Type 0
 AreVersionsSet HasFields IsErrorOf words current due old new =
     IsPlannedTo (AreDelivered words due) HasFields IsErrorOf words current old new
 
 -- writing stopped at an output: the files of those before it are whole, and those after it unchanged
-abbrev pub IsCutShort : (List ℕ → Type 0) → (List ℕ → Type 0) → SetVersionWords → List ℕ
+abbrev pub IsSettingInterrupted : (List ℕ → Type 0) → (List ℕ → Type 0) → SetVersionArgs → List ℕ
     → StoreView → StoreView → Type 0
-IsCutShort HasFields IsErrorOf words current old new =
+IsSettingInterrupted HasFields IsErrorOf words current old new =
     IsPlannedTo (HasStoppedAt words) HasFields IsErrorOf words current old new

@@ -18,7 +18,7 @@ use Rattle.edit_steps.specs.declared.upgrade_read.sources.Sources.{Sources}
 use Rattle.edit_program.specs.Planned.{IsPlanCause, to_request, to_lookup_request, index_view}
 use Rattle.edit_program.specs.Run.{Run}
 use Rattle.edit_program.specs.Upgrading.{IsPlannedTo}
-use Rattle.edit_program.specs.declared.upgrade_run.words.UpgradeWords.{UpgradeWords}
+use Rattle.edit_program.specs.declared.upgrade_run.upgrade_args.UpgradeArgs.{UpgradeArgs}
 use Rattle.edit_program.specs.TellingCauses.{IsStopped}
 
 -- the given files were read, and planning over their index fails
@@ -30,7 +30,7 @@ pub record HasNoPlan (options : Options) (view : Sources → IndexView) (asked :
 
 -- the cause of an error before there is a plan: reading the lock file or another file fails, or planning
 -- does
-abbrev pub IsUnplanned : UpgradeWords → List ℕ → Option (List ℕ) → StoreView → Files → Error → Type 0
+abbrev pub IsUnplanned : UpgradeArgs → List ℕ → Option (List ℕ) → StoreView → Files → Error → Type 0
 IsUnplanned words current home local files e =
     HasNoLock files current (given words.lock_file) e
     ⊎ (HasBadSources files current home (to_request words) e
@@ -38,7 +38,7 @@ IsUnplanned words current home local files e =
 
 -- the cause in the given files: there is no plan, and each file is unchanged; or the plan is not carried
 -- out
-abbrev pub IsUnfit : (List ℕ → Type 0) → UpgradeWords → Run → Error → Type 0
+abbrev pub IsUnfit : (List ℕ → Type 0) → UpgradeArgs → Run → Error → Type 0
 IsUnfit HasFields words run e =
     (SameFiles run.old.file_at run.new.file_at
     × IsUnplanned words run.current run.home run.index_files run.old.file_at e)
@@ -47,7 +47,7 @@ IsUnfit HasFields words run e =
 
 -- the cause of an error of `upgrade`: out of memory; a device error in a read, and each file is unchanged;
 -- one in a write; a failed print; or the given files
-abbrev pub IsUpgradeCause : (List ℕ → Type 0) → UpgradeWords → Run → Error → Type 0
+abbrev pub IsUpgradeCause : (List ℕ → Type 0) → UpgradeArgs → Run → Error → Type 0
 IsUpgradeCause HasFields words run e =
     IsMemory e
     ⊎ ((SameFiles run.old.file_at run.new.file_at × IsFailure run.old run.new e)
@@ -56,13 +56,13 @@ IsUpgradeCause HasFields words run e =
 
 -- the cause in the given files where only lookups are requested: reading them fails, or planning over an
 -- empty index does, as for an invalid name
-abbrev pub HasBadLookupInput : UpgradeWords → List ℕ → Option (List ℕ) → Files → Error → Type 0
+abbrev pub HasBadLookupInput : UpgradeArgs → List ℕ → Option (List ℕ) → Files → Error → Type 0
 HasBadLookupInput words current home files e =
     HasBadSources files current home (to_lookup_request words) e
     ⊎ HasNoPlan words.options (λ s. no_view) (to_lookup_request words) current home files e
 
 -- the cause of an error of `looks`: out of memory or a device error, a failed print, or the given files
-abbrev pub IsLookupsCause : UpgradeWords → List ℕ → Option (List ℕ) → StoreView → StoreView → Error → Type 0
+abbrev pub IsLookupsCause : UpgradeArgs → List ℕ → Option (List ℕ) → StoreView → StoreView → Error → Type 0
 IsLookupsCause words current home old new e =
     IsFailure old new e
     ⊎ ((e ≡ Unwritten) ⊎ (old.tells ≡ true → HasBadLookupInput words current home old.file_at e))

@@ -13,19 +13,19 @@ use Rattle.edit_steps.specs.Sources.{AreRead}
 use Rattle.edit_steps.specs.declared.upgrade_read.sources.Sources.{Sources}
 use Rattle.edit_steps.specs.declared.upgrade_read.target.Target.{Target}
 use Rattle.edit_program.specs.Planned.{IsPlanned, to_request, index_view}
-use Rattle.edit_program.specs.declared.upgrade_run.words.UpgradeWords.{UpgradeWords}
-use Rattle.edit_program.specs.Delivered.{IsCutShort, IsDelivered}
+use Rattle.edit_program.specs.declared.upgrade_run.upgrade_args.UpgradeArgs.{UpgradeArgs}
+use Rattle.edit_program.specs.Delivered.{IsDeliveryInterrupted, IsDelivered}
 use Rattle.edit_program.specs.Delivery.{Delivery, calls_against, calls_of}
 use Rattle.edit_program.specs.LockRead.{IsLockRead}
 use Rattle.edit_program.specs.Run.{Run}
-use Rattle.edit_program.specs.Said.{said}
+use Rattle.edit_program.specs.StderrText.{upgrade_stderr_text}
 
 -- the given files were read
-abbrev pub IsRead : UpgradeWords → List ℕ → Option (List ℕ) → Files → Sources → Type 0
+abbrev pub IsRead : UpgradeArgs → List ℕ → Option (List ℕ) → Files → Sources → Type 0
 IsRead words current home files s = AreRead files current home (to_request words) s
 
 -- the plan for the files that were read, over their index
-abbrev pub IsPlannedFor : UpgradeWords → Sources → StoreView → UpgradePlan → Type 0
+abbrev pub IsPlannedFor : UpgradeArgs → Sources → StoreView → UpgradePlan → Type 0
 IsPlannedFor words s local plan =
     IsPlanned words.options s.target.inputs.items (lists_for s.configs) (index_view s.index local) plan
 
@@ -42,7 +42,7 @@ diff_root current workspace = option_map_or (λ w. w.root) workspace current
 
 -- a plan for these manifests, as the arguments request it to be printed, with this path for the file of the
 -- calls, which are adapted to the lock file with these packages, where there is one
-abbrev pub delivery_by : UpgradeWords → List ℕ → UpgradePlan → Target → Option (List ℕ) → Option (List Package)
+abbrev pub delivery_by : UpgradeArgs → List ℕ → UpgradePlan → Target → Option (List ℕ) → Option (List Package)
     → Delivery
 delivery_by words current plan target path lock = record {
   plan = plan;
@@ -57,7 +57,7 @@ delivery_by words current plan target path lock = record {
 }
 
 -- the given files were read and planned, and this holds of the plan with the request to print and write it
-pub record IsPlannedTo (Ends : Delivery → Type 0) (words : UpgradeWords) (current : List ℕ)
+pub record IsPlannedTo (Ends : Delivery → Type 0) (words : UpgradeArgs) (current : List ℕ)
     (home : Option (List ℕ)) (local : StoreView) (files : Files) : Type 0 where
   pub sources : Sources
   pub plan : UpgradePlan
@@ -78,18 +78,18 @@ pub record IsUpgradeResult (due : Bool) (HasFields HasDecodedValue : List ℕ �
     : Type 0 where
   pub is : due ≡ has_outputs d.plan
   pub delivered : IsDelivered HasFields d old new
-  pub says : HasDecodedValue (said d)
+  pub says : HasDecodedValue (upgrade_stderr_text d)
 
 -- the given manifests are upgraded: each output of the plan is in its file, then the calls are in theirs,
 -- and no other file changed; the plan and the report on it are printed; the flag is set where the plan
 -- changes a manifest
-abbrev pub IsUpgraded : Bool → (List ℕ → Type 0) → (List ℕ → Type 0) → UpgradeWords → Run → Type 0
+abbrev pub IsUpgraded : Bool → (List ℕ → Type 0) → (List ℕ → Type 0) → UpgradeArgs → Run → Type 0
 IsUpgraded due HasFields HasDecodedValue words run =
     IsPlannedTo (IsUpgradeResult due HasFields HasDecodedValue run.old run.new) words run.current run.home run.index_files
     run.old.file_at
 
 -- an upgrade failed at a write, or after one
-abbrev pub IsBroken : (List ℕ → Type 0) → UpgradeWords → Run → Type 0
+abbrev pub IsBroken : (List ℕ → Type 0) → UpgradeArgs → Run → Type 0
 IsBroken HasFields words run =
-    IsPlannedTo (λ d. IsCutShort HasFields d run.old run.new) words run.current run.home run.index_files
+    IsPlannedTo (λ d. IsDeliveryInterrupted HasFields d run.old run.new) words run.current run.home run.index_files
     run.old.file_at

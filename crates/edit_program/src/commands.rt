@@ -10,20 +10,20 @@ ghost use Rattle.edit_program.specs.ParsedOptions.{is_given};
 ghost use Rattle.edit_program.specs.Commands.{HasBroken, HasPrintedLookups, HasLookupsCause, HasSetVersionCause, HasSetVersions, HasStoppedSetting, HasUpgradeCause, HasUpgraded, HasSubcommandUsageError, IsBrokenBy, IsCauseBy, IsDoneBy};
 ghost use Rattle.edit_program.specs.Counted.{CountsEitherFault};
 ghost use Rattle.edit_program.specs.Run.{run_at};
-ghost use Rattle.edit_program.specs.UpgradeAsked.{HaveUpgradeFault};
-ghost use Rattle.edit_program.specs.VersionWords.{HaveVersionFault};
+ghost use Rattle.edit_program.specs.ParsedUpgrade.{HaveUpgradeFault};
+ghost use Rattle.edit_program.specs.ParsedSetVersion.{HaveVersionFault};
 
 use crate::args_error::ArgsError;
-use crate::asked::parse_upgrade_args;
+use crate::upgrade_parser::parse_upgrade_args;
 use crate::faults::print_args_error;
 use crate::output_format::status_after;
-use crate::place::Place;
+use crate::run_folders::RunFolders;
 use crate::set_version_run::set_version;
-use crate::upgrade_run::{looks, upgrade};
-use crate::version_words::version_words;
+use crate::upgrade_run::{print_lookups, upgrade};
+use crate::set_version_parser::parse_set_version_args;
 use clap::ArgMatches;
 use edit_base::Error;
-use edit_steps::{Refusal, RunResult};
+use edit_steps::{RunError, RunResult};
 use edit_store::Store;
 use std::alloc::Global;
 use std::io;
@@ -32,7 +32,7 @@ use std::io;
 fn run_upgrade<S: Store, T: Store + Drop, O: io::Write, E: io::Write>(
     alloc: Global,
     matches: &ArgMatches<'_>,
-    place: &Place<'_>,
+    place: &RunFolders<'_>,
     files: &mut S,
     index_files: T,
     out: &mut O,
@@ -64,7 +64,7 @@ fn run_upgrade<S: Store, T: Store + Drop, O: io::Write, E: io::Write>(
 {
     let words = match parse_upgrade_args(alloc, matches) {
         Ok(words) => words,
-        Err(ArgsError::Memory) => return Err(Refusal::from(Error::Memory)),
+        Err(ArgsError::Memory) => return Err(RunError::from(Error::Memory)),
         Err(ArgsError::Fault(fault)) => return Ok(print_args_error(&fault, err)),
     };
     let due = upgrade(alloc, &words, place, files, index_files, out, err)?;
@@ -96,10 +96,10 @@ fn run_looks<S: Store, O: io::Write, E: io::Write>(
 {
     let words = match parse_upgrade_args(alloc, matches) {
         Ok(words) => words,
-        Err(ArgsError::Memory) => return Err(Refusal::from(Error::Memory)),
+        Err(ArgsError::Memory) => return Err(RunError::from(Error::Memory)),
         Err(ArgsError::Fault(fault)) => return Ok(print_args_error(&fault, err)),
     };
-    looks(alloc, &words, current, cargo_home, files, out)?;
+    print_lookups(alloc, &words, current, cargo_home, files, out)?;
     Ok(0)
 }
 
@@ -134,9 +134,9 @@ fn run_set_version<S: Store, O: io::Write, E: io::Write>(
     ensures requested { IfOk result (λ s. s ≡ 1
         → is_given (codes "check") (rows_of (found_of matches.now)) ≡ true) }
 {
-    let words = match version_words(alloc, matches) {
+    let words = match parse_set_version_args(alloc, matches) {
         Ok(words) => words,
-        Err(ArgsError::Memory) => return Err(Refusal::from(Error::Memory)),
+        Err(ArgsError::Memory) => return Err(RunError::from(Error::Memory)),
         Err(ArgsError::Fault(fault)) => return Ok(print_args_error(&fault, err)),
     };
     let due = set_version(alloc, &words, current, files, out, err)?;
@@ -147,7 +147,7 @@ fn run_set_version<S: Store, O: io::Write, E: io::Write>(
 pub(crate) fn run_subcommand<S: Store, T: Store + Drop, O: io::Write, E: io::Write>(
     alloc: Global,
     subcommand: (&str, &ArgMatches<'_>),
-    place: &Place<'_>,
+    place: &RunFolders<'_>,
     files: &mut S,
     index_files: T,
     out: &mut O,

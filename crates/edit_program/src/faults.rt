@@ -8,25 +8,25 @@ ghost use Rattle.edit_program.specs.Runs.{status_of};
 use crate::args_error::ArgsFault;
 use clap::error::ErrorKind;
 use edit_base::Error;
-use edit_steps::{Refusal, RunResult, print_error};
+use edit_steps::{RunError, RunResult, print_error};
 use std::alloc::Global;
 use std::io;
 
 /// Adds the place `standard output` to `Error::Output`: an error of standard error cannot be printed
 /// anyway. Other errors are unchanged.
-fn at_stream(alloc: Global, refusal: Refusal) -> Refusal
+fn at_stream(alloc: Global, refusal: RunError) -> RunError
     ensures { result.error ≡ refusal.error }
 {
     if !matches!(&refusal.error, Error::Output) {
         return refusal;
     }
     let place = String::from_str(alloc, "standard output").ok();
-    Refusal { place, ..refusal }
+    RunError { place, ..refusal }
 }
 
 /// Prints an error with its place, cause and help, where they are known, and returns the exit status, even
 /// where printing fails.
-pub(crate) fn print_failure<E: io::Write>(alloc: Global, refusal: Refusal, err: &mut E) -> u8
+pub(crate) fn print_failure<E: io::Write>(alloc: Global, refusal: RunError, err: &mut E) -> u8
     ensures { result ≡ 1 }
 {
     let _ = print_error(alloc, &at_stream(alloc, refusal), err);
@@ -35,7 +35,7 @@ pub(crate) fn print_failure<E: io::Write>(alloc: Global, refusal: Refusal, err: 
 
 /// Prints the message of a `clap` error, and returns the exit status: 0 for help and the version, 2 for a
 /// wrong command line.
-pub(crate) fn shown<O: io::Write, E: io::Write>(
+pub(crate) fn print_clap_message<O: io::Write, E: io::Write>(
     error: &clap::Error,
     out: &mut O,
     err: &mut E,
@@ -47,7 +47,7 @@ pub(crate) fn shown<O: io::Write, E: io::Write>(
         ⊎ ((r.error ≡ Output) × (status_of (kind_of error.now) ≡ 0))) }
 {
     if error.kind() == ErrorKind::OutOfMemory {
-        return Err(Refusal::from(Error::Memory));
+        return Err(RunError::from(Error::Memory));
     }
     if error.use_stderr() {
         let _ = write!(err, "{error}");
@@ -55,7 +55,7 @@ pub(crate) fn shown<O: io::Write, E: io::Write>(
     }
     match write!(out, "{error}") {
         Ok(()) => Ok(0),
-        Err(_) => Err(Refusal::from(Error::Output)),
+        Err(_) => Err(RunError::from(Error::Output)),
     }
 }
 

@@ -2,19 +2,19 @@
 #![tactic(auto)]
 
 mod args_error;
-mod asked;
+mod upgrade_parser;
 mod cargo_builtin;
 mod commands;
 mod faults;
 mod looks;
 mod lookups;
 mod output_format;
-mod place;
+mod run_folders;
 mod program;
 mod set_version_run;
 mod upgrade_output;
 mod upgrade_run;
-mod version_words;
+mod set_version_parser;
 
-pub use place::Place;
+pub use run_folders::RunFolders;
 pub use program::{run, try_run};

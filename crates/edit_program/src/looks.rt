@@ -4,4 +4,4 @@ mod no_index;
 mod text;
 
 pub use no_index::NoIndex;
-pub use text::looks_text;
+pub use text::lookup_lines_text;

@@ -3,7 +3,7 @@ ghost use Rattle.std.specs.Prelude.{◌≡◌, ◌≢◌, ◌⊎◌, ◌≤◌, 
 ghost use Rattle.std.specs.Io.KnownBytes.{Appends};
 ghost use Rattle.edit_sources.specs.Configured.{given};
 ghost use Rattle.edit_base.specs.declared.errors.details.MergedCommand.{MergedCommand};
-ghost use Rattle.edit_words.specs.Filled.{filled};
+ghost use Rattle.edit_words.specs.Filled.{insert_defaults};
 ghost use Rattle.edit_program.specs.Counted.{CountsEitherFault};
 ghost use Rattle.edit_program.specs.Merged.{first_builtin};
 ghost use Rattle.edit_program.specs.Run.{run_at};
@@ -11,20 +11,20 @@ ghost use Rattle.edit_program.specs.Runs.{HasUsageError, HasCheckFlag, HasFailed
 
 use crate::cargo_builtin::first_builtin;
 use crate::commands::run_subcommand;
-use crate::faults::{print_failure, shown};
-use crate::place::Place;
+use crate::faults::{print_failure, print_clap_message};
+use crate::run_folders::RunFolders;
 use edit_base::Error;
-use edit_steps::{Refusal, RunResult};
+use edit_steps::{RunError, RunResult};
 use edit_store::Store;
-use edit_words::{command, filled_words};
+use edit_words::{command, insert_defaults};
 use std::alloc::Global;
 use std::io;
 
 /// Parses arguments in which all options have values, and runs the subcommand: an exit status, or an error.
-fn answer<S: Store, T: Store + Drop, O: io::Write, E: io::Write>(
+fn parse_and_run<S: Store, T: Store + Drop, O: io::Write, E: io::Write>(
     alloc: Global,
     words: &[&str],
-    place: &Place<'_>,
+    place: &RunFolders<'_>,
     files: &mut S,
     index_files: T,
     out: &mut O,
@@ -54,12 +54,12 @@ fn answer<S: Store, T: Store + Drop, O: io::Write, E: io::Write>(
     ensures requested { IfOk result (λ s. s ≡ 1 → HasCheckFlag (map (λ w. w.now) words.now)) }
 {
     if let Some(command) = first_builtin(words) {
-        return Err(Refusal::from(Error::Merged(command)));
+        return Err(RunError::from(Error::Merged(command)));
     }
     let command = command(alloc)?;
     let matches = match command.try_get_matches_from(words) {
         Ok(matches) => matches,
-        Err(error) => return shown(&error, out, err),
+        Err(error) => return print_clap_message(&error, out, err),
     };
     match matches.subcommand() {
         Some((name, matches)) => {
@@ -73,7 +73,7 @@ fn answer<S: Store, T: Store + Drop, O: io::Write, E: io::Write>(
 pub fn try_run<S: Store, T: Store + Drop, O: io::Write, E: io::Write>(
     alloc: Global,
     words: &[&str],
-    place: &Place<'_>,
+    place: &RunFolders<'_>,
     files: &mut S,
     index_files: T,
     out: &mut O,
@@ -82,29 +82,29 @@ pub fn try_run<S: Store, T: Store + Drop, O: io::Write, E: io::Write>(
     ensures status { IfOk result (λ s. s ≤ 2) }
     ensures answered { IfOk result (λ s. s ≡ 2 → files.new ≡ files.old) }
     ensures builtin { (command : MergedCommand)
-        → first_builtin (filled (map (λ w. w.now) words.now)) ≡ Some command
+        → first_builtin (insert_defaults (map (λ w. w.now) words.now)) ≡ Some command
         → IsErr result × (files.new ≡ files.old) }
-    ensures fault { IfOk result (λ s. s ≡ 2 → HasUsageError (filled (map (λ w. w.now) words.now))) }
+    ensures fault { IfOk result (λ s. s ≡ 2 → HasUsageError (insert_defaults (map (λ w. w.now) words.now))) }
     ensures ended { IfOk result (λ s. s ≢ 2 → (S.view files.old).tells ≡ true
-        → IsEnded (filled (map (λ w. w.now) words.now)) s (Appends (O.contents out.old) (O.contents out.new))
+        → IsEnded (insert_defaults (map (λ w. w.now) words.now)) s (Appends (O.contents out.old) (O.contents out.new))
         (Appends (E.contents err.old) (E.contents err.new))
         (run_at place.now.current.now (given place.now.cargo_home)
         (T.view index_files) (S.view files.old) (S.view files.new))) }
     ensures error { OnErr result ((S.view files.old).tells ≡ true
-        → IsRunFailure (filled (map (λ w. w.now) words.now)) (Appends (O.contents out.old) (O.contents out.new))
+        → IsRunFailure (insert_defaults (map (λ w. w.now) words.now)) (Appends (O.contents out.old) (O.contents out.new))
         (Appends (E.contents err.old) (E.contents err.new))
         (run_at place.now.current.now (given place.now.cargo_home)
         (T.view index_files) (S.view files.old) (S.view files.new))) }
-    ensures why { IfErr result (λ r. IsRunCause (filled (map (λ w. w.now) words.now))
+    ensures why { IfErr result (λ r. IsRunCause (insert_defaults (map (λ w. w.now) words.now))
         (Appends (O.contents out.old) (O.contents out.new))
         (run_at place.now.current.now (given place.now.cargo_home)
         (T.view index_files) (S.view files.old) (S.view files.new)) r.error) }
     ensures counted { IfErr result (λ r. CountsEitherFault T.view index_files
         (S.view files.old) (S.view files.new) r.error) }
-    ensures requested { IfOk result (λ s. s ≡ 1 → HasCheckFlag (filled (map (λ w. w.now) words.now))) }
+    ensures requested { IfOk result (λ s. s ≡ 1 → HasCheckFlag (insert_defaults (map (λ w. w.now) words.now))) }
 {
-    let words = filled_words(alloc, words)?;
-    answer(alloc, words.as_slice(), place, files, index_files, out, err)
+    let words = insert_defaults(alloc, words)?;
+    parse_and_run(alloc, words.as_slice(), place, files, index_files, out, err)
 }
 
 /// Runs the program with these arguments, the first of which is the subcommand, and returns the exit
@@ -131,29 +131,29 @@ pub fn run<S: Store, T: Store + Drop, O: io::Write, E: io::Write>(
 ) -> u8
     ensures status { result ≤ 2 }
     ensures builtin { (command : MergedCommand)
-        → first_builtin (filled (map (λ w. w.now) words.now)) ≡ Some command
+        → first_builtin (insert_defaults (map (λ w. w.now) words.now)) ≡ Some command
         → (result ≡ 1) × (files.new ≡ files.old) }
     ensures faulty { result ≡ 2 → files.new ≡ files.old }
-    ensures fault { result ≡ 2 → HasUsageError (filled (map (λ w. w.now) words.now)) }
+    ensures fault { result ≡ 2 → HasUsageError (insert_defaults (map (λ w. w.now) words.now)) }
     ensures done { result ≡ 0 → (S.view files.old).tells ≡ true
-        → IsDone (filled (map (λ w. w.now) words.now)) (Appends (O.contents out.old) (O.contents out.new))
+        → IsDone (insert_defaults (map (λ w. w.now) words.now)) (Appends (O.contents out.old) (O.contents out.new))
         (Appends (E.contents err.old) (E.contents err.new))
         (run_at current.now (given cargo_home.entry)
         (T.view index_files) (S.view files.old) (S.view files.new)) }
     // a check found a change to make, or there is an error, with its cause; over any stores, a device error
     // is counted
     ensures failed { result ≡ 1
-        → IsChecked (filled (map (λ w. w.now) words.now)) (Appends (O.contents out.old) (O.contents out.new))
+        → IsChecked (insert_defaults (map (λ w. w.now) words.now)) (Appends (O.contents out.old) (O.contents out.new))
         (Appends (E.contents err.old) (E.contents err.new))
         (run_at current.now (given cargo_home.entry)
         (T.view index_files) (S.view files.old) (S.view files.new))
-        ⊎ HasFailed (filled (map (λ w. w.now) words.now))
+        ⊎ HasFailed (insert_defaults (map (λ w. w.now) words.now))
         (Appends (O.contents out.old) (O.contents out.new)) (Appends (E.contents err.old))
         (CountsEitherFault T.view index_files (S.view files.old) (S.view files.new))
         (run_at current.now (given cargo_home.entry)
         (T.view index_files) (S.view files.old) (S.view files.new)) }
 {
-    let place = Place {
+    let place = RunFolders {
         current,
         cargo_home,
     };

@@ -2,8 +2,8 @@
 
 mod command;
 mod plan;
-mod printed;
-mod words;
+mod set_version_output;
+mod set_version_args;
 
 pub use command::set_version;
-pub use words::SetVersionWords;
+pub use set_version_args::SetVersionArgs;

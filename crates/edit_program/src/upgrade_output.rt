@@ -1,16 +1,16 @@
 //! What an upgrade prints and writes after it is planned.
 
-mod absent;
+mod absent_crates;
 mod calls;
 mod calls_file;
-mod carried;
+mod plan_execution;
 mod delivery;
-mod held;
-mod hidden;
+mod plan_checks;
+mod hidden_rows_note;
 mod notes;
 mod reports;
 mod rows;
-mod shown;
+mod plan_output;
 mod task;
 mod warnings;
 

@@ -5,8 +5,8 @@ mod looking;
 mod plan;
 mod reading;
 mod upgrading;
-pub mod words;
+pub mod upgrade_args;
 
-pub use looking::looks;
+pub use looking::print_lookups;
 pub use upgrading::upgrade;
-pub use words::UpgradeWords;
+pub use upgrade_args::UpgradeArgs;

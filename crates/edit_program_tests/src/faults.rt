@@ -1,6 +1,6 @@
 //! Runs the examples where each call of the files fails in turn, or where the streams accept only some
 //! bytes.
-use crate::rows::{Outcome, ROOM, faultless, field, run_args_in, unwrap_alloc, unwrap_ok};
+use crate::rows::{Outcome, ROOM, faultless_store, field, run_args_in, unwrap_alloc, unwrap_ok};
 use edit_store::{FaultStore, MemoryStore, Store};
 use std::alloc::Global;
 use std::process::Abort;
@@ -17,7 +17,7 @@ const FAULTS: [&str; 3] = [
 ];
 
 /// The files of a table.
-fn stored(rt: &impl Abort, alloc: Global, table: &str) -> MemoryStore {
+fn store_of_table(rt: &impl Abort, alloc: Global, table: &str) -> MemoryStore {
     let mut files = MemoryStore::new(alloc);
     add(rt, alloc, table, &mut files);
     files
@@ -34,8 +34,8 @@ fn add(rt: &impl Abort, alloc: Global, table: &str, files: &mut MemoryStore) {
 }
 
 /// The files of an example.
-fn laid_out(rt: &impl Abort, alloc: Global, example: Example) -> MemoryStore {
-    let mut files = stored(rt, alloc, example.manifests);
+fn example_files(rt: &impl Abort, alloc: Global, example: Example) -> MemoryStore {
+    let mut files = store_of_table(rt, alloc, example.manifests);
     add(rt, alloc, example.others, &mut files);
     files
 }
@@ -69,7 +69,7 @@ fn letters(rt: &impl Abort, alloc: Global, files: &mut MemoryStore, table: &str)
 }
 
 /// Whether the manifests of an example are in one of these states, and its other files unchanged.
-fn stand(
+fn are_files_in_states(
     rt: &impl Abort,
     alloc: Global,
     files: &mut MemoryStore,
@@ -82,7 +82,7 @@ fn stand(
 }
 
 /// The possible states of manifests, from what a run printed on standard error.
-fn ways(example: Example, err: &str) -> &'static str {
+fn possible_states(example: Example, err: &str) -> &'static str {
     if err.contains(FAULTS[2]) {
         example.cut
     } else {
@@ -110,7 +110,7 @@ fn has_failed(
     let (status, err) = (done.status, done.err.as_str());
     // (the run consumed the index)
     let failed = files.faults() > 0 || of_index && status != 0;
-    let stands = stand(rt, alloc, &mut files.inner, example, ways(example, err));
+    let stands = are_files_in_states(rt, alloc, &mut files.inner, example, possible_states(example, err));
     assert!(rt; stands, "manifests behind {err:?}");
     assert!(rt;
         is_fault_reported(status, err, failed),
@@ -127,8 +127,8 @@ fn fails_at(rt: &impl Abort, alloc: Global, example: Example, of_index: bool, at
     } else {
         (at, u64::MAX)
     };
-    let mut files = FaultStore::new(laid_out(rt, alloc, example), at, 4);
-    let index = FaultStore::new(stored(rt, alloc, example.index), index_at, 4);
+    let mut files = FaultStore::new(example_files(rt, alloc, example), at, 4);
+    let index = FaultStore::new(store_of_table(rt, alloc, example.index), index_at, 4);
     has_failed(rt, alloc, example, &mut files, index, of_index)
 }
 
@@ -164,8 +164,8 @@ fn run_in_room(
     example: Example,
     room: (usize, usize),
 ) -> (Outcome, String) {
-    let mut files = faultless(laid_out(rt, alloc, example));
-    let index = faultless(stored(rt, alloc, example.index));
+    let mut files = faultless_store(example_files(rt, alloc, example));
+    let index = faultless_store(store_of_table(rt, alloc, example.index));
     let done = run_args_in(rt, alloc, example.words, &mut files, index, room);
     let manifests = letters(rt, alloc, &mut files.inner, example.manifests);
     (done, manifests)

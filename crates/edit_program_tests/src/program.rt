@@ -1,6 +1,6 @@
 //! Tests of the program where a call of the files fails, or where standard output is full. Other tests are
 //! in tests/cases.
-use crate::rows::{ROOM, check_result, faultless, field, run_args_in, unwrap_alloc, unwrap_ok};
+use crate::rows::{ROOM, check_result, faultless_store, field, run_args_in, unwrap_alloc, unwrap_ok};
 use edit_store::{FaultStore, MemoryStore, Store};
 use std::alloc::Global;
 use std::process::Abort;
@@ -91,7 +91,7 @@ Error: Failed to write message
 ";
 
 /// The files of a row.
-fn stored(rt: &impl Abort, alloc: Global, letters: &str) -> MemoryStore {
+fn store_of_letters(rt: &impl Abort, alloc: Global, letters: &str) -> MemoryStore {
     let mut files = MemoryStore::new(alloc);
     for letter in letters.chars() {
         let (path, text) = file(letter);
@@ -101,7 +101,7 @@ fn stored(rt: &impl Abort, alloc: Global, letters: &str) -> MemoryStore {
 }
 
 /// Whether a file has the contents that its letter means.
-fn stands<S: Store>(alloc: Global, letter: char, files: &mut S) -> bool {
+fn has_expected_contents<S: Store>(alloc: Global, letter: char, files: &mut S) -> bool {
     let (path, text) = file(letter);
     match files.read(alloc, path) {
         Ok(Some(bytes)) => bytes.as_slice() == text.as_bytes(),
@@ -111,7 +111,7 @@ fn stands<S: Store>(alloc: Global, letter: char, files: &mut S) -> bool {
 
 /// The output of a run with these arguments, after the exit status.
 fn outcome(rt: &impl Abort, alloc: Global, words: &str, files: &mut FaultStore) -> String {
-    let index = faultless(MemoryStore::new(alloc));
+    let index = faultless_store(MemoryStore::new(alloc));
     let done = run_args_in(rt, alloc, words, files, index, (ROOM, ROOM));
     unwrap_alloc(
         rt,
@@ -122,10 +122,10 @@ fn outcome(rt: &impl Abort, alloc: Global, words: &str, files: &mut FaultStore) 
 /// Runs a row: the output, and which of its last files have other contents.
 fn run_row(rt: &impl Abort, alloc: Global, row: &str) -> String {
     let at = field(row, 2).parse().expect(rt, "a number");
-    let mut files = FaultStore::new(stored(rt, alloc, field(row, 1)), at, 4);
+    let mut files = FaultStore::new(store_of_letters(rt, alloc, field(row, 1)), at, 4);
     let mut seen = outcome(rt, alloc, field(row, 3), &mut files);
     for letter in field(row, 4).chars() {
-        if !stands(alloc, letter, &mut files) {
+        if !has_expected_contents(alloc, letter, &mut files) {
             unwrap_alloc(rt, seen.push(letter));
         }
     }
@@ -134,10 +134,10 @@ fn run_row(rt: &impl Abort, alloc: Global, row: &str) -> String {
 
 /// Runs an upgrade whose standard output accepts five bytes.
 fn run_without_room(rt: &impl Abort, alloc: Global) -> String {
-    let mut files = faultless(stored(rt, alloc, "mi"));
-    let index = faultless(MemoryStore::new(alloc));
+    let mut files = faultless_store(store_of_letters(rt, alloc, "mi"));
+    let index = faultless_store(MemoryStore::new(alloc));
     let done = run_args_in(rt, alloc, WORDS, &mut files, index, (5, ROOM));
-    let after = if stands(alloc, 'm', &mut files) {
+    let after = if has_expected_contents(alloc, 'm', &mut files) {
         "manifest"
     } else {
         "other"

@@ -45,7 +45,7 @@ pub(crate) fn check_result(rt: &impl Abort, row: &str, seen: &str, want: &str) {
 }
 
 /// A store of these files, no call of which fails.
-pub(crate) fn faultless(files: MemoryStore) -> FaultStore {
+pub(crate) fn faultless_store(files: MemoryStore) -> FaultStore {
     FaultStore::new(files, u64::MAX, 0)
 }
 

@@ -1,5 +1,5 @@
 //! Tests of the exit status of a run, of the manifest after it, and of the end of standard error.
-use crate::rows::{ROOM, check_result, faultless, field, run_args_in, unwrap_ok};
+use crate::rows::{ROOM, check_result, faultless_store, field, run_args_in, unwrap_ok};
 use edit_store::{FaultStore, MemoryStore, Store};
 use std::alloc::Global;
 use std::process::Abort;
@@ -31,11 +31,11 @@ Error: dependency other doesn't exist
 ";
 
 /// A folder with a manifest and an index file.
-fn laid_out(rt: &impl Abort, alloc: Global) -> FaultStore {
+fn manifest_and_index(rt: &impl Abort, alloc: Global) -> FaultStore {
     let mut files = MemoryStore::new(alloc);
     unwrap_ok(rt, files.write(alloc, "/w/Cargo.toml", MANIFEST.as_bytes()));
     unwrap_ok(rt, files.write(alloc, "/w/index.json", INDEX.as_bytes()));
-    faultless(files)
+    faultless_store(files)
 }
 
 /// Whether a text is the unchanged manifest, the raised one, or another one.
@@ -59,8 +59,8 @@ fn manifest_state(alloc: Global, files: &mut FaultStore) -> &'static str {
 
 /// Ends the test where a row does not give its expected result.
 fn check_row(rt: &impl Abort, alloc: Global, row: &str) {
-    let mut files = laid_out(rt, alloc);
-    let index = faultless(MemoryStore::new(alloc));
+    let mut files = manifest_and_index(rt, alloc);
+    let index = faultless_store(MemoryStore::new(alloc));
     let done = run_args_in(rt, alloc, field(row, 1), &mut files, index, (ROOM, ROOM));
     let status = field(row, 2).parse().expect(rt, "a number");
     assert!(rt; done.status == status, "{row}: status {}", done.status);

@@ -2,7 +2,7 @@
 use Rattle.std.proofs.Common.{◌≡◌, List, ℕ, Option, Some, None, Bool, ap, ◌∙◌}
 use Rattle.std.specs.Prelude.{IsTrue, option_and_then}
 use Rattle.semver.specs.Parse.{Parts}
-use Rattle.edit_version.specs.Admissible.{admissible_in, entry_order, is_kept}
+use Rattle.edit_version.specs.Admissible.{admissible_in, entry_order, is_qualifying}
 use Rattle.edit_record.specs.Finding.{IsFound, IsFoundAtLeast}
 use Rattle.edit_version.specs.Greatest.{IsGreatest, IsGreatestKept}
 use Rattle.edit_version.specs.IndexEntry.{IndexEntry}
@@ -25,17 +25,17 @@ use Rattle.edit_version.proofs.GreatestEntries.{entry_total, kept-weaker, admiss
 pub found-at_least : (rust : Option Numbers) (pre : Bool) (entries : List IndexEntry) (o : Option Dependency)
     → IsFound rust (is_allowed pre) entries o
     → (req : List ℕ) → (IsTrue (holds_dash req) → IsTrue pre) → (e : IndexEntry)
-    → IsGreatestKept (is_kept rust (is_admitted req)) entry_order entries e
+    → IsGreatestKept (is_qualifying rust (is_admitted req)) entry_order entries e
     → IsFoundAtLeast rust (is_allowed pre) entries e o
 found-at_least rust pre entries None h req dash e g =
-    wider-found (is_kept rust (is_admitted req)) (is_kept rust (is_allowed pre)) entry_order
+    wider-found (is_qualifying rust (is_admitted req)) (is_qualifying rust (is_allowed pre)) entry_order
     (λ x k. kept-weaker rust (is_admitted req) (is_allowed pre) (λ v a. admitted-allowed req pre v dash a) x
     k) entries e g h
 found-at_least rust pre entries (Some d) h req dash e g = (
   h.0,
   h.1,
   h.2,
-  wider (is_kept rust (is_admitted req)) (is_kept rust (is_allowed pre)) entry_order entry_total
+  wider (is_qualifying rust (is_admitted req)) (is_qualifying rust (is_allowed pre)) entry_order entry_total
       (λ x k. kept-weaker rust (is_admitted req) (is_allowed pre) (λ v a. admitted-allowed req pre v dash a)
       x k) entries e h.0 g h.1,
 )

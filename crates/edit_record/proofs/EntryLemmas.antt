@@ -7,23 +7,23 @@ use Rattle.edit_document.specs.Items.{is_static_array, is_tabular, string_in, tr
 use Rattle.edit_document.specs.declared.item.Item.{Item}
 use Rattle.edit_tree.specs.DocumentViews.{DocumentViews, tree_of}
 use Rattle.edit_tree.specs.Tree.{View, string, truth, static_array, inline_table, table}
-use Rattle.edit_record.specs.EntryRecords.{Refusal, wrong_type, workspace_false, unknown_entry}
+use Rattle.edit_record.specs.EntryRecords.{EntryError, wrong_type, workspace_false, unknown_entry}
 use Rattle.edit_record.specs.ReadEntries.{Tree, below, and_then, entry_record, feature_texts, first_texts, table_record, text_of, true_workspace}
 use Rattle.edit_record.specs.RecordViews.{IsErrorOfResult, IsErrorOf, item_tree}
 
 -- an error of a result
-pub told_refusal : {A : Type 0} (r : Refusal) (told : Result A Refusal) (e : Error) →
+pub told_refusal : {A : Type 0} (r : EntryError) (told : Result A EntryError) (e : Error) →
     told ≡ Err r → IsErrorOf r e → IsErrorOfResult told e
 told_refusal r told e is tells = inr (r, is, tells)
 
 -- an error is not changed by what follows
-pub refusal_stays : {A B : Type 0} (told : Result A Refusal) (f : A → Result B Refusal) (e : Error) →
+pub refusal_stays : {A B : Type 0} (told : Result A EntryError) (f : A → Result B EntryError) (e : Error) →
     IsErrorOfResult told e → IsErrorOfResult (and_then told f) e
 refusal_stays told f e (inl memory) = inl memory
 refusal_stays told f e (inr h) = inr (h.0, ap (λ x. and_then x f) h.1, h.2)
 
 -- an error of what follows a value
-pub refusal_past : {A B : Type 0} (told : Result A Refusal) (f : A → Result B Refusal) (x : A) (e : Error) →
+pub refusal_past : {A B : Type 0} (told : Result A EntryError) (f : A → Result B EntryError) (x : A) (e : Error) →
     told ≡ Ok x → IsErrorOfResult (f x) e → IsErrorOfResult (and_then told f) e
 refusal_past told f x e is refused = rw is refused
 
@@ -59,7 +59,7 @@ pub no_element : (t : Tree) (dep : List ℕ) (n : ℕ) (ss : List (List ℕ)) �
 no_element t dep n ss first absent = rw (first, absent) (ap Ok (append-nil ss))
 
 -- an error among the first elements is the error among more
-pub refused_later : (t : Tree) (dep : List ℕ) (k j : ℕ) (r : Refusal) →
+pub refused_later : (t : Tree) (dep : List ℕ) (k j : ℕ) (r : EntryError) →
     first_texts t dep k ≡ Err r → first_texts t dep (k + j) ≡ Err r
 refused_later t dep k zero r e = rw add-zero e
 refused_later t dep k (suc j) r e = rw (add-suc k j) (rw (refused_later t dep k j r e) refl)

@@ -5,7 +5,7 @@ use Rattle.edit_base.specs.Paths.{joined}
 use Rattle.edit_tree.specs.NewItems.{a_string}
 use Rattle.edit_version.specs.Requirement.{cut}
 use Rattle.edit_tree.specs.Assertions.{same_bytes}
-use Rattle.edit_record.specs.EntryRecords.{Repository, Origin, from_registry, from_path, from_git, from_workspace, EntryRecord, Refusal, key_of}
+use Rattle.edit_record.specs.EntryRecords.{Repository, Origin, from_registry, from_path, from_git, from_workspace, EntryRecord, EntryError, key_of}
 use Rattle.edit_record.specs.NewEntries.{Member, origin_members, option_members, repository_members, path_members, written_registry, written_name}
 use Rattle.edit_record.specs.ReadEntries.{names_by, origin_at, table_record}
 use Rattle.edit_record.specs.HasRoundTrip.{IsPlainSource}
@@ -98,7 +98,7 @@ origin_again root (from_git g) = from_git (record g { version = option_map cut g
 origin_again root from_workspace = from_workspace
 
 -- the source of a table with these keys and the options of a dependency
-abbrev origin_in : List ℕ → EntryRecord → List ℕ → List Member → Result Origin Refusal
+abbrev origin_in : List ℕ → EntryRecord → List ℕ → List Member → Result Origin EntryError
 origin_in root r dep front = origin_at (shown (front ++ option_members r)) root dep
 
 git-read : (root : List ℕ) (r : EntryRecord) (dep address : List ℕ)

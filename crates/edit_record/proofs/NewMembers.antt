@@ -13,7 +13,7 @@ use Rattle.edit_tree.specs.IntendedTrees.{item_view}
 use Rattle.edit_tree.specs.NewItems.{NewValue, a_string, a_truth, a_list, a_table}
 use Rattle.edit_record.specs.EntryRecords.{EntryRecord}
 use Rattle.edit_record.specs.NewEntries.{Member, where_there, written_registry, written_name, option_members}
-use Rattle.edit_record.specs.ReadEntries.{Tree, below, first_texts, text_at, truth_at, features_at}
+use Rattle.edit_record.specs.ReadEntries.{Tree, below, first_texts, text_at, bool_at, features_at}
 
 -- ---- the value of a key
 
@@ -176,7 +176,7 @@ text-held ms dep name (Some s) h = rw h refl
 
 -- true or false
 pub truth-held : (ms : List Member) (name : List ℕ) (o : Option Bool)
-    → held name ms ≡ option_map (λ v. (name, v)) (option_map a_truth o) → truth_at (shown ms) name ≡ o
+    → held name ms ≡ option_map (λ v. (name, v)) (option_map a_truth o) → bool_at (shown ms) name ≡ o
 truth-held ms name None h = rw h refl
 truth-held ms name (Some b) h = rw h refl
 

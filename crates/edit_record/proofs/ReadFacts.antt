@@ -4,7 +4,7 @@ use Rattle.std.specs.Prelude.{ℕ, true, false, List, ◌∷◌, Some, None, Res
 use Rattle.edit_tree.specs.Assertions.{key}
 use Rattle.edit_tree.specs.DocumentViews.{node_at}
 use Rattle.edit_tree.specs.Tree.{string, truth, whole, table_array, table}
-use Rattle.edit_record.specs.EntryRecords.{EntryRecord, from_registry, from_path, from_git, from_workspace, Refusal, wrong_type, workspace_false, unknown_source, old_default_features, unknown_entry, bare_record}
+use Rattle.edit_record.specs.EntryRecords.{EntryRecord, from_registry, from_path, from_git, from_workspace, EntryError, wrong_type, workspace_false, unknown_source, old_default_features, unknown_entry, bare_record}
 use Rattle.edit_record.specs.EntryTexts.{origin_text, record_text}
 use Rattle.edit_record.specs.ReadEntries.{repository, record_of}
 use Rattle.edit_record.specs.RecordViews.{entry_error_text}
@@ -85,7 +85,7 @@ below_a_place = refl
 -- ---- errors
 
 -- a wrong type where a string is expected
-abbrev no_text : List ℕ → Result EntryRecord Refusal
+abbrev no_text : List ℕ → Result EntryRecord EntryError
 no_text name = Err (wrong_type (codes "integer") name (codes "string") x)
 
 -- `x = { version = 1 }`, and the text of its error

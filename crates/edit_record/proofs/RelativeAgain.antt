@@ -11,7 +11,7 @@ use Rattle.edit_base.specs.Paths.{joined, parts_of}
 use Rattle.edit_tree.proofs.SamePlace.{same_bytes_self}
 use Rattle.edit_record.proofs.RelativeTexts.{replace_backslashes-none}
 use Rattle.edit_tree.specs.Assertions.{same_bytes}
-use Rattle.edit_record.specs.RelativePaths.{is_kept, names_of, steps_between, relative_of, replace_backslashes, path_field}
+use Rattle.edit_record.specs.RelativePaths.{is_name_segment, names_of, steps_between, relative_of, replace_backslashes, path_field}
 
 -- ---- segments
 
@@ -71,29 +71,29 @@ parts-slash (x ∷ a) b =
 -- a segment without a slash that is a name
 record IsStep (part : List ℕ) : Type 0 where
   whole : All (λ b. is_slash b ≡ false) part
-  kept : is_kept part ≡ true
+  kept : is_name_segment part ≡ true
 
 -- the steps joined by slashes
 abbrev way : List (List ℕ) → List ℕ
 way steps = join_by (λ step. step) (codes "/") steps
 
 names-slash : (a b : List ℕ) → names_of (a ++ 47 ∷ b) ≡ names_of a ++ names_of b
-names-slash a b = ap (filter is_kept) (parts-slash a b) ∙ filter-append is_kept (parts_of a) (parts_of b)
+names-slash a b = ap (filter is_name_segment) (parts-slash a b) ∙ filter-append is_name_segment (parts_of a) (parts_of b)
 
 -- both facts for each segment
-zipped : (ps : List (List ℕ)) → All (All (λ b. is_slash b ≡ false)) ps → All (λ p. is_kept p ≡ true) ps
+zipped : (ps : List (List ℕ)) → All (All (λ b. is_slash b ≡ false)) ps → All (λ p. is_name_segment p ≡ true) ps
     → All IsStep ps
 zipped ps whole kept = λ k d l. record { whole = whole k d l; kept = kept k d l }
 
 names-steps : (text : List ℕ) → All IsStep (names_of text)
 names-steps text =
     zipped (names_of text)
-    (All-filter is_kept (All (λ b. is_slash b ≡ false)) (parts_of text)
+    (All-filter is_name_segment (All (λ b. is_slash b ≡ false)) (parts_of text)
     (All-parts (λ b. is_slash b ≡ false) text (λ k d l other. other)))
-    (filter_passes is_kept (parts_of text))
+    (filter_passes is_name_segment (parts_of text))
 
 -- no step is left out
-filter-steps : (ws : List (List ℕ)) → All IsStep ws → filter is_kept ws ≡ ws
+filter-steps : (ws : List (List ℕ)) → All IsStep ws → filter is_name_segment ws ≡ ws
 filter-steps [] h = refl
 filter-steps (w ∷ ws) h =
     let first = All-head IsStep w ws h in
@@ -111,7 +111,7 @@ parts-way w (v ∷ vs) h =
 
 names-way : (ws : List (List ℕ)) → All IsStep ws → names_of (way ws) ≡ ws
 names-way [] h = refl
-names-way (w ∷ ws) h = ap (filter is_kept) (parts-way w ws h) ∙ filter-steps (w ∷ ws) h
+names-way (w ∷ ws) h = ap (filter is_name_segment) (parts-way w ws h) ∙ filter-steps (w ∷ ws) h
 
 -- ---- the joined path
 
@@ -225,7 +225,7 @@ relative-whole path root h =
     let dot : P 46 = λ e. absurd (omega arith) in
     let dots : All P (codes "..") = All-cons P 46 (codes ".") dot (All-cons P 46 [] dot (All-nil P)) in
     let named : All (All P) (names_of path) =
-    All-filter is_kept (All P) (parts_of path) (All-parts P path (λ k d l other. h k d l)) in
+    All-filter is_name_segment (All P) (parts_of path) (All-parts P path (λ k d l other. h k d l)) in
     All-way P (λ e. absurd (omega arith)) (steps_between (names_of path) (names_of root))
     (All-steps (All P) dots (names_of path) (names_of root) named)
 

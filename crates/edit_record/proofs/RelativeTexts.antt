@@ -13,17 +13,17 @@ use Rattle.std.proofs.lemmas.Str.Pattern.{NoCharPasses-char, drop_at_char}
 use Rattle.edit_tree.specs.Assertions.{same_bytes}
 use Rattle.edit_tree.proofs.SamePlace.{same_bytes_self, same_bytes_is}
 use Rattle.edit_base.specs.Paths.{parts_of, IsEmptyOrDot, Named, none, drop as named_drop, take as named_take, BeginApart, IsRelative}
-use Rattle.edit_record.specs.RelativePaths.{is_kept, names_of, steps_between, relative_of, slash_for, replace_backslashes}
+use Rattle.edit_record.specs.RelativePaths.{is_name_segment, names_of, steps_between, relative_of, slash_for, replace_backslashes}
 
 -- ---- relative paths
 
 -- a segment that is empty or `.` is left out
-idle-lost : (part : List ℕ) → IsEmptyOrDot part → is_kept part ≡ false
+idle-lost : (part : List ℕ) → IsEmptyOrDot part → is_name_segment part ≡ false
 idle-lost part (inl e) = rw e refl
 idle-lost part (inr e) = rw e refl
 
 -- a segment that is neither empty nor `.` stays
-other-kept : (part : List ℕ) → (IsEmptyOrDot part → ⊥) → is_kept part ≡ true
+other-kept : (part : List ℕ) → (IsEmptyOrDot part → ⊥) → is_name_segment part ≡ true
 other-kept part h = elim (cases_Bool (same_bytes part [])) [
   | inl e ↦ absurd (h (inl (same_bytes_is part [] e)))
   | inr e ↦ elim (cases_Bool (same_bytes part (codes "."))) [
@@ -33,13 +33,13 @@ other-kept part h = elim (cases_Bool (same_bytes part [])) [
 ]
 
 -- the segments that are names are those that stay
-named-filter : (parts names : List (List ℕ)) → Named parts names → filter is_kept parts ≡ names
+named-filter : (parts names : List (List ℕ)) → Named parts names → filter is_name_segment parts ≡ names
 named-filter _ _ none = refl
 named-filter _ _ (named_drop parts names part n idle) =
-    filter-append is_kept parts (part ∷ [])
+    filter-append is_name_segment parts (part ∷ [])
     ∙ rw (idle-lost part idle) (rw (named-filter parts names n) (append-nil names))
 named-filter _ _ (named_take parts names part n other) =
-    filter-append is_kept parts (part ∷ [])
+    filter-append is_name_segment parts (part ∷ [])
     ∙ rw (other-kept part other) (rw (named-filter parts names n) refl)
 
 -- after the common prefix the path goes up and down

@@ -5,7 +5,7 @@ use Rattle.edit_tree.specs.NewItems.{NewItem, a_string, a_value}
 use Rattle.edit_tree.specs.IntendedTrees.{item_view}
 use Rattle.edit_version.specs.Requirement.{cut}
 use Rattle.edit_tree.specs.Assertions.{Place}
-use Rattle.edit_record.specs.EntryRecords.{Origin, from_registry, from_path, from_git, from_workspace, EntryRecord, Refusal, origin_version, key_of}
+use Rattle.edit_record.specs.EntryRecords.{Origin, from_registry, from_path, from_git, from_workspace, EntryRecord, EntryError, origin_version, key_of}
 use Rattle.edit_record.specs.NewEntries.{origin_members, option_members, written_registry, is_short, full_item, item_by, item_of}
 use Rattle.edit_record.specs.ReadEntries.{Tree, below, entry_record, names_by, table_record, record_of}
 use Rattle.edit_record.specs.HasRoundTrip.{IsPlainSource, IsPlain, HasRoundTrip}
@@ -87,7 +87,7 @@ table-read root r origin is plain =
     (members-apart root origin) (origin-read root r (key_of r) r.registry origin plain)
 
 -- an answer that is known
-known : {A : Type 0} (P : A → Type 0) (told : Result A Refusal) (x : A) → told ≡ Ok x → P x → IsOkAnd told P
+known : {A : Type 0} (P : A → Type 0) (told : Result A EntryError) (x : A) → told ≡ Ok x → P x → IsOkAnd told P
 known P told x is p = subst (λ t. IsOkAnd t P) (sym is) p
 
 -- an inline table is read back if the result of reading it is written as the same inline table

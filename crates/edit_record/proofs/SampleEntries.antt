@@ -4,7 +4,7 @@ use Rattle.std.specs.Prelude.{ℕ, true, List, ◌∷◌, ◌++◌, map, Result,
 use Rattle.edit_tree.specs.Assertions.{key, index, Place}
 use Rattle.edit_tree.specs.DocumentViews.{node_at}
 use Rattle.edit_tree.specs.Tree.{View, string, truth, whole, static_array, inline_table}
-use Rattle.edit_record.specs.EntryRecords.{EntryRecord, Refusal}
+use Rattle.edit_record.specs.EntryRecords.{EntryRecord, EntryError}
 use Rattle.edit_record.specs.ReadEntries.{Tree, record_of}
 
 -- ---- entries by their keys
@@ -29,7 +29,7 @@ abbrev pub entry : List (List ℕ × View) → Tree
 entry ms = node_at (members ms)
 
 -- the result of reading an entry
-abbrev pub reads : Tree → Result EntryRecord Refusal
+abbrev pub reads : Tree → Result EntryRecord EntryError
 reads t = record_of t [] foo x
 
 -- a value of each type

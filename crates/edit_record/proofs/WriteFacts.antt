@@ -3,7 +3,7 @@ use Rattle.std.proofs.Common.{◌≡◌, [], refl}
 use Rattle.std.specs.Prelude.{ℕ, true, false, List, ◌∷◌, ◌++◌, Some, None, Result, Ok, codes}
 use Rattle.edit_tree.specs.IntendedTrees.{item_view}
 use Rattle.edit_tree.specs.NewItems.{NewValue, a_string, a_truth, a_list, NewItem, a_value, a_table}
-use Rattle.edit_record.specs.EntryRecords.{Repository, EntryRecord, from_registry, from_path, from_git, from_workspace, Refusal, bare_record, key_of}
+use Rattle.edit_record.specs.EntryRecords.{Repository, EntryRecord, from_registry, from_path, from_git, from_workspace, EntryError, bare_record, key_of}
 use Rattle.edit_record.specs.NewEntries.{item_of}
 use Rattle.edit_record.specs.ReadEntries.{repository, ok_map, record_of}
 use Rattle.edit_record.proofs.SampleEntries.{x, foo}
@@ -113,7 +113,7 @@ nothing_entry = refl
 -- ---- round trips
 
 -- a dependency is written; the result is read under its key and written again
-abbrev again : List ℕ → EntryRecord → Result NewItem Refusal
+abbrev again : List ℕ → EntryRecord → Result NewItem EntryError
 again from r = ok_map (item_of from) (record_of (item_view false (item_of from r)) [] from (key_of r))
 
 -- all keys, renamed

@@ -32,12 +32,12 @@ pub record EntryRecord : Type 0 where
 -- the errors of reading an entry: a value of a wrong type, with the type that was found, the key of the
 -- value, the type that was expected and the key of the entry; any other error with the key of the entry
 -- (own)
-pub data Refusal : Type 0 where
-  wrong_type : List ℕ → List ℕ → List ℕ → List ℕ → Refusal
-  workspace_false : List ℕ → Refusal
-  unknown_source : List ℕ → Refusal
-  old_default_features : List ℕ → Refusal
-  unknown_entry : List ℕ → Refusal
+pub data EntryError : Type 0 where
+  wrong_type : List ℕ → List ℕ → List ℕ → List ℕ → EntryError
+  workspace_false : List ℕ → EntryError
+  unknown_source : List ℕ → EntryError
+  old_default_features : List ℕ → EntryError
+  unknown_entry : List ℕ → EntryError
 
 -- a dependency with a name and a source and nothing else (own)
 abbrev pub bare_record : List ℕ → Origin → EntryRecord

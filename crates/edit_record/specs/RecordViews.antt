@@ -8,7 +8,7 @@ use Rattle.edit_document.specs.ItemViews.{document_of, place_of}
 use Rattle.edit_tree.specs.DocumentViews.{tree_of}
 use Rattle.edit_document.specs.declared.item.Item.{Item}
 use Rattle.edit_record.specs.ReadEntries.{Tree, below}
-use Rattle.edit_record.specs.EntryRecords.{EntryRecord, Repository, Origin, from_registry, from_path, from_git, from_workspace, Refusal, wrong_type, workspace_false, unknown_source, old_default_features, unknown_entry}
+use Rattle.edit_record.specs.EntryRecords.{EntryRecord, Repository, Origin, from_registry, from_path, from_git, from_workspace, EntryError, wrong_type, workspace_false, unknown_source, old_default_features, unknown_entry}
 use Rattle.edit_record.specs.declared.dependency.Dependency.{Dependency}
 use Rattle.edit_record.specs.declared.dependency.sources.GitSource.{GitSource}
 use Rattle.edit_record.specs.declared.dependency.sources.PathSource.{PathSource}
@@ -92,7 +92,7 @@ item_tree i = below (tree_of (document_of i)) (place_of i)
 -- ---- errors
 
 -- the error has the variant and the texts of this model (own)
-abbrev pub IsErrorOf : Refusal → Error → Type 0
+abbrev pub IsErrorOf : EntryError → Error → Type 0
 IsErrorOf (wrong_type found name expected dep) (error.InvalidType a k x d) =
     (string_bytes a ≡ found) × (string_bytes k ≡ name) × (string_bytes x ≡ expected) × (string_bytes d ≡ dep)
 IsErrorOf (workspace_false dep) (error.WorkspaceFalse k) = string_bytes k ≡ dep
@@ -102,11 +102,11 @@ IsErrorOf (unknown_entry dep) (error.UnknownEntry k) = string_bytes k ≡ dep
 IsErrorOf r e = ⊥
 
 -- the error is that of this result, or lack of memory (own)
-abbrev pub IsErrorOfResult : {A : Type 0} → Result A Refusal → Error → Type 0
-IsErrorOfResult told e = IsMemory e ⊎ ((r : Refusal) × (told ≡ Err r) × IsErrorOf r e)
+abbrev pub IsErrorOfResult : {A : Type 0} → Result A EntryError → Error → Type 0
+IsErrorOfResult told e = IsMemory e ⊎ ((r : EntryError) × (told ≡ Err r) × IsErrorOf r e)
 
 -- the message of an error (own)
-abbrev pub entry_error_text : Refusal → List ℕ
+abbrev pub entry_error_text : EntryError → List ℕ
 entry_error_text (wrong_type found name expected dep) =
     codes "Found " ++ (found ++ (codes " for " ++ (name ++ (codes " when " ++ (expected
     ++ (codes " was expected for " ++ dep))))))

@@ -5,12 +5,12 @@ use Rattle.edit_base.specs.Paths.{parts_of}
 use Rattle.edit_tree.specs.Assertions.{same_bytes}
 
 -- a segment of a path that is neither empty nor `.`; `..` counts as a name (own)
-abbrev pub is_kept : List ℕ → Bool
-is_kept part = not (same_bytes part [] || same_bytes part (codes "."))
+abbrev pub is_name_segment : List ℕ → Bool
+is_name_segment part = not (same_bytes part [] || same_bytes part (codes "."))
 
 -- the segments of a path that are neither empty nor `.` (own)
 abbrev pub names_of : List ℕ → List (List ℕ)
-names_of path = filter is_kept (parts_of path)
+names_of path = filter is_name_segment (parts_of path)
 
 -- the relative path between two lists of segments: `..` for each segment after the longest common prefix,
 -- then down (own)

@@ -13,11 +13,11 @@ mod sources;
 mod texts;
 mod write;
 
-pub use copies::joined;
+pub use copies::append_texts;
 use copies::{copied_lists, copied_pair};
 use edit_base::errors::CargoResult;
 pub use members::features_at;
-use sources::copied_source;
+use sources::clone_source;
 pub use sources::{GitSource, PathSource, RegistrySource, Source, WorkspaceSource};
 use std::alloc::Global;
 use std::collections::BTreeMap;
@@ -106,7 +106,7 @@ impl Dependency {
         ensures preserved { IfOk result (λ d. d.available_features ≡ self.available_features) }
         ensures error { IfErr result IsMemory }
     {
-        let features = joined(self.features, features)?;
+        let features = append_texts(self.features, features)?;
         Ok(Dependency {
             features: Some(features),
             ..self
@@ -172,7 +172,7 @@ impl Dependency {
             self.features.as_ref(),
             self.inherited_features.as_ref(),
         )?;
-        let source = copied_source(alloc, self.source.as_ref())?;
+        let source = clone_source(alloc, self.source.as_ref())?;
         Ok(Dependency {
             name: self.name.clone()?,
             optional: self.optional,

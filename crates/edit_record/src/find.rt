@@ -1,7 +1,7 @@
 //! Chooses a version among the versions of an index.
 ghost use Rattle.std.specs.Prelude.{ℕ, List, None, Some, Ok, IfOk, IfErr, IsTrue, map, string_bytes};
 ghost use Rattle.edit_base.specs.Errors.{IsMemory};
-ghost use Rattle.edit_version.specs.Admissible.{entry_order, is_kept};
+ghost use Rattle.edit_version.specs.Admissible.{entry_order, is_qualifying};
 ghost use Rattle.edit_version.specs.Admits.{admits};
 ghost use Rattle.edit_version.specs.Candidates.{numbers_in, wants};
 ghost use Rattle.edit_record.specs.Finding.{IsFound, IsFoundAtLeast};
@@ -65,7 +65,7 @@ pub fn find_latest_version(
     // are allowed where the requirement has a `-`
     ensures at_least { IfOk result (λ o. (req : List ℕ) → (IsTrue (holds_dash req) → IsTrue allow_prerelease)
         → (e : IndexEntry)
-        → IsGreatestKept (is_kept (numbers_in rust_version) (is_admitted req)) entry_order
+        → IsGreatestKept (is_qualifying (numbers_in rust_version) (is_admitted req)) entry_order
         (map entry_of versions.now) e
         → IsFoundAtLeast (numbers_in rust_version) (is_allowed allow_prerelease)
         (map entry_of versions.now) e o) }

@@ -4,7 +4,7 @@ use Rattle.std.specs.Prelude.{codes}
 use Rattle.std.specs.List.{flat_map, join_by, list_any}
 use Rattle.std.proofs.lemmas.List.Folds.{flat_map-map}
 use Rattle.edit_report.specs.Table.{Cells, columns, greatest, headings, has_note_text, lines_text, line_text, padded, row_cells, table_of, underlines, width}
-use Rattle.edit_report.specs.Widths.{cells_of, column_of, line_width, wide, sized_line}
+use Rattle.edit_report.specs.Widths.{cells_of, column_of, line_width, sized_column, sized_line}
 use Rattle.edit_report.specs.declared.lines.Column.{Column}
 use Rattle.edit_report.specs.declared.lines.Line.{Line}
 use Rattle.edit_report.specs.declared.row.Row.{Row}
@@ -61,16 +61,16 @@ join_by-same f g sep e (x ∷ xs) = ap (λ y. y ++ flat_map (λ z. sep ++ f z) x
 
 -- a line in columns with the widths that these lines give
 line_from : (lines : List Line) (cs : List Column) (cells : Cells)
-    → sized_line (map (wide lines) cs) cells ≡ line_text (map cells_of lines) (map column_of cs) cells
+    → sized_line (map (sized_column lines) cs) cells ≡ line_text (map cells_of lines) (map column_of cs) cells
 line_from lines cs cells = ap (λ t. t ++ 10 ∷ []) (
-    join_by-map (λ w. padded w.width (column_of w.column cells)) (wide lines) (codes " ") cs
+    join_by-map (λ w. padded w.width (column_of w.column cells)) (sized_column lines) (codes " ") cs
     ∙ join_by-same _ _ (codes " ") (λ c. ap (λ n. padded n (column_of c cells)) (width_from lines c)) cs
     ∙ sym (join_by-map (λ column. padded (width (map cells_of lines) column) (column cells)) column_of
     (codes " ") cs))
 
 -- the lines in columns with their widths are the text of the table with these lines
 pub lines_from : (lines : List Line) (cs : List Column)
-    → flat_map (λ l. sized_line (map (wide lines) cs) (cells_of l)) lines
+    → flat_map (λ l. sized_line (map (sized_column lines) cs) (cells_of l)) lines
     ≡ lines_text (map column_of cs) (map cells_of lines)
 lines_from lines cs =
     flat_map-same _ _ (λ l. line_from lines cs (cells_of l)) lines

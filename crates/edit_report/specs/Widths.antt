@@ -41,5 +41,5 @@ abbrev pub line_width : List Line → Column → ℕ
 line_width lines c = greatest (map (λ l. length (column_of c (cells_of l))) lines)
 
 -- a column paired with its width in these lines
-abbrev pub wide : List Line → Column → SizedColumn
-wide lines c = record { column = c; width = line_width lines c }
+abbrev pub sized_column : List Line → Column → SizedColumn
+sized_column lines c = record { column = c; width = line_width lines c }

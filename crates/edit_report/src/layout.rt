@@ -5,7 +5,7 @@ ghost use Rattle.std.specs.List.{flat_map};
 ghost use Rattle.edit_base.specs.Errors.{IsMemory};
 ghost use Rattle.edit_base.specs.declared.errors.Error.TheVariants.{Output};
 ghost use Rattle.edit_report.specs.Table.{columns, lines_text, padded};
-ghost use Rattle.edit_report.specs.Widths.{cells_of, column_of, joined_cells, line_width, wide, sized_line};
+ghost use Rattle.edit_report.specs.Widths.{cells_of, column_of, joined_cells, line_width, sized_column, sized_line};
 
 use crate::lines::{Column, Line, SizedColumn};
 use crate::shell::shell_write_stdout;
@@ -56,7 +56,7 @@ fn measure_columns(
     columns: &[Column],
     lines: &[Line<'_>],
 ) -> Result<Vec<SizedColumn>, AllocError>
-    ensures ok { IfOk result (λ v. v.items ≡ map (wide lines.now) columns.now) }
+    ensures ok { IfOk result (λ v. v.items ≡ map (sized_column lines.now) columns.now) }
 {
     let columns = columns.iter().map(|column| SizedColumn {
         column: *column,

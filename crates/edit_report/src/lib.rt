@@ -14,5 +14,5 @@ pub use row::{Change, Reason, Row};
 pub use shell::{
     shell_note, shell_print, shell_status, shell_warn, shell_write_stderr, shell_write_stdout,
 };
-pub use shows::shown;
+pub use shows::is_row_shown;
 pub use table::{name_text, reason_text, table_text, write_table};

@@ -54,7 +54,7 @@ fn is_outgrown(alloc: Global, row: &Row) -> CargoResult<bool>
 }
 
 /// Whether a report of this verbosity shows a row.
-pub fn shown(alloc: Global, row: &Row, verbosity: i8) -> CargoResult<bool>
+pub fn is_row_shown(alloc: Global, row: &Row, verbosity: i8) -> CargoResult<bool>
     ensures ok { IfOk result (λ b. b ≡ is_shown verbosity row.now) }
     ensures error { IfErr result IsMemory }
 {

@@ -11,7 +11,7 @@ ghost use Rattle.edit_report.specs.Widths.{cells_of};
 use crate::layout::{lines_text, write_lines};
 use crate::lines::Line;
 use crate::row::{Reason, Row};
-use crate::shows::shown;
+use crate::shows::is_row_shown;
 use edit_base::CargoResult;
 use std::alloc::{AllocError, Global};
 use std::io;
@@ -104,7 +104,7 @@ fn shown_rows<'a>(alloc: Global, rows: &'a [Row], verbosity: i8) -> CargoResult<
 {
     let mut kept = Vec::new(alloc);
     for row in rows {
-        if shown(alloc, row, verbosity)? {
+        if is_row_shown(alloc, row, verbosity)? {
             kept.push(row)?;
         }
     }

@@ -4,7 +4,7 @@ ghost use Rattle.std.specs.Prelude.{◌≤◌, IfOk};
 use crate::error::RequestError;
 use crate::fields::{put, put_changes, put_error, put_lookups, put_message, put_messages};
 use crate::request::{Request, read_request};
-use edit_program::{Place, try_run};
+use edit_program::{RunFolders, try_run};
 use edit_steps::RunResult;
 use edit_store::MemoryStore;
 use serde_json::{Map, Value};
@@ -35,7 +35,7 @@ fn run_over(alloc: Global, request: &mut Request) -> Result<Run, AllocError> {
         .iter()
         .map(|word| word.as_str())
         .collect(alloc)?;
-    let place = Place {
+    let place = RunFolders {
         current: request.root.as_str(),
         cargo_home: None,
     };

@@ -3,7 +3,7 @@
 use crate::edits::{Edit, edits_between};
 use crate::files::RequestFile;
 use crate::members::Members;
-use edit_steps::Refusal;
+use edit_steps::RunError;
 use edit_store::{MemoryStore, Store};
 use serde_json::{Map, Value};
 use std::alloc::{AllocError, Global};
@@ -75,7 +75,7 @@ pub(crate) fn put_changes(
 }
 
 /// The place of an error and the excerpt of the file that follows it, where each is known.
-fn place_and_excerpt(refusal: &Refusal) -> (Option<&str>, Option<&str>) {
+fn place_and_excerpt(refusal: &RunError) -> (Option<&str>, Option<&str>) {
     let Some(place) = refusal.place.as_deref() else {
         return (None, None);
     };
@@ -89,7 +89,7 @@ fn place_and_excerpt(refusal: &Refusal) -> (Option<&str>, Option<&str>) {
 pub(crate) fn put_error(
     alloc: Global,
     members: &mut Members,
-    refusal: &Refusal,
+    refusal: &RunError,
 ) -> Result<(), AllocError> {
     let error = &refusal.error;
     let message = format!(in alloc; "{error}")?;

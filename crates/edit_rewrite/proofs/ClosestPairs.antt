@@ -12,7 +12,7 @@ use Rattle.edit_tree.specs.Assertions.{Step, Place, key, at, same_place, dotted,
 use Rattle.edit_tree.specs.EditBytes.{unresolved, last_result, front_to}
 use Rattle.edit_rewrite.specs.Inner.{inner_of, NoneAbove}
 use Rattle.edit_document.specs.Ranges.{is_table_value, StartsTable}
-use Rattle.edit_tree.specs.Statements.{Named, dotted_parts, front_parts, behind_part, PlacedPair, paired, paired_members, paired_value, inner_pairs}
+use Rattle.edit_tree.specs.Statements.{Named, dotted_parts, front_parts, behind_part, PlacedPair, placed_pair, paired_members, paired_value, inner_pairs}
 use Rattle.edit_tree.specs.Written.{PlacedValue, values}
 use Rattle.edit_tree.proofs.Choices.{last_nothing, last_flat, last_only}
 use Rattle.edit_tree.proofs.TablePairs.{among_flat, value_table}
@@ -105,7 +105,7 @@ pub record OnTheWay (made : List Assertion) (there : Place) : Type 0 where
   pub kind : one.kind ≡ dotted true
 
 pair_dotted : (place table : Place) (j : ℕ) (k : Key) (a b : List ℕ) (v : Value) (behind spot : List ℕ)
-    → front_to place (paired table k a b v behind) ≡ Some spot → length table + suc j < length place
+    → front_to place (placed_pair table k a b v behind) ≡ Some spot → length table + suc j < length place
     → OnTheWay (of_key true (named table (names k)) table (names k) v) (take (length table + suc j) place)
 pair_dotted place table j k a b v behind spot e lt = record {
   one = asserts (named table (names k)) (take (length table + suc j) place) (dotted true);

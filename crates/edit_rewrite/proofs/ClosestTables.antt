@@ -6,9 +6,9 @@ use Rattle.std.proofs.lemmas.List.{take-map, length-map}
 use Rattle.edit_syntax.proofs.Cases.{by_test}
 use Rattle.edit_syntax.specs.Grammar.{Text}
 use Rattle.edit_tree.specs.declared.place.Step.{Step as WrittenStep}
-use Rattle.edit_rewrite.specs.declared.way.PathMatch.TheVariants.{On}
+use Rattle.edit_rewrite.specs.declared.path_matching.PathMatch.TheVariants.{On}
 use Rattle.edit_tree.specs.Assertions.{Place}
-use Rattle.edit_rewrite.specs.Entries.{path_match_on, way}
+use Rattle.edit_rewrite.specs.Entries.{path_match_on, path_match}
 use Rattle.edit_rewrite.specs.Inner.{NoneAbove, IsClosest}
 use Rattle.edit_document.specs.Items.{step_view, place_view}
 use Rattle.edit_document.specs.Ranges.{HasTable, StartsTable}
@@ -60,7 +60,7 @@ way_taken done (s ∷ ss) (suc k) le =
     more d n = omega arith
 
 -- a place above another one is on the way to it
-pub way_above : (place : Place) (k : ℕ) → k < length place → On k ≡ way place (take k place)
+pub way_above : (place : Place) (k : ℕ) → k < length place → On k ≡ path_match place (take k place)
 way_above place k lt = sym (way_taken 0 place k (omega arith) ∙ ap (λ (n : ℕ). On n) (zero_more k))
   where
     zero_more : (n : ℕ) → 0 + n ≡ n

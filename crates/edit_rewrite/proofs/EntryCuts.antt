@@ -14,7 +14,7 @@ use Rattle.edit_tree.specs.Assertions.{Place, key as name_step, at, same_place, 
 use Rattle.edit_tree.specs.EditBytes.{unresolved, part_to}
 use Rattle.edit_rewrite.specs.EntrySpots.{StandsIn}
 use Rattle.edit_rewrite.specs.StatementOffsets.{IsSpot}
-use Rattle.edit_tree.specs.Statements.{PlacedStatement, stated_in, placed_statements, dotted_parts, behind_part, PlacedPair, paired, paired_members, paired_value, paired_statement, line_pairs, inner_pairs}
+use Rattle.edit_tree.specs.Statements.{PlacedStatement, stated_in, placed_statements, dotted_parts, behind_part, PlacedPair, placed_pair, paired_members, paired_value, paired_statement, line_pairs, inner_pairs}
 use Rattle.edit_tree.specs.Written.{PlacedValue, values}
 use Rattle.edit_document.proofs.Documents.{read_of, ends_all}
 use Rattle.edit_tree.proofs.Shallow.{shallow}
@@ -62,7 +62,7 @@ pub record Fits (bytes : List ℕ) (p : PlacedPair) : Type 0 where
 pub pair_fits : (bytes : List ℕ) (table : Place) (k : Key) (a b : List ℕ) (v : Value) (behind : List ℕ)
     → IsKey k
     → All is_blank a → Starts behind → Ends bytes (key k (a ++ (equals ∷ (b ++ value v behind))))
-    → Fits bytes (paired table k a b v behind)
+    → Fits bytes (placed_pair table k a b v behind)
 pair_fits bytes table k a b v behind h blanks st ends =
     let rest = a ++ (equals ∷ (b ++ value v behind)) in
     record {

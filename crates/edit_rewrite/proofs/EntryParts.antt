@@ -2,9 +2,9 @@
 use Rattle.std.proofs.Common.{◌≡◌, ℕ, Bool, true, false, ◌&&◌, cond, List, [], ◌∷◌, length, Option, Some, None, option_map, refl, sym, ap, ◌∙◌, true≢false}
 use Rattle.std.specs.Prelude.{unwrap_or}
 use Rattle.std.proofs.lemmas.Bool.{and_parts, and_from}
-use Rattle.edit_syntax.specs.declared.read.marks.Mark.{Mark}
+use Rattle.edit_syntax.specs.declared.read.syntax_tokens.SyntaxToken.{SyntaxToken}
 use Rattle.edit_syntax.proofs.Cases.{by_test}
-use Rattle.edit_rewrite.specs.declared.way.PathMatch.{PathMatch}
+use Rattle.edit_rewrite.specs.declared.path_matching.PathMatch.{PathMatch}
 use Rattle.edit_tree.specs.Assertions.{Place, Step, key, at, same_step, same_place}
 use Rattle.edit_tree.specs.EditBytes.{unresolved, is_within, first_of}
 use Rattle.edit_rewrite.specs.Entries.{is_at, begins_part, AreParts, key_target, FollowsKey}
@@ -47,12 +47,12 @@ part_or place table n (m ∷ ns) =
 
 -- ---- marks
 
-none_more : (e : ℕ) (ms : List Mark) → begins_part ms ≡ false → key_end e ms ≡ e
+none_more : (e : ℕ) (ms : List SyntaxToken) → begins_part ms ≡ false → key_end e ms ≡ e
 none_more e [] h = refl
 none_more e (m ∷ ms) h = ap (λ (b : Bool). cond b (key_end m.to ms) e) h
 
 -- the last part of a key ends where the last of its marks does
-pub key_ends : (bytes : List ℕ) (e : ℕ) (n : Named) (ns : List Named) (ms : List Mark)
+pub key_ends : (bytes : List ℕ) (e : ℕ) (n : Named) (ns : List Named) (ms : List SyntaxToken)
     → AreParts bytes (n ∷ ns) ms → key_end e ms ≡ length (last_part n ns)
 key_ends bytes e n ns [] h = absurd h
 key_ends bytes e n [] (m ∷ ms) h =
@@ -61,7 +61,7 @@ key_ends bytes e n (n2 ∷ ns) (m ∷ ms) h =
     ap (λ (b : Bool). cond b (key_end m.to ms) e) h.0 ∙ key_ends bytes m.to n2 ns ms h.3
 
 -- what is seen along a key is the part that names the place
-pub part_told : (bytes : List ℕ) (place table : Place) (n : Named) (ns : List Named) (ms : List Mark)
+pub part_told : (bytes : List ℕ) (place table : Place) (n : Named) (ns : List Named) (ms : List SyntaxToken)
     (r : PathMatch × Option ℕ) → AreParts bytes (n ∷ ns) ms → FollowsKey place unresolved table (n ∷ ns) r
     → part_offset (length place) r.0 r.1 ms ≡ option_map length (behind_part unresolved place table (n ∷ ns))
 part_told bytes place table n ns ms r h g =

@@ -4,10 +4,10 @@ use Rattle.std.specs.List.{Contains}
 use Rattle.std.proofs.Math.Seq.{take-append_seam}
 use Rattle.edit_syntax.specs.Grammar.{Text}
 use Rattle.edit_syntax.proofs.Members.{Among, among_contained, contained_among}
-use Rattle.edit_rewrite.specs.declared.way.PathMatch.TheVariants.{On, Off}
+use Rattle.edit_rewrite.specs.declared.path_matching.PathMatch.TheVariants.{On, Off}
 use Rattle.edit_tree.specs.Assertions.{Place, key, at, same_place, AreCompatible, assertions}
 use Rattle.edit_tree.specs.EditBytes.{unresolved, part_to}
-use Rattle.edit_rewrite.specs.Entries.{path_match_on, way}
+use Rattle.edit_rewrite.specs.Entries.{path_match_on, path_match}
 use Rattle.edit_rewrite.specs.EntrySpots.{HasPairOffsets, HasPairOffsetsIn}
 use Rattle.edit_tree.specs.Statements.{Named, behind_part, PlacedPair, paired_value, inner_pairs}
 use Rattle.edit_tree.specs.Tree.{is_value_at}
@@ -29,7 +29,7 @@ way_front d (suc n) (s ∷ ss) le =
     ap (λ (b : Bool). cond b (path_match_on (d + 1) ss (take n ss)) Off) (same_step_self s)
     ∙ way_front (d + 1) n ss (omega (arith, le)) ∙ ap On (let k : (d + 1) + n ≡ d + suc n = omega arith in k)
 
-pub front_way : (n : ℕ) (target : Place) → n ≤ length target → On n ≡ way target (take n target)
+pub front_way : (n : ℕ) (target : Place) → n ≤ length target → On n ≡ path_match target (take n target)
 front_way n target le = sym (way_front 0 n target le ∙ ap On (let k : 0 + n ≡ n = omega arith in k))
 
 -- ---- one table

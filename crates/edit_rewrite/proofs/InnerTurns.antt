@@ -8,7 +8,7 @@ use Rattle.edit_tree.specs.Assertions.{Place}
 use Rattle.edit_tree.specs.EditBytes.{first_of, last_result}
 use Rattle.edit_rewrite.specs.Inner.{inner_of, inner_in}
 use Rattle.edit_tree.specs.Slots.{Slot, of_members}
-use Rattle.edit_tree.specs.Statements.{paired, paired_members}
+use Rattle.edit_tree.specs.Statements.{placed_pair, paired_members}
 use Rattle.edit_rewrite.proofs.MemberTurns.{folded}
 use Rattle.edit_rewrite.proofs.SlotLaws.{members_text}
 
@@ -30,12 +30,12 @@ pub last_folded : (place above : Place) (ms : Members) (rest : List ℕ) (made :
     ≡ option_or (last_result (inner_of place) (paired_members above ms rest)) made
 last_folded place above no_members rest made = refl
 last_folded place above (last_member k a b v c) rest made =
-    or_last (inner_of place (paired above k a b v (gap c rest))) made
+    or_last (inner_of place (placed_pair above k a b v (gap c rest))) made
 last_folded place above (member k a b v c d ms) rest made =
     let behind = gap c (comma ∷ gap d (members ms rest)) in
-    let here = inner_of place (paired above k a b v behind) in
+    let here = inner_of place (placed_pair above k a b v behind) in
     ap (λ (x : List ℕ). folded (inner_turn place above)
-    (option_or (inner_of place (paired above k a b v (gap c (comma ∷ gap d x)))) made) (of_members ms) rest)
+    (option_or (inner_of place (placed_pair above k a b v (gap c (comma ∷ gap d x)))) made) (of_members ms) rest)
     (members_text ms rest)
     ∙ last_folded place above ms rest (option_or here made)
     ∙ or_more (last_result (inner_of place) (paired_members above ms rest)) here made

@@ -6,7 +6,7 @@ use Rattle.edit_syntax.proofs.Members.{Among}
 use Rattle.edit_rewrite.specs.declared.locate.Entry.{Entry}
 use Rattle.edit_rewrite.specs.declared.inner.Inner.{Inner}
 use Rattle.edit_rewrite.specs.Inner.{inner_of}
-use Rattle.edit_tree.specs.Assertions.{Place, resolved}
+use Rattle.edit_tree.specs.Assertions.{Place, last_element_or_self}
 use Rattle.edit_tree.specs.EditBytes.{Splice, put_before, before, first_of, first_result, last_result, new_line, is_pair, is_own, in_inline, in_section, in_inner_dotted, front_to, dotted_pair, in_dotted, in_super, at_start, inserted}
 use Rattle.edit_rewrite.specs.Entries.{front_of, entry_of}
 use Rattle.edit_tree.specs.NewItems.{NewValue, new_pair}
@@ -92,7 +92,7 @@ through_splice place m s = first_result grow (headed_statement s)
     grow : PlacedHeader → Option Splice
     grow h =
         option_map (λ spot. put_before h.line (section_text (before h.from spot) m))
-        (behind_part (resolved h.earlier) place [] (front_parts h.parts))
+        (behind_part (last_element_or_self h.earlier) place [] (front_parts h.parts))
 
 abbrev through_section : PlacedStatement → List ℕ → List ℕ → Splice
 through_section s m spot = put_before s.line (section_text (key_to s spot) m)

@@ -5,18 +5,18 @@ use Rattle.std.proofs.Math.Seq.{take-length}
 use Rattle.edit_syntax.proofs.ListElements.{drop_from}
 use Rattle.std.specs.List.{AllByRecursion}
 use Rattle.std.proofs.lemmas.Option.{same_Some}
-use Rattle.edit_syntax.specs.declared.read.marks.Mark.{Mark}
+use Rattle.edit_syntax.specs.declared.read.syntax_tokens.SyntaxToken.{SyntaxToken}
 use Rattle.edit_syntax.specs.Characters.{is_blank, All}
 use Rattle.edit_syntax.specs.Strings.{Part, bare, basic_part, literal_part, part, IsPart, name, Dotted, dotted, Key, IsKey}
 use Rattle.edit_syntax.specs.Strings as strings
 use Rattle.edit_syntax.specs.SyntaxTokens.{part_kind, token_of_part, tokens_of_dotted, tokens_of_key}
-use Rattle.edit_rewrite.specs.declared.way.PathMatch.{PathMatch}
-use Rattle.edit_tree.specs.Assertions.{key, Place, at, same_place, Assertion, names, named, resolved, header_place}
+use Rattle.edit_rewrite.specs.declared.path_matching.PathMatch.{PathMatch}
+use Rattle.edit_tree.specs.Assertions.{key, Place, at, same_place, Assertion, names, named, last_element_or_self, header_place}
 use Rattle.edit_tree.specs.EditBytes.{unresolved}
 use Rattle.edit_tree.specs.Statements.{Named, dotted_parts, parts, front_parts, behind_part}
-use Rattle.edit_tree.specs.Walk.{said}
+use Rattle.edit_tree.specs.Walk.{token_value}
 use Rattle.edit_tree.specs.WalkState.{IsDecodedAt, has_token_value}
-use Rattle.edit_rewrite.specs.Entries.{way, next_way, is_at, resolved_way, is_part, begins_part, kind_after_key, AreParts, Follows, key_target, FollowsKey}
+use Rattle.edit_rewrite.specs.Entries.{path_match, extend_path_match, is_at, last_element_match, is_part, begins_part, kind_after_key, AreParts, Follows, key_target, FollowsKey}
 use Rattle.edit_tree.proofs.Ends.{Ends, ends_past, ends_one, ends_part}
 use Rattle.edit_tree.proofs.WalkedTokens.{said_part}
 use Rattle.edit_document.proofs.TextTokens.{part_token}
@@ -33,7 +33,7 @@ part_says bytes p rest h u ends = go (part_token bytes p rest h u ends (kind_sai
     kind_said (basic_part ps) = refl
     kind_said (literal_part text) = refl
 
-    go : (n : List ℕ) × (said bytes (token_of_part p rest) ≡ Some n) × IsDecodedAt bytes (token_of_part p rest) n
+    go : (n : List ℕ) × (token_value bytes (token_of_part p rest) ≡ Some n) × IsDecodedAt bytes (token_of_part p rest) n
         → IsDecodedAt bytes (token_of_part p rest) (name p)
     go t = subst (IsDecodedAt bytes (token_of_part p rest))
         (same_Some _ _ (sym t.1 ∙ said_part bytes p rest h u ends)) t.2
@@ -46,7 +46,7 @@ kind_part (literal_part text) = refl
 abbrev IsDotted : Dotted → Type 0
 IsDotted d = All is_blank d.before × All is_blank d.behind × IsPart d.part
 
-dotted_are : (bytes : List ℕ) (ds : List Dotted) (rest : List ℕ) (others : List Mark)
+dotted_are : (bytes : List ℕ) (ds : List Dotted) (rest : List ℕ) (others : List SyntaxToken)
     → AllByRecursion IsDotted ds → IsUtf8 bytes → Ends bytes (dotted ds rest) → begins_part others ≡ false
     → AreParts bytes (dotted_parts ds rest) (tokens_of_dotted ds rest ++ others)
 dotted_are bytes [] rest others h u ends over = over
@@ -61,7 +61,7 @@ dotted_are bytes (d ∷ ds) rest others h u ends over =
       dotted_are bytes ds rest others h.1 u (ends_part bytes d.part (dotted ds rest) here) over,
     )
 
-pub key_are : (bytes : List ℕ) (k : Key) (rest : List ℕ) (others : List Mark) → IsKey k → IsUtf8 bytes
+pub key_are : (bytes : List ℕ) (k : Key) (rest : List ℕ) (others : List SyntaxToken) → IsKey k → IsUtf8 bytes
     → Ends bytes (strings.key k rest) → begins_part others ≡ false
     → AreParts bytes (parts k rest) (tokens_of_key k rest ++ others)
 key_are bytes k rest others h u ends over = (
@@ -73,23 +73,23 @@ key_are bytes k rest others h u ends over = (
 
 -- ---- the way
 
-pub no_parts : {A : Type 0} (bytes : List ℕ) (n : Named) (ns : List Named) (ms : List Mark) → ms ≡ []
+pub no_parts : {A : Type 0} (bytes : List ℕ) (n : Named) (ns : List Named) (ms : List SyntaxToken) → ms ≡ []
     → AreParts bytes (n ∷ ns) ms → A
 no_parts bytes n ns [] e h = absurd h
 no_parts bytes n ns (m ∷ ms) e h = absurd cc
 
 step_is : (target table : Place) (n : List ℕ) (start here : PathMatch) (said : List ℕ)
-    → start ≡ way target table
-    → said ≡ n → here ≡ next_way target start (key said) → here ≡ way target (at table (key n))
+    → start ≡ path_match target table
+    → said ≡ n → here ≡ extend_path_match target start (key said) → here ≡ path_match target (at table (key n))
 step_is target table n start here said begins same is =
-    is ∙ ap (λ (w : PathMatch). next_way target w (key said)) begins ∙
-    ap (λ (x : List ℕ). next_way target (way target table) (key x)) same ∙ sym (way_at target table (key n))
+    is ∙ ap (λ (w : PathMatch). extend_path_match target w (key said)) begins ∙
+    ap (λ (x : List ℕ). extend_path_match target (path_match target table) (key x)) same ∙ sym (way_at target table (key n))
 
 -- the last part of a key
 pub last_along : (bytes : List ℕ) (target : Place) (resolve : Place → Place) (table : Place) (n : Named)
-    (ns : List Named) (m : Mark) (ms : List Mark) (start here : PathMatch) (said : List ℕ)
-    → AreParts bytes (n ∷ ns) (m ∷ ms) → begins_part ms ≡ false → start ≡ way target table → said ≡ n.0
-    → here ≡ next_way target start (key said) → FollowsKey target resolve table (n ∷ ns) (here, None)
+    (ns : List Named) (m : SyntaxToken) (ms : List SyntaxToken) (start here : PathMatch) (said : List ℕ)
+    → AreParts bytes (n ∷ ns) (m ∷ ms) → begins_part ms ≡ false → start ≡ path_match target table → said ≡ n.0
+    → here ≡ extend_path_match target start (key said) → FollowsKey target resolve table (n ∷ ns) (here, None)
 last_along bytes target resolve table n [] m ms start here said h over begins same is =
     (step_is target table n.0 start here said begins same is, refl)
 last_along bytes target resolve table n (n2 ∷ ns) m [] start here said h over begins same is = absurd h.3
@@ -97,18 +97,18 @@ last_along bytes target resolve table n (n2 ∷ ns) m (m2 ∷ ms) start here sai
     absurd (true≢false (sym h.3.0 ∙ over))
 
 -- what is promised of the parts behind the first
-abbrev pub Promises : List ℕ → Place → List ℕ → List Mark → PathMatch → PathMatch × Option ℕ → Type 0
+abbrev pub Promises : List ℕ → Place → List ℕ → List SyntaxToken → PathMatch → PathMatch × Option ℕ → Type 0
 Promises bytes target counts ms next r =
     (table : Place) (resolve : Place → Place) (n : Named) (ns : List Named) → AreParts bytes (n ∷ ns) ms
-    → Follows target counts resolve → next ≡ way target table → FollowsKey target resolve table (n ∷ ns) r
+    → Follows target counts resolve → next ≡ path_match target table → FollowsKey target resolve table (n ∷ ns) r
 
 -- a part before others
 pub more_along : (bytes : List ℕ) (target : Place) (counts : List ℕ) (resolve : Place → Place) (table : Place)
-    (n : Named) (ns : List Named) (m : Mark) (ms : List Mark) (start here next : PathMatch) (said : List ℕ)
+    (n : Named) (ns : List Named) (m : SyntaxToken) (ms : List SyntaxToken) (start here next : PathMatch) (said : List ℕ)
     (r : PathMatch × Option ℕ)
     → Promises bytes target counts ms next r → AreParts bytes (n ∷ ns) (m ∷ ms) → begins_part ms ≡ true
-    → Follows target counts resolve → start ≡ way target table → said ≡ n.0
-    → here ≡ next_way target start (key said) → next ≡ resolved_way target counts here
+    → Follows target counts resolve → start ≡ path_match target table → said ≡ n.0
+    → here ≡ extend_path_match target start (key said) → next ≡ last_element_match target counts here
     → (c : Bool) → c ≡ is_at (length target) next
     → FollowsKey target resolve table (n ∷ ns) (r.0, cond c (Some m.to) r.1)
 more_along bytes target counts resolve table n [] m ms start here next said r rec h more follows begins same
@@ -117,8 +117,8 @@ more_along bytes target counts resolve table n (n2 ∷ ns) m ms start here next 
     same is goes c at_it =
     (ways.0, ap (λ b. cond b (Some m.to) r.1) test ∙ go (same_place (resolve (at table (key n.0))) target))
   where
-    next_is : next ≡ way target (resolve (at table (key n.0)))
-    next_is = goes ∙ ap (resolved_way target counts)
+    next_is : next ≡ path_match target (resolve (at table (key n.0)))
+    next_is = goes ∙ ap (last_element_match target counts)
         (step_is target table n.0 start here said begins same is) ∙ sym (follows (at table (key n.0)))
 
     ways : FollowsKey target resolve (resolve (at table (key n.0))) (n2 ∷ ns) r
@@ -135,23 +135,23 @@ more_along bytes target counts resolve table n (n2 ∷ ns) m ms start here next 
 
 -- ---- the same of marks that are not taken apart
 
-pub says_first : (bytes : List ℕ) (n : Named) (ns : List Named) (marks : List Mark) (x : Mark)
+pub says_first : (bytes : List ℕ) (n : Named) (ns : List Named) (marks : List SyntaxToken) (x : SyntaxToken)
     → AreParts bytes (n ∷ ns) marks → IsDecodedAt bytes (get_or marks 0 x) n.0
 says_first bytes n ns [] x h = absurd h
 says_first bytes n ns (m ∷ ms) x h = h.1
 
 -- the marks behind the first
-abbrev pub others : List Mark → List Mark
+abbrev pub others : List SyntaxToken → List SyntaxToken
 others marks = take (length marks - 1) (drop 1 marks)
 
-others_are : (m : Mark) (ms : List Mark) → others (m ∷ ms) ≡ ms
+others_are : (m : SyntaxToken) (ms : List SyntaxToken) → others (m ∷ ms) ≡ ms
 others_are m ms = let k : suc (length ms) - 1 ≡ length ms = omega arith in
     ap (λ (n : ℕ). take n ms) k ∙ take-length ms
 
 pub last_way : (bytes : List ℕ) (target : Place) (resolve : Place → Place) (table : Place) (n : Named)
-    (ns : List Named) (marks : List Mark) (start here : PathMatch) (said : List ℕ)
-    → AreParts bytes (n ∷ ns) marks → begins_part (others marks) ≡ false → start ≡ way target table
-    → said ≡ n.0 → here ≡ next_way target start (key said)
+    (ns : List Named) (marks : List SyntaxToken) (start here : PathMatch) (said : List ℕ)
+    → AreParts bytes (n ∷ ns) marks → begins_part (others marks) ≡ false → start ≡ path_match target table
+    → said ≡ n.0 → here ≡ extend_path_match target start (key said)
     → FollowsKey target resolve table (n ∷ ns) (here, None)
 last_way bytes target resolve table n ns [] start here said h over begins same is = absurd h
 last_way bytes target resolve table n ns (x ∷ ms) start here said h over begins same is =
@@ -159,12 +159,12 @@ last_way bytes target resolve table n ns (x ∷ ms) start here said h over begin
     (ap begins_part (sym (others_are x ms)) ∙ over) begins same is
 
 pub more_way : (bytes : List ℕ) (target : Place) (counts : List ℕ) (resolve : Place → Place) (table : Place)
-    (n : Named) (ns : List Named) (marks : List Mark) (x : Mark) (start here next : PathMatch) (said : List ℕ)
+    (n : Named) (ns : List Named) (marks : List SyntaxToken) (x : SyntaxToken) (start here next : PathMatch) (said : List ℕ)
     (r : PathMatch × Option ℕ)
     → Promises bytes target counts (others marks) next r → AreParts bytes (n ∷ ns) marks
-    → begins_part (others marks) ≡ true → Follows target counts resolve → start ≡ way target table
+    → begins_part (others marks) ≡ true → Follows target counts resolve → start ≡ path_match target table
     → said ≡ n.0
-    → here ≡ next_way target start (key said) → next ≡ resolved_way target counts here
+    → here ≡ extend_path_match target start (key said) → next ≡ last_element_match target counts here
     → (c : Bool) → c ≡ is_at (length target) next
     → FollowsKey target resolve table (n ∷ ns) (r.0, cond c (Some (get_or marks 0 x).to) r.1)
 more_way bytes target counts resolve table n ns [] x start here next said r rec h more follows begins same is
@@ -172,7 +172,7 @@ more_way bytes target counts resolve table n ns [] x start here next said r rec 
 more_way bytes target counts resolve table n ns
     (m ∷ ms) x start here next said r rec h more follows begins same is goes c at_it =
     more_along bytes target counts resolve table n ns m ms start here next said r
-    (subst (λ (xs : List Mark). Promises bytes target counts xs next r) (others_are m ms) rec) h
+    (subst (λ (xs : List SyntaxToken). Promises bytes target counts xs next r) (others_are m ms) rec) h
     (ap begins_part (sym (others_are m ms)) ∙ more) follows begins same is goes c at_it
 
 -- ---- where a key leads to
@@ -204,25 +204,25 @@ pub pair_led : (table : Place) (k : Key) (rest : List ℕ)
 pair_led table k rest = led_pair table (parts k rest) ∙ ap (named table) (names_are k rest)
 
 led_header : (earlier : List Assertion) (table : Place) (ns : List Named)
-    → key_target (resolved earlier) table ns ≡ header_place earlier table (part_names ns)
+    → key_target (last_element_or_self earlier) table ns ≡ header_place earlier table (part_names ns)
 led_header earlier table [] = refl
 led_header earlier table (n ∷ []) = refl
-led_header earlier table (n ∷ m ∷ ns) = led_header earlier (resolved earlier (at table (key n.0))) (m ∷ ns)
+led_header earlier table (n ∷ m ∷ ns) = led_header earlier (last_element_or_self earlier (at table (key n.0))) (m ∷ ns)
 
 -- and that of a header
 pub header_led : (earlier : List Assertion) (k : Key) (rest : List ℕ)
-    → key_target (resolved earlier) [] (parts k rest) ≡ header_place earlier [] (names k)
+    → key_target (last_element_or_self earlier) [] (parts k rest) ≡ header_place earlier [] (names k)
 header_led earlier k rest = led_header earlier [] (parts k rest) ∙
     ap (header_place earlier []) (names_are k rest)
 
 -- ---- the mark behind a key
 
-pub head_turn : (marks : List Mark) (i : ℕ) (m : Mark) → slice_get marks i ≡ Some m → is_part m.kind ≡ true
+pub head_turn : (marks : List SyntaxToken) (i : ℕ) (m : SyntaxToken) → slice_get marks i ≡ Some m → is_part m.kind ≡ true
     → kind_after_key (drop i marks) ≡ kind_after_key (drop (i + 1) marks)
 head_turn marks i m e p = ap kind_after_key (drop_from marks i m e) ∙
     ap (λ b. cond b (kind_after_key (drop (i + 1) marks)) (Some m.kind)) p
 
-pub head_found : (marks : List Mark) (i : ℕ) (m : Mark) → slice_get marks i ≡ Some m → is_part m.kind ≡ false
+pub head_found : (marks : List SyntaxToken) (i : ℕ) (m : SyntaxToken) → slice_get marks i ≡ Some m → is_part m.kind ≡ false
     → kind_after_key (drop i marks) ≡ Some m.kind
 head_found marks i m e p = ap kind_after_key (drop_from marks i m e) ∙
     ap (λ b. cond b (kind_after_key (drop (i + 1) marks)) (Some m.kind)) p

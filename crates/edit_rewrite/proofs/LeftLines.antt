@@ -8,7 +8,7 @@ use Rattle.edit_rewrite.specs.declared.locate.Entry.{Entry}
 use Rattle.edit_tree.specs.Assertions.{Place, Assertion, of_statement, prefix_after, IsDocument}
 use Rattle.edit_tree.specs.EditBytes.{before}
 use Rattle.edit_rewrite.specs.Entries.{entry_of}
-use Rattle.edit_tree.specs.RemovedBytes.{is_gone, lines_left}
+use Rattle.edit_tree.specs.RemovedBytes.{is_removed_statement, lines_left}
 use Rattle.edit_rewrite.specs.StatementOffsets.{IsSpot}
 use Rattle.edit_tree.specs.Statements.{PlacedStatement, stated_in, placed_statements}
 use Rattle.edit_document.proofs.Documents.{read_of, ends_all}
@@ -124,7 +124,7 @@ past_one bytes gone whole done now from to e left at to_is is = go at.coming at.
     go (s ∷ ss) all c m =
         let same : e ≡ entry_of gone s = cc in
         let others : left ≡ map (entry_of gone) ss = cc in
-        let here : e.is_within ≡ is_gone gone s = ap (λ (x : Entry). x.is_within) same in
+        let here : e.is_within ≡ is_removed_statement gone s = ap (λ (x : Entry). x.is_within) same in
         let next : e.next ≡ length s.next = ap (λ (x : Entry). x.next) same in
         record {
           rest = s.next;
@@ -133,7 +133,7 @@ past_one bytes gone whole done now from to e left at to_is is = go at.coming at.
           from_is = next;
           left_is = others;
           chain = c.2;
-          made = step s ss (is_gone gone s) c.0 c.1 next
+          made = step s ss (is_removed_statement gone s) c.0 c.1 next
               (to_is ∙ ap (λ (b : Bool). if b then from else e.next) here) ∙ m;
         }
 

@@ -9,7 +9,7 @@ use Rattle.edit_syntax.specs.Depth.{depth}
 use Rattle.edit_syntax.proofs.ValueEdges.{value_rest, value_enclosed}
 use Rattle.edit_tree.specs.Assertions.{Place}
 use Rattle.edit_tree.specs.RemovedBytes.{Left, left_with_comma, left_without_comma, without_blanks, without_member, behind_comma, value_left}
-use Rattle.edit_tree.specs.Slots.{Slot, of_value, of_pair, slot, IsSlot, Slots, no_slots, last_slot, more_slots, slots, AreSlots, closing, opening, of_elements, of_members, goes, slots_left, enclosed_left, IsEnclosed, IsContainer}
+use Rattle.edit_tree.specs.Slots.{Slot, of_value, of_pair, slot, IsSlot, Slots, no_slots, last_slot, more_slots, slots, AreSlots, closing, opening, of_elements, of_members, is_item_removed, slots_left, enclosed_left, IsEnclosed, IsContainer}
 use Rattle.edit_tree.proofs.Ends.{text_before, text_behind, one_text}
 use Rattle.edit_rewrite.proofs.SlotKeys.{array_enclosed, inline_enclosed, array_left, inline_left}
 use Rattle.edit_rewrite.proofs.SlotLaws.{gap_rest, slot_rest}
@@ -103,14 +103,14 @@ blanks_left (b ∷ rest) u = go (is_blank b) refl (blanks_left rest)
 slots_text : (below : Place) (i : ℕ) (ss : Slots) (rest : List ℕ) → ArePieces ss → IsUtf8 rest
     → IsUtf8 (slots_left below i ss rest).rest
 slots_text below i no_slots rest h u = u
-slots_text below i (last_slot s c) rest h u = go (goes below i s)
+slots_text below i (last_slot s c) rest h u = go (is_item_removed below i s)
   where
     go : (b : Bool) → let l = if b then left_without_comma (gap c rest) else left_with_comma (slot s (gap c rest)) in
         IsUtf8 l.rest
     go true = put_gap c rest h.1 u
     go false = put_slot s (gap c rest) h.0 (put_gap c rest h.1 u)
 slots_text below i (more_slots s c d ss) rest h u =
-    go (goes below i s) (slots_left below (suc i) ss rest) (slots_text below (suc i) ss rest h.3 u)
+    go (is_item_removed below i s) (slots_left below (suc i) ss rest) (slots_text below (suc i) ss rest h.3 u)
   where
     kept : (b : Bool) (x : List ℕ) → IsUtf8 x → IsUtf8 (if b then comma ∷ gap d x else x)
     kept true x w = put_one comma (gap d x) (omega arith) (put_gap d x h.2 w)

@@ -3,11 +3,11 @@ use Rattle.std.proofs.Common.{◌≡◌, ℕ, ◌+◌, ◌<◌, Bool, true, fals
 use Rattle.std.specs.Prelude.{not, unwrap_or, IsUtf8}
 use Rattle.std.specs.List.{flat_map, Contains}
 use Rattle.std.proofs.lemmas.Bool.{and_parts}
-use Rattle.edit_syntax.specs.declared.read.marks.Mark.{Mark}
-use Rattle.edit_syntax.specs.declared.read.marks.MarkKind.TheVariants as kinds
+use Rattle.edit_syntax.specs.declared.read.syntax_tokens.SyntaxToken.{SyntaxToken}
+use Rattle.edit_syntax.specs.declared.read.syntax_tokens.TokenKind.TheVariants as kinds
 use Rattle.edit_syntax.specs.Characters.{equals, right_bracket, right_brace}
 use Rattle.edit_syntax.specs.Grammar.{Value, basic, literal, multi_basic, multi_literal, boolean, integer, float, datetime, array, inline, value, Statement, pair, header, element_header, Text}
-use Rattle.edit_syntax.specs.SyntaxTokens.{mark, tokens_of_key, tokens_of_value, tokens_of_elements, tokens_of_members, tokens_of_statement}
+use Rattle.edit_syntax.specs.SyntaxTokens.{token_between, tokens_of_key, tokens_of_value, tokens_of_elements, tokens_of_members, tokens_of_statement}
 use Rattle.edit_syntax.specs.Strings.{name, dotted}
 use Rattle.edit_syntax.proofs.Members.{Among, among_contained, contained_among, among_map}
 use Rattle.edit_rewrite.specs.declared.locate.Entry.{Entry}
@@ -15,7 +15,7 @@ use Rattle.edit_tree.specs.Assertions.{Place}
 use Rattle.edit_tree.specs.EditBytes.{first_of, first_result, unresolved, is_within, part_to, is_one_statement}
 use Rattle.edit_rewrite.specs.Entries.{AreParts, key_target, entry_of}
 use Rattle.edit_rewrite.specs.EntrySpots.{within_entry, key_end, last_end, IsAround, HasPairOffsets}
-use Rattle.edit_tree.specs.Statements.{PlacedStatement, placed_statements, Named, dotted_parts, parts, front_parts, behind_part, PlacedPair, paired, paired_statement, line_pairs}
+use Rattle.edit_tree.specs.Statements.{PlacedStatement, placed_statements, Named, dotted_parts, parts, front_parts, behind_part, PlacedPair, placed_pair, paired_statement, line_pairs}
 use Rattle.edit_tree.proofs.Choices.{Alike, first_taken, first_left, first_chosen}
 use Rattle.edit_rewrite.proofs.EntryChoices.{no_entry}
 use Rattle.edit_rewrite.proofs.EntryCuts.{StatedStands}
@@ -48,11 +48,11 @@ module _ (xs : List Entry) (i : ℕ) (lt : i < length xs) where
 
 -- ---- where a value ends, by the marks of its pair
 
-last_of : (e : ℕ) (xs : List Mark) (m : Mark) → last_end e (xs ++ m ∷ []) ≡ m.to
+last_of : (e : ℕ) (xs : List SyntaxToken) (m : SyntaxToken) → last_end e (xs ++ m ∷ []) ≡ m.to
 last_of e [] m = refl
 last_of e (x ∷ xs) m = last_of x.to xs m
 
-last_behind : (e : ℕ) (xs : List Mark) (v : Value) (rest : List ℕ)
+last_behind : (e : ℕ) (xs : List SyntaxToken) (v : Value) (rest : List ℕ)
     → last_end e (xs ++ tokens_of_value v rest) ≡ length rest
 last_behind e (x ∷ xs) v rest = last_behind x.to xs v rest
 last_behind e [] (basic ps) rest = refl
@@ -65,9 +65,9 @@ last_behind e [] (integer n) rest = refl
 last_behind e [] (float f) rest = refl
 last_behind e [] (datetime d) rest = refl
 last_behind e [] (array g es) rest =
-    last_of _ (tokens_of_elements es (right_bracket ∷ rest)) (mark kinds.CloseArray (right_bracket ∷ rest) rest)
+    last_of _ (tokens_of_elements es (right_bracket ∷ rest)) (token_between kinds.CloseArray (right_bracket ∷ rest) rest)
 last_behind e [] (inline g ms) rest =
-    last_of _ (tokens_of_members ms (right_brace ∷ rest)) (mark kinds.CloseTable (right_brace ∷ rest) rest)
+    last_of _ (tokens_of_members ms (right_brace ∷ rest)) (token_between kinds.CloseTable (right_brace ∷ rest) rest)
 
 -- ---- lists
 
@@ -112,7 +112,7 @@ lengths None l = refl
 lengths (Some x) l = refl
 
 -- a pair that names the place or one below it, where one statement names the place
-pub line_around : (bytes : List ℕ) (form : Text) (place : Place) (s : PlacedStatement) (marks : List Mark) (e : Entry)
+pub line_around : (bytes : List ℕ) (form : Text) (place : Place) (s : PlacedStatement) (marks : List SyntaxToken) (e : Entry)
     → is_one_statement form place ≡ true → IsUtf8 bytes → StatedStands bytes s
     → Among s (placed_statements form)
     → e ≡ entry_of place s → within_entry e ≡ Some e → marks ≡ tokens_of_statement s.statement s.behind
@@ -144,10 +144,10 @@ line_around bytes form place s marks e one u stands among is kind marked =
         let out = stands_out form place one here among in
         let last : key_end 0 marks ≡ length (last_part n ns) =
         ap (key_end 0) marked ∙ key_ends bytes 0 n ns (tokens_of_key k rest ++ others) are in
-        one_told place (paired s.prefix k a b v s.behind) (line_pairs form)
+        one_told place (placed_pair s.prefix k a b v s.behind) (line_pairs form)
         (unwrap_or fronts (last_part n ns))
         (unwrap_or e.front (key_end 0 marks), last_end 0 marks)
-        (flat_among paired_statement here (paired s.prefix k a b v s.behind) (placed_statements form) among (inl refl))
+        (flat_among paired_statement here (placed_pair s.prefix k a b v s.behind) (placed_statements form) among (inl refl))
         (within_part place s.prefix n ns out within)
         (ap₂ (λ (o : Option ℕ) (l : ℕ). unwrap_or o l) (ap (λ (x : Entry). x.front) is) last
         ∙ lengths fronts (last_part n ns))

@@ -16,7 +16,7 @@ use Rattle.edit_tree.specs.EditBytes.{part_to}
 use Rattle.edit_rewrite.specs.EntrySpots.{StandsIn, HasPairOffsets}
 use Rattle.edit_tree.specs.Slots.{of_pair}
 use Rattle.edit_tree.specs.SlotTexts.{Ends, StandsAt}
-use Rattle.edit_tree.specs.Statements.{paired, paired_members, paired_value}
+use Rattle.edit_tree.specs.Statements.{placed_pair, paired_members, paired_value}
 use Rattle.edit_tree.specs.Written.{PlacedValue}
 use Rattle.edit_tree.proofs.Ends.{ends_one, ends_pair, ends_gap, ends_value}
 use Rattle.edit_rewrite.proofs.SlotLaws.{slot_begins}
@@ -182,12 +182,12 @@ pub record MemberFront (text : List ℕ) (place : Place) (w : PlacedValue) (i si
     pub c : List Between
     pub behind : List ℕ
     pub stands : StandsAt text rest true (of_pair k a b v) c behind
-    pub found : (part : List ℕ) (r : ℕ × ℕ) → part_to place (paired w.place k a b v (gap c behind))
+    pub found : (part : List ℕ) (r : ℕ × ℕ) → part_to place (placed_pair w.place k a b v (gap c behind))
         ≡ Some part
         → r.0 ≡ length part → r.1 ≡ length (gap c behind) → HasPairOffsets place (paired_value w) (Some r)
-    pub last : part_to place (paired w.place k a b v (gap c behind)) ≡ None → eqb (first behind) comma ≡ false
+    pub last : part_to place (placed_pair w.place k a b v (gap c behind)) ≡ None → eqb (first behind) comma ≡ false
         → HasPairOffsets place (paired_value w) None
-    pub next : part_to place (paired w.place k a b v (gap c behind)) ≡ None → eqb (first behind) comma ≡ true
+    pub next : part_to place (placed_pair w.place k a b v (gap c behind)) ≡ None → eqb (first behind) comma ≡ true
         → (next : List ℕ) → next ≡ past_gap (drop 1 behind) → MembersLeft text place w (i + 1) size next
 
 pub members_front : (text : List ℕ) (place : Place) (w : PlacedValue) (i size : ℕ) (rest : List ℕ)
@@ -202,7 +202,7 @@ members_front text place w i size rest at begun = go at.ms at.valid at.shallow a
         absurd (true≢false (sym (ap (λ (x : List ℕ). eqb (first x) right_brace) e) ∙ begun))
     go (last_member k a b v c) h d e told =
         let behind = right_brace ∷ w.after in
-        let p = paired w.place k a b v (gap c behind) in
+        let p = placed_pair w.place k a b v (gap c behind) in
         record {
           k = k;
           a = a;
@@ -228,7 +228,7 @@ members_front text place w i size rest at begun = go at.ms at.valid at.shallow a
         let close = right_brace ∷ w.after in
         let inner = members ms close in
         let behind = comma ∷ gap f inner in
-        let p = paired w.place k a b v (gap c behind) in
+        let p = placed_pair w.place k a b v (gap c behind) in
         let others = paired_members w.place ms close in
         let deep : members_depth ms ≤ 80 = omega arith in
         let from = subst (Ends text) e at.within in

@@ -13,7 +13,7 @@ use Rattle.edit_syntax.proofs.ValueEdges.{value_rest}
 use Rattle.edit_syntax.proofs.GapLaws.{opens_gap}
 use Rattle.edit_syntax.proofs.MembersReadAgain.{starts_value, value_starts, key_first}
 use Rattle.edit_tree.specs.RemovedBytes.{Left, left_with_comma, left_without_comma, without_blanks, without_member, behind_comma}
-use Rattle.edit_tree.specs.Slots.{Slot, of_value, of_pair, slot, IsSlot, Slots, no_slots, last_slot, more_slots, slots, AreSlots, closing, of_elements, of_members, goes, slots_left}
+use Rattle.edit_tree.specs.Slots.{Slot, of_value, of_pair, slot, IsSlot, Slots, no_slots, last_slot, more_slots, slots, AreSlots, closing, of_elements, of_members, is_item_removed, slots_left}
 use Rattle.edit_tree.specs.Assertions.{Place}
 use Rattle.edit_rewrite.specs.Remainders.{before_end}
 use Rattle.edit_tree.proofs.Ends.{take_length}
@@ -152,10 +152,10 @@ pub left_begins : (t : Bool) (below : Place) (i : ℕ) (ss : Slots) → AreSlots
 left_begins t below i no_slots h stays = no_blank (closing t) (closing_gapless t)
 left_begins t below i (last_slot s c) h stays =
     let end = gap c (closing t ∷ []) in
-    first_case (goes below i s) end (slot s end)
+    first_case (is_item_removed below i s) end (slot s end)
     (no_blank (first (slot s end)) (slot_begins t s end h.0).gapless) stays
 left_begins t below i (more_slots s c d ss) h stays =
     let m = slots_left below (suc i) ss (closing t ∷ []) in
     let rest = gap c (behind_comma (gap d) m) in
-    more_case (goes below i s) (gap c) (gap d) m (slot s rest)
+    more_case (is_item_removed below i s) (gap c) (gap d) m (slot s rest)
     (no_blank (first (slot s rest)) (slot_begins t s rest h.0).gapless) stays

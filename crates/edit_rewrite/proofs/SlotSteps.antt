@@ -4,7 +4,7 @@ use Rattle.std.proofs.Common.{◌≤◌, ◌&&◌, length, map, ◌-◌, take, d
 use Rattle.std.proofs.Math.Seq.{take-length}
 use Rattle.edit_base.specs.Errors.{IsMemory}
 use Rattle.edit_base.specs.declared.errors.Error.{Error}
-use Rattle.edit_syntax.specs.declared.read.marks.Mark.{Mark}
+use Rattle.edit_syntax.specs.declared.read.syntax_tokens.SyntaxToken.{SyntaxToken}
 use Rattle.edit_tree.specs.declared.place.Step.{Step as WrittenStep}
 use Rattle.edit_tree.specs.Assertions.{key as name_step, same_step}
 use Rattle.edit_tree.specs.EditBytes.{is_within}
@@ -79,14 +79,14 @@ tail_slice [] = refl
 tail_slice (x ∷ xs) = let k : length (x ∷ xs) - 1 ≡ length xs = omega arith in rw k (take-length xs)
 
 -- the first of the marks says the first of the names
-pub record FirstSaid (text : List ℕ) (marks : List Mark) (ns : List (List ℕ)) : Type 0 where
+pub record FirstSaid (text : List ℕ) (marks : List SyntaxToken) (ns : List (List ℕ)) : Type 0 where
   pub name : List ℕ
   pub others : List (List ℕ)
   pub is : ns ≡ name ∷ others
-  pub said : (d : Mark) → IsDecodedAt text (get_or marks 0 d) name
+  pub said : (d : SyntaxToken) → IsDecodedAt text (get_or marks 0 d) name
   pub others_said : AreDecodedAs text (take (length marks - 1) (drop 1 marks)) others
 
-pub first_said : (text : List ℕ) (marks : List Mark) (ns : List (List ℕ)) → 1 ≤ length marks
+pub first_said : (text : List ℕ) (marks : List SyntaxToken) (ns : List (List ℕ)) → 1 ≤ length marks
     → AreDecodedAs text marks ns → FirstSaid text marks ns
 first_said text [] ns le h = absurd (omega arith)
 first_said text (m ∷ ms) [] le h = absurd h

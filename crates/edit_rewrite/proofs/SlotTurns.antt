@@ -6,7 +6,7 @@ use Rattle.edit_syntax.specs.Reading.{first, past_gap, past_blanks}
 use Rattle.edit_syntax.proofs.StepLaws.{item_gapless}
 use Rattle.edit_syntax.proofs.GapLaws.{past_gap_again, gap_longer}
 use Rattle.edit_tree.specs.RemovedBytes.{Left, without_blanks}
-use Rattle.edit_tree.specs.Slots.{Slot, slot, IsSlot, Slots, no_slots, last_slot, more_slots, slots, AreSlots, closing, opening, goes, slots_left, IsEnclosed}
+use Rattle.edit_tree.specs.Slots.{Slot, slot, IsSlot, Slots, no_slots, last_slot, more_slots, slots, AreSlots, closing, opening, is_item_removed, slots_left, IsEnclosed}
 use Rattle.edit_tree.specs.SlotTexts.{Ends, StandsAt}
 use Rattle.edit_tree.specs.Assertions.{Place}
 use Rattle.edit_rewrite.specs.Remainders.{before_end, SkipsItem, AppendsItem}
@@ -25,13 +25,13 @@ pub record Front (t : Bool) (text : List ℕ) (below : Place) (i : ℕ)
   pub behind : List ℕ
   pub stands : StandsAt text rest t it gap_behind behind
   pub last : eqb (first behind) comma ≡ false
-      → target ≡ (if goes below i it then (firm ++ gaps) ++ gap gap_behind behind else
+      → target ≡ (if is_item_removed below i it then (firm ++ gaps) ++ gap gap_behind behind else
       (firm ++ commas) ++ rest)
-  pub left : eqb (first behind) comma ≡ true → goes below i it ≡ true → (next : List ℕ)
+  pub left : eqb (first behind) comma ≡ true → is_item_removed below i it ≡ true → (next : List ℕ)
       → next ≡ past_gap (drop 1 behind)
       → AtSlots t text below (suc i) next firm (commas ++ before_end (past_blanks (drop 1 behind)) next)
       (gaps ++ before_end (gap gap_behind behind) behind) target
-  pub kept : eqb (first behind) comma ≡ true → goes below i it ≡ false → (next : List ℕ)
+  pub kept : eqb (first behind) comma ≡ true → is_item_removed below i it ≡ false → (next : List ℕ)
       → next ≡ past_gap (drop 1 behind)
       → AtSlots t text below (suc i) next ((firm ++ commas) ++ before_end rest behind)
       (before_end behind next) [] target
@@ -49,7 +49,7 @@ last_front t text below i rest firm commas gaps target s c hs hc e ends total =
       gap_behind = c;
       behind = closing t ∷ [];
       stands = record { valid = hs; between = hc; ends = closing_ends t; within = ends; spelled = e };
-      last = λ _. rw e (total ∙ last_total (goes below i s) firm commas gaps end (slot s end));
+      last = λ _. rw e (total ∙ last_total (is_item_removed below i s) firm commas gaps end (slot s end));
       left = λ k. absurd (true≢false (sym k ∙ closing_no_comma t));
       kept = λ k. absurd (true≢false (sym k ∙ closing_no_comma t));
     }
@@ -97,7 +97,7 @@ more_front t text below i rest firm commas gaps target s c d ss h e ends short t
     nearer : length inner + suc i ≤ length text
     nearer = omega (arith, ap length e, slot_longer s c behind, gap_longer d inner)
 
-    left : eqb (first behind) comma ≡ true → goes below i s ≡ true → (next : List ℕ)
+    left : eqb (first behind) comma ≡ true → is_item_removed below i s ≡ true → (next : List ℕ)
         → next ≡ past_gap (drop 1 behind)
         → AtSlots t text below (suc i) next firm (commas ++ before_end (past_blanks (drop 1 behind)) next)
         (gaps ++ before_end (gap c behind) behind) target
@@ -120,7 +120,7 @@ more_front t text below i rest firm commas gaps target s c d ss h e ends short t
           total = rw (comma_part, gap_part) ((rw g at total) ∙ ap (λ (x : List ℕ). firm ++ x) ways);
         })
 
-    kept : eqb (first behind) comma ≡ true → goes below i s ≡ false → (next : List ℕ)
+    kept : eqb (first behind) comma ≡ true → is_item_removed below i s ≡ false → (next : List ℕ)
         → next ≡ past_gap (drop 1 behind)
         → AtSlots t text below (suc i) next ((firm ++ commas) ++ before_end rest behind)
         (before_end behind next) [] target
@@ -191,7 +191,7 @@ stop_is text s t it c behind h = past_gap_again c behind h.between (item_gapless
 -- a turn of the loop, where a comma stands behind the element or the member
 pub turned : (t : Bool) (text : List ℕ) (below : Place) (i : ℕ) (rest target : List ℕ) (old new : Remainder)
     (f : Front t text below i rest old.firm.items old.with_comma.items old.without_comma.items target)
-    (is_gone : Bool) (after stop next : List ℕ) → is_gone ≡ goes below i f.it
+    (is_gone : Bool) (after stop next : List ℕ) → is_gone ≡ is_item_removed below i f.it
     → after ≡ gap f.gap_behind f.behind → stop ≡ f.behind → eqb (first f.behind) comma ≡ true
     → next ≡ past_gap (drop 1 f.behind)
     → (is_gone ≡ true → SkipsItem old new after stop next)

@@ -2,14 +2,14 @@
 use Rattle.std.proofs.Common.{◌≡◌, ℕ, ◌≤◌, true, false, cond, List, [], ◌∷◌, ◌++◌, length, Some, refl, sym, ap, subst, ◌∙◌, append_assoc, arith}
 use Rattle.std.specs.Prelude.{map, IsUtf8}
 use Rattle.std.proofs.lemmas.List.{append-nil}
-use Rattle.edit_syntax.specs.declared.read.marks.Mark.{Mark}
-use Rattle.edit_syntax.specs.declared.read.marks.MarkKind.TheVariants as kinds
+use Rattle.edit_syntax.specs.declared.read.syntax_tokens.SyntaxToken.{SyntaxToken}
+use Rattle.edit_syntax.specs.declared.read.syntax_tokens.TokenKind.TheVariants as kinds
 use Rattle.edit_syntax.specs.Characters.{equals, left_bracket, right_bracket}
 use Rattle.edit_syntax.specs.Strings.{LineEnd, lf, crlf, line_end, Dotted, dotted, Key}
 use Rattle.edit_syntax.specs.Strings as strings
 use Rattle.edit_syntax.specs.Grammar.{Value, basic, literal, multi_basic, multi_literal, boolean, integer, float, datetime, array, inline, value, Statement, pair, header, element_header, statement, IsStatement, comment, empty_line, full_line, Lines, one_line, more_lines, lines, AreLines, Text}
 use Rattle.edit_syntax.specs.Depth.{lines_depth}
-use Rattle.edit_syntax.specs.SyntaxTokens.{mark, part_kind, tokens_of_dotted, tokens_of_key, tokens_of_value, tokens_of_statement}
+use Rattle.edit_syntax.specs.SyntaxTokens.{token_between, part_kind, tokens_of_dotted, tokens_of_key, tokens_of_value, tokens_of_statement}
 use Rattle.edit_syntax.specs.FirstLine.{after_first, tokens_of_first_line}
 use Rattle.edit_rewrite.specs.declared.locate.Entry.{Entry}
 use Rattle.edit_rewrite.specs.declared.locate.StatementOffsets.{StatementOffsets}
@@ -20,21 +20,21 @@ use Rattle.edit_rewrite.specs.Entries.{begins_part, kind_after_key, first_from, 
 use Rattle.edit_rewrite.specs.SearchStates.{IsSearchState, HeadIs, IsTokenized}
 use Rattle.edit_tree.proofs.Ends.{Ends, ends_past, ends_one, ends_line, ends_line_end}
 use Rattle.edit_rewrite.proofs.KeyWays.{kind_part, key_are}
-use Rattle.edit_syntax.specs.Reading.{past_mark}
+use Rattle.edit_syntax.specs.Reading.{skip_byte_order_mark}
 use Rattle.edit_syntax.proofs.TextLaws.{lines_only}
 use Rattle.edit_document.proofs.Documents.{read_of, ends_all}
 use Rattle.edit_tree.proofs.Shallow.{shallow}
 
 -- ---- the marks of a statement
 
-dotted_head : (ds : List Dotted) (rest : List ℕ) (others : List Mark)
+dotted_head : (ds : List Dotted) (rest : List ℕ) (others : List SyntaxToken)
     → kind_after_key (tokens_of_dotted ds rest ++ others) ≡ kind_after_key others
 dotted_head [] rest others = refl
 dotted_head (d ∷ ds) rest others =
     ap (λ b. cond b (kind_after_key (tokens_of_dotted ds rest ++ others)) (Some (part_kind d.part))) (kind_part d.part) ∙
     dotted_head ds rest others
 
-head_key : (k : Key) (rest : List ℕ) (others : List Mark)
+head_key : (k : Key) (rest : List ℕ) (others : List SyntaxToken)
     → kind_after_key (tokens_of_key k rest ++ others) ≡ kind_after_key others
 head_key k rest others =
     ap (λ b. cond b (kind_after_key (tokens_of_dotted k.others rest ++ others)) (Some (part_kind k.first)))
@@ -67,7 +67,7 @@ value_head k a b (datetime d) rest = (refl, refl)
 value_head k a b (array g es) rest = (refl, refl)
 value_head k a b (inline g ms) rest = (refl, refl)
 
-pub defined_by : (bytes : List ℕ) (s : PlacedStatement) (marks : List Mark) (spots : StatementOffsets)
+pub defined_by : (bytes : List ℕ) (s : PlacedStatement) (marks : List SyntaxToken) (spots : StatementOffsets)
     → IsStatement s.statement
     → IsUtf8 bytes → Ends bytes (statement s.statement s.behind)
     → marks ≡ tokens_of_statement s.statement s.behind
@@ -91,7 +91,7 @@ defined_by bytes s marks spots h u ends is line from after next = go s.statement
         }
     go (header a k b) h ends is =
         let rest = b ++ (right_bracket ∷ s.behind) in
-        let others = mark kinds.Header (statement (header a k b) s.behind) s.behind ∷ [] in
+        let others = token_between kinds.Header (statement (header a k b) s.behind) s.behind ∷ [] in
         let key_ends : Ends bytes (strings.key k rest) =
         ends_past bytes a (strings.key k rest) (ends_one bytes left_bracket (a ++ strings.key k rest) ends) in
         record {
@@ -105,7 +105,7 @@ defined_by bytes s marks spots h u ends is line from after next = go s.statement
         }
     go (element_header a k b) h ends is =
         let rest = b ++ (right_bracket ∷ (right_bracket ∷ s.behind)) in
-        let others = mark kinds.ElementHeader (statement (element_header a k b) s.behind) s.behind ∷ [] in
+        let others = token_between kinds.ElementHeader (statement (element_header a k b) s.behind) s.behind ∷ [] in
         let key_ends : Ends bytes (strings.key k rest) =
         ends_past bytes a (strings.key k rest)
         (ends_one bytes left_bracket (a ++ strings.key k rest)
@@ -148,7 +148,7 @@ some_marks (header a k b) rest h = omega arith
 some_marks (element_header a k b) rest h = omega arith
 
 module _ (bytes : List ℕ) (u : IsUtf8 bytes) (target : Place) (form : Text) (standing : SearchState)
-    (found : List Entry) (rest after next : List ℕ) (marks : List Mark)
+    (found : List Entry) (rest after next : List ℕ) (marks : List SyntaxToken)
     (d : AtLine bytes target form standing found rest)
     (is_after : after ≡ after_first d.left) (is_marks : marks ≡ tokens_of_first_line d.left) where
   abbrev AllAre : Lines → Type 0
@@ -272,7 +272,7 @@ module _ (bytes : List ℕ) (u : IsUtf8 bytes) (target : Place) (form : Text) (s
 
 -- before the first line
 pub at_start : (bytes : List ℕ) (target : Place) (form : Text) (standing : SearchState) (found : List Entry)
-    (rest : List ℕ) → IsDocument bytes form → IsUtf8 bytes → found ≡ [] → rest ≡ past_mark bytes
+    (rest : List ℕ) → IsDocument bytes form → IsUtf8 bytes → found ≡ [] → rest ≡ skip_byte_order_mark bytes
     → IsSearchState target [] [] standing → AtLine bytes target form standing found rest
 at_start bytes target form standing found rest m u none is stands =
     let r = read_of bytes form m u in

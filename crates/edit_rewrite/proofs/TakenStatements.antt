@@ -2,17 +2,17 @@
 use Rattle.std.proofs.Common.{◌≡◌, ℕ, Bool, true, false, List, [], ◌++◌, length, Option, refl, sym, ap, ◌∙◌}
 use Rattle.std.specs.Prelude.{slice_index}
 use Rattle.std.proofs.lemmas.List.{length-set}
-use Rattle.edit_syntax.specs.declared.read.marks.Mark.{Mark}
+use Rattle.edit_syntax.specs.declared.read.syntax_tokens.SyntaxToken.{SyntaxToken}
 use Rattle.edit_syntax.specs.Grammar.{Statement, pair, header, element_header}
-use Rattle.edit_rewrite.specs.declared.way.PathMatch.{PathMatch}
-use Rattle.edit_rewrite.specs.declared.way.PathMatch.TheVariants.{On, Below, Off}
+use Rattle.edit_rewrite.specs.declared.path_matching.PathMatch.{PathMatch}
+use Rattle.edit_rewrite.specs.declared.path_matching.PathMatch.TheVariants.{On, Below, Off}
 use Rattle.edit_rewrite.specs.declared.locate.Entry.{Entry}
 use Rattle.edit_rewrite.specs.declared.locate.StatementOffsets.{StatementOffsets}
 use Rattle.edit_rewrite.specs.declared.locate.SearchState.{SearchState}
-use Rattle.edit_tree.specs.Assertions.{Place, index, at, names, named, Assertion, elements_at, resolved, header_place, of_statement, prefix_after}
+use Rattle.edit_tree.specs.Assertions.{Place, index, at, names, named, Assertion, elements_at, last_element_or_self, header_place, of_statement, prefix_after}
 use Rattle.edit_tree.specs.Statements.{PlacedStatement}
 use Rattle.edit_tree.specs.EditBytes.{unresolved, is_pair}
-use Rattle.edit_rewrite.specs.Entries.{way, next_way, is_at, is_at_or_below, count_on, counted, Counts, key_of, entry_of}
+use Rattle.edit_rewrite.specs.Entries.{path_match, extend_path_match, is_at, is_at_or_below, count_on, counted, Counts, key_of, entry_of}
 use Rattle.edit_rewrite.specs.SearchStates.{IsSearchState, IsTokenized, is_table_header, is_element_header}
 use Rattle.edit_rewrite.proofs.Ways.{way_at, way_root, within_is, same_is, on_front, follows_itself, follows_counts}
 use Rattle.edit_rewrite.proofs.KeyWays.{Promises, pair_led, header_led}
@@ -48,7 +48,7 @@ entry_is : (head : Bool) (o o2 w w2 : Bool) (f f2 : Option ℕ) (spots : Stateme
     }
 entry_is head o o2 w w2 f f2 spots l k a n eo ew ef el ek ea en = cc
 
-module _ (bytes : List ℕ) (target : Place) (marks : List Mark) (s : PlacedStatement) (spots : StatementOffsets)
+module _ (bytes : List ℕ) (target : Place) (marks : List SyntaxToken) (s : PlacedStatement) (spots : StatementOffsets)
     (r : PathMatch × Option ℕ) where
   -- a pair
   pub pair_taken : (standing : SearchState) (own within : Bool) → is_pair s.statement ≡ true
@@ -70,7 +70,7 @@ module _ (bytes : List ℕ) (target : Place) (marks : List Mark) (s : PlacedStat
           let g = promised s.prefix unresolved _ _ t.parts_marked (follows_itself target) stands.under in (
             entry_is false _ _ _ _ _ _ spots _ _ _ _
                 (is_own ∙ ap (is_at (length target)) stands.under ∙ sym (same_is target s.prefix))
-                (is_in ∙ ap (is_at_or_below (length target)) (g.0 ∙ ap (way target) (pair_led s.prefix k rest)) ∙
+                (is_in ∙ ap (is_at_or_below (length target)) (g.0 ∙ ap (path_match target) (pair_led s.prefix k rest)) ∙
                 sym (within_is target (named s.prefix (names k))))
                 g.1 t.line t.key t.after t.next,
             record {
@@ -104,10 +104,10 @@ module _ (bytes : List ℕ) (target : Place) (marks : List Mark) (s : PlacedStat
       go (header a k b) e t =
           let s2 : PlacedStatement = record s { statement = header a k b } in
           let rest = (key_of s2).1 in
-          let g = promised [] (resolved s.earlier) _ _ t.parts_marked
+          let g = promised [] (last_element_or_self s.earlier) _ _ t.parts_marked
           (follows_counts target s.earlier standing.counts.items stands.counts) (way_root target) in
           let q = header_place s.earlier [] (names k) in
-          let come : r.0 ≡ way target q = g.0 ∙ ap (way target) (header_led s.earlier k rest) in (
+          let come : r.0 ≡ path_match target q = g.0 ∙ ap (path_match target) (header_led s.earlier k rest) in (
             entry_is true _ _ _ _ _ _ spots _ _ _ _
                 (is_own ∙ ap (is_at (length target)) come ∙ sym (same_is target q))
                 (is_in ∙ ap (is_at_or_below (length target)) come ∙ sym (within_is target q))
@@ -122,37 +122,37 @@ module _ (bytes : List ℕ) (target : Place) (marks : List Mark) (s : PlacedStat
           )
 
 element_way : (target : Place) (earlier : List Assertion) (counts : List ℕ) (q : Place)
-    → Counts target earlier counts → next_way target (way target q) (index (count_on counts (way target q)))
-    ≡ way target (at q (index (elements_at earlier q)))
-element_way target earlier counts q h = go (way target q) refl ∙
+    → Counts target earlier counts → extend_path_match target (path_match target q) (index (count_on counts (path_match target q)))
+    ≡ path_match target (at q (index (elements_at earlier q)))
+element_way target earlier counts q h = go (path_match target q) refl ∙
     sym (way_at target q (index (elements_at earlier q)))
   where
-    go : (w : PathMatch) → way target q ≡ w
-        → next_way target (way target q) (index (count_on counts (way target q)))
-        ≡ next_way target (way target q) (index (elements_at earlier q))
+    go : (w : PathMatch) → path_match target q ≡ w
+        → extend_path_match target (path_match target q) (index (count_on counts (path_match target q)))
+        ≡ extend_path_match target (path_match target q) (index (elements_at earlier q))
     go (On d) e =
         let f = on_front target q d e in
-        let count : count_on counts (way target q) ≡ elements_at earlier q = ap (count_on counts) e ∙
+        let count : count_on counts (path_match target q) ≡ elements_at earlier q = ap (count_on counts) e ∙
         h d f.1 ∙ ap (elements_at earlier) (sym f.0) in
-        ap (λ (n : ℕ). next_way target (way target q) (index n)) count
-    go Below e = ap (λ (w : PathMatch). next_way target w (index (count_on counts (way target q)))) e ∙
-        sym (ap (λ (w : PathMatch). next_way target w (index (elements_at earlier q))) e)
-    go Off e = ap (λ (w : PathMatch). next_way target w (index (count_on counts (way target q)))) e ∙
-        sym (ap (λ (w : PathMatch). next_way target w (index (elements_at earlier q))) e)
+        ap (λ (n : ℕ). extend_path_match target (path_match target q) (index n)) count
+    go Below e = ap (λ (w : PathMatch). extend_path_match target w (index (count_on counts (path_match target q)))) e ∙
+        sym (ap (λ (w : PathMatch). extend_path_match target w (index (elements_at earlier q))) e)
+    go Off e = ap (λ (w : PathMatch). extend_path_match target w (index (count_on counts (path_match target q)))) e ∙
+        sym (ap (λ (w : PathMatch). extend_path_match target w (index (elements_at earlier q))) e)
 
 counted_size : (w : PathMatch) (counts : List ℕ) → length (counted w counts) ≡ length counts
 counted_size (On d) counts = length-set counts d _
 counted_size Below counts = refl
 counted_size Off counts = refl
 
-module _ (bytes : List ℕ) (target : Place) (marks : List Mark) (s : PlacedStatement) (spots : StatementOffsets)
+module _ (bytes : List ℕ) (target : Place) (marks : List SyntaxToken) (s : PlacedStatement) (spots : StatementOffsets)
     (r : PathMatch × Option ℕ) where
   -- the header of an element
   pub element_taken : (standing now : SearchState) (element : PathMatch) (own within : Bool)
       → is_element_header s.statement ≡ true → IsTokenized bytes marks s spots
       → IsSearchState target s.earlier s.prefix standing
       → Promises bytes target standing.counts.items marks (On 0) r
-      → element ≡ next_way target r.0 (index (count_on standing.counts.items r.0)) → now.prefix ≡ element
+      → element ≡ extend_path_match target r.0 (index (count_on standing.counts.items r.0)) → now.prefix ≡ element
       → now.counts.items ≡ counted r.0 standing.counts.items
       → own ≡ is_at (length target) element → within ≡ is_at_or_below (length target) element
       → (made own within true r.1 spots ≡ entry_of target s)
@@ -172,13 +172,13 @@ module _ (bytes : List ℕ) (target : Place) (marks : List Mark) (s : PlacedStat
           let s2 : PlacedStatement = record s { statement = element_header a k b } in
           let rest = (key_of s2).1 in
           let counts = standing.counts.items in
-          let g = promised [] (resolved s.earlier) _ _ t.parts_marked
+          let g = promised [] (last_element_or_self s.earlier) _ _ t.parts_marked
           (follows_counts target s.earlier counts stands.counts) (way_root target) in
           let q = header_place s.earlier [] (names k) in
           let own_place = at q (index (elements_at s.earlier q)) in
-          let come : r.0 ≡ way target q = g.0 ∙ ap (way target) (header_led s.earlier k rest) in
-          let last : element ≡ way target own_place = at_last ∙
-          ap (λ (w : PathMatch). next_way target w (index (count_on counts w))) come ∙
+          let come : r.0 ≡ path_match target q = g.0 ∙ ap (path_match target) (header_led s.earlier k rest) in
+          let last : element ≡ path_match target own_place = at_last ∙
+          ap (λ (w : PathMatch). extend_path_match target w (index (count_on counts w))) come ∙
           element_way target s.earlier counts q stands.counts in (
             entry_is true _ _ _ _ _ _ spots _ _ _ _
                 (is_own ∙ ap (is_at (length target)) last ∙ sym (same_is target own_place))

@@ -5,10 +5,10 @@ use Rattle.std.proofs.lemmas.List.{append-nil, get_or-set_same, get_or-set_other
 use Rattle.std.proofs.lemmas.Bool.Decides.{eqb_tells}
 use Rattle.edit_syntax.specs.Strings.{Key}
 use Rattle.edit_syntax.specs.Grammar.{Value, pair, header, element_header}
-use Rattle.edit_rewrite.specs.declared.way.PathMatch.{PathMatch}
-use Rattle.edit_rewrite.specs.declared.way.PathMatch.TheVariants.{On, Below, Off}
+use Rattle.edit_rewrite.specs.declared.path_matching.PathMatch.{PathMatch}
+use Rattle.edit_rewrite.specs.declared.path_matching.PathMatch.TheVariants.{On, Below, Off}
 use Rattle.edit_tree.specs.Assertions.{index, Place, at, header_kind, array_kind, element_kind, Assertion, asserts, names, named, of_key, of_value, is_array_at, elements_at, fronts, header_place, of_statement}
-use Rattle.edit_rewrite.specs.Entries.{path_match_on, way, counted, Counts}
+use Rattle.edit_rewrite.specs.Entries.{path_match_on, path_match, counted, Counts}
 use Rattle.edit_tree.proofs.SamePlace.{same_step_self, same_place_self, other_place}
 use Rattle.edit_tree.proofs.ArrayCounts.{ArePlain, plain_both, plain_key, plain_value, plain_fronts, plain_array, arrays_more, arrays_stay}
 use Rattle.edit_rewrite.proofs.Ways.{on_front}
@@ -89,13 +89,13 @@ way_take d (suc done) (s ∷ ss) le =
     ap (λ b. cond b (path_match_on (d + 1) ss (take done ss)) Off) (same_step_self s) ∙
     way_take (d + 1) done ss (omega arith) ∙ (let k : (d + 1) + done ≡ d + suc done = omega arith in ap On k)
 
-not_on : (target p : Place) (d : ℕ) (w : PathMatch) → d ≤ length target → way target p ≡ w → (On d ≡ w → ⊥)
+not_on : (target p : Place) (d : ℕ) (w : PathMatch) → d ≤ length target → path_match target p ≡ w → (On d ≡ w → ⊥)
     → p ≡ take d target → ⊥
 not_on target p d w le e ne same = let k : 0 + d ≡ d = omega arith in
-    ne (sym (ap On k) ∙ sym (way_take 0 d target le) ∙ ap (way target) (sym same) ∙ e)
+    ne (sym (ap On k) ∙ sym (way_take 0 d target le) ∙ ap (path_match target) (sym same) ∙ e)
 
 pub more_counts : (target : Place) (earlier : List Assertion) (prefix : Place) (k : Key) (a b : List ℕ)
-    (counts : List ℕ) (w : PathMatch) → w ≡ way target (array_of earlier k) → length counts ≡ suc (length target)
+    (counts : List ℕ) (w : PathMatch) → w ≡ path_match target (array_of earlier k) → length counts ≡ suc (length target)
     → Counts target earlier counts
     → Counts target (earlier ++ of_statement earlier prefix (element_header a k b)) (counted w counts)
 more_counts target earlier prefix k a b counts (On e) is size h d le =

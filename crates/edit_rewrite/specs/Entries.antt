@@ -3,16 +3,16 @@ use Rattle.std.specs.Prelude.{◌≡◌, ◌≤◌, ℕ, ◌+◌, ◌-◌, Bool,
 use Rattle.edit_syntax.specs.Characters.{equals, right_bracket}
 use Rattle.edit_syntax.specs.Strings.{◌·◌, Key, key}
 use Rattle.edit_syntax.specs.Grammar.{value, Statement, pair, header, element_header}
-use Rattle.edit_rewrite.specs.declared.way.PathMatch.{PathMatch}
-use Rattle.edit_rewrite.specs.declared.way.PathMatch.TheVariants.{On, Below, Off}
+use Rattle.edit_rewrite.specs.declared.path_matching.PathMatch.{PathMatch}
+use Rattle.edit_rewrite.specs.declared.path_matching.PathMatch.TheVariants.{On, Below, Off}
 use Rattle.edit_rewrite.specs.declared.locate.Entry.{Entry}
-use Rattle.edit_syntax.specs.declared.read.marks.Mark.{Mark}
-use Rattle.edit_syntax.specs.declared.read.marks.MarkKind.{MarkKind}
-use Rattle.edit_syntax.specs.declared.read.marks.MarkKind.TheVariants as kinds
-use Rattle.edit_tree.specs.Assertions.{Step, key as name_step, index, Place, at, same_step, Assertion, elements_at, resolved}
+use Rattle.edit_syntax.specs.declared.read.syntax_tokens.SyntaxToken.{SyntaxToken}
+use Rattle.edit_syntax.specs.declared.read.syntax_tokens.TokenKind.{TokenKind}
+use Rattle.edit_syntax.specs.declared.read.syntax_tokens.TokenKind.TheVariants as kinds
+use Rattle.edit_tree.specs.Assertions.{Step, key as name_step, index, Place, at, same_step, Assertion, elements_at, last_element_or_self}
 use Rattle.edit_tree.specs.Statements.{PlacedStatement, Named, parts, front_parts, behind_part}
 use Rattle.edit_tree.specs.EditBytes.{is_pair, is_own}
-use Rattle.edit_tree.specs.RemovedBytes.{is_gone}
+use Rattle.edit_tree.specs.RemovedBytes.{is_removed_statement}
 use Rattle.edit_tree.specs.WalkState.{IsDecodedAt}
 
 -- ---- paths
@@ -25,8 +25,8 @@ path_match_on done [] (t ∷ ts) = Below
 path_match_on done (s ∷ ss) (t ∷ ts) = if same_step s t then path_match_on (done + 1) ss ts else Off
 
 -- the relation of a place to the target
-abbrev pub way : Place → Place → PathMatch
-way target place = path_match_on 0 target place
+abbrev pub path_match : Place → Place → PathMatch
+path_match target place = path_match_on 0 target place
 
 -- the relation after one more step, where this step comes next on the path
 abbrev pub path_match_next : ℕ → Option Step → Step → PathMatch
@@ -34,10 +34,10 @@ path_match_next done None step = Below
 path_match_next done (Some s) step = if same_step s step then On (done + 1) else Off
 
 -- the relation after one more step
-abbrev pub next_way : Place → PathMatch → Step → PathMatch
-next_way target (On done) step = path_match_next done (slice_get target done) step
-next_way target Below step = Below
-next_way target Off step = Off
+abbrev pub extend_path_match : Place → PathMatch → Step → PathMatch
+extend_path_match target (On done) step = path_match_next done (slice_get target done) step
+extend_path_match target Below step = Below
+extend_path_match target Off step = Off
 
 -- the place is the target, which has this number of steps
 abbrev pub is_at : ℕ → PathMatch → Bool
@@ -57,9 +57,9 @@ count_on counts _ = 0
 
 -- the relation of the last element of the array of tables at the place reached, or of that place where there
 -- is none
-abbrev pub resolved_way : Place → List ℕ → PathMatch → PathMatch
-resolved_way target counts w =
-    if nat_lt 0 (count_on counts w) then next_way target w (index (count_on counts w - 1)) else w
+abbrev pub last_element_match : Place → List ℕ → PathMatch → PathMatch
+last_element_match target counts w =
+    if nat_lt 0 (count_on counts w) then extend_path_match target w (index (count_on counts w - 1)) else w
 
 -- the counts with one more element at the place reached
 abbrev pub counted : PathMatch → List ℕ → List ℕ
@@ -74,29 +74,29 @@ Counts target earlier counts =
 -- ---- keys
 
 -- the kind is that of a part of a key
-abbrev pub is_part : MarkKind → Bool
+abbrev pub is_part : TokenKind → Bool
 is_part kinds.BarePart = true
 is_part kinds.BasicPart = true
 is_part kinds.LiteralPart = true
 is_part _ = false
 
 -- the first token is a part of a key
-abbrev pub begins_part : List Mark → Bool
+abbrev pub begins_part : List SyntaxToken → Bool
 begins_part [] = false
 begins_part (m ∷ ms) = is_part m.kind
 
 -- the kind of the first token that is not a part of a key
-abbrev pub kind_after_key : List Mark → Option MarkKind
+abbrev pub kind_after_key : List SyntaxToken → Option TokenKind
 kind_after_key [] = None
 kind_after_key (m ∷ ms) = if is_part m.kind then kind_after_key ms else Some m.kind
 
 -- the start of the first token
-abbrev pub first_from : List Mark → ℕ
+abbrev pub first_from : List SyntaxToken → ℕ
 first_from [] = 0
 first_from (m ∷ ms) = m.from
 
 -- the tokens begin with those of these parts of a key, and another kind of token or none follows
-abbrev pub AreParts : List ℕ → List Named → List Mark → Type 0
+abbrev pub AreParts : List ℕ → List Named → List SyntaxToken → Type 0
 AreParts bytes [] ms = begins_part ms ≡ false
 AreParts bytes (n ∷ ns) [] = ⊥
 AreParts bytes (n ∷ ns) (m ∷ ms) =
@@ -105,7 +105,7 @@ AreParts bytes (n ∷ ns) (m ∷ ms) =
 -- `resolve` on places agrees with the last element by counts on relations
 abbrev pub Follows : Place → List ℕ → (Place → Place) → Type 0
 Follows target counts resolve =
-    (p : Place) → way target (resolve p) ≡ resolved_way target counts (way target p)
+    (p : Place) → path_match target (resolve p) ≡ last_element_match target counts (path_match target p)
 
 -- the place that the parts of a key lead to, from a table on
 abbrev pub key_target : (Place → Place) → Place → List Named → Place
@@ -117,7 +117,7 @@ key_target resolve table (n ∷ m ∷ ns) = key_target resolve (resolve (at tabl
 -- target
 abbrev pub FollowsKey : Place → (Place → Place) → Place → List Named → PathMatch × Option ℕ → Type 0
 FollowsKey target resolve table ns r =
-    (r.0 ≡ way target (key_target resolve table ns))
+    (r.0 ≡ path_match target (key_target resolve table ns))
     × (r.1 ≡ option_map length (behind_part resolve target table (front_parts ns)))
 
 -- ---- statements
@@ -137,7 +137,7 @@ begins_in s = if is_pair s.statement then s.prefix else []
 
 -- where a front part of the statement's key continues from
 abbrev pub leads_to : PlacedStatement → Place → Place
-leads_to s place = if is_pair s.statement then place else resolved s.earlier place
+leads_to s place = if is_pair s.statement then place else last_element_or_self s.earlier place
 
 -- the text behind the front part of the statement's key that names a place
 abbrev pub front_of : Place → PlacedStatement → Option (List ℕ)
@@ -148,7 +148,7 @@ front_of place s =
 abbrev pub entry_of : Place → PlacedStatement → Entry
 entry_of place s = record {
   is_own = is_own place s;
-  is_within = is_gone place s;
+  is_within = is_removed_statement place s;
   is_header = not (is_pair s.statement);
   front = option_map length (front_of place s);
   line = length s.line;

@@ -1,11 +1,11 @@
 -- The position of the pair that names a place.
 use Rattle.std.specs.Prelude.{◌≡◌, ◌≤◌, ℕ, not, ◌&&◌, if◌then◌else◌, List, [], ◌∷◌, length, take, Option, Some, None, MatchOption}
 use Rattle.std.specs.List.{Contains}
-use Rattle.edit_syntax.specs.declared.read.marks.Mark.{Mark}
+use Rattle.edit_syntax.specs.declared.read.syntax_tokens.SyntaxToken.{SyntaxToken}
 use Rattle.edit_syntax.specs.Depth.{depth}
 use Rattle.edit_syntax.specs.Grammar.{value, IsValue, Text}
 use Rattle.edit_rewrite.specs.declared.locate.Entry.{Entry}
-use Rattle.edit_rewrite.specs.declared.way.PathMatch.{PathMatch}
+use Rattle.edit_rewrite.specs.declared.path_matching.PathMatch.{PathMatch}
 use Rattle.edit_tree.specs.Assertions.{Place}
 use Rattle.edit_tree.specs.EditBytes.{first_of, part_to}
 use Rattle.edit_rewrite.specs.Entries.{is_at, is_part}
@@ -18,17 +18,17 @@ abbrev pub within_entry : Entry → Option Entry
 within_entry e = if not e.is_header && e.is_within then Some e else None
 
 -- the end of the last part of the key at the front, or `end` where no part is there
-abbrev pub key_end : ℕ → List Mark → ℕ
+abbrev pub key_end : ℕ → List SyntaxToken → ℕ
 key_end end [] = end
 key_end end (m ∷ ms) = if is_part m.kind then key_end m.to ms else end
 
 -- the end of the last token, or `end` where there is none
-abbrev pub last_end : ℕ → List Mark → ℕ
+abbrev pub last_end : ℕ → List SyntaxToken → ℕ
 last_end end [] = end
 last_end end (m ∷ ms) = last_end m.to ms
 
 -- the end of the part of a key that names the place: a front part or the last one
-abbrev pub part_offset : ℕ → PathMatch → Option ℕ → List Mark → Option ℕ
+abbrev pub part_offset : ℕ → PathMatch → Option ℕ → List SyntaxToken → Option ℕ
 part_offset total named front ms =
     first_of (front ∷ (if is_at total named then Some (key_end 0 ms) else None) ∷ [])
 

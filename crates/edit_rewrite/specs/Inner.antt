@@ -7,7 +7,7 @@ use Rattle.edit_tree.specs.EditBytes.{front_to}
 use Rattle.edit_document.specs.Ranges.{StartsTable, HasTable}
 use Rattle.edit_tree.specs.Slots.{Slot, of_value, of_pair}
 use Rattle.edit_rewrite.specs.StatementOffsets.{IsSpot, IsFront}
-use Rattle.edit_tree.specs.Statements.{PlacedPair, paired}
+use Rattle.edit_tree.specs.Statements.{PlacedPair, placed_pair}
 
 -- the offsets of a pair whose key passes through the place
 abbrev pub inner_of : Place → PlacedPair → Option Inner
@@ -19,7 +19,7 @@ inner_of place p =
 -- value
 abbrev pub inner_in : Place → Place → Slot → List ℕ → Option Inner
 inner_in place table (of_value v) behind = None
-inner_in place table (of_pair k a b v) behind = inner_of place (paired table k a b v behind)
+inner_in place table (of_pair k a b v) behind = inner_of place (placed_pair table k a b v behind)
 
 -- the pair is in the text, and its positions are character boundaries
 pub record HasInner (bytes : List ℕ) (p : PlacedPair) (spot : List ℕ) : Type 0 where

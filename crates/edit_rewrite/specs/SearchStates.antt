@@ -1,20 +1,20 @@
 -- The state of the search for a place after some statements of a text.
 use Rattle.std.specs.Prelude.{◌≡◌, ℕ, suc, Bool, true, false, List, length, Option, Some}
-use Rattle.edit_syntax.specs.declared.read.marks.Mark.{Mark}
-use Rattle.edit_syntax.specs.declared.read.marks.MarkKind.{MarkKind}
-use Rattle.edit_syntax.specs.declared.read.marks.MarkKind.TheVariants as kinds
+use Rattle.edit_syntax.specs.declared.read.syntax_tokens.SyntaxToken.{SyntaxToken}
+use Rattle.edit_syntax.specs.declared.read.syntax_tokens.TokenKind.{TokenKind}
+use Rattle.edit_syntax.specs.declared.read.syntax_tokens.TokenKind.TheVariants as kinds
 use Rattle.edit_syntax.specs.Strings.{key as key_text}
 use Rattle.edit_syntax.specs.Grammar.{Statement, header, element_header}
 use Rattle.edit_rewrite.specs.declared.locate.SearchState.{SearchState}
 use Rattle.edit_rewrite.specs.declared.locate.StatementOffsets.{StatementOffsets}
 use Rattle.edit_tree.specs.Assertions.{Place, Assertion}
 use Rattle.edit_tree.specs.Statements.{PlacedStatement, parts}
-use Rattle.edit_rewrite.specs.Entries.{way, Counts, kind_after_key, AreParts, key_of}
+use Rattle.edit_rewrite.specs.Entries.{path_match, Counts, kind_after_key, AreParts, key_of}
 
 -- the state after these assertions, below this header
 pub record IsSearchState (target : Place) (earlier : List Assertion) (prefix : Place)
     (standing : SearchState) : Type 0 where
-  pub under : standing.prefix ≡ way target prefix
+  pub under : standing.prefix ≡ path_match target prefix
   pub size : length standing.counts.items ≡ suc (length target)
   pub counts : Counts target earlier standing.counts.items
 
@@ -29,21 +29,21 @@ is_element_header (element_header a k b) = true
 is_element_header _ = false
 
 -- the token behind the key is that of a header `[key]`
-abbrev pub is_table_header_next : Option MarkKind → Bool
+abbrev pub is_table_header_next : Option TokenKind → Bool
 is_table_header_next (Some kinds.Header) = true
 is_table_header_next _ = false
 
 -- the token behind the key is that of a header `[[key]]`
-abbrev pub is_element_header_next : Option MarkKind → Bool
+abbrev pub is_element_header_next : Option TokenKind → Bool
 is_element_header_next (Some kinds.ElementHeader) = true
 is_element_header_next _ = false
 
 -- the token behind the key is of the kind that the statement requires
-abbrev pub HeadIs : Statement → Option MarkKind → Type 0
+abbrev pub HeadIs : Statement → Option TokenKind → Type 0
 HeadIs s head = (is_table_header_next head ≡ is_table_header s) × (is_element_header_next head ≡ is_element_header s)
 
 -- the tokens and the offsets are those of the statement
-pub record IsTokenized (bytes : List ℕ) (marks : List Mark) (s : PlacedStatement) (spots : StatementOffsets) : Type 0 where
+pub record IsTokenized (bytes : List ℕ) (marks : List SyntaxToken) (s : PlacedStatement) (spots : StatementOffsets) : Type 0 where
   pub parts_marked : AreParts bytes (parts (key_of s).0 (key_of s).1) marks
   pub head : HeadIs s.statement (kind_after_key marks)
   pub line : spots.line ≡ length s.line

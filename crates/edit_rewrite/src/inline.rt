@@ -13,7 +13,7 @@ ghost use Rattle.edit_rewrite.specs.StatementOffsets.{IsSpot};
 ghost use Rattle.edit_tree.specs.Assertions.{IsDocument};
 
 use crate::inside::{begins, behind_one, past_slot};
-use crate::spots::{with_swap, with_text};
+use crate::splices::{with_swap, with_text};
 use edit_base::errors::CargoResult;
 use edit_document::{Document, Step};
 use edit_syntax::read::gaps::past_gap;

@@ -15,7 +15,7 @@ ghost use Rattle.edit_tree.specs.Statements.{PlacedPair, paired_members, inner_p
 
 use crate::inline::{from_start, table_start, with_lead};
 use crate::inside::{begins, behind_one};
-use crate::way::{PathMatch, follow_key};
+use crate::path_matching::{PathMatch, follow_key};
 use edit_base::errors::CargoResult;
 use edit_document::{Document, Step};
 use edit_syntax::read::gaps::past_gap;
@@ -58,7 +58,7 @@ fn inner_at<'a>(
     s: &'a [u8],
 ) -> CargoResult<(Option<Inner>, &'a [u8])>
     ensures { (above : Place) (it : Slot) (c : List Between) (rest : List ℕ)
-        → StandsAt text.now s.now true it c rest → table ≡ entries_seen.way (place_view place.now) above
+        → StandsAt text.now s.now true it c rest → table ≡ entries_seen.path_match (place_view place.now) above
         → MatchResult result (λ r. (r.0 ≡ inner_seen.inner_in (place_view place.now) above it (gap c rest))
         × (r.1.now ≡ gap c rest)) IsMemory }
 {
@@ -79,7 +79,7 @@ pub(crate) fn last_inner(
     table: &[u8],
 ) -> CargoResult<Option<Inner>>
     ensures { (above : Place) (g : List Between) (ms : Members) (after : List ℕ)
-        → TableAt text.now table.now g ms after → start ≡ entries_seen.way (place_view place.now) above
+        → TableAt text.now table.now g ms after → start ≡ entries_seen.path_match (place_view place.now) above
         → MatchResult result (λ o. o ≡ last_result (inner_seen.inner_of (place_view place.now))
         (paired_members above ms (right_brace ∷ after))) IsMemory }
 {

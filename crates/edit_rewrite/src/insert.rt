@@ -20,11 +20,11 @@ ghost use Rattle.edit_tree.specs.Statements.{PlacedStatement, inner_pairs};
 use crate::inline::with_inline_member;
 use crate::inner::{Inner, last_inner_of, with_inner};
 use crate::locate::{Entry, entries};
-use crate::spots::{with_line, with_section, with_text};
+use crate::splices::{with_line, with_section, with_text};
 use edit_base::errors::CargoResult;
 use edit_document::new_item::push_member;
 use edit_document::{Document, NewValue, Step};
-use edit_syntax::past_mark;
+use edit_syntax::skip_byte_order_mark;
 use edit_tree::cut::between;
 use std::alloc::Global;
 
@@ -122,7 +122,7 @@ fn with_first(alloc: Global, text: &str, pair: &str) -> CargoResult<String>
 {
     let mut line = String::from_str(alloc, pair)?;
     line.push_str("\n")?;
-    with_text(alloc, text, past_mark(text.as_bytes()).len(), line.as_str())
+    with_text(alloc, text, skip_byte_order_mark(text.as_bytes()).len(), line.as_str())
 }
 
 /// The text with a new pair in a table that is not written as a value; `inner` is the last pair of an inline

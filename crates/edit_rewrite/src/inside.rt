@@ -10,18 +10,18 @@ ghost use Rattle.edit_tree.specs.Assertions.{Place, key as name_step, index as i
 ghost use Rattle.edit_tree.specs.EditBytes.{is_within};
 ghost use Rattle.edit_tree.specs.RemovedBytes.{value_left};
 ghost use Rattle.edit_document.specs.Items.{place_view, step_view};
-ghost use Rattle.edit_tree.specs.Slots.{Slot, slot, IsSlot, Slots, slots, closing, goes, enclosed_left, IsEnclosed, IsContainer};
+ghost use Rattle.edit_tree.specs.Slots.{Slot, slot, IsSlot, Slots, slots, closing, is_item_removed, enclosed_left, IsEnclosed, IsContainer};
 ghost use Rattle.edit_tree.specs.SlotTexts.{AreDecodedAs, StandsAt};
 ghost use Rattle.edit_rewrite.specs.Remainders.{SkipsItem, AppendsItem};
 ghost use Rattle.edit_tree.specs.WalkState.{IsDecodedAt};
 
 use edit_base::errors::CargoResult;
 use edit_document::Step;
-use edit_syntax::read::Mark;
+use edit_syntax::read::SyntaxToken;
 use edit_syntax::read::gaps::past_gap;
 use edit_syntax::read::steps::{past_blanks, past_name, past_value};
 use edit_tree::nodes::decoded_str;
-use edit_tree::words::words_of;
+use edit_tree::token_content::decode_token;
 use std::alloc::{AllocError, Global};
 
 /// Whether the input begins with this byte.
@@ -75,7 +75,7 @@ impl Remainder {
     }
 
     /// Appends an item that stays, and the comma behind it if one is needed.
-    fn keep(&mut self, item: &[u8], comma: &[u8]) -> Result<(), AllocError>
+    fn append_item(&mut self, item: &[u8], comma: &[u8]) -> Result<(), AllocError>
         ensures firm { OnOk result (self.new.firm.items
             ≡ (self.old.firm.items ++ self.old.with_comma.items) ++ item.now) }
         ensures rest { OnOk result ((self.new.with_comma.items ≡ comma.now)
@@ -90,7 +90,7 @@ impl Remainder {
     }
 
     /// Skips an item that is removed: `behind` is left after its comma, `gap` before it.
-    fn leave(&mut self, behind: &[u8], gap: &[u8]) -> Result<(), AllocError>
+    fn skip_item(&mut self, behind: &[u8], gap: &[u8]) -> Result<(), AllocError>
         ensures firm { OnOk result (self.new.firm.items ≡ self.old.firm.items) }
         ensures rest { OnOk result ((self.new.with_comma.items ≡ self.old.with_comma.items ++ behind.now)
             × (self.new.without_comma.items ≡ self.old.without_comma.items ++ gap.now)) }
@@ -114,12 +114,12 @@ impl Remainder {
         ensures preserved { OnOk result (is_gone ≡ false → AppendsItem self.old self.new rest.now stop.now next.now) }
     {
         if is_gone {
-            self.leave(
+            self.skip_item(
                 before(past_blanks(behind_one(stop)), next),
                 before(after, stop),
             )
         } else {
-            self.keep(before(rest, stop), before(stop, next))
+            self.append_item(before(rest, stop), before(stop, next))
         }
     }
 
@@ -130,14 +130,14 @@ impl Remainder {
             else (self.firm.items ++ self.with_comma.items) ++ rest.now)) }
     {
         if is_gone {
-            self.without(after)
+            self.finish_without_comma(after)
         } else {
-            self.with(rest)
+            self.finish_with_comma(rest)
         }
     }
 
     /// The bytes of the whole value, with a comma before its end.
-    fn with(self, end: &[u8]) -> Result<Vec<u8>, AllocError>
+    fn finish_with_comma(self, end: &[u8]) -> Result<Vec<u8>, AllocError>
         ensures { IfOk result (λ v. v.items ≡ (self.firm.items ++ self.with_comma.items) ++ end.now) }
     {
         let Remainder {
@@ -151,7 +151,7 @@ impl Remainder {
     }
 
     /// The bytes of the whole value, without a comma before its end.
-    fn without(self, end: &[u8]) -> Result<Vec<u8>, AllocError>
+    fn finish_without_comma(self, end: &[u8]) -> Result<Vec<u8>, AllocError>
         ensures { IfOk result (λ v. v.items ≡ (self.firm.items ++ self.without_comma.items) ++ end.now) }
     {
         let Remainder {
@@ -173,21 +173,21 @@ fn closer(is_table: bool) -> u8
 }
 
 /// Whether a token of a part of a key is the name in a step.
-fn is_step(alloc: Global, text: &str, mark: Mark, step: &Step) -> CargoResult<bool>
+fn is_step(alloc: Global, text: &str, mark: SyntaxToken, step: &Step) -> CargoResult<bool>
     ensures { (name : List ℕ) → IsDecodedAt text.now mark name
         → MatchResult result (λ b. b ≡ same_step (step_view step.now) (name_step name)) IsMemory }
 {
     match step {
         Step::Index(_) => Ok(false),
         Step::Key(key) => {
-            let words = words_of(alloc, text, mark)?;
+            let words = decode_token(alloc, text, mark)?;
             Ok(decoded_str(text, &words) == key.as_str())
         }
     }
 }
 
 /// Whether a key with these tokens names the place `steps` or one below it.
-fn is_named(alloc: Global, text: &str, marks: &[Mark], steps: &[Step]) -> CargoResult<bool>
+fn is_named(alloc: Global, text: &str, marks: &[SyntaxToken], steps: &[Step]) -> CargoResult<bool>
     ensures { (ns : List (List ℕ)) → AreDecodedAs text.now marks.now ns
         → MatchResult result (λ b. b ≡ is_within (place_view steps.now) (map name_step ns)) IsMemory }
 {
@@ -224,7 +224,7 @@ pub(crate) fn past_slot<'a>(
     below: &[Step],
 ) -> CargoResult<(bool, &'a [u8])>
     ensures { (it : Slot) (c : List Between) (rest : List ℕ) → StandsAt text.now s.now is_table it c rest
-        → MatchResult result (λ r. (r.0 ≡ goes (place_view below.now) index it)
+        → MatchResult result (λ r. (r.0 ≡ is_item_removed (place_view below.now) index it)
         × (r.1.now ≡ gap c rest)) IsMemory }
 {
     if !is_table {
@@ -251,7 +251,7 @@ fn slots_left(alloc: Global, text: &str, below: &[Step]) -> CargoResult<Vec<u8>>
     let mut left = Remainder::new(alloc, before(bytes, rest))?;
     'slots: for index in 0..bytes.len() {
         if begins(rest, end) {
-            return Ok(left.with(rest)?);
+            return Ok(left.finish_with_comma(rest)?);
         }
         let (is_gone, after) = past_slot(alloc, text, rest, is_table, index, below)?;
         let stop = past_gap(after);
@@ -262,7 +262,7 @@ fn slots_left(alloc: Global, text: &str, below: &[Step]) -> CargoResult<Vec<u8>>
         left.take(is_gone, rest, after, stop, next)?;
         rest = next;
     }
-    Ok(left.with(rest)?)
+    Ok(left.finish_with_comma(rest)?)
 }
 
 /// The bytes of an array or an inline table without the element or the member at the place `below`; it is

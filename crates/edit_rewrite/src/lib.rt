@@ -10,9 +10,9 @@ mod locate;
 mod members;
 mod remove_text;
 mod replace_entry;
-mod spots;
-mod way;
+mod splices;
+mod path_matching;
 
 pub use insert::with_member;
-pub use remove_text::without;
+pub use remove_text::without_item;
 pub use replace_entry::with_entry;

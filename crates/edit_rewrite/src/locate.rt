@@ -9,13 +9,13 @@ ghost use Rattle.edit_tree.specs.EditBytes.{is_pair};
 ghost use Rattle.edit_rewrite.specs.SearchStates.{IsSearchState, IsTokenized, is_table_header, is_element_header};
 ghost use Rattle.edit_rewrite.specs.Entries as entries_seen;
 
-use crate::way::{
+use crate::path_matching::{
     PathMatch, count_on, first_from, follow_key, is_at, is_at_or_below, is_element_header_next,
     is_table_header_next, step_by_index,
 };
 use edit_base::errors::{CargoResult, Error};
 use edit_document::Step;
-use edit_syntax::{Mark, first_line, next_line, past_mark};
+use edit_syntax::{SyntaxToken, first_line, next_line, skip_byte_order_mark};
 use std::alloc::Global;
 
 /// A statement and its relation to a place. Offsets are counted from the end of the text.
@@ -120,7 +120,7 @@ impl SearchState {
         alloc: Global,
         text: &str,
         place: &[Step],
-        marks: &[Mark],
+        marks: &[SyntaxToken],
         spots: StatementOffsets,
     ) -> CargoResult<Entry>
         ensures taken { (s : PlacedStatement) → is_pair s.statement ≡ true → IsTokenized text.now marks.now s spots
@@ -145,7 +145,7 @@ impl SearchState {
         alloc: Global,
         text: &str,
         place: &[Step],
-        marks: &[Mark],
+        marks: &[SyntaxToken],
         spots: StatementOffsets,
     ) -> CargoResult<Entry>
         ensures taken { (s : PlacedStatement) → is_table_header s.statement ≡ true
@@ -172,7 +172,7 @@ impl SearchState {
         alloc: Global,
         text: &str,
         place: &[Step],
-        marks: &[Mark],
+        marks: &[SyntaxToken],
         spots: StatementOffsets,
     ) -> CargoResult<Entry>
         ensures taken { (s : PlacedStatement) → is_element_header s.statement ≡ true
@@ -201,7 +201,7 @@ impl SearchState {
         alloc: Global,
         text: &str,
         place: &[Step],
-        marks: &[Mark],
+        marks: &[SyntaxToken],
         spots: StatementOffsets,
     ) -> CargoResult<Entry>
         ensures taken { (s : PlacedStatement) → IsTokenized text.now marks.now s spots
@@ -230,7 +230,7 @@ pub(crate) fn entries(alloc: Global, text: &str, place: &[Step]) -> CargoResult<
     let mut found = Vec::new(alloc);
     let mut standing = SearchState::new(alloc, place)?;
     let mut marks = Vec::new(alloc);
-    let mut rest = past_mark(text.as_bytes());
+    let mut rest = skip_byte_order_mark(text.as_bytes());
     'lines: for _line in 0..text.len() + 1 {
         marks.clear();
         let Ok(after) = first_line(&mut marks, rest) else {

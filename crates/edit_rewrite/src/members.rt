@@ -5,25 +5,25 @@ ghost use Rattle.edit_syntax.specs.Grammar.{Between, gap, Value, value as value_
 ghost use Rattle.edit_syntax.specs.Strings.{Key};
 ghost use Rattle.edit_tree.specs.Assertions.{Place};
 ghost use Rattle.edit_tree.specs.EditBytes.{part_to};
-ghost use Rattle.edit_rewrite.specs.Entries.{way};
+ghost use Rattle.edit_rewrite.specs.Entries.{path_match};
 ghost use Rattle.edit_rewrite.specs.EntrySpots.{part_offset, StandsIn, HasPairOffsets};
 ghost use Rattle.edit_document.specs.Items.{place_view};
 ghost use Rattle.edit_tree.specs.Slots.{of_pair};
 ghost use Rattle.edit_tree.specs.SlotTexts.{StandsAt};
-ghost use Rattle.edit_tree.specs.Statements.{paired, paired_value};
+ghost use Rattle.edit_tree.specs.Statements.{placed_pair, paired_value};
 ghost use Rattle.edit_tree.specs.Written.{PlacedValue};
 
 use crate::inside::{begins, behind_one};
-use crate::way::{PathMatch, follow_key, is_at, key_end};
+use crate::path_matching::{PathMatch, follow_key, is_at, key_end};
 use edit_base::errors::{CargoResult, Error};
 use edit_document::Step;
-use edit_syntax::Mark;
+use edit_syntax::SyntaxToken;
 use edit_syntax::read::gaps::past_gap;
 use edit_syntax::read::steps::{past_name, past_value};
 use std::alloc::Global;
 
 /// The offset behind the part of a key that names the place, where the key does.
-fn part_end(named: PathMatch, front: Option<usize>, marks: &[Mark], place: &[Step]) -> Option<usize>
+fn part_end(named: PathMatch, front: Option<usize>, marks: &[SyntaxToken], place: &[Step]) -> Option<usize>
     ensures { result ≡ part_offset (length (place_view place.now)) named front marks.now }
 {
     if front.is_some() {
@@ -46,9 +46,9 @@ fn past_member<'a>(
     start: PathMatch,
 ) -> CargoResult<(Option<usize>, &'a [u8])>
     ensures outcome { (table : Place) (k : Key) (a b : List ℕ) (v : Value) (c : List Between) (rest : List ℕ)
-        → StandsAt text.now s.now true (of_pair k a b v) c rest → start ≡ way (place_view place.now) table
+        → StandsAt text.now s.now true (of_pair k a b v) c rest → start ≡ path_match (place_view place.now) table
         → IfOk result (λ r.
-        (r.0 ≡ option_map length (part_to (place_view place.now) (paired table k a b v (gap c rest))))
+        (r.0 ≡ option_map length (part_to (place_view place.now) (placed_pair table k a b v (gap c rest))))
         × (r.1.now ≡ gap c rest)) }
     ensures error { IfErr result IsMemory }
 {
@@ -74,7 +74,7 @@ pub(crate) fn table_offsets(
     start: PathMatch,
 ) -> CargoResult<Option<(usize, usize)>>
     ensures outcome { (w : PlacedValue) → StandsIn text.now w → s.now ≡ value_text w.value w.after
-        → start ≡ way (place_view place.now) w.place
+        → start ≡ path_match (place_view place.now) w.place
         → IfOk result (HasPairOffsets (place_view place.now) (paired_value w)) }
     ensures error { IfErr result IsMemory }
 {

@@ -16,7 +16,7 @@ use crate::inside::{begins, value_without};
 use crate::locate::entries;
 use edit_base::errors::CargoResult;
 use edit_document::{Document, Step};
-use edit_syntax::past_mark;
+use edit_syntax::skip_byte_order_mark;
 use edit_tree::cut::between;
 use std::alloc::Global;
 
@@ -29,7 +29,7 @@ fn without_lines(alloc: Global, text: &str, place: &[Step]) -> CargoResult<Strin
 {
     let all = entries(alloc, text, place)?;
     let found = all.as_slice();
-    let mut from = past_mark(text.as_bytes()).len();
+    let mut from = skip_byte_order_mark(text.as_bytes()).len();
     let mut out = String::from_str(alloc, between(text, text.len(), from))?;
     'entries: for entry in found {
         let to = if entry.is_within { from } else { entry.next };
@@ -116,7 +116,7 @@ fn value_around(document: &Document, place: &[Step]) -> Option<Around>
 }
 
 /// The document's text without the item at a place; unchanged where no item is there.
-pub fn without(document: &Document, alloc: Global, place: &[Step]) -> CargoResult<String>
+pub fn without_item(document: &Document, alloc: Global, place: &[Step]) -> CargoResult<String>
     ensures text { IfOk result (λ t. Becomes document.now.bytes (removed_text (place_view place.now))
         (string_bytes t)) }
     ensures error { IfErr result IsMemory }

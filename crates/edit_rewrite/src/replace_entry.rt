@@ -19,11 +19,11 @@ ghost use Rattle.edit_tree.specs.Statements.{PlacedStatement, placed_statements,
 
 use crate::locate::{Entry, entries};
 use crate::members::table_offsets;
-use crate::way::{PathMatch, key_end};
+use crate::path_matching::{PathMatch, key_end};
 use edit_base::errors::{CargoResult, Error};
 use edit_document::new_item::push_entry;
 use edit_document::{Document, NewItem, Step};
-use edit_syntax::{Mark, first_line};
+use edit_syntax::{SyntaxToken, first_line};
 use edit_tree::cut::between;
 use std::alloc::Global;
 
@@ -47,7 +47,7 @@ fn first_within(found: &[Entry]) -> Option<Entry>
 }
 
 /// The offset behind the last token of a list, counted from the end of the text.
-fn last_to(marks: &[Mark]) -> usize
+fn last_to(marks: &[SyntaxToken]) -> usize
     ensures { result ≡ last_end 0 marks.now }
 {
     let mut end = 0;
@@ -86,7 +86,7 @@ fn line_offsets(alloc: Global, text: &str, place: &[Step]) -> CargoResult<Option
 }
 
 /// The text with the range between two offsets, counted from its end, replaced by `now`.
-fn swapped(alloc: Global, text: &str, from: usize, to: usize, now: &str) -> CargoResult<String>
+fn splice_text(alloc: Global, text: &str, from: usize, to: usize, now: &str) -> CargoResult<String>
     ensures text { (s : Splice) → IsSpot text.now s.from → IsSpot text.now s.to → from ≡ length s.from
         → to ≡ length s.to → now.now ≡ s.now → IfOk result (λ r. string_bytes r ≡ with_splice text.now s) }
     ensures error { IfErr result IsMemory }
@@ -100,7 +100,7 @@ fn swapped(alloc: Global, text: &str, from: usize, to: usize, now: &str) -> Carg
 
 /// The offsets of the pair that names the place, in the inline table at the first `end` steps of the place,
 /// if there is one.
-fn spots_in(
+fn inline_pair_offsets(
     document: &Document,
     alloc: Global,
     place: &[Step],
@@ -133,7 +133,7 @@ fn inline_offsets(
     ensures error { IfErr result IsMemory }
 {
     'ends: for end in 0..place.len() + 1 {
-        let spots = spots_in(document, alloc, place, end)?;
+        let spots = inline_pair_offsets(document, alloc, place, end)?;
         if spots.is_some() {
             return Ok(spots);
         }
@@ -175,5 +175,5 @@ pub fn with_entry(
     let (from, to) = entry_offsets(document, alloc, place)?;
     let mut now = String::new(alloc);
     push_entry(&mut now, item)?;
-    swapped(alloc, document.as_str(), from, to, now.as_str())
+    splice_text(alloc, document.as_str(), from, to, now.as_str())
 }

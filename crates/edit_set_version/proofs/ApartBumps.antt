@@ -10,7 +10,7 @@ use Rattle.edit_metadata.specs.declared.input.Input.{Input}
 use Rattle.edit_manifest.specs.Versions.{is_inherited}
 use Rattle.semver.specs.Parse.{Parts}
 use Rattle.edit_set_version.specs.Bumps.{Target, bump, next_of}
-use Rattle.edit_set_version.specs.Chosen.{Asked, Member, chosen, inheriting, is_asked}
+use Rattle.edit_set_version.specs.Chosen.{SelectionView, Member, chosen_members, inheriting_members, is_member_selected}
 use Rattle.edit_set_version.specs.FolderTexts.{folder_text}
 use Rattle.edit_set_version.specs.Folders.{folder_of, same_folder}
 use Rattle.edit_set_version.specs.Projects.{IsMemberOf, IsProject}
@@ -150,18 +150,18 @@ filter_none [] = refl
 filter_none (x ∷ xs) = filter_none xs
 
 -- the chosen members
-pub chosen_apart : (a : Asked) (ms : List Member) → StandApart ms → StandApart (chosen a ms)
-chosen_apart a ms apart = elim (cases_Bool (length (inheriting a ms) == 0)) [
-  | inl alone ↦ rw alone (subst (λ xs. StandApart (filter (is_asked a) ms ++ xs)) (filter_none ms)
-      (parts_apart (is_asked a) (λ m. false) (λ m asked. refl) ms apart))
-  | inr more ↦ rw more (parts_apart (is_asked a) (λ m. not (is_asked a m) && is_inherited m.tree)
+pub chosen_apart : (a : SelectionView) (ms : List Member) → StandApart ms → StandApart (chosen_members a ms)
+chosen_apart a ms apart = elim (cases_Bool (length (inheriting_members a ms) == 0)) [
+  | inl alone ↦ rw alone (subst (λ xs. StandApart (filter (is_member_selected a) ms ++ xs)) (filter_none ms)
+      (parts_apart (is_member_selected a) (λ m. false) (λ m asked. refl) ms apart))
+  | inr more ↦ rw more (parts_apart (is_member_selected a) (λ m. not (is_member_selected a m) && is_inherited m.tree)
       (λ m asked. rw asked refl) ms apart)
 ]
 
 -- ---- their bumps
 
 -- a bump is that of its member
-bump_own : (t : Target) (a : Asked) (m : Member) (b : Bump) → bump_of t a m ≡ Some b → b.member ≡ m
+bump_own : (t : Target) (a : SelectionView) (m : Member) (b : Bump) → bump_of t a m ≡ Some b → b.member ≡ m
 bump_own t a m b is = go (next_of (bump t a.metadata m.version)) refl
   where
     go : (o : Option Parts) → next_of (bump t a.metadata m.version) ≡ o → b.member ≡ m
@@ -171,7 +171,7 @@ bump_own t a m b is = go (next_of (bump t a.metadata m.version)) refl
         cc k
 
 -- bumps of members that stand apart do
-made_apart : (t : Target) (a : Asked) (ms : List Member) → StandApart ms
+made_apart : (t : Target) (a : SelectionView) (ms : List Member) → StandApart ms
     → AreApart (filter_map (bump_of t a) ms)
 made_apart t a [] apart = tt
 made_apart t a (m ∷ ms) apart = elim (option_cases (bump_of t a m)) [
@@ -188,7 +188,7 @@ made_apart t a (m ∷ ms) apart = elim (option_cases (bump_of t a m)) [
 ]
 
 -- the bumps of a project
-pub bumps_apart : (t : Target) (a : Asked) (w : WorkspaceModel) (is : List Input) (p : Project)
+pub bumps_apart : (t : Target) (a : SelectionView) (w : WorkspaceModel) (is : List Input) (p : Project)
     → HasOwnFolders w → IsProject w is p → AreApart (bumps t a p)
 bumps_apart t a w is p own project =
-    made_apart t a (chosen a p.members) (chosen_apart a p.members (project_apart w is p own project))
+    made_apart t a (chosen_members a p.members) (chosen_apart a p.members (project_apart w is p own project))

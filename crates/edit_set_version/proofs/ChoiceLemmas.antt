@@ -8,10 +8,10 @@ use Rattle.std.proofs.lemmas.List.Concat.{flat_map-append}
 use Rattle.std.proofs.lemmas.List.Elements.{filter-append, filter_map-append}
 use Rattle.edit_base.specs.Paths.{texts}
 use Rattle.edit_manifest.specs.Versions.{is_inherited}
-use Rattle.edit_set_version.specs.Chosen.{Asked, Member, is_all_selected, inheriting, is_among, is_asked}
+use Rattle.edit_set_version.specs.Chosen.{SelectionView, Member, is_all_selected, inheriting_members, is_among, is_member_selected}
 use Rattle.edit_set_version.proofs.PointedLemmas.{alone}
 use Rattle.edit_set_version.specs.SelectedNames.{IsSelectedNames, is_in, is_selected_by}
-use Rattle.edit_set_version.specs.declared.choose.Part.TheVariants.{Asked as Asking, Inheriting, Others}
+use Rattle.edit_set_version.specs.declared.choose.Part.TheVariants.{Selected as Asking, Inheriting, Others}
 use Rattle.edit_set_version.specs.declared.choose.SelectedNames.{SelectedNames}
 
 -- those that a test keeps, with one more
@@ -99,8 +99,8 @@ joined_texts sep (x ∷ xs) = ap (λ ts. x.now ++ ts) (rest xs)
     rest (y ∷ ys) = ap (λ ts. (sep ++ y.now) ++ ts) (rest ys)
 
 -- the set that decides has who is asked for
-pub wants_asked : (a : Asked) (w : SelectedNames) (m : Member) → IsSelectedNames a w
-    → is_selected_by w m ≡ is_asked a m
+pub wants_asked : (a : SelectionView) (w : SelectedNames) (m : Member) → IsSelectedNames a w
+    → is_selected_by w m ≡ is_member_selected a m
 wants_asked a w m is =
     ap (λ b. if b then not (contains_text w.names m.name) else contains_text w.names m.name) is.all
     ∙ ap (λ c. if is_all_selected a then not c else c) (is.names m.name) ∙ by_case (is_all_selected a)
@@ -112,18 +112,18 @@ wants_asked a w m is =
     by_case true = refl
     by_case false = refl
 
-pub asked_part : (a : Asked) (w : SelectedNames) (ms : List Member) → IsSelectedNames a w
-    → filter (is_in Asking w) ms ≡ filter (is_asked a) ms
-asked_part a w ms is = filter_same (is_in Asking w) (is_asked a) (λ m. wants_asked a w m is) ms
+pub asked_part : (a : SelectionView) (w : SelectedNames) (ms : List Member) → IsSelectedNames a w
+    → filter (is_in Asking w) ms ≡ filter (is_member_selected a) ms
+asked_part a w ms is = filter_same (is_in Asking w) (is_member_selected a) (λ m. wants_asked a w m is) ms
 
-pub inheriting_part : (a : Asked) (w : SelectedNames) (ms : List Member) → IsSelectedNames a w
-    → filter (is_in Inheriting w) ms ≡ inheriting a ms
+pub inheriting_part : (a : SelectionView) (w : SelectedNames) (ms : List Member) → IsSelectedNames a w
+    → filter (is_in Inheriting w) ms ≡ inheriting_members a ms
 inheriting_part a w ms is =
-    filter_same (is_in Inheriting w) (λ m. is_asked a m && is_inherited m.tree)
+    filter_same (is_in Inheriting w) (λ m. is_member_selected a m && is_inherited m.tree)
     (λ m. ap (λ b. b && is_inherited m.tree) (wants_asked a w m is)) ms
 
-pub others_part : (a : Asked) (w : SelectedNames) (ms : List Member) → IsSelectedNames a w
-    → filter (is_in Others w) ms ≡ filter (λ m. not (is_asked a m) && is_inherited m.tree) ms
+pub others_part : (a : SelectionView) (w : SelectedNames) (ms : List Member) → IsSelectedNames a w
+    → filter (is_in Others w) ms ≡ filter (λ m. not (is_member_selected a m) && is_inherited m.tree) ms
 others_part a w ms is =
-    filter_same (is_in Others w) (λ m. not (is_asked a m) && is_inherited m.tree)
+    filter_same (is_in Others w) (λ m. not (is_member_selected a m) && is_inherited m.tree)
     (λ m. ap (λ b. not b && is_inherited m.tree) (wants_asked a w m is)) ms

@@ -6,7 +6,7 @@ use Rattle.edit_tree.specs.Assertions.{Place, Step, key, at, same_bytes, same_pl
 use Rattle.edit_tree.specs.Replaces.{is_below}
 use Rattle.edit_tree.proofs.SamePlace.{same_bytes_is}
 use Rattle.edit_manifest.specs.Kinds.{is_kind}
-use Rattle.edit_manifest.specs.Tables.{keyed}
+use Rattle.edit_manifest.specs.Tables.{place_of_keys}
 use Rattle.edit_manifest.specs.Versions.{package_version, shared_version, version_member}
 use Rattle.edit_set_version.proofs.TablePlaces.{IsTable, of_kind, of_target, of_workspace}
 
@@ -111,13 +111,13 @@ table_clear e table w shape = reaches_more e table (key []) (entry_clear e table
 
 -- nor at the targets
 pub target_clear : (e : Place) (target : List ℕ) → IsWritten e
-    → reaches e (keyed (codes "target" ∷ target ∷ [])) ≡ false
+    → reaches e (place_of_keys (codes "target" ∷ target ∷ [])) ≡ false
 target_clear e target w =
-    reaches_more e (keyed (codes "target" ∷ target ∷ [])) (key (codes "dependencies"))
+    reaches_more e (place_of_keys (codes "target" ∷ target ∷ [])) (key (codes "dependencies"))
     (table_clear e _ w (of_target target (codes "dependencies") refl))
 
 -- nor at a member of the root
-pub member_clear : (e : Place) (name : List ℕ) → IsWritten e → reaches e (keyed (name ∷ [])) ≡ false
+pub member_clear : (e : Place) (name : List ℕ) → IsWritten e → reaches e (place_of_keys (name ∷ [])) ≡ false
 member_clear _ name own = next (key (codes "package")) (key name) last [] refl
 member_clear _ name whole = next (key (codes "workspace")) (key name) (key (codes "package") ∷ last) [] refl
 member_clear _ name (entry _ n (of_kind k y)) = next (key k) (key name) (key n ∷ last) [] refl
@@ -128,7 +128,7 @@ member_clear _ name (entry _ n (of_target x k y)) =
 
 -- nor at the package of the workspace
 pub shared_clear : (e : Place) → IsWritten e
-    → reaches e (keyed (codes "workspace" ∷ codes "package" ∷ [])) ≡ false
+    → reaches e (place_of_keys (codes "workspace" ∷ codes "package" ∷ [])) ≡ false
 shared_clear _ own = refl
 shared_clear _ whole = refl
 shared_clear _ (entry _ n (of_kind k y)) =

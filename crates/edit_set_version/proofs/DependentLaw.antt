@@ -7,17 +7,17 @@ use Rattle.std.proofs.lemmas.List.Elements.{All-cons, All-head, All-nil, All-tai
 use Rattle.semver.specs.Parse.{Parts}
 use Rattle.edit_tree.specs.Assertions.{Place, key, same_bytes, same_place}
 use Rattle.edit_document.specs.Items.{string_in}
-use Rattle.edit_tree.specs.Replaces.{Edits, tree_without_below, is_below, written}
+use Rattle.edit_tree.specs.Replaces.{Edits, tree_without_below, is_below, tree_with_strings}
 use Rattle.edit_tree.specs.Tree.{View, string}
 use Rattle.edit_version.proofs.Outcomes.{nothing-outcome, reach-of, settled-of, text-outcome}
 use Rattle.edit_version.specs.Laws.{Admits, CanReach, IsVersion}
-use Rattle.edit_version.specs.Requirement.{Nothing, UpgradeResult, Text, Unread, Unsupported, raise}
-use Rattle.edit_manifest.specs.Tables.{Tree, is_table_like, keyed}
+use Rattle.edit_version.specs.Requirement.{Nothing, UpgradeResult, Text, Unread, Unsupported, upgrade_of}
+use Rattle.edit_manifest.specs.Tables.{Tree, is_table_like, place_of_keys}
 use Rattle.edit_manifest.specs.Versions.{package_version, shared_version, version_member}
-use Rattle.edit_set_version.specs.Entries.{entries, path_member, points_to, requirement, text_at}
-use Rattle.edit_set_version.specs.Folders.{Folder, folder_of, reached, same_folder}
+use Rattle.edit_set_version.specs.Entries.{entries, path_member, target_folder, requirement, text_at}
+use Rattle.edit_set_version.specs.Folders.{Folder, folder_of, resolve_folder, same_folder}
 use Rattle.edit_set_version.specs.Admitted.{CanRise, AdmitsNext, DependentsAdmit}
-use Rattle.edit_set_version.specs.SetVersioned.{Bump, Dependent, bumps, edits, next_at, dependent, dependent_at, dependents, next_in, own_edit, requirement_edit, risen, shared_edits, workspace_next}
+use Rattle.edit_set_version.specs.SetVersioned.{Bump, Dependent, bumps, edits, next_at, dependent, dependent_at, dependents, next_in, own_edit, requirement_edit, raised_dependent_text, shared_edits, workspace_next}
 use Rattle.edit_set_version.proofs.Clear.{IsWritten, entry_clear, last_differs, member_below, member_clear, own_apart, reaches, root_clear, table_clear, target_clear, version_at_end, whole_apart}
 use Rattle.edit_set_version.proofs.EntriesStay.{entries_same}
 use Rattle.edit_set_version.proofs.TablePlaces.{IsEntry, entries_shaped}
@@ -111,16 +111,16 @@ text_is a b e = cc e
 at_entry : (bs : List Bump) (file : List ℕ) (tree base : Tree) (q : Place) (o : Option View) (text : List ℕ)
     (v : Parts) → is_table_like (tree q) ≡ true → In q (entries tree) → next_at bs file tree q ≡ Some v
     → base (version_member q) ≡ tree (version_member q)
-    → o ≡ written (entry_edits (new_at bs file tree) (entries tree)) base (version_member q)
+    → o ≡ tree_with_strings (entry_edits (new_at bs file tree) (entries tree)) base (version_member q)
     → option_and_then string_in o ≡ Some text
-    → AllByRecursion (λ f. CanRise (raise f.text f.next)) (dependents bs file tree)
+    → AllByRecursion (λ f. CanRise (upgrade_of f.text f.next)) (dependents bs file tree)
     → IsVersion v → CanReach text v → Admits text v
 at_entry bs file tree base q o text v like i leads kept look now all big can =
     let asked : requirement tree q ≡ text_at tree (version_member q) = rw like refl in
     elim (option_cases (text_at tree (version_member q))) [
       | inl gone ↦
           let new : new_at bs file tree q ≡ None =
-          ap (λ (x : Option (List ℕ)). option_and_then risen (dependent_at q x (next_at bs file tree q)))
+          ap (λ (x : Option (List ℕ)). option_and_then raised_dependent_text (dependent_at q x (next_at bs file tree q)))
           (asked ∙ gone) in
           let stands : o ≡ tree (version_member q) =
           look ∙ (written_none (new_at bs file tree) base (entries tree) q new ∙ kept) in
@@ -131,17 +131,17 @@ at_entry bs file tree base q o text v like i leads kept look now all big can =
           let req : requirement tree q ≡ Some old.0 = asked ∙ old.1 in
           let f : Dependent = record { place = q; text = old.0; next = v } in
           let here : dependent bs file tree q ≡ Some f = rw (req, leads) refl in
-          let fine : CanRise (raise old.0 v) =
-          of_one (λ g. CanRise (raise g.text g.next)) (dependent bs file tree) (entries tree) all q i f
+          let fine : CanRise (upgrade_of old.0 v) =
+          of_one (λ g. CanRise (upgrade_of g.text g.next)) (dependent bs file tree) (entries tree) all q i f
           here in
-          elim (rises (raise old.0 v) fine) [
+          elim (rises (upgrade_of old.0 v) fine) [
             | inl stays ↦
                 let new : new_at bs file tree q ≡ None = rw (here, stays) refl in
                 let stands : o ≡ tree (version_member q) =
                 look ∙ (written_none (new_at bs file tree) base (entries tree) q new ∙ kept) in
                 let e : old.0 ≡ text =
                 text_is old.0 text (sym old.1 ∙ (sym (ap (λ x. option_and_then string_in x) stands) ∙ now)) in
-                let settled : raise text v ≡ Nothing = subst (λ (x : List ℕ). raise x v ≡ Nothing) e stays in
+                let settled : upgrade_of text v ≡ Nothing = subst (λ (x : List ℕ). upgrade_of x v ≡ Nothing) e stays in
                 reach-of text v text big (nothing-outcome text v settled) can
             | inr goes ↦
                 let new : new_at bs file tree q ≡ Some goes.0 = rw (here, goes.1) refl in
@@ -149,8 +149,8 @@ at_entry bs file tree base q o text v like i leads kept look now all big can =
                 look ∙ written_new (new_at bs file tree) base (entries tree) q goes.0 i new in
                 let e : goes.0 ≡ text =
                 text_is goes.0 text (sym (ap (λ x. option_and_then string_in x) stands) ∙ now) in
-                let raised : raise old.0 v ≡ Text text =
-                subst (λ (x : List ℕ). raise old.0 v ≡ Text x) e goes.1 in
+                let raised : upgrade_of old.0 v ≡ Text text =
+                subst (λ (x : List ℕ). upgrade_of old.0 v ≡ Text x) e goes.1 in
                 let settled = settled-of old.0 v text big (text-outcome old.0 v text raised) in
                 reach-of text v text big (nothing-outcome text v settled.1) can
           ]
@@ -194,8 +194,8 @@ dependents_admit t a p file tree after readable rising left =
     same : entries after ≡ entries tree
     same = entries_same after tree (record {
       root = clear [] root_clear;
-      targets = clear (keyed (codes "target" ∷ [])) (λ e w. member_clear e (codes "target") w);
-      target = λ name. clear (keyed (codes "target" ∷ name ∷ [])) (λ e w. target_clear e name w);
+      targets = clear (place_of_keys (codes "target" ∷ [])) (λ e w. member_clear e (codes "target") w);
+      target = λ name. clear (place_of_keys (codes "target" ∷ name ∷ [])) (λ e w. target_clear e name w);
       table = λ place shape. clear place (λ e w. table_clear e place w shape);
     })
 
@@ -224,7 +224,7 @@ dependents_admit t a p file tree after readable rising left =
         es all) in
         let Other : Place × List ℕ → Type 0 = λ e. same_place e.0 (version_member q) ≡ false in
         let look : after (version_member q)
-        ≡ written (entry_edits (new_at bs file tree) (entries tree)) (tree_without_below es tree) (version_member q) =
+        ≡ tree_with_strings (entry_edits (new_at bs file tree) (entries tree)) (tree_without_below es tree) (version_member q) =
         left (version_member q)
         ∙ (written_past shared (owns ++ reqs) (tree_without_below es tree) (version_member q)
         (shared_all Other (λ s. subst (λ (z : Place). same_place shared_version (version_member z) ≡ false)
@@ -235,18 +235,18 @@ dependents_admit t a p file tree after readable rising left =
         (subst (λ (z : Place). same_place package_version (version_member z) ≡ false)
         (sym is.is) (own_apart is.table is.name is.shape)))
         bs (all_every (λ b. Unit {0}) (λ b. tt) bs))
-        ∙ ap (λ ws. written ws (tree_without_below es tree) (version_member q))
+        ∙ ap (λ ws. tree_with_strings ws (tree_without_below es tree) (version_member q))
         (edits_by_entry bs file tree (entries tree)))) in
         let parts = dependent_parts q (requirement after q) (next_at bs file after q) f here in
         let now = required after q f.text parts.text in
         let like : is_table_like (tree q) ≡ true = sym (ap is_table_like stays) ∙ now.like in
         let leads : next_at bs file tree q ≡ Some f.next =
-        sym (ap (λ (x : Option View). option_and_then (next_in bs) (option_map (reached file)
+        sym (ap (λ (x : Option View). option_and_then (next_in bs) (option_map (resolve_folder file)
         (option_and_then string_in x))) path) ∙ parts.next in
         λ can. at_entry bs file tree (tree_without_below es tree) q (after (version_member q)) f.text f.next like i
         leads
         kept look now.said
-        (by_recursion (λ g. CanRise (raise g.text g.next)) (dependents bs file tree) rising)
-        (next_at_is_version bs (points_to file tree q) f.next
+        (by_recursion (λ g. CanRise (upgrade_of g.text g.next)) (dependents bs file tree) rising)
+        (next_at_is_version bs (target_folder file tree q) f.next
         (by_recursion (λ b. IsVersion b.next) bs readable) leads)
         can

@@ -13,46 +13,46 @@ use Rattle.edit_base.specs.Errors.{IsMemory}
 use Rattle.edit_base.specs.Paths.{parts_of}
 use Rattle.edit_base.specs.declared.errors.Error.{Error}
 use Rattle.edit_manifest.specs.Tables.{Tree}
-use Rattle.edit_version.specs.Requirement.{raise}
+use Rattle.edit_version.specs.Requirement.{upgrade_of}
 use Rattle.edit_set_version.specs.Admitted.{AllRise, CanRise}
-use Rattle.edit_set_version.specs.Folders.{along, folder_of, names_of, reached}
+use Rattle.edit_set_version.specs.Folders.{folder_along, folder_of, folder_at_path, resolve_folder}
 use Rattle.edit_set_version.specs.Dependents.{HasRaisedText, IsEntryUnraised, all_numbered, dependent_of, lacks, numbered_dependent_view, stays, with_bump_index}
 use Rattle.edit_set_version.specs.BumpsByFolder.{HasFirstBumps, first_in, numbered_at}
-use Rattle.edit_set_version.specs.PathDependency.{PathDependency, dependent_by_path, pointed, path_dependency_view, path_dependency_views}
+use Rattle.edit_set_version.specs.PathDependency.{PathDependency, dependent_by_path, path_dependencies, path_dependency_view, path_dependency_views}
 use Rattle.edit_set_version.specs.PlanCauses.{IsUnraised}
 use Rattle.edit_set_version.specs.SetVersioned.{Bump, Dependent, dependents}
 use Rattle.edit_set_version.specs.declared.dependents.DependentEntry.{DependentEntry}
-use Rattle.edit_set_version.specs.declared.pointed.PathEntry.{PathEntry}
+use Rattle.edit_set_version.specs.declared.path_deps.PathEntry.{PathEntry}
 use Rattle.edit_set_version.specs.declared.numbers.Numbered.{Numbered}
 use Rattle.edit_set_version.proofs.NumberLemmas.{next_first}
 use Rattle.edit_set_version.proofs.PointedLemmas.{alone, dependents_pointed}
 use Rattle.edit_set_version.proofs.ReachedFolders.{way_on}
 
 -- a folder that is reached is one that a path names
-pub reached_named : (file path : List ℕ) → (way : List ℕ) × (names_of way ≡ reached file path)
+pub reached_named : (file path : List ℕ) → (way : List ℕ) × (folder_at_path way ≡ resolve_folder file path)
 reached_named file path = elim (cases_Bool (starts_with nat_eq path (codes "/"))) [
   | inl absolute ↦ (
     path,
-    sym (ap (λ b. cond b (names_of path) (along (folder_of file)
+    sym (ap (λ b. cond b (folder_at_path path) (folder_along (folder_of file)
         (parts_of path))) absolute),
   )
   | inr relative ↦ (
     file ++ (codes "/../" ++ path),
     way_on file path
-        ∙ sym (ap (λ b. cond b (names_of path) (along (folder_of file) (parts_of path))) relative),
+        ∙ sym (ap (λ b. cond b (folder_at_path path) (folder_along (folder_of file) (parts_of path))) relative),
   )
 ]
 
 -- what the map has for the folder that is reached
 pub tells_reached : (bs : List Bump) (numbers : BTreeMap (String Global) Numbered Global) (file path : List ℕ)
-    → HasFirstBumps bs numbers → numbered_at numbers (reached file path) ≡ first_in bs (reached file path)
+    → HasFirstBumps bs numbers → numbered_at numbers (resolve_folder file path) ≡ first_in bs (resolve_folder file path)
 tells_reached bs numbers file path tells =
     let way = reached_named file path in
     subst (λ folder. numbered_at numbers folder ≡ first_in bs folder) way.1 (tells way.0)
 
 -- the requirement of an entry, by what the map has
 pub numbered_by : (bs : List Bump) (numbers : BTreeMap (String Global) Numbered Global) (file : List ℕ)
-    (q : PathDependency) (o : Option (ℕ × Parts)) → HasFirstBumps bs numbers → o ≡ numbered_at numbers (reached file q.path)
+    (q : PathDependency) (o : Option (ℕ × Parts)) → HasFirstBumps bs numbers → o ≡ numbered_at numbers (resolve_folder file q.path)
     → with_bump_index bs file q
     ≡ option_map (λ (n : ℕ × Parts). (n.0, record { place = q.place; text = q.text; next = n.1 })) o
 numbered_by bs numbers file q o tells is =
@@ -64,7 +64,7 @@ pub led_numbered : (bs : List Bump) (file : List ℕ) (q : PathDependency)
     → dependent_by_path bs file q ≡ option_map (λ (n : ℕ × Dependent). n.1) (with_bump_index bs file q)
 led_numbered bs file q =
     ap (option_map (λ (v : Parts). record { place = q.place; text = q.text; next = v }))
-    (next_first bs (reached file q.path)) ∙ both (first_in bs (reached file q.path))
+    (next_first bs (resolve_folder file q.path)) ∙ both (first_in bs (resolve_folder file q.path))
   where
     both : (o : Option (ℕ × Parts))
         → option_map (λ (v : Parts). record { place = q.place; text = q.text; next = v })
@@ -98,7 +98,7 @@ led_each bs file qs = each qs
 -- all of a manifest without their numbers
 pub dependents_numbered : (bs : List Bump) (file : List ℕ) (t : Tree)
     → dependents bs file t ≡ map (λ (n : ℕ × Dependent). n.1) (all_numbered bs file t)
-dependents_numbered bs file t = dependents_pointed bs file t ∙ led_each bs file (pointed t)
+dependents_numbered bs file t = dependents_pointed bs file t ∙ led_each bs file (path_dependencies t)
 
 -- the requirements of entries of the program, without the indices of their bumps
 pub without_indices : (fs : List DependentEntry)
@@ -108,11 +108,11 @@ without_indices (f ∷ fs) = ap (λ (xs : List Dependent). dependent_of f ∷ xs
 
 -- requirements that are raised can be
 pub all_can_rise : (fs : List DependentEntry) (ds : List Dependent) → map dependent_of fs ≡ ds
-    → All HasRaisedText fs → All (λ (f : Dependent). CanRise (raise f.text f.next)) ds
+    → All HasRaisedText fs → All (λ (f : Dependent). CanRise (upgrade_of f.text f.next)) ds
 all_can_rise fs ds same risen =
-    subst (All (λ (f : Dependent). CanRise (raise f.text f.next))) same
-    (All-map (λ (f : Dependent). CanRise (raise f.text f.next)) dependent_of fs
-    (All-weaker HasRaisedText (λ (f : DependentEntry). CanRise (raise (dependent_of f).text (dependent_of f).next))
+    subst (All (λ (f : Dependent). CanRise (upgrade_of f.text f.next))) same
+    (All-map (λ (f : Dependent). CanRise (upgrade_of f.text f.next)) dependent_of fs
+    (All-weaker HasRaisedText (λ (f : DependentEntry). CanRise (upgrade_of (dependent_of f).text (dependent_of f).next))
     (λ f h. h.can) fs risen))
 
 -- those of a manifest are all its requirements on bumped crates
@@ -138,7 +138,7 @@ numbered_more bs file es e =
 -- it are raised
 pub unraised : (bs : List Bump) (file : List ℕ) (t : Tree) (es : List PathEntry) (e : PathEntry)
     (rest : List PathEntry) (fs : List DependentEntry) (why : Error)
-    → path_dependency_views (es ++ e ∷ rest) ≡ pointed t
+    → path_dependency_views (es ++ e ∷ rest) ≡ path_dependencies t
     → map numbered_dependent_view fs ≡ filter_map (with_bump_index bs file) (path_dependency_views es)
     → All HasRaisedText fs → IsEntryUnraised bs file (path_dependency_view e) why
     → IsMemory why ⊎ IsUnraised bs file t why

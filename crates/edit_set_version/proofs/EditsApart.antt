@@ -15,11 +15,11 @@ use Rattle.edit_tree.proofs.ReplacedStrings.{strings_values}
 use Rattle.edit_tree.proofs.SamePlace.{same_place_is, same_place_self}
 use Rattle.edit_manifest.specs.Entries.{Entry, entries as recorded, entries_of, entry_at, literal_at}
 use Rattle.edit_manifest.proofs.EntriesApart.{Differ, IsEntryOf, entries-apart, entries-of, same_literal}
-use Rattle.edit_manifest.specs.Tables.{Tree, dependency_tables, keyed, member_names}
+use Rattle.edit_manifest.specs.Tables.{Tree, dependency_tables, place_of_keys, member_names}
 use Rattle.edit_manifest.specs.Versions.{package_version, shared_version, version_member, workspace_version}
 use Rattle.edit_set_version.specs.Apart.{AreApart}
 use Rattle.edit_set_version.specs.Entries.{entries, entries_in, requirement, text_at}
-use Rattle.edit_set_version.specs.SetVersioned.{Bump, Dependent, edits_by, next_at, dependent, dependents, own_edit, requirement_edit, risen, shared_edits, writes_own}
+use Rattle.edit_set_version.specs.SetVersioned.{Bump, Dependent, edits_by, next_at, dependent, dependents, own_edit, requirement_edit, raised_dependent_text, shared_edits, writes_own}
 use Rattle.edit_set_version.proofs.Clear.{IsWritten, entry, entry_clear, member_below, member_clear, own, own_apart, shared_clear, whole, whole_apart}
 use Rattle.edit_set_version.proofs.DependentLaw.{dependent_parts, required}
 use Rattle.edit_set_version.proofs.OwnBump.{own_distinct, own_edits}
@@ -31,9 +31,9 @@ use Rattle.edit_set_version.proofs.WrittenPlaces.{all_every, all_filter_map, all
 -- what is written is not below what is written
 outside : (e q : Place) → IsWritten e → IsWritten q → is_below e q ≡ false
 outside e _ w own =
-    member_below e (keyed (codes "package" ∷ [])) (key (codes "version")) (member_clear e (codes "package") w)
+    member_below e (place_of_keys (codes "package" ∷ [])) (key (codes "version")) (member_clear e (codes "package") w)
 outside e _ w whole =
-    member_below e (keyed (codes "workspace" ∷ codes "package" ∷ [])) (key (codes "version"))
+    member_below e (place_of_keys (codes "workspace" ∷ codes "package" ∷ [])) (key (codes "version"))
     (shared_clear e w)
 outside e _ w (entry table name shape) =
     member_below e (at table (key name)) (key (codes "version")) (entry_clear e table name w shape)

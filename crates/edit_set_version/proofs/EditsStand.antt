@@ -17,7 +17,7 @@ use Rattle.edit_tree.specs.Assertions.{IsDocument}
 use Rattle.edit_tree.specs.DocumentViews.{tree_of}
 use Rattle.edit_tree.specs.Tree.{is_value_at, view_at}
 use Rattle.edit_tree.proofs.Shallow.{one_form}
-use Rattle.edit_version.specs.Requirement.{UpgradeResult, raise}
+use Rattle.edit_version.specs.Requirement.{UpgradeResult, upgrade_of}
 use Rattle.edit_version.specs.RequirementErrors.{IsUpgradeError}
 use Rattle.edit_set_version.specs.Crates.{IsReadOf}
 use Rattle.edit_set_version.specs.Admitted.{AllRise, CanRise}
@@ -41,9 +41,9 @@ pub unraised_memory : (bs : List Bump) (input : Input) (m : Manifest) (e : Error
     → IsMemory e ⊎ IsUnraised bs (path_of input) (tree_of m.document) e → IsInputClearBy bs input → IsMemory e
 unraised_memory bs input m e read (inl none) clear = none
 unraised_memory bs input m e read (inr has) clear =
-    rise_memory (raise has.first.text has.first.next) has.first.text e
-    (first_good (λ (f : Dependent). CanRise (raise f.text f.next))
-    (λ (f : Dependent). IsUpgradeError (raise f.text f.next) f.text e)
+    rise_memory (upgrade_of has.first.text has.first.next) has.first.text e
+    (first_good (λ (f : Dependent). CanRise (upgrade_of f.text f.next))
+    (λ (f : Dependent). IsUpgradeError (upgrade_of f.text f.next) f.text e)
     (dependents bs (path_of input) (tree_of m.document)) has rise) has.cause
   where
     same : view_at clear.form ≡ tree_of m.document

@@ -16,7 +16,7 @@ use Rattle.edit_manifest.specs.Tables.{Tree}
 use Rattle.edit_manifest.specs.Versions.{package_version, shared_version, version_member, workspace_version}
 use Rattle.edit_version.specs.ReadVersion.{version_read}
 use Rattle.edit_set_version.specs.Entries.{entries, requirement}
-use Rattle.edit_set_version.specs.SetVersioned.{Bump, Dependent, edits_by, next_at, dependent, dependents, own_edit, requirement_edit, risen, shared_edits, writes_own}
+use Rattle.edit_set_version.specs.SetVersioned.{Bump, Dependent, edits_by, next_at, dependent, dependents, own_edit, requirement_edit, raised_dependent_text, shared_edits, writes_own}
 use Rattle.edit_set_version.specs.Written.{CanShare}
 use Rattle.edit_set_version.proofs.EditsApart.{edit_place}
 use Rattle.edit_set_version.proofs.DependentLaw.{dependent_parts, required}
@@ -94,7 +94,7 @@ requirement_strings : (bs : List Bump) (file : List ℕ) (t : Tree)
 requirement_strings bs file t =
     all_filter_map (λ f. is_string (t (version_member f.place)) ≡ true) (λ y. is_string (t y.0) ≡ true)
     requirement_edit
-    (λ f is y e. subst (λ (z : Place). is_string (t z) ≡ true) (edit_place f.place (risen f) y e) is)
+    (λ f is y e. subst (λ (z : Place). is_string (t z) ≡ true) (edit_place f.place (raised_dependent_text f) y e) is)
     (dependents bs file t)
     (all_filter_map (λ q. Unit {0}) (λ f. is_string (t (version_member f.place)) ≡ true)
     (dependent bs file t) (λ q none f e. dependent_string bs file t q f e) (entries t)

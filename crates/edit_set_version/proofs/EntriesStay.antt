@@ -6,16 +6,16 @@ use Rattle.std.specs.Str.{bytes_eq}
 use Rattle.std.proofs.lemmas.Bool.{cases_Bool}
 use Rattle.edit_tree.specs.Assertions.{Place, key, at}
 use Rattle.edit_manifest.specs.Kinds.{is_kind}
-use Rattle.edit_manifest.specs.Tables.{Tree, dependency_tables, is_table_like, keyed, member_names, shared, tables_at, tables_of_target, tables_under, target_table, target_tables}
+use Rattle.edit_manifest.specs.Tables.{Tree, dependency_tables, is_table_like, place_of_keys, member_names, workspace_table_keys, tables_at, tables_of_target, tables_under, target_table, target_tables}
 use Rattle.edit_set_version.specs.Entries.{entries, entries_in}
 use Rattle.edit_set_version.proofs.TablePlaces.{IsTable, of_kind, of_target, of_workspace, tables_shaped}
 
 -- two trees agree where a manifest has its dependency tables
 pub record AgreeOnTables (a b : Tree) : Type 0 where
   pub root : a [] ≡ b []
-  pub targets : a (keyed (codes "target" ∷ [])) ≡ b (keyed (codes "target" ∷ []))
+  pub targets : a (place_of_keys (codes "target" ∷ [])) ≡ b (place_of_keys (codes "target" ∷ []))
   pub target : (name : List ℕ)
-      → a (keyed (codes "target" ∷ name ∷ [])) ≡ b (keyed (codes "target" ∷ name ∷ []))
+      → a (place_of_keys (codes "target" ∷ name ∷ [])) ≡ b (place_of_keys (codes "target" ∷ name ∷ []))
   pub table : (place : Place) → IsTable place → a place ≡ b place
 
 -- equal parts in a row
@@ -31,10 +31,10 @@ flat_same_where P f g h [] all = refl
 flat_same_where P f g h (x ∷ xs) all = ap₂ (λ y ys. y ++ ys) (h x all.0) (flat_same_where P f g h xs all.1)
 
 -- a table at a place
-at_same : (a b : Tree) (names : List (List ℕ)) → a (keyed names) ≡ b (keyed names)
+at_same : (a b : Tree) (names : List (List ℕ)) → a (place_of_keys names) ≡ b (place_of_keys names)
     → tables_at a names ≡ tables_at b names
 at_same a b names h =
-    ap (λ v. option_to_list (if is_table_like v then Some (keyed names) else None)) h
+    ap (λ v. option_to_list (if is_table_like v then Some (place_of_keys names) else None)) h
 
 -- a table of a target
 one_same : (a b : Tree) → AgreeOnTables a b → (target name : List ℕ)
@@ -50,14 +50,14 @@ of_target_same : (a b : Tree) → AgreeOnTables a b → (target : List ℕ)
     → tables_of_target a target ≡ tables_of_target b target
 of_target_same a b agree target =
     flat_same (target_table a target) (target_table b target) (one_same a b agree target)
-    (member_names (a (keyed (codes "target" ∷ target ∷ []))))
+    (member_names (a (place_of_keys (codes "target" ∷ target ∷ []))))
     ∙ ap (λ v. flat_map (target_table b target) (member_names v)) (agree.target target)
 
 -- the tables of all targets
 targets_same : (a b : Tree) → AgreeOnTables a b → target_tables a ≡ target_tables b
 targets_same a b agree =
     flat_same (tables_of_target a) (tables_of_target b) (of_target_same a b agree)
-    (member_names (a (keyed (codes "target" ∷ []))))
+    (member_names (a (place_of_keys (codes "target" ∷ []))))
     ∙ ap (λ v. flat_map (tables_of_target b) (member_names v)) agree.targets
 
 -- the tables under a member of the root
@@ -65,7 +65,7 @@ under_same : (a b : Tree) → AgreeOnTables a b → (name : List ℕ) → tables
 under_same a b agree name = elim (cases_Bool (is_kind name)) [
   | inl kind ↦ rw kind (at_same a b (name ∷ []) (agree.table _ (of_kind name kind)))
   | inr other ↦ elim (cases_Bool (bytes_eq name (codes "workspace"))) [
-    | inl w ↦ rw (other, w) (at_same a b shared (agree.table _ of_workspace))
+    | inl w ↦ rw (other, w) (at_same a b workspace_table_keys (agree.table _ of_workspace))
     | inr past ↦ elim (cases_Bool (bytes_eq name (codes "target"))) [
       | inl target ↦ rw (other, past, target) (targets_same a b agree)
       | inr none ↦ rw (other, past, none) refl

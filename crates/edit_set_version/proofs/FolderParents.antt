@@ -7,7 +7,7 @@ use Rattle.edit_tree.specs.Assertions.{same_bytes}
 use Rattle.edit_base.specs.Paths.{HasNoSlash as IsSlashless, IsFolderOf, IsNormalOf, absolute, parts_of}
 use Rattle.edit_base.specs.Paths.IsFolderOf.{above as before, below_root, bare}
 use Rattle.edit_set_version.specs.FolderTexts.{folder_text}
-use Rattle.edit_set_version.specs.Folders.{Folder, above, along, folder_of, further, names_of}
+use Rattle.edit_set_version.specs.Folders.{Folder, parent_folder, folder_along, folder_of, folder_after, folder_at_path}
 use Rattle.edit_set_version.proofs.GroupedBumps.{middle}
 use Rattle.edit_set_version.proofs.ReachedFolders.{HasNoSlash, IsFolderName, after, is_slash, normal_text, parts_free}
 
@@ -18,7 +18,7 @@ IsKept name =
 
 -- ---- what a walk keeps
 
-above_kept : (folder : Folder) → AllByRecursion IsKept folder → AllByRecursion IsKept (above folder)
+above_kept : (folder : Folder) → AllByRecursion IsKept folder → AllByRecursion IsKept (parent_folder folder)
 above_kept [] h = tt
 above_kept (n ∷ ns) h = h.1
 
@@ -26,22 +26,22 @@ above_kept (n ∷ ns) h = h.1
 further_kept : (folder : Folder) (part : List ℕ) (a b c : Bool) → same_bytes part [] ≡ a
     → same_bytes part (codes ".") ≡ b → same_bytes part (codes "..") ≡ c
     → AllByRecursion IsKept folder → HasNoSlash part
-    → AllByRecursion IsKept (cond (a || b) folder (cond c (above folder) (part ∷ folder)))
+    → AllByRecursion IsKept (cond (a || b) folder (cond c (parent_folder folder) (part ∷ folder)))
 further_kept folder part true b c ea eb ec h free = h
 further_kept folder part false true c ea eb ec h free = h
 further_kept folder part false false true ea eb ec h free = above_kept folder h
 further_kept folder part false false false ea eb ec h free = (((free, ea), (eb, ec)), h)
 
 along_kept : (folder : Folder) (parts : List (List ℕ)) → AllByRecursion IsKept folder
-    → AllByRecursion HasNoSlash parts → AllByRecursion IsKept (along folder parts)
+    → AllByRecursion HasNoSlash parts → AllByRecursion IsKept (folder_along folder parts)
 along_kept folder [] h free = h
 along_kept folder (p ∷ ps) h free =
-    along_kept (further folder p) ps
+    along_kept (folder_after folder p) ps
     (further_kept folder p (same_bytes p []) (same_bytes p (codes ".")) (same_bytes p (codes "..")) refl refl
     refl h free.0) free.1
 
 -- the names of the folder that a path names stay
-pub names_kept : (path : List ℕ) → AllByRecursion IsKept (names_of path)
+pub names_kept : (path : List ℕ) → AllByRecursion IsKept (folder_at_path path)
 names_kept path = along_kept [] (parts_of path) tt (parts_free path)
 
 -- ---- the walk along a normal form
@@ -50,15 +50,15 @@ names_kept path = along_kept [] (parts_of path) tt (parts_free path)
 abbrev pub replace_backslashes : List (List ℕ) → List ℕ
 replace_backslashes names = flat_map (λ n. 47 ∷ n) names
 
-further_on : (folder : Folder) (name : List ℕ) → IsKept name → further folder name ≡ name ∷ folder
+further_on : (folder : Folder) (name : List ℕ) → IsKept name → folder_after folder name ≡ name ∷ folder
 further_on folder name kept = rw (kept.0.1, kept.1.0, kept.1.1) refl
 
 -- each of them is gone along
 along_on : (folder : Folder) (names : List (List ℕ)) → AllByRecursion IsKept names
-    → along folder names ≡ reverse names ++ folder
+    → folder_along folder names ≡ reverse names ++ folder
 along_on folder [] kept = refl
 along_on folder (n ∷ ns) kept =
-    ap (λ f. along f ns) (further_on folder n kept.0) ∙ along_on (n ∷ folder) ns kept.1
+    ap (λ f. folder_along f ns) (further_on folder n kept.0) ∙ along_on (n ∷ folder) ns kept.1
     ∙ sym (ap (λ xs. xs ++ folder) (reverse-append (n ∷ []) ns) ∙ append_assoc (reverse ns) (n ∷ []) folder)
 
 kept_free : (names : List (List ℕ)) → AllByRecursion IsKept names → AllByRecursion HasNoSlash names
@@ -78,14 +78,14 @@ kept_reversed (x ∷ xs) a =
 
 -- the names of the path of names that stay
 names_absolute : (names : List (List ℕ)) → AllByRecursion IsKept names
-    → names_of (absolute names) ≡ reverse names
+    → folder_at_path (absolute names) ≡ reverse names
 names_absolute [] kept = refl
 names_absolute (n ∷ ns) kept =
-    ap (along []) (after [] (n ∷ ns) tt (kept_free (n ∷ ns) kept))
+    ap (folder_along []) (after [] (n ∷ ns) tt (kept_free (n ∷ ns) kept))
     ∙ along_on [] (n ∷ ns) kept ∙ append-nil (reverse (n ∷ ns))
 
 -- a folder is named by its text
-pub names_text : (folder : Folder) → AllByRecursion IsKept folder → names_of (folder_text folder) ≡ folder
+pub names_text : (folder : Folder) → AllByRecursion IsKept folder → folder_at_path (folder_text folder) ≡ folder
 names_text folder kept =
     names_absolute (reverse folder) (kept_reversed folder kept) ∙ reverse-reverse folder
 
@@ -143,11 +143,11 @@ absolute_none (n ∷ ns) none = cc none
 
 -- the folder of the text of a folder is that of the one above
 pub folder_above : (folder : Folder) (g : List ℕ) → AllByRecursion IsKept folder
-    → IsFolderOf (folder_text folder) g → g ≡ folder_text (above folder)
+    → IsFolderOf (folder_text folder) g → g ≡ folder_text (parent_folder folder)
 folder_above folder g kept is = by folder kept (folder_text folder) g refl is
   where
     by : (f : Folder) → AllByRecursion IsKept f → (text g : List ℕ) → text ≡ folder_text f
-        → IsFolderOf text g → g ≡ folder_text (above f)
+        → IsFolderOf text g → g ≡ folder_text (parent_folder f)
     by [] kept text _ e (before b a is free some) =
         let one : 47 ∷ [] ≡ b ++ 47 ∷ a = sym e ∙ is in
         let long = length-append b (47 ∷ a) in
@@ -173,5 +173,5 @@ pub folder_named : (path normal g : List ℕ) → IsNormalOf path normal → IsF
 folder_named path normal g is folder =
     let text = normal_text path normal is in
     let kept = names_kept path in
-    folder_above (names_of path) g kept (subst (λ x. IsFolderOf x g) text folder)
-    ∙ ap (λ f. folder_text (above f)) (sym (names_text (names_of path) kept) ∙ ap names_of (sym text))
+    folder_above (folder_at_path path) g kept (subst (λ x. IsFolderOf x g) text folder)
+    ∙ ap (λ f. folder_text (parent_folder f)) (sym (names_text (folder_at_path path) kept) ∙ ap folder_at_path (sym text))

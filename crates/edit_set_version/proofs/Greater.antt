@@ -14,7 +14,7 @@ use Rattle.semver.specs.Parse.{Parts}
 use Rattle.edit_version.specs.Increments.{To}
 use Rattle.edit_version.specs.Laws.{precedence}
 use Rattle.edit_version.specs.VersionOrder.{full_order}
-use Rattle.edit_set_version.specs.Bumps.{filled, taken}
+use Rattle.edit_set_version.specs.Bumps.{with_filled_build, fill_requested}
 
 -- ---- no build metadata is the least
 
@@ -98,7 +98,7 @@ with-greater o b e = rw e refl
 
 -- filling build metadata in keeps a version greater, where its precedence is
 filled-greater : (given : Option (List ℕ)) (current v next : Parts) → precedence v current ≡ Greater
-    → filled given current v ≡ To next → full_order next current ≡ Greater
+    → with_filled_build given current v ≡ To next → full_order next current ≡ Greater
 filled-greater None current v next e h =
     let P : Parts → Type 0 = λ x. full_order x current ≡ Greater in
     subst P (to-is _ next h) (with-greater (precedence v current) _ e)
@@ -112,7 +112,7 @@ filled-greater (Some m) current v next e h = elim (cases_Bool (is_build m)) [
 
 -- a greater version that is taken stays greater, whatever its build metadata becomes
 pub greater_taken : (given : Option (List ℕ)) (current v next : Parts) → full_order v current ≡ Greater
-    → taken given current v ≡ To next → full_order next current ≡ Greater
+    → fill_requested given current v ≡ To next → full_order next current ≡ Greater
 greater_taken given current v next e h = elim (cases_Bool (length v.4 == 0)) [
   | inl empty ↦
       let bare : v.4 ≡ [] = nil_from_length v.4 (eqb-true (length v.4) 0 empty) in

@@ -8,10 +8,10 @@ use Rattle.std.proofs.lemmas.Bool.{cases_Bool}
 use Rattle.semver.specs.Parse.{Parts}
 use Rattle.edit_manifest.specs.Tables.{Tree}
 use Rattle.edit_set_version.specs.Apart.{AreApart}
-use Rattle.edit_set_version.specs.Folders.{Folder, folder_of, reached, same_folder}
+use Rattle.edit_set_version.specs.Folders.{Folder, folder_of, resolve_folder, same_folder}
 use Rattle.edit_set_version.specs.Dependents.{all_numbered, with_bump_index}
 use Rattle.edit_set_version.specs.BumpsByFolder.{first_in}
-use Rattle.edit_set_version.specs.PathDependency.{PathDependency, dependent_by_path, pointed}
+use Rattle.edit_set_version.specs.PathDependency.{PathDependency, dependent_by_path, path_dependencies}
 use Rattle.edit_set_version.specs.SetVersioned.{Bump, Dependent, dependents, next_in}
 use Rattle.edit_set_version.specs.ToldLines.{dependent_number}
 use Rattle.edit_set_version.proofs.FolderSameness.{same_folder_is, same_folder_self}
@@ -79,8 +79,8 @@ alone_led : (before : List Bump) (b : Bump) (after : List Bump) (file : List ℕ
     ≡ option_and_then (dependent_number (length before)) (with_bump_index (before ++ b ∷ after) file q)
 alone_led before b after file q apart =
     ap (option_map (λ (v : Parts). record { place = q.place; text = q.text; next = v }))
-    (alone_first before b after (reached file q.path) apart)
-    ∙ both (first_in (before ++ b ∷ after) (reached file q.path))
+    (alone_first before b after (resolve_folder file q.path) apart)
+    ∙ both (first_in (before ++ b ∷ after) (resolve_folder file q.path))
   where
     both : (o : Option (ℕ × Parts))
         → option_map (λ (v : Parts). record { place = q.place; text = q.text; next = v })
@@ -98,7 +98,7 @@ pub alone_dependents : (before : List Bump) (b : Bump) (after : List Bump) (file
     → AreApart (before ++ b ∷ after)
     → dependents (b ∷ []) file t
     ≡ filter_map (dependent_number (length before)) (all_numbered (before ++ b ∷ after) file t)
-alone_dependents before b after file t apart = dependents_pointed (b ∷ []) file t ∙ each (pointed t)
+alone_dependents before b after file t apart = dependents_pointed (b ∷ []) file t ∙ each (path_dependencies t)
   where
     picked : (o : Option (ℕ × Dependent)) (ns : List (ℕ × Dependent))
         → cons_option (option_and_then (dependent_number (length before)) o)

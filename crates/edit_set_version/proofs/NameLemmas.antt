@@ -14,7 +14,7 @@ use Rattle.edit_metadata.specs.Metadata.{PackageModel, members}
 use Rattle.edit_metadata.specs.Workspaces.{package_view, packages_view}
 use Rattle.edit_metadata.specs.declared.workspace.Package.{Package}
 use Rattle.edit_set_version.specs.Chosen.{each_once, is_among}
-use Rattle.edit_set_version.specs.Missing.{absent, names_of}
+use Rattle.edit_set_version.specs.Missing.{names_not_among, names_of}
 
 -- ---- tests
 
@@ -79,13 +79,13 @@ once_more (y ∷ ys) x =
 
 -- those that are not there, with one name more
 pub absent_more : (there names : List (List ℕ)) (x : List ℕ)
-    → absent there (names ++ x ∷ [])
-    ≡ absent there names ++ (if is_among there x || is_among names x then [] else x ∷ [])
+    → names_not_among there (names ++ x ∷ [])
+    ≡ names_not_among there names ++ (if is_among there x || is_among names x then [] else x ∷ [])
 absent_more there names x =
     let test : List ℕ → Bool = λ n. not (is_among there n) in
     ap (filter test) (once_more names x)
     ∙ filter-append test (each_once names) (if is_among names x then [] else x ∷ [])
-    ∙ ap (λ (zs : List (List ℕ)). absent there names ++ zs)
+    ∙ ap (λ (zs : List (List ℕ)). names_not_among there names ++ zs)
     (kept_by test x (is_among names x) (is_among there x) refl)
 
 -- ---- one package more

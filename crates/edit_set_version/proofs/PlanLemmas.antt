@@ -12,13 +12,13 @@ use Rattle.edit_metadata.specs.Metadata.{PackageModel, WorkspaceModel, members}
 use Rattle.edit_metadata.specs.declared.input.Input.{Input}
 use Rattle.edit_syntax.specs.Grammar.{Text}
 use Rattle.edit_tree.specs.Assertions.{IsDocument, same_bytes}
-use Rattle.edit_tree.specs.Replaces.{Edits, tree_without_below, replaced, written}
+use Rattle.edit_tree.specs.Replaces.{Edits, tree_without_below, replaced, tree_with_strings}
 use Rattle.edit_tree.specs.Tree.{view_at}
 use Rattle.edit_tree.proofs.Shallow.{one_form}
 use Rattle.edit_report.specs.declared.output.Output.{Output}
 use Rattle.edit_version.specs.Laws.{IsReadable}
 use Rattle.edit_set_version.specs.Bumps.{Target, bump, next_of}
-use Rattle.edit_set_version.specs.Chosen.{Asked, Member, bumps_workspace, chosen, inheriting, is_asked}
+use Rattle.edit_set_version.specs.Chosen.{SelectionView, Member, bumps_workspace, chosen_members, inheriting_members, is_member_selected}
 use Rattle.edit_set_version.specs.Admitted.{AllRise, AreVersions, AllAdmitNext, IsLeftBy}
 use Rattle.edit_set_version.specs.PlanLines.{Named, lines_of, manifests, shared_lines}
 use Rattle.edit_set_version.specs.PlanRefused.{IsInputClear, IsInputClearBy}
@@ -51,15 +51,15 @@ readable_told is (p ∷ ps) (m ∷ ms) are all =
     (readable_told is ps ms are.1 (All-tail (λ (p : PackageModel). IsReadable p.version) p ps all))
 
 -- what holds of all members holds of those that are chosen
-pub all_chosen : (P : Member → Type 0) (a : Asked) (ms : List Member) → All P ms → All P (chosen a ms)
+pub all_chosen : (P : Member → Type 0) (a : SelectionView) (ms : List Member) → All P ms → All P (chosen_members a ms)
 all_chosen P a ms all =
-    All-append P (filter (is_asked a) ms) _ (All-filter (is_asked a) P ms all)
-    (by (length (inheriting a ms) == 0))
+    All-append P (filter (is_member_selected a) ms) _ (All-filter (is_member_selected a) P ms all)
+    (by (length (inheriting_members a ms) == 0))
   where
     by : (b : Bool)
-        → All P (if b then [] else filter (λ m. not (is_asked a m) && is_inherited m.tree) ms)
+        → All P (if b then [] else filter (λ m. not (is_member_selected a m) && is_inherited m.tree) ms)
     by true = All-nil P
-    by false = All-filter (λ m. not (is_asked a m) && is_inherited m.tree) P ms all
+    by false = All-filter (λ m. not (is_member_selected a m) && is_inherited m.tree) P ms all
 
 -- the versions of the members can be read, where those of the packages can
 pub readable_members : (w : WorkspaceModel) (is : List Input) (p : Project) → IsProject w is p
@@ -113,7 +113,7 @@ lines_for p a b m n bs cs old next same =
     ∙ ap (λ (xs : List Bump). shared_lines b n ++ flat_map (lines_of p) xs) same
 
 -- where the workspace gets a next version, its root has the current one
-pub tells_shared : (t : Target) (a : Asked) (w : WorkspaceModel) (is : List Input) (p : Project)
+pub tells_shared : (t : Target) (a : SelectionView) (w : WorkspaceModel) (is : List Input) (p : Project)
     → IsProject w is p → HasSharedVersion is p.path (workspace_next t a p)
 tells_shared t a w is p project = by (workspace_next t a p) refl
   where
@@ -146,17 +146,17 @@ stands_after path old form es _ RepresentsNodes manifest each (unchanged none) =
   form = form;
   manifest = manifest;
   holds = each (view_at form) (λ q. subst (λ (ds : Edits). view_at form q
-      ≡ written ds (tree_without_below ds (view_at form)) q) (sym none) refl);
+      ≡ tree_with_strings ds (tree_without_below ds (view_at form)) q) (sym none) refl);
 }
 stands_after path old form es _ RepresentsNodes manifest each (changed output some at new) = record {
   form = replaced es new.form;
   manifest = new.is;
   holds = each (view_at (replaced es new.form)) (λ q. subst (λ (f : Text). view_at (replaced es new.form) q
-      ≡ written es (tree_without_below es (view_at f)) q) (one_form old new.form form new.was manifest) (new.tree q));
+      ≡ tree_with_strings es (tree_without_below es (view_at f)) q) (one_form old new.form form new.was manifest) (new.tree q));
 }
 
 -- after a plan, the requirements of an input on bumped crates admit the next versions
-pub has_admitted : (t : Target) (a : Asked) (outputs : List Output) (p : Project) (input : Input)
+pub has_admitted : (t : Target) (a : SelectionView) (outputs : List Output) (p : Project) (input : Input)
     → AreVersions (bumps t a p) → IsInputClear t a p input → HasSetOutputs t a outputs p input
     → HasAdmitted t a outputs p input
 has_admitted t a outputs p input versions clear set =
@@ -182,7 +182,7 @@ where_err (Ok x) P Q h p = tt
 where_err (Err e) P Q h p = h e p
 
 -- the outputs of a project, by the versions that its code has
-pub outputs_given : (t : Target) (a : Asked) (is : List Input) (p : Project) (n : Option Parts)
+pub outputs_given : (t : Target) (a : SelectionView) (is : List Input) (p : Project) (n : Option Parts)
     (bs : List Bump) (outputs : List Output) → n ≡ workspace_next t a p → bs ≡ bumps t a p
     → All (HasOutputsBy p.path n bs outputs) is → All (HasSetOutputs t a outputs p) is
 outputs_given t a is p n bs outputs next same have =
@@ -190,12 +190,12 @@ outputs_given t a is p n bs outputs next same have =
     (subst (λ (o : Option Parts). All (HasOutputsBy p.path o bs outputs) is) next have)
 
 -- all inputs are clear, by the bumps that its code has
-pub clear_given : (t : Target) (a : Asked) (is : List Input) (p : Project) (bs : List Bump) → bs ≡ bumps t a p
+pub clear_given : (t : Target) (a : SelectionView) (is : List Input) (p : Project) (bs : List Bump) → bs ≡ bumps t a p
     → All (IsInputClearBy bs) is → All (IsInputClear t a p) is
 clear_given t a is p bs same clear = subst (λ (cs : List Bump). All (IsInputClearBy cs) is) same clear
 
 -- after a plan, the requirements of all inputs on bumped crates admit the next versions
-pub all_admitted : (t : Target) (a : Asked) (is : List Input) (p : Project) (outputs : List Output)
+pub all_admitted : (t : Target) (a : SelectionView) (is : List Input) (p : Project) (outputs : List Output)
     → AreVersions (bumps t a p) → All (HasSetOutputs t a outputs p) is → All (IsInputClear t a p) is
     → All (HasAdmitted t a outputs p) is
 all_admitted t a is p outputs versions set clear =

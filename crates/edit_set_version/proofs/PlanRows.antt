@@ -8,35 +8,35 @@ use Rattle.edit_syntax.specs.Grammar.{Value, Lines, boolean, literal, inline, la
 use Rattle.edit_tree.specs.Assertions.{key}
 use Rattle.edit_tree.specs.Tree.{view_at}
 use Rattle.edit_set_version.specs.Bumps.{by_level}
-use Rattle.edit_set_version.specs.Chosen.{Asked, Member, bumps_workspace, chosen, held_back, inheriting, missing}
+use Rattle.edit_set_version.specs.Chosen.{SelectionView, Member, bumps_workspace, chosen_members, excluded_inheriting, inheriting_members, missing}
 use Rattle.edit_manifest.specs.Tables.{Tree}
-use Rattle.edit_set_version.specs.Folders.{folder_of, reached, same_folder}
+use Rattle.edit_set_version.specs.Folders.{folder_of, resolve_folder, same_folder}
 use Rattle.edit_set_version.specs.PlanLines.{note_of}
 use Rattle.edit_set_version.specs.SetVersioned.{Project, bumps, dependents}
 use Rattle.edit_set_version.specs.declared.set_version.BumpLevel.TheVariants as level
 
 -- ---- paths: up, idle parts, itself, an absolute one, past the root, a file
 
-up : same_folder (reached (codes "/w/b/Cargo.toml") (codes "../a")) (folder_of (codes "/w/a/Cargo.toml"))
+up : same_folder (resolve_folder (codes "/w/b/Cargo.toml") (codes "../a")) (folder_of (codes "/w/a/Cargo.toml"))
     ≡ true
 up = refl
 
-idle : same_folder (reached (codes "/w/b/Cargo.toml") (codes "./.././a/")) (folder_of
+idle : same_folder (resolve_folder (codes "/w/b/Cargo.toml") (codes "./.././a/")) (folder_of
     (codes "/w/a/Cargo.toml")) ≡ true
 idle = refl
 
-itself : same_folder (reached (codes "/w/a/Cargo.toml") []) (folder_of (codes "/w/a/Cargo.toml")) ≡ true
+itself : same_folder (resolve_folder (codes "/w/a/Cargo.toml") []) (folder_of (codes "/w/a/Cargo.toml")) ≡ true
 itself = refl
 
-whole_path : same_folder (reached (codes "/w/b/Cargo.toml") (codes "/w/x/../a")) (folder_of
+whole_path : same_folder (resolve_folder (codes "/w/b/Cargo.toml") (codes "/w/x/../a")) (folder_of
     (codes "/w/a/Cargo.toml")) ≡ true
 whole_path = refl
 
-past_root : same_folder (reached (codes "/w/b/Cargo.toml") (codes "../../../w/a")) (folder_of
+past_root : same_folder (resolve_folder (codes "/w/b/Cargo.toml") (codes "../../../w/a")) (folder_of
     (codes "/w/a/Cargo.toml")) ≡ true
 past_root = refl
 
-other_file : same_folder (reached (codes "/w/b/Cargo.toml") (codes "../a/Cargo.toml")) (folder_of
+other_file : same_folder (resolve_folder (codes "/w/b/Cargo.toml") (codes "../a/Cargo.toml")) (folder_of
     (codes "/w/a/Cargo.toml")) ≡ false
 other_file = refl
 
@@ -99,7 +99,7 @@ abbrev pub two : Project
 two = record { path = codes "/w/Cargo.toml"; tree = tree []; members = b ∷ a ∷ [] }
 
 -- the crate is asked for, twice
-abbrev pub only_a : Asked
+abbrev pub only_a : SelectionView
 only_a = record { packages = codes "a" ∷ codes "a" ∷ []; exclude = []; workspace = false; metadata = None }
 
 minor : bumps (by_level level.Minor) only_a two ≡ record { member = a; next = (0, 2, 0, [], []) } ∷ []
@@ -141,11 +141,11 @@ abbrev pub d : Member
 d = member_named (codes "root") (codes "/w/Cargo.toml") inherited
 
 -- one of them is asked for
-abbrev pub only_c : Asked
+abbrev pub only_c : SelectionView
 only_c = record { packages = codes "c" ∷ []; exclude = []; workspace = false; metadata = None }
 
 -- the others that inherit come after, and the version of the workspace is bumped with them
-drawn : map (λ m. m.name) (chosen only_c (d ∷ a ∷ c ∷ [])) ≡ codes "c" ∷ codes "root" ∷ []
+drawn : map (λ m. m.name) (chosen_members only_c (d ∷ a ∷ c ∷ [])) ≡ codes "c" ∷ codes "root" ∷ []
 drawn = refl
 
 drawn_workspace : bumps_workspace only_c (d ∷ a ∷ c ∷ []) ≡ true
@@ -158,24 +158,24 @@ note : note_of c ≡ codes " (inherited from workspace)"
 note = refl
 
 -- an excluded one that would be bumped with the workspace
-abbrev pub but_root : Asked
+abbrev pub but_root : SelectionView
 but_root = record { packages = []; exclude = codes "root" ∷ []; workspace = true; metadata = None }
 
-held : map (λ m. m.name) (held_back but_root (d ∷ c ∷ [])) ≡ codes "root" ∷ []
+held : map (λ m. m.name) (excluded_inheriting but_root (d ∷ c ∷ [])) ≡ codes "root" ∷ []
 held = refl
 
-holders : map (λ m. m.name) (inheriting but_root (d ∷ c ∷ [])) ≡ codes "c" ∷ []
+holders : map (λ m. m.name) (inheriting_members but_root (d ∷ c ∷ [])) ≡ codes "c" ∷ []
 holders = refl
 
 -- named and excluded at once: bumped
-abbrev pub both : Asked
+abbrev pub both : SelectionView
 both = record { packages = codes "a" ∷ []; exclude = codes "a" ∷ []; workspace = false; metadata = None }
 
-named_stays : map (λ m. m.name) (chosen both (b ∷ a ∷ [])) ≡ codes "a" ∷ []
+named_stays : map (λ m. m.name) (chosen_members both (b ∷ a ∷ [])) ≡ codes "a" ∷ []
 named_stays = refl
 
 -- names that no member has, each once
-abbrev pub unknown : Asked
+abbrev pub unknown : SelectionView
 unknown =
     record {
       packages = codes "x" ∷ codes "a" ∷ codes "x" ∷ codes "y"

@@ -10,7 +10,7 @@ use Rattle.edit_tree.specs.Assertions.{key}
 use Rattle.edit_manifest.specs.Tables.{Tree}
 use Rattle.edit_manifest.specs.Versions.{package_version, shared_version}
 use Rattle.edit_set_version.specs.Bumps.{by_level, exactly}
-use Rattle.edit_set_version.specs.Chosen.{Asked, Member}
+use Rattle.edit_set_version.specs.Chosen.{SelectionView, Member}
 use Rattle.edit_set_version.specs.PlanLines.{lines}
 use Rattle.edit_set_version.specs.SetVersioned.{Project, edits}
 use Rattle.edit_set_version.specs.declared.set_version.BumpLevel.TheVariants as level
@@ -59,7 +59,7 @@ abbrev one : Project
 one = record { path = codes "/w/Cargo.toml"; tree = root; members = heir ∷ [] }
 
 -- all are asked for
-abbrev everything : Asked
+abbrev everything : SelectionView
 everything = record { packages = []; exclude = []; workspace = false; metadata = None }
 
 -- the version of the workspace is written

@@ -7,8 +7,8 @@ use Rattle.semver.specs.Parse.{Parts}
 use Rattle.edit_tree.specs.Assertions.{Place, at, key}
 use Rattle.edit_manifest.specs.Tables.{Tree, dependency_tables, member_names}
 use Rattle.edit_set_version.specs.Entries.{entries_in, path_member, requirement, text_at}
-use Rattle.edit_set_version.specs.Folders.{reached}
-use Rattle.edit_set_version.specs.PathDependency.{dependent_by_path, pointed, path_dependency_at, path_dependencies_in, path_dependency_named, path_dependency_with}
+use Rattle.edit_set_version.specs.Folders.{resolve_folder}
+use Rattle.edit_set_version.specs.PathDependency.{dependent_by_path, path_dependencies, path_dependency_at, path_dependencies_in, path_dependency_named, path_dependency_with}
 use Rattle.edit_set_version.specs.SetVersioned.{Bump, Dependent, dependent, dependent_at, dependents, next_in}
 use Rattle.edit_set_version.proofs.EntriesStay.{flat_same}
 
@@ -47,11 +47,11 @@ next_one place text (Some v) = refl
 -- with both texts, or without one of them
 led_with : (bs : List Bump) (file : List ℕ) (place : Place) (text path : Option (List ℕ))
     → option_and_then (dependent_by_path bs file) (path_dependency_with place text path)
-    ≡ dependent_at place text (option_and_then (next_in bs) (option_map (reached file) path))
+    ≡ dependent_at place text (option_and_then (next_in bs) (option_map (resolve_folder file) path))
 led_with bs file place None None = refl
 led_with bs file place None (Some path) = refl
 led_with bs file place (Some text) None = refl
-led_with bs file place (Some text) (Some path) = next_one place text (next_in bs (reached file path))
+led_with bs file place (Some text) (Some path) = next_one place text (next_in bs (resolve_folder file path))
 
 -- an entry of a table
 named_led : (bs : List Bump) (file : List ℕ) (t : Tree) (table : Place) (name : List ℕ)
@@ -87,7 +87,7 @@ table_led bs file t table =
 
 -- those of a manifest
 pub dependents_pointed : (bs : List Bump) (file : List ℕ) (t : Tree)
-    → dependents bs file t ≡ filter_map (dependent_by_path bs file) (pointed t)
+    → dependents bs file t ≡ filter_map (dependent_by_path bs file) (path_dependencies t)
 dependents_pointed bs file t =
     flat (dependent bs file t) (entries_in t) (dependency_tables t)
     ∙ sym (flat_same (λ table. filter_map (dependent_by_path bs file) (path_dependencies_in t table))

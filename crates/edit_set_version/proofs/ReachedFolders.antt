@@ -7,7 +7,7 @@ use Rattle.std.proofs.lemmas.List.{reverse-reverse}
 use Rattle.edit_tree.specs.Assertions.{same_bytes}
 use Rattle.edit_base.specs.Paths.{IsNormalOf, absolute, parts_of}
 use Rattle.edit_set_version.specs.FolderTexts.{folder_text}
-use Rattle.edit_set_version.specs.Folders.{Folder, above, along, folder_of, further, names_of}
+use Rattle.edit_set_version.specs.Folders.{Folder, parent_folder, folder_along, folder_of, folder_after, folder_at_path}
 use Rattle.edit_set_version.proofs.FolderLemmas.{along_normal}
 
 -- ---- parts of texts
@@ -45,26 +45,26 @@ parts_more (x ∷ xs) b =
 
 -- ---- walks
 
-pub along_append : (folder : Folder) (a b : List (List ℕ)) → along folder (a ++ b) ≡ along (along folder a) b
+pub along_append : (folder : Folder) (a b : List (List ℕ)) → folder_along folder (a ++ b) ≡ folder_along (folder_along folder a) b
 along_append folder [] b = refl
-along_append folder (p ∷ ps) b = along_append (further folder p) ps b
+along_append folder (p ∷ ps) b = along_append (folder_after folder p) ps b
 
 -- the folder of a file
-pub way_up : (file : List ℕ) → names_of (file ++ codes "/..") ≡ folder_of file
+pub way_up : (file : List ℕ) → folder_at_path (file ++ codes "/..") ≡ folder_of file
 way_up file =
-    ap (along []) (parts_more file (codes ".."))
+    ap (folder_along []) (parts_more file (codes ".."))
     ∙ along_append [] (parts_of file) (codes ".." ∷ [])
 
 -- the folder that a relative path in it leads to
 pub way_on : (file path : List ℕ)
-    → names_of (file ++ (codes "/../" ++ path)) ≡ along (folder_of file) (parts_of path)
+    → folder_at_path (file ++ (codes "/../" ++ path)) ≡ folder_along (folder_of file) (parts_of path)
 way_on file path =
-    ap (along []) (parts_more file (codes "../" ++ path)
+    ap (folder_along []) (parts_more file (codes "../" ++ path)
     ∙ ap (λ (l : List (List ℕ)). parts_of file ++ l) (parts_more (codes "..") path))
     ∙ along_append [] (parts_of file) (codes ".." ∷ parts_of path)
 
 -- the normal form spells the folder
-pub normal_text : (path text : List ℕ) → IsNormalOf path text → text ≡ folder_text (names_of path)
+pub normal_text : (path text : List ℕ) → IsNormalOf path text → text ≡ folder_text (folder_at_path path)
 normal_text path text n =
     n.writes ∙ ap absolute (sym (reverse-reverse n.names)
     ∙ ap reverse (sym (along_normal (parts_of path) n.names n.reads)))
@@ -93,29 +93,29 @@ parts_free (x ∷ xs) = elim (cases_Bool (is_slash x)) [
 ]
 
 above_names : (folder : Folder) → AllByRecursion IsFolderName folder
-    → AllByRecursion IsFolderName (above folder)
+    → AllByRecursion IsFolderName (parent_folder folder)
 above_names [] h = tt
 above_names (n ∷ ns) h = h.1
 
 -- one part further, by the three tests
 further_by : (folder : Folder) (part : List ℕ) (a b c : Bool) → same_bytes part [] ≡ a
     → AllByRecursion IsFolderName folder → HasNoSlash part
-    → AllByRecursion IsFolderName (cond (a || b) folder (cond c (above folder) (part ∷ folder)))
+    → AllByRecursion IsFolderName (cond (a || b) folder (cond c (parent_folder folder) (part ∷ folder)))
 further_by folder part true b c e h free = h
 further_by folder part false true c e h free = h
 further_by folder part false false true e h free = above_names folder h
 further_by folder part false false false e h free = ((free, e), h)
 
 along_names : (folder : Folder) (parts : List (List ℕ)) → AllByRecursion IsFolderName folder
-    → AllByRecursion HasNoSlash parts → AllByRecursion IsFolderName (along folder parts)
+    → AllByRecursion HasNoSlash parts → AllByRecursion IsFolderName (folder_along folder parts)
 along_names folder [] h a = h
 along_names folder (p ∷ ps) h a =
-    along_names (further folder p) ps
+    along_names (folder_after folder p) ps
     (further_by folder p (same_bytes p []) (same_bytes p (codes ".")) (same_bytes p
     (codes "..")) refl h a.0) a.1
 
 -- the names of the folder that a path names
-pub named : (path : List ℕ) → AllByRecursion IsFolderName (names_of path)
+pub named : (path : List ℕ) → AllByRecursion IsFolderName (folder_at_path path)
 named path = along_names [] (parts_of path) tt (parts_free path)
 
 -- ---- folders that differ

@@ -6,15 +6,15 @@ use Rattle.std.specs.Str.{bytes_eq}
 use Rattle.std.proofs.lemmas.Bool.{cases_Bool}
 use Rattle.edit_tree.specs.Assertions.{Place, key, at}
 use Rattle.edit_manifest.specs.Kinds.{is_kind}
-use Rattle.edit_manifest.specs.Tables.{Tree, dependency_tables, is_table_like, keyed, member_names, shared, tables_at, tables_of_target, tables_under, target_table}
+use Rattle.edit_manifest.specs.Tables.{Tree, dependency_tables, is_table_like, place_of_keys, member_names, workspace_table_keys, tables_at, tables_of_target, tables_under, target_table}
 use Rattle.edit_set_version.specs.Entries.{entries, entries_in}
 
 -- the shapes that the place of a dependency table has
 pub data IsTable : Place → Type 0 where
-  of_kind : (kind : List ℕ) → is_kind kind ≡ true → IsTable (keyed (kind ∷ []))
-  of_workspace : IsTable (keyed shared)
+  of_kind : (kind : List ℕ) → is_kind kind ≡ true → IsTable (place_of_keys (kind ∷ []))
+  of_workspace : IsTable (place_of_keys workspace_table_keys)
   of_target : (target kind : List ℕ) → is_kind kind ≡ true
-      → IsTable (keyed (codes "target" ∷ target ∷ kind ∷ []))
+      → IsTable (place_of_keys (codes "target" ∷ target ∷ kind ∷ []))
 
 -- what holds of two lists holds of both in a row
 pub all_append : {A : Type 0} (P : A → Type 0) (xs ys : List A) → AllByRecursion P xs → AllByRecursion P ys
@@ -29,9 +29,9 @@ all_flat P f h [] = tt
 all_flat P f h (x ∷ xs) = all_append P (f x) (flat_map f xs) (h x) (all_flat P f h xs)
 
 -- the table at a place, where one stands there
-one_table : (t : Tree) (names : List (List ℕ)) → IsTable (keyed names)
+one_table : (t : Tree) (names : List (List ℕ)) → IsTable (place_of_keys names)
     → AllByRecursion IsTable (tables_at t names)
-one_table t names shape = elim (cases_Bool (is_table_like (t (keyed names)))) [
+one_table t names shape = elim (cases_Bool (is_table_like (t (place_of_keys names)))) [
   | inl stands ↦ rw stands (shape, tt)
   | inr none ↦ rw none tt
 ]
@@ -47,17 +47,17 @@ target_one t target name = elim (cases_Bool (is_kind name)) [
 target_all : (t : Tree) (target : List ℕ) → AllByRecursion IsTable (tables_of_target t target)
 target_all t target =
     all_flat IsTable (target_table t target) (target_one t target)
-    (member_names (t (keyed (codes "target" ∷ target ∷ []))))
+    (member_names (t (place_of_keys (codes "target" ∷ target ∷ []))))
 
 -- the tables under a member of the root
 under : (t : Tree) (name : List ℕ) → AllByRecursion IsTable (tables_under t name)
 under t name = elim (cases_Bool (is_kind name)) [
   | inl kind ↦ rw kind (one_table t (name ∷ []) (of_kind name kind))
   | inr other ↦ elim (cases_Bool (bytes_eq name (codes "workspace"))) [
-    | inl w ↦ rw (other, w) (one_table t shared of_workspace)
+    | inl w ↦ rw (other, w) (one_table t workspace_table_keys of_workspace)
     | inr past ↦ elim (cases_Bool (bytes_eq name (codes "target"))) [
       | inl target ↦ rw (other, past, target) (all_flat IsTable (tables_of_target t) (target_all t)
-          (member_names (t (keyed (codes "target" ∷ [])))))
+          (member_names (t (place_of_keys (codes "target" ∷ [])))))
       | inr none ↦ rw (other, past, none) tt
     ]
   ]

@@ -9,7 +9,7 @@ use Rattle.semver.specs.declared.Version.{Version}
 use Rattle.edit_base.specs.declared.errors.Error.{Error}
 use Rattle.edit_set_version.specs.BumpCauses.{IsBumpable, IsUnbumped}
 use Rattle.edit_set_version.specs.Bumps.{Target, bump}
-use Rattle.edit_set_version.specs.Chosen.{Asked, Member, chosen}
+use Rattle.edit_set_version.specs.Chosen.{SelectionView, Member, chosen_members}
 use Rattle.edit_set_version.specs.Crates.{member_of, members_of}
 use Rattle.edit_set_version.specs.PlanCauses.{AreUnbumped, currents}
 use Rattle.edit_set_version.specs.SetVersioned.{Project, workspace_current}
@@ -28,37 +28,37 @@ all_shared P (Some v) q is h =
     subst (λ z. All P (option_to_list z)) is (All-cons P (parts_of v.now) [] h (All-nil P))
 
 -- what holds of it and of those of the chosen members
-pub all_currents : (P : Parts → Type 0) (a : Asked) (p : Project)
-    → All P (option_to_list (workspace_current a p)) → All (λ (m : Member). P m.version) (chosen a p.members)
+pub all_currents : (P : Parts → Type 0) (a : SelectionView) (p : Project)
+    → All P (option_to_list (workspace_current a p)) → All (λ (m : Member). P m.version) (chosen_members a p.members)
     → All P (currents a p)
 all_currents P a p shared own =
     All-append P (option_to_list (workspace_current a p)) (map (λ (m : Member). m.version)
-    (chosen a p.members)) shared
-    (All-map P (λ (m : Member). m.version) (chosen a p.members) own)
+    (chosen_members a p.members)) shared
+    (All-map P (λ (m : Member). m.version) (chosen_members a p.members) own)
 
 -- ---- the first that cannot be bumped
 
 -- that of the workspace
-pub unbumped_shared : (t : Target) (a : Asked) (p : Project) (v : Parts) (e : Error)
+pub unbumped_shared : (t : Target) (a : SelectionView) (p : Project) (v : Parts) (e : Error)
     → workspace_current a p ≡ Some v → IsUnbumped (bump t a.metadata v) v e → AreUnbumped t a (currents a p) e
 unbumped_shared t a p v e is cause =
     subst (λ (o : Option Parts). AreUnbumped t a (option_to_list o
-    ++ map (λ (m : Member). m.version) (chosen a p.members)) e) (sym is)
+    ++ map (λ (m : Member). m.version) (chosen_members a p.members)) e) (sym is)
     (first_here (λ (u : Parts). IsBumpable (bump t a.metadata u))
     (λ (u : Parts). IsUnbumped (bump t a.metadata u) u e) v
-    (map (λ (m : Member). m.version) (chosen a p.members)) cause)
+    (map (λ (m : Member). m.version) (chosen_members a p.members)) cause)
 
 -- that of a chosen member
-pub unbumped_chosen : (t : Target) (a : Asked) (p : Project) (e : Error)
+pub unbumped_chosen : (t : Target) (a : SelectionView) (p : Project) (e : Error)
     → All (λ (v : Parts). IsBumpable (bump t a.metadata v)) (option_to_list (workspace_current a p))
-    → AreUnbumped t a (map (λ (m : Member). m.version) (chosen a p.members)) e → AreUnbumped t a (currents a p) e
+    → AreUnbumped t a (map (λ (m : Member). m.version) (chosen_members a p.members)) e → AreUnbumped t a (currents a p) e
 unbumped_chosen t a p e shared unbumped =
     first_behind (λ (v : Parts). IsBumpable (bump t a.metadata v))
     (λ (v : Parts). IsUnbumped (bump t a.metadata v) v e) (option_to_list (workspace_current a p))
-    (map (λ (m : Member). m.version) (chosen a p.members)) shared unbumped
+    (map (λ (m : Member). m.version) (chosen_members a p.members)) shared unbumped
 
 -- that of one of several crates
-pub unbumped_member : (t : Target) (a : Asked) (cs : List Crate) (i : ℕ) (c : Crate) (e : Error)
+pub unbumped_member : (t : Target) (a : SelectionView) (cs : List Crate) (i : ℕ) (c : Crate) (e : Error)
     → i < length cs → c ≡ get_or cs i c
     → All (λ (m : Member). IsBumpable (bump t a.metadata m.version)) (members_of (take i cs))
     → IsUnbumped (bump t a.metadata (member_of c).version) (member_of c).version e

@@ -6,13 +6,13 @@ use Rattle.std.proofs.lemmas.Bool.{cases_Bool}
 use Rattle.semver.specs.Identifiers.{parts_text}
 use Rattle.semver.specs.Parse.{Parts}
 use Rattle.edit_tree.specs.Assertions.{Place, key, same_bytes, same_place}
-use Rattle.edit_tree.specs.Replaces.{Edits, tree_without_below, is_below, is_below_any, written}
+use Rattle.edit_tree.specs.Replaces.{Edits, tree_without_below, is_below, is_below_any, tree_with_strings}
 use Rattle.edit_tree.specs.Tree.{string}
 use Rattle.edit_tree.proofs.SamePlace.{last_same, same_place_is, same_place_self}
 use Rattle.edit_manifest.specs.Tables.{Tree}
 use Rattle.edit_manifest.specs.Versions.{package_version, shared_version, version_member}
 use Rattle.edit_set_version.specs.Entries.{entries, requirement}
-use Rattle.edit_set_version.specs.SetVersioned.{Bump, Dependent, edits_by, next_at, dependent, dependent_at, dependents, own_edit, requirement_edit, risen, shared_edits, writes_own}
+use Rattle.edit_set_version.specs.SetVersioned.{Bump, Dependent, edits_by, next_at, dependent, dependent_at, dependents, own_edit, requirement_edit, raised_dependent_text, shared_edits, writes_own}
 use Rattle.edit_set_version.proofs.Clear.{IsWritten, entry, not_below, not_same, own, reaches, whole}
 use Rattle.edit_set_version.proofs.TablePlaces.{IsEntry, all_append, entries_shaped}
 
@@ -75,9 +75,9 @@ own_at file b y h = elim (cases_Bool (writes_own file b)) [
 -- what is written of a requirement
 requirement_place : (f : Dependent) → IsEntry f.place → (y : Place × List ℕ)
     → requirement_edit f ≡ Some y → IsWritten y.0
-requirement_place f is y h = go (risen f) refl
+requirement_place f is y h = go (raised_dependent_text f) refl
   where
-    go : (o : Option (List ℕ)) → risen f ≡ o → IsWritten y.0
+    go : (o : Option (List ℕ)) → raised_dependent_text f ≡ o → IsWritten y.0
     go None e = let k = rw e at h in cc k
     go (Some s) e =
         let k : ◌≡◌ {A = Option (Place × List ℕ)} (Some (version_member f.place, s)) (Some y) = rw e at h in
@@ -109,13 +109,13 @@ all_written root next bs file tree =
 
 -- a place that is none of those keeps what it had
 written_other : (es : Edits) (t : Tree) (q : Place) → AllByRecursion (λ e. same_place e.0 q ≡ false) es
-    → written es t q ≡ t q
+    → tree_with_strings es t q ≡ t q
 written_other [] t q h = refl
 written_other (e ∷ es) t q h = rw h.0 (written_other es t q h.1)
 
 -- what is written first does not hide what is written after it
 pub written_past : (es more : Edits) (t : Tree) (q : Place)
-    → AllByRecursion (λ e. same_place e.0 q ≡ false) es → written (es ++ more) t q ≡ written more t q
+    → AllByRecursion (λ e. same_place e.0 q ≡ false) es → tree_with_strings (es ++ more) t q ≡ tree_with_strings more t q
 written_past [] more t q h = refl
 written_past (e ∷ es) more t q h = rw h.0 (written_past es more t q h.1)
 
@@ -132,12 +132,12 @@ emptied_other es t q h = rw (below_none es q h) refl
 
 -- so a place that is neither one of those nor below one
 pub untouched : (es : Edits) (t : Tree) (q : Place) → AllByRecursion (λ e. same_place e.0 q ≡ false) es
-    → AllByRecursion (λ e. is_below e.0 q ≡ false) es → written es (tree_without_below es t) q ≡ t q
+    → AllByRecursion (λ e. is_below e.0 q ≡ false) es → tree_with_strings es (tree_without_below es t) q ≡ t q
 untouched es t q other below = written_other es (tree_without_below es t) q other ∙ emptied_other es t q below
 
 -- what is written leaves a place that none of it reaches
 pub unreached : (es : Edits) (t : Tree) (q : Place) → AllByRecursion (λ e. reaches e.0 q ≡ false) es
-    → written es (tree_without_below es t) q ≡ t q
+    → tree_with_strings es (tree_without_below es t) q ≡ t q
 unreached es t q h =
     untouched es t q
     (all_then (λ e. reaches e.0 q ≡ false) (λ e. same_place e.0 q ≡ false) (λ e. not_same e.0 q) es h)
@@ -155,7 +155,7 @@ entry_edits new qs = filter_map (λ q. edit_at q (new q)) qs
 
 -- the new requirement of an entry
 abbrev pub new_at : List Bump → List ℕ → Tree → Place → Option (List ℕ)
-new_at bs file t q = option_and_then risen (dependent bs file t q)
+new_at bs file t q = option_and_then raised_dependent_text (dependent bs file t q)
 
 -- what is written for requirements on bumped crates, entry by entry
 pub edits_by_entry : (bs : List Bump) (file : List ℕ) (t : Tree) (qs : List Place)
@@ -166,7 +166,7 @@ edits_by_entry bs file t (q ∷ qs) = elim (option_cases (dependent bs file t q)
   | inr some ↦
       let place : some.0.place ≡ q =
       dependent_place q (requirement t q) (next_at bs file t q) some.0 some.1 in
-      rw some.1 (elim (option_cases (risen some.0)) [
+      rw some.1 (elim (option_cases (raised_dependent_text some.0)) [
         | inl stays ↦ rw stays (edits_by_entry bs file t qs)
         | inr goes ↦ rw goes.1 (ap₂ (λ (z : Place) (es : Edits). (version_member z, goes.0) ∷ es) place
             (edits_by_entry bs file t qs))
@@ -197,7 +197,7 @@ same_entry p q h =
 
 -- an entry without a new requirement keeps its own
 pub written_none : (new : Place → Option (List ℕ)) (t : Tree) (qs : List Place) (q : Place) → new q ≡ None
-    → written (entry_edits new qs) t (version_member q) ≡ t (version_member q)
+    → tree_with_strings (entry_edits new qs) t (version_member q) ≡ t (version_member q)
 written_none new t [] q h = refl
 written_none new t (p ∷ ps) q h = elim (option_cases (new p)) [
   | inl none ↦ rw none (written_none new t ps q h)
@@ -213,7 +213,7 @@ text_is a b e = cc e
 
 -- an entry with a new requirement has it
 pub written_new : (new : Place → Option (List ℕ)) (t : Tree) (qs : List Place) (q : Place) (s : List ℕ)
-    → In q qs → new q ≡ Some s → written (entry_edits new qs) t (version_member q) ≡ Some (string s)
+    → In q qs → new q ≡ Some s → tree_with_strings (entry_edits new qs) t (version_member q) ≡ Some (string s)
 written_new new t [] q s i h = absurd i
 written_new new t (p ∷ ps) q s (inl e) h =
     let f : new p ≡ Some s = sym (ap new e) ∙ h in

@@ -6,7 +6,7 @@ use Rattle.std.specs.declared.cmp.Ordering.TheVariants.{Less, Equal, Greater}
 use Rattle.semver.specs.Identifiers.{parts_of}
 use Rattle.semver.specs.Parse.{Parts}
 use Rattle.semver.specs.declared.Version.{Version}
-use Rattle.edit_version.specs.Increments.{Change, Refusal, Refused, To, Major, Minor, Patch, is_text, step, with_build}
+use Rattle.edit_version.specs.Increments.{Change, ChangeError, Refused, To, Major, Minor, Patch, is_text, step, with_build}
 use Rattle.edit_version.specs.Laws.{IsReadable}
 use Rattle.edit_version.specs.Phases.{alpha, beta, rc}
 use Rattle.edit_version.specs.VersionOrder.{full_order}
@@ -29,7 +29,7 @@ target_of (target.Absolute v) = exactly (parts_of v)
 pub data Bumped : Type 0 where
   stays : Bumped
   becomes : Parts → Bumped
-  refused : Refusal → Bumped
+  refused : ChangeError → Bumped
   -- the requested version is lower
   lower : Parts → Bumped
 
@@ -69,17 +69,17 @@ always (Refused r) = refused r
 always (To v) = becomes v
 
 -- a requested version with the given build metadata, else with that of the current one
-abbrev pub filled : Option (List ℕ) → Parts → Parts → Change
-filled None current v = To (v.0, v.1, v.2, v.3, current.4)
-filled (Some m) current v = with_build m v
+abbrev pub with_filled_build : Option (List ℕ) → Parts → Parts → Change
+with_filled_build None current v = To (v.0, v.1, v.2, v.3, current.4)
+with_filled_build (Some m) current v = with_build m v
 
 -- a requested version, with build metadata filled in where it has none
-abbrev pub taken : Option (List ℕ) → Parts → Parts → Change
-taken given current v = if length v.4 == 0 then filled given current v else To v
+abbrev pub fill_requested : Option (List ℕ) → Parts → Parts → Change
+fill_requested given current v = if length v.4 == 0 then with_filled_build given current v else To v
 
 -- the result for a requested version, by its order to the current one: it may only be greater (own)
 abbrev pub by_order : Ordering → Option (List ℕ) → Parts → Parts → Bumped
-by_order Greater given current v = always (taken given current v)
+by_order Greater given current v = always (fill_requested given current v)
 by_order Equal given current v = stays
 by_order Less given current v = lower v
 

@@ -6,7 +6,7 @@ use Rattle.std.specs.declared.collections.BTreeMap.{BTreeMap}
 use Rattle.semver.specs.Identifiers.{parts_of}
 use Rattle.semver.specs.Parse.{Parts}
 use Rattle.edit_set_version.specs.FolderTexts.{folder_text}
-use Rattle.edit_set_version.specs.Folders.{Folder, folder_of, names_of, same_folder}
+use Rattle.edit_set_version.specs.Folders.{Folder, folder_of, folder_at_path, same_folder}
 use Rattle.edit_set_version.specs.SetVersioned.{Bump}
 use Rattle.edit_set_version.specs.declared.numbers.Numbered.{Numbered}
 
@@ -27,4 +27,4 @@ numbered_at numbers folder = option_map numbered_view (get_by_text numbers (fold
 
 -- the map finds the first bump of the crate in each folder that a path names
 abbrev pub HasFirstBumps : List Bump → BTreeMap (String Global) Numbered Global → Type 0
-HasFirstBumps bs numbers = (path : List ℕ) → numbered_at numbers (names_of path) ≡ first_in bs (names_of path)
+HasFirstBumps bs numbers = (path : List ℕ) → numbered_at numbers (folder_at_path path) ≡ first_in bs (folder_at_path path)

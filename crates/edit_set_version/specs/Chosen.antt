@@ -9,7 +9,7 @@ use Rattle.edit_manifest.specs.Versions.{is_inherited}
 
 -- a selection: members by their names, or the workspace; the excluded names; and the build metadata of new
 -- versions
-pub record Asked : Type 0 where
+pub record SelectionView : Type 0 where
   pub packages : List (List ℕ)
   pub exclude : List (List ℕ)
   pub workspace : Bool
@@ -27,35 +27,35 @@ abbrev pub is_among : List (List ℕ) → List ℕ → Bool
 is_among names name = list_any (same_bytes name) names
 
 -- all members are selected: with `--workspace`, or since no name is given
-abbrev pub is_all_selected : Asked → Bool
+abbrev pub is_all_selected : SelectionView → Bool
 is_all_selected a = a.workspace || (length a.packages == 0)
 
 -- all members are selected, and none is excluded
-abbrev pub is_whole_selected : Asked → Bool
+abbrev pub is_whole_selected : SelectionView → Bool
 is_whole_selected a = is_all_selected a && (length a.exclude == 0)
 
 -- the member is selected: it is not excluded where all are selected, else it is named
-abbrev pub is_asked : Asked → Member → Bool
-is_asked a m = if is_all_selected a then not (is_among a.exclude m.name) else is_among a.packages m.name
+abbrev pub is_member_selected : SelectionView → Member → Bool
+is_member_selected a m = if is_all_selected a then not (is_among a.exclude m.name) else is_among a.packages m.name
 
 -- the selected members that inherit their version from the workspace
-abbrev pub inheriting : Asked → List Member → List Member
-inheriting a ms = filter (λ m. is_asked a m && is_inherited m.tree) ms
+abbrev pub inheriting_members : SelectionView → List Member → List Member
+inheriting_members a ms = filter (λ m. is_member_selected a m && is_inherited m.tree) ms
 
 -- the members that are not selected but inherit the version of the workspace, where a selected one does
-abbrev pub added : Asked → List Member → List Member
-added a ms =
-    if length (inheriting a ms) == 0 then []
-    else filter (λ m. not (is_asked a m) && is_inherited m.tree) ms
+abbrev pub added_by_inheritance : SelectionView → List Member → List Member
+added_by_inheritance a ms =
+    if length (inheriting_members a ms) == 0 then []
+    else filter (λ m. not (is_member_selected a m) && is_inherited m.tree) ms
 
 -- the members that are bumped: the selected ones, then those added since they inherit, each in the order of
 -- the members
-abbrev pub chosen : Asked → List Member → List Member
-chosen a ms = filter (is_asked a) ms ++ added a ms
+abbrev pub chosen_members : SelectionView → List Member → List Member
+chosen_members a ms = filter (is_member_selected a) ms ++ added_by_inheritance a ms
 
 -- the version of the workspace is bumped
-abbrev pub bumps_workspace : Asked → List Member → Bool
-bumps_workspace a ms = is_whole_selected a || not (length (inheriting a ms) == 0)
+abbrev pub bumps_workspace : SelectionView → List Member → Bool
+bumps_workspace a ms = is_whole_selected a || not (length (inheriting_members a ms) == 0)
 
 -- ---- errors of a selection
 
@@ -65,9 +65,9 @@ each_once [] = []
 each_once (name ∷ names) = name ∷ filter (λ n. not (same_bytes name n)) (each_once names)
 
 -- the selected names that no member has, without duplicates
-abbrev pub missing : Asked → List (List ℕ) → List (List ℕ)
+abbrev pub missing : SelectionView → List (List ℕ) → List (List ℕ)
 missing a names = filter (λ name. not (is_among names name)) (each_once a.packages)
 
 -- the excluded members that inherit a version of the workspace that is bumped
-abbrev pub held_back : Asked → List Member → List Member
-held_back a ms = filter (λ m. is_among a.exclude m.name) (added a ms)
+abbrev pub excluded_inheriting : SelectionView → List Member → List Member
+excluded_inheriting a ms = filter (λ m. is_among a.exclude m.name) (added_by_inheritance a ms)

@@ -6,7 +6,7 @@ use Rattle.edit_tree.specs.Assertions.{Place, key, at}
 use Rattle.edit_document.specs.Items.{string_in}
 use Rattle.edit_manifest.specs.Tables.{Tree, dependency_tables, is_table_like, member_names}
 use Rattle.edit_manifest.specs.Versions.{version_member}
-use Rattle.edit_set_version.specs.Folders.{Folder, reached}
+use Rattle.edit_set_version.specs.Folders.{Folder, resolve_folder}
 
 -- the entries of a table, in the order of their keys
 abbrev pub entries_in : Tree → Place → List Place
@@ -29,5 +29,5 @@ abbrev pub path_member : Place → Place
 path_member place = at place (key (codes "path"))
 
 -- the folder that the path of an entry names, in the manifest at a path
-abbrev pub points_to : List ℕ → Tree → Place → Option Folder
-points_to file t place = option_map (reached file) (text_at t (path_member place))
+abbrev pub target_folder : List ℕ → Tree → Place → Option Folder
+target_folder file t place = option_map (resolve_folder file) (text_at t (path_member place))

@@ -6,9 +6,9 @@ use Rattle.edit_tree.specs.Assertions.{Place, at, key}
 use Rattle.edit_document.specs.Items.{place_view}
 use Rattle.edit_manifest.specs.Tables.{Tree, dependency_tables, member_names}
 use Rattle.edit_set_version.specs.Entries.{path_member, requirement, text_at}
-use Rattle.edit_set_version.specs.Folders.{reached}
+use Rattle.edit_set_version.specs.Folders.{resolve_folder}
 use Rattle.edit_set_version.specs.SetVersioned.{Bump, Dependent, next_in}
-use Rattle.edit_set_version.specs.declared.pointed.PathEntry.{PathEntry}
+use Rattle.edit_set_version.specs.declared.path_deps.PathEntry.{PathEntry}
 
 -- an entry: its place, its requirement, and its path
 pub record PathDependency : Type 0 where
@@ -34,13 +34,13 @@ abbrev pub path_dependencies_in : Tree → Place → List PathDependency
 path_dependencies_in t table = flat_map (path_dependency_named t table) (member_names (t table))
 
 -- the entries of a manifest that have both, table by table
-abbrev pub pointed : Tree → List PathDependency
-pointed t = flat_map (path_dependencies_in t) (dependency_tables t)
+abbrev pub path_dependencies : Tree → List PathDependency
+path_dependencies t = flat_map (path_dependencies_in t) (dependency_tables t)
 
 -- the requirement of an entry on a bumped crate, where its path is that of one
 abbrev pub dependent_by_path : List Bump → List ℕ → PathDependency → Option Dependent
 dependent_by_path bs file q =
-    option_map (λ v. record { place = q.place; text = q.text; next = v }) (next_in bs (reached file q.path))
+    option_map (λ v. record { place = q.place; text = q.text; next = v }) (next_in bs (resolve_folder file q.path))
 
 -- an entry of the program, by its texts
 abbrev pub path_dependency_view : PathEntry → PathDependency

@@ -3,7 +3,7 @@ use Rattle.std.specs.Prelude.{◌≡◌, List, All}
 use Rattle.edit_metadata.specs.declared.input.Input.{Input}
 use Rattle.edit_version.specs.Laws.{IsReadable}
 use Rattle.edit_set_version.specs.Bumps.{IsReadableTarget, Target}
-use Rattle.edit_set_version.specs.Chosen.{Asked}
+use Rattle.edit_set_version.specs.Chosen.{SelectionView}
 use Rattle.edit_set_version.specs.PlanLines.{lines}
 use Rattle.edit_set_version.specs.PlanRefused.{IsClear}
 use Rattle.edit_set_version.specs.Planned.{HasAdmitted, HasSetOutputs, OutputsInOrder, has_lines, plan_lines_view}
@@ -11,7 +11,7 @@ use Rattle.edit_set_version.specs.SetVersioned.{Project}
 use Rattle.edit_set_version.specs.declared.plan.SetVersionPlan.{SetVersionPlan}
 
 -- the plan is correct for this target and selection, over a project and its inputs
-pub record IsPlan (t : Target) (a : Asked) (inputs : List Input) (plan : SetVersionPlan) (p : Project)
+pub record IsPlan (t : Target) (a : SelectionView) (inputs : List Input) (plan : SetVersionPlan) (p : Project)
     : Type 0 where
   -- into each input the literals of its bumped versions and of its requirements on bumped crates are written,
   -- and no other byte

@@ -13,18 +13,18 @@ use Rattle.edit_manifest.specs.Versions.{package_version}
 use Rattle.edit_metadata.specs.Inputs.{path_of}
 use Rattle.edit_metadata.specs.declared.input.Input.{Input}
 use Rattle.edit_version.specs.RequirementErrors.{IsUpgradeError}
-use Rattle.edit_version.specs.Requirement.{raise}
+use Rattle.edit_version.specs.Requirement.{upgrade_of}
 use Rattle.edit_set_version.specs.Admitted.{AllRise, CanRise}
 use Rattle.edit_set_version.specs.BumpCauses.{IsBumpable, IsUnbumped}
 use Rattle.edit_set_version.specs.Bumps.{Target, bump}
-use Rattle.edit_set_version.specs.Chosen.{Asked, Member, chosen, held_back, inheriting}
+use Rattle.edit_set_version.specs.Chosen.{SelectionView, Member, chosen_members, excluded_inheriting, inheriting_members}
 use Rattle.edit_set_version.specs.FirstCauses.{HasFirstCause}
 use Rattle.edit_set_version.specs.PlanLines.{Named, manifests}
 use Rattle.edit_set_version.specs.SetVersioned.{Bump, Project, dependents, workspace_current, writes_own}
 
 -- the names of members, joined by commas
-abbrev pub listed : List Member → List ℕ
-listed ms = join_by (λ name. name) (codes ", ") (map (λ m. m.name) ms)
+abbrev pub member_names_text : List Member → List ℕ
+member_names_text ms = join_by (λ name. name) (codes ", ") (map (λ m. m.name) ms)
 
 -- the error has each name that no member has, once
 abbrev pub IsMissing : List (List ℕ) → Error → Type 0
@@ -35,24 +35,24 @@ IsMissing names _ = ⊥
 -- the error has the excluded members that inherit, and the selected ones that do
 abbrev pub IsExcludeError : List Member → List Member → Error → Type 0
 IsExcludeError held others (error.CannotExclude excluded named) =
-    (held ≢ []) × (string_bytes excluded ≡ listed held) × (string_bytes named ≡ listed others)
+    (held ≢ []) × (string_bytes excluded ≡ member_names_text held) × (string_bytes named ≡ member_names_text others)
 IsExcludeError held others _ = ⊥
 
 -- ---- versions
 
 -- the current versions that a plan bumps: that of the workspace, and those of the chosen members
-abbrev pub currents : Asked → Project → List Parts
-currents a p = option_to_list (workspace_current a p) ++ map (λ m. m.version) (chosen a p.members)
+abbrev pub currents : SelectionView → Project → List Parts
+currents a p = option_to_list (workspace_current a p) ++ map (λ m. m.version) (chosen_members a p.members)
 
 -- the error is that of the first of these versions that cannot be bumped
-abbrev pub AreUnbumped : Target → Asked → List Parts → Error → Type 0
+abbrev pub AreUnbumped : Target → SelectionView → List Parts → Error → Type 0
 AreUnbumped t a vs e =
     HasFirstCause (λ v. IsBumpable (bump t a.metadata v)) (λ v. IsUnbumped (bump t a.metadata v) v e) vs
 
 -- the error in the choice of members, and where there is none, in bumping their versions
-pub data IsVersionError (t : Target) (a : Asked) (p : Project) (e : Error) : Type 0 where
-  excluded : IsExcludeError (held_back a p.members) (inheriting a p.members) e → IsVersionError t a p e
-  version : held_back a p.members ≡ [] → AreUnbumped t a (currents a p) e → IsVersionError t a p e
+pub data IsVersionError (t : Target) (a : SelectionView) (p : Project) (e : Error) : Type 0 where
+  excluded : IsExcludeError (excluded_inheriting a p.members) (inheriting_members a p.members) e → IsVersionError t a p e
+  version : excluded_inheriting a p.members ≡ [] → AreUnbumped t a (currents a p) e → IsVersionError t a p e
 
 -- ---- literals
 
@@ -78,7 +78,7 @@ LackLiterals bs inputs = HasFirstCause (HasLiteral bs) (LacksLiteral bs) inputs
 -- the error is that of the first requirement of a manifest on a bumped crate that cannot be raised
 abbrev pub IsUnraised : List Bump → List ℕ → Tree → Error → Type 0
 IsUnraised bs file t e =
-    HasFirstCause (λ f. CanRise (raise f.text f.next)) (λ f. IsUpgradeError (raise f.text f.next) f.text e)
+    HasFirstCause (λ f. CanRise (upgrade_of f.text f.next)) (λ f. IsUpgradeError (upgrade_of f.text f.next) f.text e)
     (dependents bs file t)
 
 -- each requirement of a manifest on a bumped crate can be raised

@@ -7,16 +7,16 @@ use Rattle.edit_tree.specs.Assertions.{same_bytes}
 use Rattle.edit_manifest.specs.Tables.{Tree}
 use Rattle.edit_manifest.specs.Versions.{is_inherited}
 use Rattle.edit_set_version.specs.Bumps.{Target}
-use Rattle.edit_set_version.specs.Chosen.{Asked, Member}
-use Rattle.edit_set_version.specs.SetVersioned.{Bump, Project, bumps, dependents, risen, workspace_current, workspace_next}
+use Rattle.edit_set_version.specs.Chosen.{SelectionView, Member}
+use Rattle.edit_set_version.specs.SetVersioned.{Bump, Project, bumps, dependents, raised_dependent_text, workspace_current, workspace_next}
 
 -- a line: an action and a text
 abbrev pub ReportLine : Type 0
 ReportLine = List ℕ × List ℕ
 
 -- the `Upgrading` line of a changed version
-abbrev pub upgrading : List ℕ → Parts → Parts → List ℕ → ReportLine
-upgrading name old new note = (
+abbrev pub upgrading_line : List ℕ → Parts → Parts → List ℕ → ReportLine
+upgrading_line name old new note = (
   codes "Upgrading",
   name ++ (codes " from " ++ (parts_text old ++ (codes " to " ++ (parts_text new
       ++ note)))),
@@ -29,7 +29,7 @@ updating_line name old new =
 
 -- the line of the workspace's version, where it changes
 abbrev pub shared_lines : Option Parts → Option Parts → List ReportLine
-shared_lines (Some old) (Some new) = upgrading (codes "workspace version") old new [] ∷ []
+shared_lines (Some old) (Some new) = upgrading_line (codes "workspace version") old new [] ∷ []
 shared_lines _ _ = []
 
 -- a manifest, and its name in the lines
@@ -47,7 +47,7 @@ manifests p = record { name = codes "workspace"; path = p.path; tree = p.tree }
 -- the lines of a manifest for one bump, in the order of its entries
 abbrev pub updates : Bump → Named → List ReportLine
 updates b m =
-    filter_map (λ f. option_map (updating_line m.name f.text) (risen f)) (dependents (b ∷ []) m.path m.tree)
+    filter_map (λ f. option_map (updating_line m.name f.text) (raised_dependent_text f)) (dependents (b ∷ []) m.path m.tree)
 
 -- the note that a line appends to the two versions
 abbrev pub note_of : Member → List ℕ
@@ -56,9 +56,9 @@ note_of m = if is_inherited m.tree then codes " (inherited from workspace)" else
 -- the lines of a bump: its own, then those of the requirements on its crate
 abbrev pub lines_of : Project → Bump → List ReportLine
 lines_of p b =
-    upgrading b.member.name b.member.version b.next (note_of b.member) ∷ flat_map (updates b) (manifests p)
+    upgrading_line b.member.name b.member.version b.next (note_of b.member) ∷ flat_map (updates b) (manifests p)
 
 -- the lines: that of the workspace's version, then those of the bumps
-abbrev pub lines : Target → Asked → Project → List ReportLine
+abbrev pub lines : Target → SelectionView → Project → List ReportLine
 lines t a p =
     shared_lines (workspace_current a p) (workspace_next t a p) ++ flat_map (lines_of p) (bumps t a p)

@@ -13,7 +13,7 @@ use Rattle.edit_metadata.specs.Metadata.{WorkspaceModel, members}
 use Rattle.edit_metadata.specs.declared.input.Input.{Input}
 use Rattle.edit_set_version.specs.BumpCauses.{IsBumpable}
 use Rattle.edit_set_version.specs.Bumps.{Target, bump}
-use Rattle.edit_set_version.specs.Chosen.{Asked, held_back, missing}
+use Rattle.edit_set_version.specs.Chosen.{SelectionView, excluded_inheriting, missing}
 use Rattle.edit_set_version.specs.Admitted.{AllRise}
 use Rattle.edit_set_version.specs.FirstCauses.{HasFirstCause}
 use Rattle.edit_set_version.specs.PlanCauses.{IsManifestError, IsMissing, IsVersionError, currents}
@@ -22,12 +22,12 @@ use Rattle.edit_set_version.specs.Projects.{IsProject}
 use Rattle.edit_set_version.specs.SetVersioned.{Bump, Project, bumps, writes_own}
 
 -- the selected names that no member of a workspace has
-abbrev pub unknown : Asked → WorkspaceModel → List (List ℕ)
+abbrev pub unknown : SelectionView → WorkspaceModel → List (List ℕ)
 unknown a w = missing a (map (λ p. p.name) (members w.packages))
 
 -- no excluded member inherits a version that is bumped, and each chosen version can be bumped
-pub record HasVersions (t : Target) (a : Asked) (p : Project) : Type 0 where
-  pub excluded : held_back a p.members ≡ []
+pub record HasVersions (t : Target) (a : SelectionView) (p : Project) : Type 0 where
+  pub excluded : excluded_inheriting a p.members ≡ []
   pub versions : All (λ v. IsBumpable (bump t a.metadata v)) (currents a p)
 
 -- the bytes of an input are a manifest
@@ -39,7 +39,7 @@ IsManifest input = (form : Text) × IsDocument input.bytes.items form
 -- version that the target refuses, a bumped version without a literal, and a requirement that cannot rise. Of
 -- several inputs, versions or requirements it is the first in their order.
 pub data IsCauseOf
-    (t : Target) (a : Asked) (w : WorkspaceModel) (inputs : List Input) (e : Error) : Type 0 where
+    (t : Target) (a : SelectionView) (w : WorkspaceModel) (inputs : List Input) (e : Error) : Type 0 where
   memory : IsMemory e → IsCauseOf t a w inputs e
   no_package : IsMissing (unknown a w) e → IsCauseOf t a w inputs e
   no_manifest : unknown a w ≡ [] → HasFirstCause IsManifest (λ input. IsBadManifest input.bytes.items e) inputs
@@ -58,12 +58,12 @@ pub record IsInputClearBy (bs : List Bump) (input : Input) : Type 0 where
   pub requirements : AllRise bs (path_of input) (view_at form)
 
 -- no error in an input for the bumps of a project
-abbrev pub IsInputClear : Target → Asked → Project → Input → Type 0
+abbrev pub IsInputClear : Target → SelectionView → Project → Input → Type 0
 IsInputClear t a p input = IsInputClearBy (bumps t a p) input
 
 -- no error in the plan
-pub record IsClear (t : Target) (a : Asked) (inputs : List Input) (p : Project) : Type 0 where
+pub record IsClear (t : Target) (a : SelectionView) (inputs : List Input) (p : Project) : Type 0 where
   pub packages : missing a (map (λ m. m.name) p.members) ≡ []
-  pub excluded : held_back a p.members ≡ []
+  pub excluded : excluded_inheriting a p.members ≡ []
   pub versions : All (λ v. IsBumpable (bump t a.metadata v)) (currents a p)
   pub each : All (IsInputClear t a p) inputs

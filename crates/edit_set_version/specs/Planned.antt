@@ -9,7 +9,7 @@ use Rattle.edit_tree.specs.Tree.{view_at}
 use Rattle.edit_metadata.specs.declared.input.Input.{Input}
 use Rattle.edit_report.specs.declared.output.Output.{Output}
 use Rattle.edit_set_version.specs.Bumps.{Target}
-use Rattle.edit_set_version.specs.Chosen.{Asked}
+use Rattle.edit_set_version.specs.Chosen.{SelectionView}
 use Rattle.edit_set_version.specs.Admitted.{AllAdmitNext}
 use Rattle.edit_set_version.specs.PlanLines.{ReportLine}
 use Rattle.edit_metadata.specs.Inputs.{path_of}
@@ -50,7 +50,7 @@ HasOutputsBy root next bs outputs input =
     AreOutputsOf root next bs input (outputs_at (path_of input) outputs)
 
 -- the outputs at the path of an input are correct for a project
-abbrev pub HasSetOutputs : Target → Asked → List Output → Project → Input → Type 0
+abbrev pub HasSetOutputs : Target → SelectionView → List Output → Project → Input → Type 0
 HasSetOutputs t a outputs p input =
     HasOutputsBy p.path (workspace_next t a p) (bumps t a p) outputs input
 
@@ -74,7 +74,7 @@ bytes_after old (output ∷ outputs) = output.bytes.items
 -- the bytes of an input after the plan are a manifest, and each of its requirements on a bumped crate
 -- admits the crate's next version
 pub record HasAdmitted
-    (t : Target) (a : Asked) (outputs : List Output) (p : Project) (input : Input) : Type 0 where
+    (t : Target) (a : SelectionView) (outputs : List Output) (p : Project) (input : Input) : Type 0 where
   pub form : Text
   pub manifest : IsDocument
       (bytes_after input.bytes.items (outputs_at (path_of input) outputs)) form

@@ -7,10 +7,10 @@ use Rattle.edit_tree.specs.Assertions.{Place, same_bytes}
 use Rattle.edit_tree.specs.Replaces.{Edits}
 use Rattle.edit_manifest.specs.Tables.{Tree}
 use Rattle.edit_manifest.specs.Versions.{is_inherited, package_version, shared_version, version_member, workspace_version}
-use Rattle.edit_version.specs.Requirement.{UpgradeResult, Text, raise}
+use Rattle.edit_version.specs.Requirement.{UpgradeResult, Text, upgrade_of}
 use Rattle.edit_set_version.specs.Bumps.{Target, bump, next_of}
-use Rattle.edit_set_version.specs.Chosen.{Asked, Member, bumps_workspace, chosen}
-use Rattle.edit_set_version.specs.Entries.{entries, points_to, requirement}
+use Rattle.edit_set_version.specs.Chosen.{SelectionView, Member, bumps_workspace, chosen_members}
+use Rattle.edit_set_version.specs.Entries.{entries, target_folder, requirement}
 use Rattle.edit_set_version.specs.Folders.{Folder, folder_of, same_folder}
 
 -- a workspace: its root manifest, which may be a member's too, and its members
@@ -27,19 +27,19 @@ pub record Bump : Type 0 where
   pub next : Parts
 
 -- the member's bump, where its version changes
-abbrev pub bump_of : Target → Asked → Member → Option Bump
+abbrev pub bump_of : Target → SelectionView → Member → Option Bump
 bump_of t a m = option_map (λ v. record { member = m; next = v }) (next_of (bump t a.metadata m.version))
 
 -- the bumps of the chosen members, in order
-abbrev pub bumps : Target → Asked → Project → List Bump
-bumps t a p = filter_map (bump_of t a) (chosen a p.members)
+abbrev pub bumps : Target → SelectionView → Project → List Bump
+bumps t a p = filter_map (bump_of t a) (chosen_members a p.members)
 
 -- the version of the workspace, where it is bumped and valid
-abbrev pub workspace_current : Asked → Project → Option Parts
+abbrev pub workspace_current : SelectionView → Project → Option Parts
 workspace_current a p = if bumps_workspace a p.members then workspace_version p.tree else None
 
 -- the next version of the workspace, where it changes
-abbrev pub workspace_next : Target → Asked → Project → Option Parts
+abbrev pub workspace_next : Target → SelectionView → Project → Option Parts
 workspace_next t a p = option_and_then (λ v. next_of (bump t a.metadata v)) (workspace_current a p)
 
 -- ---- requirements
@@ -52,7 +52,7 @@ next_in (b ∷ bs) folder =
 
 -- the next version of the crate that the path of an entry names
 abbrev pub next_at : List Bump → List ℕ → Tree → Place → Option Parts
-next_at bs file t place = option_and_then (next_in bs) (points_to file t place)
+next_at bs file t place = option_and_then (next_in bs) (target_folder file t place)
 
 -- a requirement on a bumped crate: the place of its entry, its text, and the next version
 pub record Dependent : Type 0 where
@@ -79,14 +79,14 @@ text_of (Text s) = Some s
 text_of _ = None
 
 -- the raised requirement, where it changes
-abbrev pub risen : Dependent → Option (List ℕ)
-risen f = text_of (raise f.text f.next)
+abbrev pub raised_dependent_text : Dependent → Option (List ℕ)
+raised_dependent_text f = text_of (upgrade_of f.text f.next)
 
 -- ---- the edits of a manifest
 
 -- the edit of a requirement
 abbrev pub requirement_edit : Dependent → Option (Place × List ℕ)
-requirement_edit f = option_map (λ s. (version_member f.place, s)) (risen f)
+requirement_edit f = option_map (λ s. (version_member f.place, s)) (raised_dependent_text f)
 
 -- the manifest at this path is that of the bumped member, which does not inherit its version
 abbrev pub writes_own : List ℕ → Bump → Bool
@@ -109,5 +109,5 @@ edits_by root next bs file tree =
     ++ (filter_map (own_edit file) bs ++ filter_map requirement_edit (dependents bs file tree))
 
 -- the edits of the manifest at a path, in a project
-abbrev pub edits : Target → Asked → Project → List ℕ → Tree → Edits
+abbrev pub edits : Target → SelectionView → Project → List ℕ → Tree → Edits
 edits t a p file tree = edits_by p.path (workspace_next t a p) (bumps t a p) file tree

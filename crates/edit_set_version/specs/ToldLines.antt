@@ -6,8 +6,8 @@ use Rattle.std.specs.declared.alloc.Global.{Global}
 use Rattle.edit_tree.specs.Assertions.{same_bytes}
 use Rattle.edit_set_version.specs.Chosen.{Member}
 use Rattle.edit_set_version.specs.Dependents.{all_numbered}
-use Rattle.edit_set_version.specs.PlanLines.{Named, ReportLine, note_of, updating_line, upgrading}
-use Rattle.edit_set_version.specs.SetVersioned.{Bump, Dependent, risen}
+use Rattle.edit_set_version.specs.PlanLines.{Named, ReportLine, note_of, updating_line, upgrading_line}
+use Rattle.edit_set_version.specs.SetVersioned.{Bump, Dependent, raised_dependent_text}
 
 -- a line of the program, by its texts
 abbrev pub report_line_view : String Global × String Global → ReportLine
@@ -31,7 +31,7 @@ with_line (suc n) line (l ∷ ls) = l ∷ with_line n line ls
 
 -- the `Upgrading` line of a bump
 abbrev pub bump_line_view : Bump → ReportLine
-bump_line_view b = upgrading b.member.name b.member.version b.next (note_of b.member)
+bump_line_view b = upgrading_line b.member.name b.member.version b.next (note_of b.member)
 
 -- the requirement, where its bump has this index
 abbrev pub dependent_number : ℕ → ℕ × Dependent → Option Dependent
@@ -39,7 +39,7 @@ dependent_number n f = if f.0 == n then Some f.1 else None
 
 -- the `Updating` line of a requirement of a manifest, where it changes
 abbrev pub update_line_view : List ℕ → Dependent → Option ReportLine
-update_line_view name f = option_map (updating_line name f.text) (risen f)
+update_line_view name f = option_map (updating_line name f.text) (raised_dependent_text f)
 
 -- the lines of those of a manifest whose bump has this number
 abbrev pub update_lines_view : List ℕ → List (ℕ × Dependent) → ℕ → List ReportLine

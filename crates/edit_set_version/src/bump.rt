@@ -10,7 +10,7 @@ ghost use Rattle.edit_version.specs.Laws.{IsReadable};
 ghost use Rattle.edit_version.specs.VersionOrder.{full_order};
 ghost use Rattle.edit_set_version.specs.declared.set_version.BumpLevel.TheVariants as level;
 ghost use Rattle.edit_set_version.specs.BumpCauses.{IsMade, IsUnbumped};
-ghost use Rattle.edit_set_version.specs.Bumps.{bump, bumped_to, by_level, exactly, filled, is_same, lower, raised_by, without_prerelease, taken, with_given};
+ghost use Rattle.edit_set_version.specs.Bumps.{bump, bumped_to, by_level, exactly, with_filled_build, is_same, lower, raised_by, without_prerelease, fill_requested, with_given};
 
 use crate::set_version::BumpLevel;
 use edit_base::errors::{CargoResult, Error};
@@ -109,7 +109,7 @@ fn raised_version(
 }
 
 /// The current version raised by a level, or `None` where that equals the current one.
-pub(crate) fn raised(
+pub(crate) fn bump_by_level(
     alloc: Global,
     level: BumpLevel,
     current: &Version,
@@ -153,7 +153,7 @@ fn fill_build(
     current: &Version,
     metadata: Option<&str>,
 ) -> CargoResult<()>
-    ensures changed { IsChanged (filled (option_copied metadata.entry) (parts_of current.now)
+    ensures changed { IsChanged (with_filled_build (option_copied metadata.entry) (parts_of current.now)
         (parts_of version.old)) version.old version.new result }
     ensures pre { OnOk result (pre_text version.new.pre ≡ pre_text version.old.pre) }
 {
@@ -167,13 +167,13 @@ fn fill_build(
 }
 
 /// The requested version; where it has no build metadata, `metadata` or that of the current version is set.
-fn taken(
+fn fill_requested(
     alloc: Global,
     requested: &Version,
     current: &Version,
     metadata: Option<&str>,
 ) -> CargoResult<Version>
-    ensures made { IsMade (taken (option_copied metadata.entry) (parts_of current.now)
+    ensures made { IsMade (fill_requested (option_copied metadata.entry) (parts_of current.now)
         (parts_of requested.now)) (parts_of current.now) result }
     ensures readable { IsReadable (parts_of requested.now) → IfOk result (λ v. IsReadable (parts_of v)) }
 {
@@ -204,6 +204,6 @@ pub(crate) fn bump_to_version(
     match order(requested, current) {
         Ordering::Less => Err(downgrade(alloc, current, requested)?),
         Ordering::Equal => Ok(None),
-        Ordering::Greater => Ok(Some(taken(alloc, requested, current, metadata)?)),
+        Ordering::Greater => Ok(Some(fill_requested(alloc, requested, current, metadata)?)),
     }
 }

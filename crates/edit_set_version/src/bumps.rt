@@ -30,7 +30,7 @@ pub(crate) fn metadata_of(selection: &Selection) -> Option<&str>
 }
 
 /// For proofs: a `u64` is less than 2^64.
-fn bounded(number: u64)
+fn u64_bound(number: u64)
     ensures { number < 2 ^ 64 }
 {}
 
@@ -38,9 +38,9 @@ fn bounded(number: u64)
 fn has_numbers(version: &Version)
     ensures { IsReadable (parts_of version.now) → IsVersion (parts_of version.now) }
 {
-    bounded(version.major);
-    bounded(version.minor);
-    bounded(version.patch);
+    u64_bound(version.major);
+    u64_bound(version.minor);
+    u64_bound(version.patch);
 }
 
 /// The bump of a crate, `None` where its version does not change.

@@ -2,9 +2,9 @@
 ghost use Rattle.std.specs.Prelude.{◌≡◌, ◌⊎◌, ◌++◌, ◌==◌, ◌∷◌, [], if◌then◌else◌, IfErr, IfOk, OnOk, length, string_bytes};
 ghost use Rattle.std.specs.List.{filter};
 ghost use Rattle.edit_base.specs.Errors.{IsMemory};
-ghost use Rattle.edit_set_version.specs.Chosen.{is_whole_selected, bumps_workspace, chosen, held_back, inheriting, is_among};
+ghost use Rattle.edit_set_version.specs.Chosen.{is_whole_selected, bumps_workspace, chosen_members, excluded_inheriting, inheriting_members, is_among};
 ghost use Rattle.edit_set_version.specs.Crates.{member_of, members_of};
-ghost use Rattle.edit_set_version.specs.PlanCauses.{IsExcludeError, listed};
+ghost use Rattle.edit_set_version.specs.PlanCauses.{IsExcludeError, member_names_text};
 ghost use Rattle.edit_set_version.specs.Selections.{selection_view};
 ghost use Rattle.edit_set_version.specs.SelectedNames.{IsSelectedNames, is_in, is_selected_by};
 ghost use Rattle.edit_set_version.specs.declared.choose.Part.TheVariants.{Others};
@@ -27,7 +27,7 @@ pub(crate) struct SelectedNames {
 #[derive(Clone, Copy)]
 pub(crate) enum Part {
     /// The selected members.
-    Asked,
+    Selected,
     /// The selected members that inherit the workspace's version.
     Inheriting,
     /// The members that are not selected and inherit the workspace's version.
@@ -62,7 +62,7 @@ fn is_in(part: Part, wanted: &SelectedNames, found: Crate<'_>) -> bool
 {
     let asked = is_selected_by(wanted, found);
     match part {
-        Part::Asked => asked,
+        Part::Selected => asked,
         Part::Inheriting => asked && found.manifest.version_is_inherited(),
         Part::Others => !asked && found.manifest.version_is_inherited(),
     }
@@ -99,8 +99,8 @@ fn crates_in<'a>(
 }
 
 /// The names of crates, as one text for an error message.
-fn listed(alloc: Global, crates: &[Crate<'_>]) -> Result<String, AllocError>
-    ensures ok { IfOk result (λ s. string_bytes s ≡ listed (members_of crates.now)) }
+fn member_names_text(alloc: Global, crates: &[Crate<'_>]) -> Result<String, AllocError>
+    ensures ok { IfOk result (λ s. string_bytes s ≡ member_names_text (members_of crates.now)) }
 {
     let mut names = Vec::new(alloc);
     'crates: for found in crates {
@@ -110,7 +110,7 @@ fn listed(alloc: Global, crates: &[Crate<'_>]) -> Result<String, AllocError>
 }
 
 /// The crates of this list that `--exclude` names.
-fn held_back<'a>(
+fn excluded_among<'a>(
     alloc: Global,
     selection: &Selection,
     crates: &[Crate<'a>],
@@ -141,12 +141,12 @@ fn check_excluded(
         ⊎ IsExcludeError (filter (λ m. is_among (selection_view selection.now).exclude m.name) (members_of added.now))
         (members_of inheriting.now) e) }
 {
-    let held = held_back(alloc, selection, added)?;
+    let held = excluded_among(alloc, selection, added)?;
     if held.is_empty() {
         return Ok(());
     }
-    let excluded = listed(alloc, &held)?;
-    let inheriting = listed(alloc, inheriting)?;
+    let excluded = member_names_text(alloc, &held)?;
+    let inheriting = member_names_text(alloc, inheriting)?;
     Err(Error::CannotExclude {
         excluded,
         inheriting,
@@ -161,7 +161,7 @@ pub(crate) struct Choice<'a> {
 }
 
 /// Whether the list is empty.
-fn is_none(crates: &[Crate<'_>]) -> bool
+fn is_empty_list(crates: &[Crate<'_>]) -> bool
     ensures { result ≡ (length crates.now == 0) }
 {
     crates.is_empty()
@@ -169,7 +169,7 @@ fn is_none(crates: &[Crate<'_>]) -> bool
 
 /// The crates that are not selected but inherit the workspace's version, where a selected crate inherits it
 /// too.
-fn added<'a>(
+fn added_by_inheritance<'a>(
     alloc: Global,
     wanted: &SelectedNames,
     crates: &[Crate<'a>],
@@ -178,7 +178,7 @@ fn added<'a>(
     ensures ok { IfOk result (λ cs. members_of cs.items ≡ (if length inheriting.now == 0 then []
         else filter (is_in Others wanted.now) (members_of crates.now))) }
 {
-    if is_none(inheriting) {
+    if is_empty_list(inheriting) {
         return Ok(Vec::new(alloc));
     }
     crates_in(alloc, Part::Others, wanted, crates)
@@ -203,20 +203,20 @@ pub(crate) fn choose<'a>(
     crates: &[Crate<'a>],
 ) -> CargoResult<Choice<'a>>
     ensures chosen { IfOk result (λ c. members_of c.crates.items
-        ≡ chosen (selection_view selection.now) (members_of crates.now)) }
+        ≡ chosen_members (selection_view selection.now) (members_of crates.now)) }
     ensures workspace { IfOk result (λ c. c.workspace
         ≡ bumps_workspace (selection_view selection.now) (members_of crates.now)) }
-    ensures excluded { OnOk result (held_back (selection_view selection.now) (members_of crates.now) ≡ []) }
+    ensures excluded { OnOk result (excluded_inheriting (selection_view selection.now) (members_of crates.now) ≡ []) }
     ensures error { IfErr result (λ e. IsMemory e
-        ⊎ IsExcludeError (held_back (selection_view selection.now) (members_of crates.now))
-        (inheriting (selection_view selection.now) (members_of crates.now)) e) }
+        ⊎ IsExcludeError (excluded_inheriting (selection_view selection.now) (members_of crates.now))
+        (inheriting_members (selection_view selection.now) (members_of crates.now)) e) }
 {
     let wanted = selected_names_of(alloc, selection)?;
     let inheriting = crates_in(alloc, Part::Inheriting, &wanted, crates)?;
-    let others = added(alloc, &wanted, crates, &inheriting)?;
+    let others = added_by_inheritance(alloc, &wanted, crates, &inheriting)?;
     check_excluded(alloc, selection, &others, &inheriting)?;
-    let workspace = is_whole_selected(selection) || !is_none(&inheriting);
-    let mut chosen = crates_in(alloc, Part::Asked, &wanted, crates)?;
+    let workspace = is_whole_selected(selection) || !is_empty_list(&inheriting);
+    let mut chosen = crates_in(alloc, Part::Selected, &wanted, crates)?;
     chosen.extend_from_slice(&others)?;
     Ok(Choice {
         crates: chosen,

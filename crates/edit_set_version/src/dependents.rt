@@ -3,7 +3,7 @@ ghost use Rattle.std.specs.Prelude.{◌≡◌, ◌⊎◌, ◌++◌, List, All, I
 ghost use Rattle.edit_base.specs.Errors.{IsMemory};
 ghost use Rattle.edit_tree.specs.DocumentViews.{tree_of};
 ghost use Rattle.edit_version.specs.RequirementErrors.{IsUpgradeError};
-ghost use Rattle.edit_version.specs.Requirement.{raise};
+ghost use Rattle.edit_version.specs.Requirement.{upgrade_of};
 ghost use Rattle.edit_set_version.specs.Dependents.{HasRaisedText, IsEntryUnraised, all_numbered, dependent_of, numbered_dependent_view, with_bump_index};
 ghost use Rattle.edit_set_version.specs.BumpsByFolder.{HasFirstBumps, numbered_view};
 ghost use Rattle.edit_set_version.specs.PathDependency.{path_dependency_view};
@@ -11,7 +11,7 @@ ghost use Rattle.edit_set_version.specs.PlanCauses.{IsUnraised};
 ghost use Rattle.edit_set_version.specs.SetVersioned.{Bump};
 
 use crate::numbers::{BumpsByFolder, Numbered, bump_at};
-use crate::pointed::{PathEntry, path_entries};
+use crate::path_deps::{PathEntry, path_entries};
 use edit_base::CargoResult;
 use edit_document::{Document, Place};
 use edit_version::upgrade_requirement;
@@ -41,7 +41,7 @@ fn raised_dependent<'a>(
       next = (numbered_view bump.entry).1;
     }) }
     ensures risen { IfOk result HasRaisedText }
-    ensures error { IfErr result (IsUpgradeError (raise (string_bytes entry.text) (numbered_view bump.entry).1)
+    ensures error { IfErr result (IsUpgradeError (upgrade_of (string_bytes entry.text) (numbered_view bump.entry).1)
         (string_bytes entry.text)) }
 {
     let risen = upgrade_requirement(alloc, entry.text.as_str(), bump.next)?;

@@ -2,7 +2,7 @@
 ghost use Rattle.std.specs.Prelude.{◌≡◌, [], IfOk, codes};
 ghost use Rattle.semver.specs.Identifiers.{parts_of};
 ghost use Rattle.edit_set_version.specs.Crates.{bump_view};
-ghost use Rattle.edit_set_version.specs.PlanLines.{note_of, updating_line, upgrading};
+ghost use Rattle.edit_set_version.specs.PlanLines.{note_of, updating_line, upgrading_line};
 ghost use Rattle.edit_set_version.specs.ToldLines.{report_line_view, note_if};
 
 use crate::crates::Bump;
@@ -13,7 +13,7 @@ use std::alloc::{AllocError, Global};
 pub(crate) type Line = (String, String);
 
 /// The `Upgrading` line of a changed version.
-fn upgrading(
+fn upgrading_line(
     alloc: Global,
     name: &str,
     old: &Version,
@@ -21,7 +21,7 @@ fn upgrading(
     note: &str,
 ) -> Result<Line, AllocError>
     ensures ok { IfOk result (λ l. report_line_view l
-        ≡ upgrading name.now (parts_of old.now) (parts_of new.now) note.now) }
+        ≡ upgrading_line name.now (parts_of old.now) (parts_of new.now) note.now) }
 {
     let action = String::from_str(alloc, "Upgrading")?;
     let text = format!(in alloc; "{name} from {old} to {new}{note}")?;
@@ -55,12 +55,12 @@ fn note_of(inherited: bool) -> &'static str
 
 /// The line of a crate's bump.
 pub(crate) fn bump_line(alloc: Global, bump: &Bump<'_>) -> Result<Line, AllocError>
-    ensures ok { IfOk result (λ l. report_line_view l ≡ upgrading (bump_view bump.now).member.name
+    ensures ok { IfOk result (λ l. report_line_view l ≡ upgrading_line (bump_view bump.now).member.name
         (bump_view bump.now).member.version (bump_view bump.now).next (note_of (bump_view bump.now).member)) }
 {
     let name = bump.member.told.name.as_str();
     let note = note_of(bump.member.manifest.version_is_inherited());
-    upgrading(alloc, name, &bump.member.told.version, &bump.next, note)
+    upgrading_line(alloc, name, &bump.member.told.version, &bump.next, note)
 }
 
 /// The line of the workspace's bump.
@@ -70,7 +70,7 @@ pub(crate) fn workspace_line(
     new: &Version,
 ) -> Result<Line, AllocError>
     ensures ok { IfOk result (λ l. report_line_view l
-        ≡ upgrading (codes "workspace version") (parts_of old.now) (parts_of new.now) []) }
+        ≡ upgrading_line (codes "workspace version") (parts_of old.now) (parts_of new.now) []) }
 {
-    upgrading(alloc, "workspace version", old, new, "")
+    upgrading_line(alloc, "workspace version", old, new, "")
 }

@@ -5,7 +5,7 @@ ghost use Rattle.std.specs.Str.{bytes_eq};
 ghost use Rattle.edit_metadata.specs.Metadata.{members};
 ghost use Rattle.edit_metadata.specs.Workspaces.{package_view, packages_view, workspace_view};
 ghost use Rattle.edit_set_version.specs.Chosen.{is_among, missing};
-ghost use Rattle.edit_set_version.specs.Missing.{IsMissingNamesError, absent, names_of};
+ghost use Rattle.edit_set_version.specs.Missing.{IsMissingNamesError, names_not_among, names_of};
 ghost use Rattle.edit_set_version.specs.Selections.{selection_view};
 
 use crate::plan::Selection;
@@ -93,7 +93,7 @@ fn missing_names(
 ) -> Result<Vec<String>, AllocError>
     ensures ok { IfOk result (λ v. (there : List (List ℕ))
         → ((q : List ℕ) → contains_text known.old q ≡ is_among there q)
-        → map string_bytes v.items ≡ absent there (map string_bytes names.now)) }
+        → map string_bytes v.items ≡ names_not_among there (map string_bytes names.now)) }
 {
     let mut missing = Vec::new(alloc);
     'names: for name in names {

@@ -3,11 +3,11 @@ ghost use Rattle.std.specs.Prelude.{◌≡◌, ℕ, List, Some, None, if◌then�
 ghost use Rattle.std.specs.Option.{option_or};
 ghost use Rattle.edit_base.specs.Errors.{IsMemory};
 ghost use Rattle.edit_set_version.specs.Crates.{bumps_view};
-ghost use Rattle.edit_set_version.specs.Folders.{folder_of, names_of, reached, same_folder};
+ghost use Rattle.edit_set_version.specs.Folders.{folder_of, folder_at_path, resolve_folder, same_folder};
 ghost use Rattle.edit_set_version.specs.BumpsByFolder.{HasFirstBumps, numbered_view, numbered_at};
 
 use crate::crates::Bump;
-use crate::reach::{folder_of, reached};
+use crate::reach::{folder_of, resolve_folder};
 use edit_base::CargoResult;
 use semver::Version;
 use std::alloc::Global;
@@ -30,9 +30,9 @@ fn add_bump<'a>(
     path: &str,
     bump: Numbered<'a>,
 ) -> CargoResult<()>
-    ensures ok { OnOk result ((q : List ℕ) → numbered_at numbers.new (names_of q)
-        ≡ option_or (numbered_at numbers.old (names_of q))
-        (if same_folder (folder_of path.now) (names_of q) then Some (numbered_view bump.entry) else None)) }
+    ensures ok { OnOk result ((q : List ℕ) → numbered_at numbers.new (folder_at_path q)
+        ≡ option_or (numbered_at numbers.old (folder_at_path q))
+        (if same_folder (folder_of path.now) (folder_at_path q) then Some (numbered_view bump.entry) else None)) }
     ensures error { IfErr result IsMemory }
 {
     let folder = folder_of(alloc, path)?;
@@ -68,10 +68,10 @@ pub(crate) fn bump_at<'a>(
     path: &str,
 ) -> CargoResult<Option<Numbered<'a>>>
     ensures ok { IfOk result (λ o. option_map numbered_view o
-        ≡ numbered_at numbers.now (reached file.now path.now)) }
+        ≡ numbered_at numbers.now (resolve_folder file.now path.now)) }
     ensures error { IfErr result IsMemory }
 {
-    let folder = reached(alloc, file, path)?;
+    let folder = resolve_folder(alloc, file, path)?;
     Ok(numbers.get(folder.as_str()).copied())
 }
 

@@ -8,7 +8,7 @@ ghost use Rattle.edit_version.specs.Laws.{IsReadable};
 ghost use Rattle.edit_set_version.specs.Apart.{AreApart};
 ghost use Rattle.edit_set_version.specs.BumpCauses.{IsBumpable};
 ghost use Rattle.edit_set_version.specs.Bumps.{IsReadableTarget, bump, target_of};
-ghost use Rattle.edit_set_version.specs.Chosen.{chosen, held_back};
+ghost use Rattle.edit_set_version.specs.Chosen.{chosen_members, excluded_inheriting};
 ghost use Rattle.edit_set_version.specs.Crates.{IsReadOf, bumps_view, project_view};
 ghost use Rattle.edit_set_version.specs.Admitted.{AreVersions};
 ghost use Rattle.edit_set_version.specs.PlanCauses.{IsManifestError, IsVersionError, currents};
@@ -63,12 +63,12 @@ fn versions_of<'a>(
     ensures next { IfOk result (λ v. option_map parts_of v.next
         ≡ workspace_next (target_of target.now) (selection_view selection.now) (project_view project.now)) }
     ensures excluded { OnOk result
-        (held_back (selection_view selection.now) (project_view project.now).members ≡ []) }
+        (excluded_inheriting (selection_view selection.now) (project_view project.now).members ≡ []) }
     ensures bumpable { OnOk result (All (λ v. IsBumpable (bump (target_of target.now)
         (selection_view selection.now).metadata v))
         (currents (selection_view selection.now) (project_view project.now))) }
     ensures versions { IsReadableTarget (target_of target.now)
-        → All (λ m. IsReadable m.version) (chosen (selection_view selection.now) (project_view project.now).members)
+        → All (λ m. IsReadable m.version) (chosen_members (selection_view selection.now) (project_view project.now).members)
         → IfOk result (λ v. AreVersions (bumps_view v.bumps.items)) }
     ensures error { IfErr result (λ e. IsMemory e
         ⊎ IsVersionError (target_of target.now) (selection_view selection.now) (project_view project.now) e) }

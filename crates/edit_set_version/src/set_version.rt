@@ -10,7 +10,7 @@ ghost use Rattle.edit_set_version.specs.Levels.{IsLevel};
 ghost use Rattle.edit_set_version.specs.declared.set_version.BumpLevel.TheVariants.{Release};
 ghost use Rattle.edit_set_version.specs.declared.set_version.TargetVersion.TheVariants.{Relative};
 
-use crate::bump::{bump_to_version, raised};
+use crate::bump::{bump_to_version, bump_by_level};
 use edit_base::errors::CargoResult;
 use semver::Version;
 use std::alloc::Global;
@@ -106,7 +106,7 @@ impl TargetVersion {
             → IfOk result (λ next. IfSome next (λ v. IsReadable (parts_of v))) }
     {
         match self {
-            TargetVersion::Relative(level) => raised(alloc, *level, current, metadata),
+            TargetVersion::Relative(level) => bump_by_level(alloc, *level, current, metadata),
             TargetVersion::Absolute(version) => bump_to_version(alloc, version, current, metadata),
         }
     }

@@ -16,7 +16,7 @@ use crate::dependents::dependents_of;
 use crate::lines::Line;
 use crate::numbers::BumpsByFolder;
 use crate::project::ProjectRead;
-use crate::told::{bump_lists, push_updates};
+use crate::bump_lines::{bump_lists, push_updates};
 use edit_base::CargoResult;
 use edit_manifest::Manifest;
 use edit_metadata::Input;

@@ -87,7 +87,7 @@ mod tests {
     }
 
     #[test]
-    fn arguments(rt: HostRuntime) -> Result<(), Fail> {
+    fn quotes_arguments(rt: HostRuntime) -> Result<(), Fail> {
         let alloc = rt.alloc();
         let mut arguments = Vec::new(alloc);
         for argument in ["update", "", "'"] {

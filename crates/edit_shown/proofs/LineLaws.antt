@@ -10,10 +10,10 @@ use Rattle.std.proofs.lemmas.List.Elements.{filter-append}
 use Rattle.std.proofs.lemmas.Slice.Eq.{bytes_eq-Decides}
 use Rattle.edit_shown.proofs.MarkLemmas.{pieces_more}
 use Rattle.edit_shown.specs.Lines.{lines_of, onto}
-use Rattle.edit_shown.specs.LineKinds.{DiffLine, lines_in, lines_with, marked, compare_lines_at}
+use Rattle.edit_shown.specs.LineKinds.{DiffLine, lines_in, lines_with, compare_lines, compare_lines_at}
 use Rattle.edit_shown.specs.ShownLines.{is_new, is_old}
-use Rattle.edit_shown.specs.declared.diff.marks.LineKind.{LineKind}
-use Rattle.edit_shown.specs.declared.diff.marks.LineKind.TheVariants.{Context, Removed, Added}
+use Rattle.edit_shown.specs.declared.diff.line_diff.LineKind.{LineKind}
+use Rattle.edit_shown.specs.declared.diff.line_diff.LineKind.TheVariants.{Context, Removed, Added}
 
 -- a byte before lines, joined
 joined_onto : (b : ℕ) (lines : List (List ℕ)) → concat (onto b lines) ≡ b ∷ concat lines
@@ -92,14 +92,14 @@ abbrev numbered_lines : List (List ℕ) → List (List ℕ) → ℕ → List Dif
 numbered_lines olds news i = compare_lines_at (slice_get olds i) (slice_get news i)
 
 -- the lines that are kept or removed
-pub keeps_old : (olds news : List (List ℕ)) → lines_with is_old (marked olds news) ≡ olds
+pub keeps_old : (olds news : List (List ℕ)) → lines_with is_old (compare_lines olds news) ≡ olds
 keeps_old olds news =
     fronts is_old (numbered_lines olds news) olds (λ k. old_at (slice_get olds k) (slice_get news k))
     (max (length olds) (length news))
     ∙ whole_front olds _ (omega arith)
 
 -- the lines that are kept or added
-pub keeps_new : (olds news : List (List ℕ)) → lines_with is_new (marked olds news) ≡ news
+pub keeps_new : (olds news : List (List ℕ)) → lines_with is_new (compare_lines olds news) ≡ news
 keeps_new olds news =
     fronts is_new (numbered_lines olds news) news (λ k. new_at (slice_get olds k) (slice_get news k))
     (max (length olds) (length news))

@@ -9,7 +9,7 @@ use Rattle.std.proofs.lemmas.List.FromFn.{get_or-map-range_with_len, length-map-
 use Rattle.std.proofs.lemmas.List.Sums.{count_by_more_no, count_by_more_yes}
 use Rattle.edit_shown.specs.Hunks.{AreCounted}
 use Rattle.edit_shown.specs.ShownLines.{is_new, is_old, is_shown, leading, shown_lines}
-use Rattle.edit_shown.specs.declared.diff.marks.LineKind.{LineKind}
+use Rattle.edit_shown.specs.declared.diff.line_diff.LineKind.{LineKind}
 
 id-map : (xs : List ℕ) → map (λ x. x) xs ≡ xs
 id-map [] = refl

@@ -5,7 +5,7 @@ use Rattle.std.specs.List.{starts_with}
 use Rattle.std.specs.Str.{IsCharBoundary}
 use Rattle.std.specs.Str.Pattern.{FindsTextPrefix, StripsPrefix}
 use Rattle.std.proofs.lemmas.Str.Pattern.{starts_text}
-use Rattle.edit_shown.specs.Diffs.{below}
+use Rattle.edit_shown.specs.Diffs.{strip_folder}
 
 -- a text that begins with another, and what it has behind it
 begun : (n s rest : List ℕ) → StripsPrefix (FindsTextPrefix n) s rest
@@ -21,7 +21,7 @@ other n s h = sym (starts_text false n s h)
 
 -- a path below the folder
 pub inside : (folder path rest : List ℕ) → StripsPrefix (FindsTextPrefix folder) path rest
-    → rest ≡ below folder path
+    → rest ≡ strip_folder folder path
 inside folder path rest h =
     let is = begun folder path rest h in
     is.1 ∙ sym (ap (λ b. if b then drop (length folder) path
@@ -29,7 +29,7 @@ inside folder path rest h =
 
 -- another path with a first `/`
 pub outside : (folder path rest : List ℕ) → FindsTextPrefix folder path None
-    → StripsPrefix (FindsTextPrefix (codes "/")) path rest → rest ≡ below folder path
+    → StripsPrefix (FindsTextPrefix (codes "/")) path rest → rest ≡ strip_folder folder path
 outside folder path rest h k =
     let is = begun (codes "/") path rest k in
     is.1 ∙ sym (ap (λ b. if b then drop 1 path else path) is.0)
@@ -38,7 +38,7 @@ outside folder path rest h k =
 
 -- another one without
 pub relative : (folder path : List ℕ) → FindsTextPrefix folder path None
-    → FindsTextPrefix (codes "/") path None → path ≡ below folder path
+    → FindsTextPrefix (codes "/") path None → path ≡ strip_folder folder path
 relative folder path h k =
     sym (ap (λ b. if b then drop 1 path else path) (other (codes "/") path k))
     ∙ sym (ap (λ b. if b then drop (length folder) path

@@ -2,17 +2,17 @@
 use Rattle.std.proofs.Common.{◌≡◌, ℕ, List, ap, ◌∙◌}
 use Rattle.edit_shown.specs.Hunks.{parts_text}
 use Rattle.edit_shown.specs.Lines.{lines_of}
-use Rattle.edit_shown.specs.LineKinds.{lines_in, marked, line_kinds}
+use Rattle.edit_shown.specs.LineKinds.{lines_in, compare_lines, line_kinds}
 use Rattle.edit_shown.specs.Unified.{parts_of}
-use Rattle.edit_shown.specs.declared.diff.marks.LineKind.{LineKind}
+use Rattle.edit_shown.specs.declared.diff.line_diff.LineKind.{LineKind}
 
 -- the parts of a diff of two texts
 pub parts_from : (marks : List LineKind) (lines olds news : List (List ℕ)) (old new : List ℕ)
-    → marks ≡ line_kinds (marked olds news) → lines ≡ lines_in (marked olds news)
+    → marks ≡ line_kinds (compare_lines olds news) → lines ≡ lines_in (compare_lines olds news)
     → olds ≡ lines_of old → news ≡ lines_of new
-    → parts_text marks lines ≡ parts_of (marked (lines_of old) (lines_of new))
+    → parts_text marks lines ≡ parts_of (compare_lines (lines_of old) (lines_of new))
 parts_from marks lines olds news old new a b c d =
     ap (λ m. parts_text m lines) a
-    ∙ ap (λ l. parts_text (line_kinds (marked olds news)) l) b
-    ∙ ap (λ o. parts_of (marked o news)) c
-    ∙ ap (λ n. parts_of (marked (lines_of old) n)) d
+    ∙ ap (λ l. parts_text (line_kinds (compare_lines olds news)) l) b
+    ∙ ap (λ o. parts_of (compare_lines o news)) c
+    ∙ ap (λ n. parts_of (compare_lines (lines_of old) n)) d

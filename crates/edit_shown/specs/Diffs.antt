@@ -11,15 +11,15 @@ abbrev pub folder_text : List ℕ → List ℕ
 folder_text root = if ends_with nat_eq root (codes "/") then root else root ++ codes "/"
 
 -- a path relative to a folder, or without its first `/` where it is not in the folder (own)
-abbrev pub below : List ℕ → List ℕ → List ℕ
-below folder path =
+abbrev pub strip_folder : List ℕ → List ℕ → List ℕ
+strip_folder folder path =
     if starts_with nat_eq path folder then drop (length folder) path
     else if starts_with nat_eq path (codes "/") then drop 1 path
     else path
 
 -- the path of a file in a diff whose paths are relative to a folder (own)
 abbrev pub shown_path : List ℕ → List ℕ → List ℕ
-shown_path root path = below (folder_text root) path
+shown_path root path = strip_folder (folder_text root) path
 
 -- the diff of a manifest (own)
 abbrev pub diff_of : List ℕ → Input → Output → List ℕ

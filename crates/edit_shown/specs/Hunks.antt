@@ -2,8 +2,8 @@
 -- Output Format).
 use Rattle.std.specs.Prelude.{◌≡◌, ℕ, ◌+◌, ◌-◌, List, [], ◌∷◌, ◌++◌, Bool, not, ◌||◌, ◌==◌, codes, decimal, length, drop, take, slice_index, slice_index_or, if◌then◌else◌}
 use Rattle.std.specs.List.{count_by, flat_map, range_with_len}
-use Rattle.edit_shown.specs.declared.diff.marks.LineKind.{LineKind}
-use Rattle.edit_shown.specs.declared.diff.marks.LineKind.TheVariants.{Context, Removed, Added}
+use Rattle.edit_shown.specs.declared.diff.line_diff.LineKind.{LineKind}
+use Rattle.edit_shown.specs.declared.diff.line_diff.LineKind.TheVariants.{Context, Removed, Added}
 use Rattle.edit_shown.specs.ShownLines.{is_new, is_old, is_shown, leading, shown_lines}
 
 -- the character before a line (POSIX, "diff", Diff -u)

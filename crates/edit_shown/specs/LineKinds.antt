@@ -2,8 +2,8 @@
 use Rattle.std.specs.Prelude.{ℕ, max, Bool, List, [], ◌∷◌, Option, Some, None, length, map, slice_get, if◌then◌else◌}
 use Rattle.std.specs.List.{flat_map, range_with_len, filter}
 use Rattle.std.specs.Str.{bytes_eq}
-use Rattle.edit_shown.specs.declared.diff.marks.LineKind.{LineKind}
-use Rattle.edit_shown.specs.declared.diff.marks.LineKind.TheVariants.{Context, Removed, Added}
+use Rattle.edit_shown.specs.declared.diff.line_diff.LineKind.{LineKind}
+use Rattle.edit_shown.specs.declared.diff.line_diff.LineKind.TheVariants.{Context, Removed, Added}
 
 -- a line, and whether it is unchanged, removed or added (own)
 abbrev pub DiffLine : Type 0
@@ -18,8 +18,8 @@ compare_lines_at None (Some new) = (Added, new) ∷ []
 compare_lines_at None None = []
 
 -- the result for all lines of two texts, each with the one at the same index (own)
-abbrev pub marked : List (List ℕ) → List (List ℕ) → List DiffLine
-marked olds news = flat_map (λ i. compare_lines_at (slice_get olds i) (slice_get news i))
+abbrev pub compare_lines : List (List ℕ) → List (List ℕ) → List DiffLine
+compare_lines olds news = flat_map (λ i. compare_lines_at (slice_get olds i) (slice_get news i))
     (range_with_len 0 (max (length olds) (length news)))
 
 -- the marks alone (own)

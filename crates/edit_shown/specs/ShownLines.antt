@@ -1,8 +1,8 @@
 -- Which lines a diff shows: those within three of one that changes (own).
 use Rattle.std.specs.Prelude.{ℕ, suc, ◌+◌, ◌-◌, min, List, [], ◌∷◌, Bool, true, false, length, map, slice_range}
 use Rattle.std.specs.List.{list_any, range_with_len}
-use Rattle.edit_shown.specs.declared.diff.marks.LineKind.{LineKind}
-use Rattle.edit_shown.specs.declared.diff.marks.LineKind.TheVariants.{Context, Removed, Added}
+use Rattle.edit_shown.specs.declared.diff.line_diff.LineKind.{LineKind}
+use Rattle.edit_shown.specs.declared.diff.line_diff.LineKind.TheVariants.{Context, Removed, Added}
 
 -- a line that changes (own)
 abbrev pub is_change : LineKind → Bool

@@ -4,7 +4,7 @@ use Rattle.std.specs.Str.{bytes_eq}
 use Rattle.edit_shown.specs.Hunks.{parts_text}
 use Rattle.edit_shown.specs.Lines.{lines_of}
 use Rattle.edit_shown.specs.Names.{name_text}
-use Rattle.edit_shown.specs.LineKinds.{DiffLine, lines_in, marked, line_kinds}
+use Rattle.edit_shown.specs.LineKinds.{DiffLine, lines_in, compare_lines, line_kinds}
 
 -- the two lines that name a file (own)
 abbrev pub names_text : List ℕ → List ℕ
@@ -19,4 +19,4 @@ parts_of lines = parts_text (line_kinds lines) (lines_in lines)
 abbrev pub diff_text : List ℕ → List ℕ → List ℕ → List ℕ
 diff_text path old new =
     if bytes_eq old new then []
-    else names_text path ++ parts_of (marked (lines_of old) (lines_of new))
+    else names_text path ++ parts_of (compare_lines (lines_of old) (lines_of new))

@@ -2,9 +2,9 @@
 
 mod hunks;
 mod lines;
-mod marks;
+mod line_diff;
 mod names;
-mod shown;
+mod context_lines;
 pub mod unified;
 
 pub use unified::{diff_text, write_diff};

@@ -2,8 +2,8 @@
 
 mod fields;
 pub mod messages;
-mod words;
-mod written;
+mod message_names;
+mod message_encoding;
 
 pub use messages::{
     Summary, change_message, file_message, row_message, summary_message, warning_message,

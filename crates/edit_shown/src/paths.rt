@@ -1,7 +1,7 @@
 //! Paths of manifests in a diff.
 ghost use Rattle.std.specs.Prelude.{◌≡◌, IfErr, IfOk, string_bytes};
 ghost use Rattle.edit_base.specs.Errors.{IsMemory};
-ghost use Rattle.edit_shown.specs.Diffs.{below, folder_text, shown_path};
+ghost use Rattle.edit_shown.specs.Diffs.{strip_folder, folder_text, shown_path};
 
 use edit_base::CargoResult;
 use std::alloc::Global;
@@ -18,8 +18,8 @@ fn folder_text(alloc: Global, folder: &str) -> CargoResult<String>
 }
 
 /// A path relative to a folder, or without its first `/` where it is not in the folder.
-fn below<'a>(folder: &str, path: &'a str) -> &'a str
-    ensures { result.now ≡ below folder.now path.now }
+fn strip_folder<'a>(folder: &str, path: &'a str) -> &'a str
+    ensures { result.now ≡ strip_folder folder.now path.now }
 {
     if let Some(rest) = path.strip_prefix(folder) {
         return rest;
@@ -36,5 +36,5 @@ pub(crate) fn shown_path<'a>(alloc: Global, folder: &str, path: &'a str) -> Carg
     ensures error { IfErr result IsMemory }
 {
     let folder = folder_text(alloc, folder)?;
-    Ok(below(folder.as_str(), path))
+    Ok(strip_folder(folder.as_str(), path))
 }

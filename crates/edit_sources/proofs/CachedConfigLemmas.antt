@@ -10,7 +10,7 @@ use Rattle.std.proofs.lemmas.Bool.{cases_Bool}
 use Rattle.std.proofs.lemmas.List.{map_more}
 use Rattle.std.proofs.lemmas.List.Elements.{All-head, All-push, All-tail, filter_map-append}
 use Rattle.edit_store.specs.Store.{Files, OnlyReads, StoreView}
-use Rattle.edit_sources.specs.Configuration.{Says}
+use Rattle.edit_sources.specs.Configuration.{HasConfiguration}
 use Rattle.edit_sources.specs.ConfigurationFiles.{AreConfigs, IsReadFrom, IsReadOf, IsSearched, file_in, files_in}
 use Rattle.edit_sources.specs.Configured.{path_and_entries}
 use Rattle.edit_sources.specs.CachedConfigs.{AreCached, IsSearchedIn, found_at, found_in}
@@ -141,7 +141,7 @@ copies_read (f ∷ fs) (c ∷ cs) (d ∷ ds) read same =
     let rest : map path_and_entries ds ≡ map path_and_entries cs = cc same in (
       record {
         path = ap (λ p. p.0) one ∙ read.0.path;
-        said = subst (Says f.1) (sym (ap (λ p. p.1) one)) read.0.said;
+        said = subst (HasConfiguration f.1) (sym (ap (λ p. p.1) one)) read.0.said;
       },
       copies_read fs cs ds read.1 rest,
     )

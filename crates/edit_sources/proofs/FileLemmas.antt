@@ -9,12 +9,12 @@ use Rattle.std.proofs.lemmas.List.Elements.{filter_map-append}
 use Rattle.std.proofs.lemmas.Slice.Zip.{all_zipped_more}
 use Rattle.edit_base.specs.Paths.{joined}
 use Rattle.edit_base.specs.declared.errors.Error.{Error}
-use Rattle.edit_store.specs.Store.{Files, SameFiles, StoreView, raised}
+use Rattle.edit_store.specs.Store.{Files, SameFiles, StoreView, IsRaisedCount}
 use Rattle.edit_sources.specs.Sources.{or_else}
-use Rattle.edit_sources.specs.ConfigurationFiles.{standing, file_in, files_in, IsReadFrom, IsReadOf, HasFailed, FileFails, IsConfigPath, IsFirstMalformed, PlaceFails}
+use Rattle.edit_sources.specs.ConfigurationFiles.{existing_file, file_in, files_in, IsReadFrom, IsReadOf, HasFailed, FileFails, IsConfigPath, IsFirstMalformed, PlaceFails}
 use Rattle.edit_sources.specs.declared.config.Config.{Config}
 
-raised_later : (a b c : ℕ) → a ≤ b → raised b c → raised a c
+raised_later : (a b c : ℕ) → a ≤ b → IsRaisedCount b c → IsRaisedCount a c
 raised_later a b c le (inl lt) = inl (omega arith)
 raised_later a b c le (inr ends) = ⊎_elim (λ same. inr (same ∙ ends.0, ends.1)) (λ lt. inl (omega arith))
     (eq-or-lt_of_le le)
@@ -28,27 +28,27 @@ pub absent : (o : Option (List ℕ × List ℕ)) → IsReadOf o None → o ≡ N
 absent None h = refl
 absent (Some file) h = absurd h
 
-standing-same : (old new : Files) (path : List ℕ) → SameFiles old new → standing new path ≡ standing old path
+standing-same : (old new : Files) (path : List ℕ) → SameFiles old new → existing_file new path ≡ existing_file old path
 standing-same old new path same =
     ap (option_map (λ (bytes : List ℕ). let file : List ℕ × List ℕ = (path, bytes) in file)) (same path)
 
 pub file_in-same : (old new : Files) (place : List ℕ) → SameFiles old new
     → file_in new place ≡ file_in old place
 file_in-same old new place same =
-    ap (λ o. or_else o (standing new (joined place (codes "config.toml"))))
+    ap (λ o. or_else o (existing_file new (joined place (codes "config.toml"))))
     (standing-same old new (joined place (codes "config")) same)
-    ∙ ap (or_else (standing old (joined place (codes "config"))))
+    ∙ ap (or_else (existing_file old (joined place (codes "config"))))
     (standing-same old new (joined place (codes "config.toml")) same)
 
 -- if `config` does not exist, `config.toml` counts
 pub file_in-second : (old new : Files) (place first second : List ℕ) → first ≡ joined place (codes "config")
-    → second ≡ joined place (codes "config.toml") → SameFiles old new → IsReadOf (standing old first) None
-    → standing new second ≡ file_in old place
+    → second ≡ joined place (codes "config.toml") → SameFiles old new → IsReadOf (existing_file old first) None
+    → existing_file new second ≡ file_in old place
 file_in-second old new place first second a b same none =
-    let gone : standing old (joined place (codes "config")) ≡ None =
-    subst (λ p. standing old p ≡ None) a (absent (standing old first) none) in
-    ap (standing new) b ∙ standing-same old new (joined place (codes "config.toml")) same ∙
-    sym (ap (λ o. or_else o (standing old (joined place (codes "config.toml")))) gone)
+    let gone : existing_file old (joined place (codes "config")) ≡ None =
+    subst (λ p. existing_file old p ≡ None) a (absent (existing_file old first) none) in
+    ap (existing_file new) b ∙ standing-same old new (joined place (codes "config.toml")) same ∙
+    sym (ap (λ o. or_else o (existing_file old (joined place (codes "config.toml")))) gone)
 
 zip_more : (o : Option (List ℕ × List ℕ)) (found : Option Config) (files : List (List ℕ × List ℕ))
     (configs : List Config) → AllZip IsReadFrom files configs → IsReadOf o found

@@ -69,7 +69,7 @@ configuration_of document =
     both (λ r s. record { registries = r; sources = s }) (registries_in document) (sources_in document)
 
 -- the bytes are UTF-8 and a TOML document with this configuration (own)
-pub record Says (bytes : List ℕ) (said : Configuration) : Type 0 where
+pub record HasConfiguration (bytes : List ℕ) (said : Configuration) : Type 0 where
   pub utf8 : IsUtf8 bytes
   pub members : Members
   pub toml : parse_document bytes ≡ Some members

@@ -8,10 +8,10 @@ use Rattle.edit_store.specs.Climbs.{Climbs}
 use Rattle.edit_base.specs.declared.errors.Error.{Error}
 use Rattle.edit_base.specs.declared.errors.Error.TheVariants.{Device}
 use Rattle.edit_base.specs.declared.errors.DeviceCall.TheVariants.{Read}
-use Rattle.edit_store.specs.Store.{Files, raised}
-use Rattle.edit_sources.specs.Configuration.{Says, IsMalformedConfig}
+use Rattle.edit_store.specs.Store.{Files, IsRaisedCount}
+use Rattle.edit_sources.specs.Configuration.{HasConfiguration, IsMalformedConfig}
 use Rattle.url.specs.Parts.{Parts}
-use Rattle.edit_sources.specs.Configured.{configuration, paths_of, IsConfigRefusal, HasAddress, HasNoUrl}
+use Rattle.edit_sources.specs.Configured.{configuration, paths_of, IsConfigErrorAt, HasAddress, HasNoUrl}
 use Rattle.edit_sources.specs.Sources.{or_else}
 use Rattle.edit_sources.specs.declared.config.Config.{Config}
 
@@ -31,14 +31,14 @@ pub record IsSearched (manifest : List ℕ) (home : Option (List ℕ)) (places :
   pub all : places ≡ map (λ folder. joined folder (codes ".cargo")) folders ++ option_to_list home
 
 -- the file at a path, if it exists: its path and its bytes (own)
-abbrev pub standing : Files → List ℕ → Option (List ℕ × List ℕ)
-standing files path = option_map (λ bytes. (path, bytes)) (files path)
+abbrev pub existing_file : Files → List ℕ → Option (List ℕ × List ℕ)
+existing_file files path = option_map (λ bytes. (path, bytes)) (files path)
 
 -- the configuration file in a folder: `config`, else `config.toml` (Cargo reference, "Configuration",
 -- Hierarchical structure)
 abbrev pub file_in : Files → List ℕ → Option (List ℕ × List ℕ)
-file_in files place = or_else (standing files (joined place (codes "config")))
-    (standing files (joined place (codes "config.toml")))
+file_in files place = or_else (existing_file files (joined place (codes "config")))
+    (existing_file files (joined place (codes "config.toml")))
 
 -- the configuration files in these folders, in their order (own)
 abbrev pub files_in : Files → List (List ℕ) → List (List ℕ × List ℕ)
@@ -47,7 +47,7 @@ files_in files places = filter_map (file_in files) places
 -- the configuration is that of the file (own)
 pub record IsReadFrom (file : List ℕ × List ℕ) (config : Config) : Type 0 where
   pub path : string_bytes config.path ≡ file.0
-  pub said : Says file.1 (configuration config)
+  pub said : HasConfiguration file.1 (configuration config)
 
 -- the configuration is that of the file if it exists, and there is none otherwise (own)
 abbrev pub IsReadOf : Option (List ℕ × List ℕ) → Option Config → Type 0
@@ -57,13 +57,13 @@ IsReadOf _ _ = ⊥
 
 -- the error of a malformed file (own)
 pub record IsBadConfig (file : List ℕ × List ℕ) (e : Error) : Type 0 where
-  pub named : IsConfigRefusal file.0 e
+  pub named : IsConfigErrorAt file.0 e
   pub nothing : IsMalformedConfig file.1
 
 -- the device failed while a file was read (own)
 pub record HasFailed (before now : ℕ) (e : Error) : Type 0 where
   pub is : e ≡ Device Read
-  pub counted : raised before now
+  pub counted : IsRaisedCount before now
 
 -- the path of the configuration file in a folder, by one of its two names (Cargo reference, "Configuration",
 -- Hierarchical structure)

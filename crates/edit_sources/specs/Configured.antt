@@ -42,8 +42,8 @@ abbrev pub paths_of : List Config → List (List ℕ)
 paths_of configs = map (λ c. string_bytes c.path) configs
 
 -- the error is `Config` with this path (own)
-abbrev pub IsConfigRefusal : List ℕ → Error → Type 0
-IsConfigRefusal path e = (named : String Global) × (e ≡ refusal.Config named) × (string_bytes named ≡ path)
+abbrev pub IsConfigErrorAt : List ℕ → Error → Type 0
+IsConfigErrorAt path e = (named : String Global) × (e ≡ refusal.Config named) × (string_bytes named ≡ path)
 
 -- the definitions of these configurations (own)
 abbrev pub all_definitions : List Config → List chain.Definition

@@ -5,7 +5,7 @@ use Rattle.edit_base.specs.declared.errors.Error.{Error}
 use Rattle.edit_base.specs.declared.errors.Error.TheVariants.{Scheme, IndexPath, BadCrateName, IndexLine}
 use Rattle.edit_base.specs.Errors.{number_of, IsMemory}
 use Rattle.edit_version.specs.IndexEntry.{IndexEntry, entry_of}
-use Rattle.edit_store.specs.Store.{raised}
+use Rattle.edit_store.specs.Store.{IsRaisedCount}
 use Rattle.edit_sources.specs.declared.index.IndexKrate.{IndexKrate}
 
 -- the entries of a crate (own)
@@ -57,15 +57,15 @@ SameOutcomes old new =
     → new address name outcome ↔ old address name outcome
 
 -- an error that depends only on the arguments of the lookup and the contents of the index (own)
-abbrev pub IsGivenRefusal : Outcomes → Parts → List ℕ → Error → Type 0
-IsGivenRefusal gives address name e = IsLookupErrorNumber (number_of e) × gives address name (Err (lookup_error e))
+abbrev pub IsOutcomeError : Outcomes → Parts → List ℕ → Error → Type 0
+IsOutcomeError gives address name e = IsLookupErrorNumber (number_of e) × gives address name (Err (lookup_error e))
 
 -- the errors of a lookup: lack of memory, one that the index gives, or a fault of the device, which is
 -- counted (own)
 abbrev pub IsLookupError : IndexView → IndexView → Parts → List ℕ → Error → Type 0
 IsLookupError old new address name e =
     IsMemory e
-    ⊎ (IsGivenRefusal old.gives address name e ⊎ ((number_of e ≡ 3) × raised old.faults new.faults))
+    ⊎ (IsOutcomeError old.gives address name e ⊎ ((number_of e ≡ 3) × IsRaisedCount old.faults new.faults))
 
 -- the count of faults never falls, and a lookup fails only for one of these reasons (own)
 pub record HasLookupCause {T : Type 0} (old new : IndexView) (address : Parts) (name : List ℕ)

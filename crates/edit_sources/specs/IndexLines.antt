@@ -91,8 +91,8 @@ abbrev pub IsLineError : List ℕ → ℕ → Error → Type 0
 IsLineError line n e = IsMemory e ⊎ ((e ≡ IndexLine n) × ((x : IndexEntry) → IsIndexLine line x → ⊥))
 
 -- the model of a value that may be absent (own)
-abbrev pub shown : Option (Bor Value) → Option Data
-shown value = option_map (λ v. view v.now) value
+abbrev pub optional_value_view : Option (Bor Value) → Option Data
+optional_value_view value = option_map (λ v. view v.now) value
 
 -- the errors of a file: lack of memory, or `IndexLine` for the first malformed line (own)
 abbrev pub IsLinesError : List (List ℕ) → Error → Type 0

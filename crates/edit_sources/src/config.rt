@@ -4,10 +4,10 @@ ghost use Rattle.edit_base.specs.Errors.{IsMemory};
 ghost use Rattle.toml.specs.Data.{get_member};
 ghost use Rattle.toml.specs.View.{view, table_view};
 ghost use Rattle.edit_sources.specs.Configuration as said;
-ghost use Rattle.edit_sources.specs.Configuration.{Configuration, Says, IsMalformedConfig, configuration_of, entries_of, table_of};
-ghost use Rattle.edit_sources.specs.Configured.{IsConfigRefusal, configuration, registry_entry, source_entry, source_view};
+ghost use Rattle.edit_sources.specs.Configuration.{Configuration, HasConfiguration, IsMalformedConfig, configuration_of, entries_of, table_of};
+ghost use Rattle.edit_sources.specs.Configured.{IsConfigErrorAt, configuration, registry_entry, source_entry, source_view};
 
-use crate::index_lines::copied;
+use crate::index_lines::clone_optional_str;
 use edit_base::{CargoResult, Error};
 use std::alloc::{AllocError, Global};
 use toml::{Table, Value};
@@ -78,8 +78,8 @@ fn source_of(alloc: Global, value: &Value) -> Result<Option<ConfigSource>, Alloc
         return Ok(None);
     };
     Ok(Some(ConfigSource {
-        registry: copied(alloc, registry)?,
-        replace_with: copied(alloc, replace_with)?,
+        registry: clone_optional_str(alloc, registry)?,
+        replace_with: clone_optional_str(alloc, replace_with)?,
     }))
 }
 
@@ -96,7 +96,7 @@ fn registry_entries(
         let Some(index) = index_of(value) else {
             return Ok(None);
         };
-        let index = copied(alloc, index)?;
+        let index = clone_optional_str(alloc, index)?;
         registries.push((String::from_str(alloc, key.as_str())?, index))?;
     }
     Ok(Some(registries))
@@ -121,8 +121,8 @@ fn source_entries(
 }
 
 /// Returns `Error::Config` for a configuration file.
-fn unreadable(alloc: Global, path: &str) -> Error
-    ensures { IsMemory result ⊎ IsConfigRefusal path.now result }
+fn config_file_error(alloc: Global, path: &str) -> Error
+    ensures { IsMemory result ⊎ IsConfigErrorAt path.now result }
 {
     match String::from_str(alloc, path) {
         Ok(path) => Error::Config { path },
@@ -192,16 +192,16 @@ impl Config {
     /// the bytes are not UTF-8, or the text is not TOML.
     pub fn read(alloc: Global, path: &str, bytes: &[u8]) -> CargoResult<Config>
         ensures named { IfOk result (λ c. string_bytes c.path ≡ path.now) }
-        ensures content { IfOk result (λ c. Says bytes.now (configuration c)) }
+        ensures content { IfOk result (λ c. HasConfiguration bytes.now (configuration c)) }
         // the bytes have no other configuration, and never both a configuration and none
-        ensures only { IfOk result (λ c. (other : Configuration) → Says bytes.now other
+        ensures only { IfOk result (λ c. (other : Configuration) → HasConfiguration bytes.now other
             → other ≡ configuration c) }
         ensures something { IfOk result (λ c. IsMalformedConfig bytes.now → ⊥) }
         ensures error { IfErr result (λ e. IsMemory e
-            ⊎ (IsConfigRefusal path.now e × IsMalformedConfig bytes.now)) }
+            ⊎ (IsConfigErrorAt path.now e × IsMalformedConfig bytes.now)) }
     {
         let Ok(text) = std::str::from_utf8(bytes) else {
-            return Err(unreadable(alloc, path));
+            return Err(config_file_error(alloc, path));
         };
         let table = match toml::table_from_str(alloc, text) {
             Ok(table) => table,
@@ -209,12 +209,12 @@ impl Config {
                 if error.is_memory() {
                     return Err(Error::Memory);
                 }
-                return Err(unreadable(alloc, path));
+                return Err(config_file_error(alloc, path));
             }
         };
         match configuration_in(alloc, path, &table)? {
             Some(config) => Ok(config),
-            None => Err(unreadable(alloc, path)),
+            None => Err(config_file_error(alloc, path)),
         }
     }
 }

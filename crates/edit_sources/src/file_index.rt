@@ -6,7 +6,7 @@ ghost use Rattle.edit_sources.specs.FileIndex.{AreNamed, GroupsByName, IsAdded, 
 ghost use Rattle.edit_sources.specs.IndexLines.{IsLinesError, lines_of};
 
 use crate::crate_name::is_crate_name;
-use crate::index::{Index, IndexKrate, copied};
+use crate::index::{Index, IndexKrate, clone_versions};
 use crate::index_lines::read_lines;
 use edit_base::errors::{CargoResult, Error};
 use edit_version::fetch::IndexVersion;
@@ -29,13 +29,13 @@ impl FileIndex {
     {
         let entries = read_lines(alloc, bytes)?;
         Ok(FileIndex {
-            groups: grouped(alloc, entries)?,
+            groups: group_by_crate(alloc, entries)?,
         })
     }
 }
 
 /// Groups entries by name; those of one name stay in their order.
-fn grouped(
+fn group_by_crate(
     alloc: Global,
     entries: Vec<IndexVersion>,
 ) -> Result<BTreeMap<String, Vec<IndexVersion>>, AllocError>
@@ -106,7 +106,7 @@ impl Index for FileIndex {
         }
         match self.groups.get(name) {
             Some(entries) if !entries.is_empty() => Ok(Some(IndexKrate {
-                versions: copied(alloc, entries)?,
+                versions: clone_versions(alloc, entries)?,
             })),
             _ => Ok(None),
         }

@@ -22,13 +22,13 @@ impl IndexKrate {
         ensures error { IfErr result IsMemory }
     {
         Ok(IndexKrate {
-            versions: copied(alloc, &self.versions)?,
+            versions: clone_versions(alloc, &self.versions)?,
         })
     }
 }
 
 /// Returns deep copies of the entries.
-pub(crate) fn copied(alloc: Global, entries: &[IndexVersion]) -> CargoResult<Vec<IndexVersion>>
+pub(crate) fn clone_versions(alloc: Global, entries: &[IndexVersion]) -> CargoResult<Vec<IndexVersion>>
     ensures ok { IfOk result (λ v. map entry_of v.items ≡ map entry_of entries.now) }
     ensures error { IfErr result IsMemory }
 {

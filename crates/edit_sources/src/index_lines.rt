@@ -3,7 +3,7 @@ ghost use Rattle.std.specs.Prelude.{◌≡◌, ◌==◌, ◌+◌, Ok, Err, IfOk,
 ghost use Rattle.edit_base.specs.declared.errors.Error.TheVariants.{IndexLine};
 ghost use Rattle.edit_base.specs.Errors.{IsMemory};
 ghost use Rattle.edit_version.specs.IndexEntry.{entry_of};
-ghost use Rattle.edit_sources.specs.IndexLines.{IsIndexLine, HaveEntriesInOrder, IsLineError, IsLinesError, is_blank, length_left, lines_left, lines_of, rust_version_of, shown, yanked_of};
+ghost use Rattle.edit_sources.specs.IndexLines.{IsIndexLine, HaveEntriesInOrder, IsLineError, IsLinesError, is_blank, length_left, lines_left, lines_of, rust_version_of, optional_value_view, yanked_of};
 ghost use Rattle.memchr.specs.Find.{IsFirstByte, is_byte};
 ghost use Rattle.serde_json.specs.Find.{as_str};
 
@@ -16,7 +16,7 @@ use serde_json::Value;
 use std::alloc::{AllocError, Global};
 
 /// Whether a line consists of nothing but spaces, tabs and carriage returns.
-fn blank(line: &[u8]) -> bool
+fn is_blank_line(line: &[u8]) -> bool
     ensures { result ≡ is_blank line.now }
 {
     line.iter()
@@ -25,7 +25,7 @@ fn blank(line: &[u8]) -> bool
 
 /// The string of a JSON value, if it is one.
 fn text<'a>(value: Option<&'a Value>) -> Option<&'a str>
-    ensures { option_map (λ s. s.now) result ≡ option_and_then as_str (shown value.entry) }
+    ensures { option_map (λ s. s.now) result ≡ option_and_then as_str (optional_value_view value.entry) }
 {
     match value {
         Some(value) => value.as_str(),
@@ -34,8 +34,8 @@ fn text<'a>(value: Option<&'a Value>) -> Option<&'a str>
 }
 
 /// Whether a version is yanked: false where the key is absent; `None` where it holds no boolean.
-fn yanked(value: Option<&Value>) -> Option<bool>
-    ensures { result ≡ yanked_of (shown value.entry) }
+fn yanked_flag(value: Option<&Value>) -> Option<bool>
+    ensures { result ≡ yanked_of (optional_value_view value.entry) }
 {
     match value {
         None => Some(false),
@@ -46,7 +46,7 @@ fn yanked(value: Option<&Value>) -> Option<bool>
 
 /// The `rust_version` of a version: none where the key is absent or null; `None` where it holds no string.
 fn rust_version<'a>(value: Option<&'a Value>) -> Option<Option<&'a str>>
-    ensures { option_map (λ r. option_map (λ s. s.now) r) result ≡ rust_version_of (shown value.entry) }
+    ensures { option_map (λ r. option_map (λ s. s.now) r) result ≡ rust_version_of (optional_value_view value.entry) }
 {
     match value {
         None | Some(Value::Null) => Some(None),
@@ -56,7 +56,7 @@ fn rust_version<'a>(value: Option<&'a Value>) -> Option<Option<&'a str>>
 }
 
 /// Returns an owned copy of a string, if there is one.
-pub(crate) fn copied(alloc: Global, text: Option<&str>) -> Result<Option<String>, AllocError>
+pub(crate) fn clone_optional_str(alloc: Global, text: Option<&str>) -> Result<Option<String>, AllocError>
     ensures { IfOk result (λ t. option_map string_bytes t ≡ option_map (λ s. s.now) text.entry) }
 {
     match text {
@@ -90,7 +90,7 @@ fn entry_from_tokens(
         name: String::from_str(alloc, name)?,
         version: String::from_str(alloc, version)?,
         yanked: fields.yanked,
-        rust_version: copied(alloc, fields.rust_version)?,
+        rust_version: clone_optional_str(alloc, fields.rust_version)?,
     }))
 }
 
@@ -125,7 +125,7 @@ fn entry_from_tree(alloc: Global, bytes: &[u8], line: usize) -> CargoResult<Inde
     let Some(version) = text(value.get("vers")) else {
         return Err(Error::IndexLine { line });
     };
-    let Some(yanked) = yanked(value.get("yanked")) else {
+    let Some(yanked) = yanked_flag(value.get("yanked")) else {
         return Err(Error::IndexLine { line });
     };
     let Some(rust_version) = rust_version(value.get("rust_version")) else {
@@ -135,7 +135,7 @@ fn entry_from_tree(alloc: Global, bytes: &[u8], line: usize) -> CargoResult<Inde
         name: String::from_str(alloc, name)?,
         version: String::from_str(alloc, version)?,
         yanked,
-        rust_version: copied(alloc, rust_version)?,
+        rust_version: clone_optional_str(alloc, rust_version)?,
     })
 }
 
@@ -176,7 +176,7 @@ pub fn read_lines(alloc: Global, bytes: &[u8]) -> CargoResult<Vec<IndexVersion>>
         let (line, after) = split_line(text);
         number += 1;
         rest = after;
-        if blank(line) {
+        if is_blank_line(line) {
             continue;
         }
         match read_line(alloc, line, number, &mut scratch) {

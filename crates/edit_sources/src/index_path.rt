@@ -48,11 +48,11 @@ fn folder_of(alloc: Global, registry: &Url) -> Result<Option<String>, AllocError
     if registry.has_host() {
         return Ok(None);
     }
-    decoded(alloc, registry.path())
+    decode_path(alloc, registry.path())
 }
 
 /// Percent-decodes the path of a URL; `None` where the result is not UTF-8 or contains U+0000.
-fn decoded(alloc: Global, path: &str) -> Result<Option<String>, AllocError>
+fn decode_path(alloc: Global, path: &str) -> Result<Option<String>, AllocError>
     ensures { IfOk result (λ o. MatchOption o (IsFolderText (percent_decode path.now) → ⊥)
         (λ f. IsFolderText (string_bytes f) × (string_bytes f ≡ percent_decode path.now))) }
 {

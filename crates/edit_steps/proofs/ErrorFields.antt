@@ -2,16 +2,16 @@
 use Rattle.std.proofs.Common.{◌≡◌, Result, Ok, Err, subst, sym}
 use Rattle.std.specs.Prelude.{IfErr, IsErrAnd, OnErr}
 use Rattle.edit_base.specs.declared.errors.Error.{Error}
-use Rattle.edit_steps.specs.declared.refusal.Refusal.{Refusal}
+use Rattle.edit_steps.specs.declared.run_error.RunError.{RunError}
 
 -- a refusal that is handed on has the cause of its error
-pub refusal_has : {T : Type 0} (r : Result T Refusal) (e : Refusal) (P : Error → Type 0)
+pub refusal_has : {T : Type 0} (r : Result T RunError) (e : RunError) (P : Error → Type 0)
     → IsErrAnd r (λ other. other ≡ e) → P e.error → IfErr r (λ x. P x.error)
 refusal_has (Ok x) e P same h = tt
-refusal_has (Err other) e P same h = subst (λ (x : Refusal). P x.error) (sym same) h
+refusal_has (Err other) e P same h = subst (λ (x : RunError). P x.error) (sym same) h
 
 -- and so has one that was made of an error
-pub refusal_made : {T : Type 0} (r : Result T Refusal) (e : Error) (P : Error → Type 0)
+pub refusal_made : {T : Type 0} (r : Result T RunError) (e : Error) (P : Error → Type 0)
     → IsErrAnd r (λ other. other.error ≡ e) → P e → IfErr r (λ x. P x.error)
 refusal_made (Ok x) e P same h = tt
 refusal_made (Err other) e P same h = subst P (sym same) h

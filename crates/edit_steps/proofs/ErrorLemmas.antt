@@ -11,7 +11,7 @@ use Rattle.edit_metadata.specs.Inputs.{IsNoInput, ManifestModel}
 use Rattle.edit_metadata.specs.Workspaces.{IsNoWorkspace}
 use Rattle.edit_sources.specs.ConfigurationFiles.{ConfigsFail, HasFailed, IsBadConfig}
 use Rattle.edit_sources.specs.Configured.{given}
-use Rattle.edit_store.specs.Store.{OnlyReads, IsCallError, StoreView, raised}
+use Rattle.edit_store.specs.Store.{OnlyReads, IsCallError, StoreView, IsRaisedCount}
 use Rattle.edit_steps.proofs.ReadLemmas.{refused_before, refused_on, unread_there}
 use Rattle.edit_steps.specs.RequestView.{RequestView}
 use Rattle.edit_steps.specs.Causes.{IsFailure}
@@ -48,7 +48,7 @@ pub counted_on : (old mid new : StoreView) (e : Error) → OnlyReads old mid →
     → CountsFault old new e
 counted_on old mid new e reads counted is = raised_on (counted is)
   where
-    raised_on : raised mid.faults new.faults → raised old.faults new.faults
+    raised_on : IsRaisedCount mid.faults new.faults → IsRaisedCount old.faults new.faults
     raised_on (inl lt) = inl (omega (arith, reads.later, lt))
     raised_on (inr ends) = ⊎_elim (λ same. inr (same ∙ ends.0, ends.1))
         (λ lt. inl (omega (arith, lt, ends.0, ends.1))) (eq-or-lt_of_le reads.later)

@@ -19,7 +19,7 @@ use Rattle.edit_steps.proofs.NamedLemmas.{seen_of}
 use Rattle.edit_steps.proofs.ReadLemmas.{before, refused_on}
 use Rattle.edit_steps.specs.Causes.{IsUngathered, StopsAtInput}
 use Rattle.edit_steps.specs.Causes.IsUngathered.{at_first, at_last, at_own}
-use Rattle.edit_steps.specs.Named.{AreConfigured, AreConfigsIn, IsUnreadFile, Pair, path_and_bytes, seen}
+use Rattle.edit_steps.specs.Named.{AreConfigured, AreConfigsIn, IsUnreadFile, Pair, path_and_bytes, given_file_view}
 use Rattle.edit_steps.specs.Shared.{IsOfSome}
 use Rattle.edit_steps.specs.Places.{FailsWith, IsPlaceIn, IsPlaceOfFirst, PassesWith}
 use Rattle.edit_steps.specs.declared.upgrade_read.named.NamedFile.{NamedFile}
@@ -36,7 +36,7 @@ error_has (Err other) e P same h = subst P (sym same) h
 pub first_ungathered : (F K : Type 0) (old : StoreView) (home : Option (List ℕ)) (pair : Pair)
     (manifest : List ℕ) (file : Option (Bor NamedFile)) (whole : Option NamedFile) (e : Error)
     → option_copied file ≡ whole → option_map path_and_bytes whole ≡ pair.first
-    → IsMemory e ⊎ IsUnreadFile (seen file) e
+    → IsMemory e ⊎ IsUnreadFile (given_file_view file) e
     → IsMemory e ⊎ (F ⊎ (K → old.tells ≡ true → IsUngathered old.file_at home pair manifest e))
 first_ungathered F K old home pair manifest file whole e is first (inl memory) = inl memory
 first_ungathered F K old home pair manifest file whole e is first (inr unread) =
@@ -46,7 +46,7 @@ first_ungathered F K old home pair manifest file whole e is first (inr unread) =
 pub own_ungathered : (F K : Type 0) (old : StoreView) (home : Option (List ℕ)) (pair : Pair)
     (manifest : List ℕ) (file : Option (Bor NamedFile)) (whole : Option NamedFile) (first : List Config)
     (e : Error) → option_copied file ≡ whole → option_map path_and_bytes whole ≡ pair.first
-    → AreConfigsIn (seen file) first
+    → AreConfigsIn (given_file_view file) first
     → IsMemory e ⊎ (F ⊎ (K → old.tells ≡ true → StopsAtConfig old.file_at manifest home e))
     → IsMemory e ⊎ (F ⊎ (K → old.tells ≡ true → IsUngathered old.file_at home pair manifest e))
 own_ungathered F K old home pair manifest file whole first e is named said (inl memory) = inl memory
@@ -61,9 +61,9 @@ pub last_ungathered : (F K : Type 0) (old : StoreView) (home : Option (List ℕ)
     (manifest : List ℕ) (file last : Option (Bor NamedFile)) (whole last_whole : Option NamedFile)
     (first own : List Config) (e : Error) → option_copied file ≡ whole
     → option_map path_and_bytes whole ≡ pair.first → option_copied last ≡ last_whole
-    → option_map path_and_bytes last_whole ≡ pair.last → AreConfigsIn (seen file) first
+    → option_map path_and_bytes last_whole ≡ pair.last → AreConfigsIn (given_file_view file) first
     → (K → old.tells ≡ true → AreConfigs old.file_at manifest home own)
-    → IsMemory e ⊎ IsUnreadFile (seen last) e
+    → IsMemory e ⊎ IsUnreadFile (given_file_view last) e
     → IsMemory e ⊎ (F ⊎ (K → old.tells ≡ true → IsUngathered old.file_at home pair manifest e))
 last_ungathered F K old home pair manifest file last whole last_whole first own e is named behind last_named
     said read (inl memory) = inl memory

@@ -8,35 +8,35 @@ use Rattle.edit_base.specs.declared.errors.DeviceCall.TheVariants as call
 use Rattle.edit_base.specs.declared.errors.Error.{Error}
 use Rattle.edit_sources.specs.Configuration.{IsMalformedConfig}
 use Rattle.edit_sources.specs.ConfigurationFiles.{AreConfigs}
-use Rattle.edit_sources.specs.Configured.{IsConfigRefusal}
+use Rattle.edit_sources.specs.Configured.{IsConfigErrorAt}
 use Rattle.edit_sources.specs.declared.config.Config.{Config}
 use Rattle.edit_store.specs.Store.{Files, OnlyReads, IsCallError, StoreView}
 use Rattle.edit_steps.proofs.ReadLemmas.{before, refused_on}
 use Rattle.edit_steps.specs.RequestView.{RequestView}
 use Rattle.edit_steps.specs.Causes.{LacksNamed}
-use Rattle.edit_steps.specs.Named.{AreGathered, AreConfigsIn, HasNoFile, IsUnreadFile, Pair, PathAndBytes, path_and_bytes, path_in, seen}
+use Rattle.edit_steps.specs.Named.{AreGathered, AreConfigsIn, HasNoFile, IsUnreadFile, Pair, PathAndBytes, path_and_bytes, path_in, given_file_view}
 use Rattle.edit_steps.specs.declared.upgrade_read.named.NamedFile.{NamedFile}
 
 -- a borrowed file is seen as the file is
 pub seen_copied : (file : Option (Bor NamedFile))
-    → seen file ≡ option_map path_and_bytes (option_copied file)
+    → given_file_view file ≡ option_map path_and_bytes (option_copied file)
 seen_copied None = refl
 seen_copied (Some there) = refl
 
 -- the same, of a file that another one is borrowed of
 pub seen_of : (file : Option (Bor NamedFile)) (whole : Option NamedFile) → option_copied file ≡ whole
-    → seen file ≡ option_map path_and_bytes whole
+    → given_file_view file ≡ option_map path_and_bytes whole
 seen_of file whole is = seen_copied file ∙ ap (option_map path_and_bytes) is
 
 -- a file that is no configuration
 pub unread_said : (file : Option (Bor NamedFile)) (there : Bor NamedFile) (path bytes : List ℕ) (e : Error)
     → file ≡ Some there → path ≡ string_bytes there.now.path → bytes ≡ there.now.bytes.items
-    → IsMemory e ⊎ (IsConfigRefusal path e × IsMalformedConfig bytes)
-    → IsMemory e ⊎ IsUnreadFile (seen file) e
+    → IsMemory e ⊎ (IsConfigErrorAt path e × IsMalformedConfig bytes)
+    → IsMemory e ⊎ IsUnreadFile (given_file_view file) e
 unread_said file there path bytes e is named holds (inl memory) = inl memory
 unread_said file there path bytes e is named holds (inr (names, nothing)) =
-    inr (subst (λ f. IsUnreadFile (seen f) e) (sym is) (record {
-      named = subst (λ p. IsConfigRefusal p e) named names;
+    inr (subst (λ f. IsUnreadFile (given_file_view f) e) (sym is) (record {
+      named = subst (λ p. IsConfigErrorAt p e) named names;
       nothing = subst IsMalformedConfig holds nothing;
     }))
 
@@ -69,7 +69,7 @@ gathered files home pair manifest first own last both all f l is_first is_last s
 -- the paths of a list, one part after another
 pub paths_listed : (first own last both all : List (String Global)) (f l : Option (Bor NamedFile))
     (whole last_whole : Option NamedFile) → option_copied f ≡ whole → option_copied l ≡ last_whole
-    → map string_bytes first ≡ path_in (seen f) → map string_bytes last ≡ path_in (seen l)
+    → map string_bytes first ≡ path_in (given_file_view f) → map string_bytes last ≡ path_in (given_file_view l)
     → both ≡ first ++ own → all ≡ both ++ last
     → map string_bytes all ≡ path_in (option_map path_and_bytes whole)
     ++ (map string_bytes own ++ path_in (option_map path_and_bytes last_whole))

@@ -16,7 +16,7 @@ use Rattle.edit_metadata.specs.declared.input.Input.{Input}
 use Rattle.edit_metadata.specs.declared.workspace.Workspace.{Workspace}
 use Rattle.edit_sources.specs.ConfigurationFiles.{ConfigsFail, HasFailed, IsBadConfig}
 use Rattle.edit_sources.specs.declared.config.Config.{Config}
-use Rattle.edit_store.specs.Store.{Files, OnlyReads, IsCallError, StoreView, raised}
+use Rattle.edit_store.specs.Store.{Files, OnlyReads, IsCallError, StoreView, IsRaisedCount}
 use Rattle.edit_steps.specs.RequestView.{RequestView}
 use Rattle.edit_steps.specs.Causes.{HasNoIndex, HasNoTarget, IsFailure, IsReadCause, IsUnconfigured, LacksNamed}
 use Rattle.edit_steps.specs.Causes.IsUnconfigured.{of_input, of_named}
@@ -46,7 +46,7 @@ pub refused_before : (of : DeviceCall) (old mid new : StoreView) (e : Error) →
 refused_before of old mid new e reads bound (inl memory) = inl memory
 refused_before of old mid new e reads bound (inr failed) = inr (failed.0, later failed.1)
   where
-    later : raised old.faults mid.faults → raised old.faults new.faults
+    later : IsRaisedCount old.faults mid.faults → IsRaisedCount old.faults new.faults
     later (inl lt) = inl (omega (arith, reads.later, lt))
     later (inr ends) = inr (ends.0, omega (arith, reads.later, bound, ends.1))
 

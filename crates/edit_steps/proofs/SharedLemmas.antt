@@ -9,7 +9,7 @@ use Rattle.std.proofs.lemmas.List.Elements.{All-cons, All-head, All-nil, All-pus
 use Rattle.std.proofs.lemmas.Option.{get_or_from_slice_get, slice_get_within}
 use Rattle.std.proofs.lemmas.Slice.Zip.{AllZip-long}
 use Rattle.edit_base.specs.Paths.{joined}
-use Rattle.edit_sources.specs.ConfigurationFiles.{AreConfigPaths, AreConfigs, IsReadFrom, file_in, files_in, standing}
+use Rattle.edit_sources.specs.ConfigurationFiles.{AreConfigPaths, AreConfigs, IsReadFrom, file_in, files_in, existing_file}
 use Rattle.edit_sources.specs.Configured.{paths_of}
 use Rattle.edit_sources.specs.Sources.{or_else}
 use Rattle.edit_sources.specs.declared.config.Config.{Config}
@@ -41,15 +41,15 @@ all_stand : (files : Files) (places : List (List ℕ)) → All (Stands files) (f
 all_stand files [] = All-nil (Stands files)
 all_stand files (place ∷ places) = more (file_in files place) refl (all_stand files places)
   where
-    at : (path : List ℕ) (f : PathAndBytes) → standing files path ≡ Some f → Stands files f
+    at : (path : List ℕ) (f : PathAndBytes) → existing_file files path ≡ Some f → Stands files f
     at path f h = stands_by files path f (files path) refl h
 
     more : (o : Option PathAndBytes) → file_in files place ≡ o → All (Stands files) (files_in files places)
         → All (Stands files) (cons_option o (files_in files places))
     more None is rest = rest
     more (Some f) is rest = All-cons (Stands files) f (files_in files places)
-        (stands_in files f (standing files (joined place (codes "config")))
-        (standing files (joined place (codes "config.toml"))) (at (joined place (codes "config")) f)
+        (stands_in files f (existing_file files (joined place (codes "config")))
+        (existing_file files (joined place (codes "config.toml"))) (at (joined place (codes "config")) f)
         (at (joined place (codes "config.toml")) f) is) rest
 
 -- files that stand are the same where their paths are

@@ -17,13 +17,13 @@ use Rattle.edit_steps.specs.Causes.HasNoTarget.{no_manifest, no_workspace}
 use Rattle.edit_steps.specs.Own.{IsManifestRead}
 use Rattle.edit_steps.specs.Sources.{AreInputsRead, IsTargetRead}
 use Rattle.edit_steps.specs.Sources.AreInputsRead.{found, members}
-use Rattle.edit_steps.specs.declared.upgrade_read.asked.Asked.{Asked}
-use Rattle.edit_steps.specs.declared.upgrade_read.asked.RustChoice.{RustChoice}
-use Rattle.edit_steps.specs.declared.upgrade_read.asked.RustChoice.TheVariants.{Given, Ignored, Own}
+use Rattle.edit_steps.specs.declared.upgrade_read.source_request.SourceRequest.{SourceRequest}
+use Rattle.edit_steps.specs.declared.upgrade_read.source_request.RustChoice.{RustChoice}
+use Rattle.edit_steps.specs.declared.upgrade_read.source_request.RustChoice.TheVariants.{Given, Ignored, Own}
 use Rattle.edit_steps.specs.declared.upgrade_read.target.Target.{Target}
 
 -- the manifest that is found
-pub found_read : (files : Files) (current : List ℕ) (asked : Asked) (m : Input) (t : Target)
+pub found_read : (files : Files) (current : List ℕ) (asked : SourceRequest) (m : Input) (t : Target)
     → asked.metadata_json ≡ None → t.workspace ≡ None → t.inputs.items ≡ m ∷ []
     → IsManifestRead files current (given asked.manifest_path) (rust_request asked.rust) m
     → IsTargetRead files current (request_view asked) t
@@ -46,7 +46,7 @@ same_rust (Given v) g i same kept P h =
     (subst (λ (o : Option Numbers). P (record { given = o; ignored = i })) same h)
 
 -- those of the workspace that is named
-pub members_read : (files : Files) (current : List ℕ) (asked : Asked) (named : Bor (List ℕ)) (w : Workspace)
+pub members_read : (files : Files) (current : List ℕ) (asked : SourceRequest) (named : Bor (List ℕ)) (w : Workspace)
     (inputs : List Input) (g : Option Numbers) (i : Bool) → asked.metadata_json ≡ Some named
     → g ≡ (rust_request asked.rust).given → i ≡ (rust_request asked.rust).ignored
     → IsWorkspaceRead files current named.now (record { given = g; ignored = i }) (workspace_view w) inputs
@@ -57,7 +57,7 @@ members_read files current asked named w inputs g i some same kept read =
     (λ a. IsWorkspaceRead files current named.now a (workspace_view w) inputs) read)
 
 -- a workspace that is not read
-pub workspace_cause : (old new : StoreView) (current : List ℕ) (asked : Asked) (named : Bor (List ℕ))
+pub workspace_cause : (old new : StoreView) (current : List ℕ) (asked : SourceRequest) (named : Bor (List ℕ))
     (e : Error) → asked.metadata_json ≡ Some named
     → IsCallError call.Read old new e ⊎ (old.tells ≡ true → HasNoWorkspace old.file_at current named.now e)
     → IsFailure old new e ⊎ (old.tells ≡ true → HasNoTarget old.file_at current (request_view asked) e)
@@ -66,7 +66,7 @@ workspace_cause old new current asked named e some (inr wrong) =
     inr (λ t. no_workspace named.now (ap given some) (wrong t))
 
 -- a manifest that is not read
-pub manifest_cause : (old new : StoreView) (current : List ℕ) (asked : Asked) (e : Error)
+pub manifest_cause : (old new : StoreView) (current : List ℕ) (asked : SourceRequest) (e : Error)
     → asked.metadata_json ≡ None
     → IsFailure old new e ⊎ (old.tells ≡ true
     → IsManifestCause old.file_at current (given asked.manifest_path) e)

@@ -6,7 +6,7 @@ use Rattle.edit_base.specs.declared.errors.Error.TheVariants.{IndexLine, Metadat
 use Rattle.edit_manifest.specs.Loaded.{IsReadError}
 use Rattle.edit_manifest.specs.Located.{NamesStart}
 use Rattle.edit_metadata.specs.Folders.{NamesFolder}
-use Rattle.edit_sources.specs.Configured.{IsConfigRefusal}
+use Rattle.edit_sources.specs.Configured.{IsConfigErrorAt}
 use Rattle.edit_steps.specs.RequestView.{RequestView}
 
 -- a file is named, and it does not exist
@@ -20,7 +20,7 @@ IsPairError asking e = IsNamedError asking.config e ⊎ IsNamedError asking.defa
 
 -- a configuration file is malformed; the error has its path
 abbrev pub IsConfigError : Error → Type 0
-IsConfigError e = (path : List ℕ) × IsConfigRefusal path e
+IsConfigError e = (path : List ℕ) × IsConfigErrorAt path e
 
 -- an index file is named, and it does not exist, or one of its lines is malformed
 abbrev pub IsIndexError : Option (List ℕ) → Error → Type 0

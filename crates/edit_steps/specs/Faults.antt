@@ -2,8 +2,8 @@
 use Rattle.std.specs.Prelude.{◌≡◌}
 use Rattle.edit_base.specs.declared.errors.Error.{Error}
 use Rattle.edit_base.specs.Errors.{number_of}
-use Rattle.edit_store.specs.Store.{StoreView, raised}
+use Rattle.edit_store.specs.Store.{StoreView, IsRaisedCount}
 
 -- a device error implies that the count of faults rose (own)
 abbrev pub CountsFault : StoreView → StoreView → Error → Type 0
-CountsFault old new e = number_of e ≡ 3 → raised old.faults new.faults
+CountsFault old new e = number_of e ≡ 3 → IsRaisedCount old.faults new.faults

@@ -24,8 +24,8 @@ abbrev pub path_and_bytes : NamedFile → PathAndBytes
 path_and_bytes file = (string_bytes file.path, file.bytes.items)
 
 -- the path and the bytes of an optional file that was read
-abbrev pub seen : Option (Bor NamedFile) → Option PathAndBytes
-seen file = option_map (λ f. path_and_bytes f.now) file
+abbrev pub given_file_view : Option (Bor NamedFile) → Option PathAndBytes
+given_file_view file = option_map (λ f. path_and_bytes f.now) file
 
 -- the given file is at its absolute path, with these bytes; none where no file is given
 abbrev pub IsNamedRead : Files → List ℕ → Option (List ℕ) → Option PathAndBytes → Type 0

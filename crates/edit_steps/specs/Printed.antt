@@ -2,7 +2,7 @@
 use Rattle.std.specs.Prelude.{ℕ, ◌+◌, List, [], ◌∷◌, ◌++◌, Bool, ◌&&◌, ◌==◌, Option, Some, None, codes, decimal, if◌then◌else◌, length, min, nat_le, option_map, string_bytes, take}
 use Rattle.std.specs.Io.KnownBytes.{Appends}
 use Rattle.std.specs.List.{fold}
-use Rattle.edit_steps.specs.declared.refusal.Refusal.{Refusal}
+use Rattle.edit_steps.specs.declared.run_error.RunError.{RunError}
 
 -- a line about an error, where its text is known
 abbrev pub known_line : List ℕ → Option (List ℕ) → List ℕ
@@ -10,7 +10,7 @@ known_line name None = []
 known_line name (Some text) = codes "  " ++ (name ++ (text ++ 10 ∷ []))
 
 -- the lines of an error that are known: its place, its cause, the help
-abbrev pub known_lines : Refusal → List ℕ
+abbrev pub known_lines : RunError → List ℕ
 known_lines refusal =
     known_line (codes "at ") (option_map string_bytes refusal.place)
     ++ (known_line (codes "cause: ") (option_map string_bytes refusal.cause)
@@ -27,7 +27,7 @@ pub record IsTitlePrinted (old new : Option (List ℕ)) : Type 0 where
 
 -- the text of an error was appended: its first line, whose message is not specified, and the lines that are
 -- known
-pub record IsErrorPrinted (refusal : Refusal) (old new : Option (List ℕ)) : Type 0 where
+pub record IsErrorPrinted (refusal : RunError) (old new : Option (List ℕ)) : Type 0 where
   pub message : List ℕ
   pub appends : Appends old new (title_line message ++ known_lines refusal)
 

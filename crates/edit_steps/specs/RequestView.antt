@@ -3,9 +3,9 @@ use Rattle.std.specs.Prelude.{ℕ, List, Option, Some, None, false, true}
 use Rattle.edit_metadata.specs.Inputs.{RustOptions}
 use Rattle.edit_sources.specs.Configured.{given}
 use Rattle.edit_version.specs.RustVersions.{numbers_of}
-use Rattle.edit_steps.specs.declared.upgrade_read.asked.Asked.{Asked}
-use Rattle.edit_steps.specs.declared.upgrade_read.asked.RustChoice.{RustChoice}
-use Rattle.edit_steps.specs.declared.upgrade_read.asked.RustChoice.TheVariants.{Given, Ignored, Own}
+use Rattle.edit_steps.specs.declared.upgrade_read.source_request.SourceRequest.{SourceRequest}
+use Rattle.edit_steps.specs.declared.upgrade_read.source_request.RustChoice.{RustChoice}
+use Rattle.edit_steps.specs.declared.upgrade_read.source_request.RustChoice.TheVariants.{Given, Ignored, Own}
 
 -- the request for Rust versions
 abbrev pub rust_request : RustChoice → RustOptions
@@ -24,7 +24,7 @@ pub record RequestView : Type 0 where
   pub rust : RustOptions
 
 -- the request of the program's type
-abbrev pub request_view : Asked → RequestView
+abbrev pub request_view : SourceRequest → RequestView
 request_view asked = record {
   manifest = given asked.manifest_path;
   metadata = given asked.metadata_json;

@@ -3,14 +3,14 @@ ghost use Rattle.std.specs.Prelude.{◌≡◌, IfOk, IfSome, false, string_bytes
 ghost use Rattle.edit_base.specs.Errors.{number_of};
 ghost use Rattle.edit_steps.specs.Places.{FailsWith, IsPlaceOfFirst, PassesWith};
 
-use crate::refusal::{Refusal, at_byte, error_alone};
+use crate::run_error::{RunError, at_byte, error_alone};
 use edit_base::Error;
 use edit_manifest::Manifest;
 use edit_metadata::Input;
 use std::alloc::{AllocError, Global};
 
 /// Whether parsing the manifest of an input fails with an error of the same number.
-fn is_refused(alloc: Global, input: &Input, error: &Error) -> Result<bool, AllocError>
+fn has_manifest_error(alloc: Global, input: &Input, error: &Error) -> Result<bool, AllocError>
     ensures fails { IfOk result (λ b. b ≡ true → FailsWith (number_of error.now) input.now) }
     ensures passes { IfOk result (λ b. b ≡ false → PassesWith (number_of error.now) input.now) }
 {
@@ -27,7 +27,7 @@ fn is_refused(alloc: Global, input: &Input, error: &Error) -> Result<bool, Alloc
 
 /// Adds to an error of a plan the place of the first input whose manifest cannot be parsed, where that is
 /// the error.
-pub fn at_input(alloc: Global, error: Error, inputs: &[Input]) -> Refusal
+pub fn at_input(alloc: Global, error: Error, inputs: &[Input]) -> RunError
     ensures error { result.error ≡ error }
     // without a place where no input is the cause, or memory ran out
     ensures place { IfSome result.place (λ s. IsPlaceOfFirst inputs.now error (string_bytes s)) }
@@ -36,7 +36,7 @@ pub fn at_input(alloc: Global, error: Error, inputs: &[Input]) -> Refusal
         return error_alone(error);
     }
     'inputs: for input in inputs {
-        match is_refused(alloc, input, &error) {
+        match has_manifest_error(alloc, input, &error) {
             Ok(false) => {}
             Ok(true) => return at_byte(alloc, error, input.path.as_str(), &input.bytes),
             Err(_) => return error_alone(error),

@@ -7,7 +7,7 @@ mod inputs;
 mod metadata_fault;
 mod outputs;
 mod paths;
-mod refusal;
+mod run_error;
 mod reread;
 mod toml_fault;
 pub mod upgrade_read;
@@ -15,7 +15,7 @@ mod workspaces;
 
 pub use inputs::at_input;
 pub use outputs::{stage_outputs, write_outputs};
-pub use paths::absolute;
-pub use refusal::{Refusal, RunResult, at_byte, at_file, at_path, position, print_error};
+pub use paths::absolute_path;
+pub use run_error::{RunError, RunResult, at_byte, at_file, at_path, position, print_error};
 pub use reread::at_first;
 pub use workspaces::{ReadWorkspace, read_workspace};

@@ -1,7 +1,7 @@
 //! What is invalid in the metadata of a workspace.
 ghost use Rattle.std.specs.Prelude.{◌≡◌};
 
-use crate::refusal::{Refusal, at_path};
+use crate::run_error::{RunError, at_path};
 use edit_base::Error;
 use semver::Version;
 use serde_json::Value;
@@ -123,14 +123,14 @@ fn place_and_cause(alloc: Global, path: &str, bytes: &[u8]) -> (Option<String>, 
 }
 
 /// Adds place and cause to an error of the metadata in the file at a path.
-pub(crate) fn at_metadata(alloc: Global, error: Error, path: &str, bytes: &[u8]) -> Refusal
+pub(crate) fn at_metadata(alloc: Global, error: Error, path: &str, bytes: &[u8]) -> RunError
     ensures { result.error ≡ error }
 {
     if !matches!(&error, Error::Metadata) {
         return at_path(alloc, error, path);
     }
     let (place, cause) = place_and_cause(alloc, path, bytes);
-    Refusal {
+    RunError {
         error,
         place,
         cause,

@@ -4,7 +4,7 @@ ghost use Rattle.edit_base.specs.declared.errors.DeviceCall.TheVariants as call;
 ghost use Rattle.edit_report.specs.Applied.{AreWritten, HasStopped, HaveDistinctPaths, IsWhole, path_of};
 ghost use Rattle.edit_store.specs.Store.{IsWrittenAtMostOnce, IsWrittenOnce, OnlyReads, IsCallError, SameBut, SameFiles};
 
-use crate::refusal::{Refusal, RunResult, at_file};
+use crate::run_error::{RunError, RunResult, at_file};
 use edit_report::Output;
 use edit_store::Store;
 use std::alloc::{AllocError, Global};
@@ -169,10 +169,10 @@ fn written_text(
 }
 
 /// Adds to an error of writing several outputs how many of them were written before it, and which.
-fn at_output(alloc: Global, refusal: Refusal, outputs: &[Output], done: usize) -> Refusal
+fn at_output(alloc: Global, refusal: RunError, outputs: &[Output], done: usize) -> RunError
     ensures { result.error ≡ refusal.error }
 {
-    let Refusal {
+    let RunError {
         error,
         place,
         cause,
@@ -184,7 +184,7 @@ fn at_output(alloc: Global, refusal: Refusal, outputs: &[Output], done: usize) -
         }
         cause => cause,
     };
-    Refusal {
+    RunError {
         error,
         place,
         cause,

@@ -8,7 +8,7 @@ use edit_base::paths::{join, normal};
 use std::alloc::Global;
 
 /// The absolute, normalized form of `path`, which is relative to `current` where it is not absolute.
-pub fn absolute(alloc: Global, current: &str, path: &str) -> CargoResult<String>
+pub fn absolute_path(alloc: Global, current: &str, path: &str) -> CargoResult<String>
     ensures text { IfOk result (λ s. IsAbsoluteOf current.now path.now (string_bytes s)) }
     ensures error { IfErr result IsMemory }
 {

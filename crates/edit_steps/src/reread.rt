@@ -2,7 +2,7 @@
 ghost use Rattle.std.specs.Prelude.{◌≡◌, ◌<◌, ◌^◌, IfSome, length};
 ghost use Rattle.edit_store.specs.Store.{OnlyReads};
 
-use crate::refusal::{Refusal, at_file};
+use crate::run_error::{RunError, at_file};
 use edit_base::Error;
 use edit_sources::FileIndex;
 use edit_store::Store;
@@ -21,7 +21,7 @@ fn is_bad_index(alloc: Global, error: &Error, bytes: &[u8]) -> bool {
 
 /// Whether reading the file at a path fails with this error: the file is missing, its device fails, or one
 /// of its lines is not valid in an index.
-fn gives<S: Store>(alloc: Global, error: &Error, path: &str, files: &mut S) -> bool
+fn has_read_error<S: Store>(alloc: Global, error: &Error, path: &str, files: &mut S) -> bool
     ensures reads { OnlyReads (S.view files.old) (S.view files.new) }
 {
     match files.read(alloc, path) {
@@ -42,7 +42,7 @@ fn find_file_with_error<S: Store>(
     ensures within { IfSome result (λ i. i < length paths.now) }
 {
     'paths: for (i, path) in paths.iter().enumerate() {
-        if gives(alloc, error, path.as_str(), files) {
+        if has_read_error(alloc, error, path.as_str(), files) {
             return Some(i);
         }
     }
@@ -52,7 +52,7 @@ fn find_file_with_error<S: Store>(
 /// Adds to an error of reading one of several files the first of their paths that causes it when it is read
 /// again: a missing manifest, an invalid line of an index, a device error. Other errors, and those that do
 /// not recur, get no place.
-pub fn at_first<S: Store>(alloc: Global, error: Error, paths: &[String], files: &mut S) -> Refusal
+pub fn at_first<S: Store>(alloc: Global, error: Error, paths: &[String], files: &mut S) -> RunError
     ensures same { result.error ≡ error }
     ensures reads { OnlyReads (S.view files.old) (S.view files.new) }
     ensures counted { (S.view files.new).faults < 2 ^ 64 }
@@ -61,6 +61,6 @@ pub fn at_first<S: Store>(alloc: Global, error: Error, paths: &[String], files: 
     let _faults = files.faults();
     match first {
         Some(i) => at_file(alloc, error, paths[i].as_str(), files.reason(alloc)),
-        None => Refusal::from(error),
+        None => RunError::from(error),
     }
 }

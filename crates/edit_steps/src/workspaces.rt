@@ -12,8 +12,8 @@ ghost use Rattle.edit_steps.specs.Faults.{CountsFault};
 ghost use Rattle.edit_steps.specs.Workspaces.{AreMetadataRead, HasNoMetadata, HasNoWorkspace, IsWorkspaceRead};
 
 use crate::metadata_fault::at_metadata;
-use crate::paths::absolute;
-use crate::refusal::{Refusal, RunResult, at_file, at_path};
+use crate::paths::absolute_path;
+use crate::run_error::{RunError, RunResult, at_file, at_path};
 use crate::reread::at_first;
 use edit_base::paths::normal;
 use edit_base::{CargoResult, Error};
@@ -51,7 +51,7 @@ fn read_metadata<S: Store>(
     ensures only { IfErr result (λ r. IsCallError call.Read (S.view files.old) (S.view files.new) r.error
         ⊎ IsMetadataError r.error) }
 {
-    let path = absolute(alloc, current, named)?;
+    let path = absolute_path(alloc, current, named)?;
     let bytes = match files.read_stream(alloc, path.as_str()) {
         Ok(Some(bytes)) => bytes,
         Ok(None) => return Err(at_path(alloc, Error::NoPath, path.as_str())),
@@ -85,7 +85,7 @@ fn manifest_paths(alloc: Global, workspace: &Workspace) -> CargoResult<Vec<Strin
             paths.push(normal(alloc, package.manifest_path.as_str())?)?;
         }
     }
-    paths.push(absolute(alloc, workspace.root.as_str(), "Cargo.toml")?)?;
+    paths.push(absolute_path(alloc, workspace.root.as_str(), "Cargo.toml")?)?;
     Ok(paths)
 }
 
@@ -95,7 +95,7 @@ fn at_manifest<S: Store>(
     error: Error,
     workspace: &Workspace,
     files: &mut S,
-) -> Refusal
+) -> RunError
     ensures same { result.error ≡ error }
     ensures reads { OnlyReads (S.view files.old) (S.view files.new) }
     ensures counted { (S.view files.new).faults < 2 ^ 64 }

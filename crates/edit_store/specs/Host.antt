@@ -4,7 +4,7 @@ use Rattle.edit_base.specs.declared.errors.DeviceCall.{DeviceCall}
 use Rattle.edit_base.specs.declared.errors.Error.{Error}
 use Rattle.edit_base.specs.declared.errors.Error.TheVariants.{Device}
 use Rattle.edit_base.specs.Errors.{IsMemory}
-use Rattle.edit_store.specs.Store.{StoreView, raised}
+use Rattle.edit_store.specs.Store.{StoreView, IsRaisedCount}
 use Rattle.edit_store.specs.declared.host_store.HostStore.{HostStore}
 
 -- how often the device has failed (own)
@@ -30,5 +30,5 @@ host_view store = record {
 }
 
 -- the error of a call: lack of memory, which is not counted, or a fault of the device, which is (own)
-abbrev pub IsRefusal : DeviceCall → ℕ → ℕ → Error → Type 0
-IsRefusal call before now e = (IsMemory e × (now ≡ before)) ⊎ ((e ≡ Device call) × raised before now)
+abbrev pub IsHostError : DeviceCall → ℕ → ℕ → Error → Type 0
+IsHostError call before now e = (IsMemory e × (now ≡ before)) ⊎ ((e ≡ Device call) × IsRaisedCount before now)

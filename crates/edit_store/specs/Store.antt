@@ -22,12 +22,12 @@ pub record StoreView : Type 0 where
   pub stage_errors : ℕ
 
 -- a count of 64 bits rose, or is at its maximum and stays there (own)
-abbrev pub raised : ℕ → ℕ → Type 0
-raised before now = (before < now) ⊎ ((before ≡ 2 ^ 64 - 1) × (now ≡ 2 ^ 64 - 1))
+abbrev pub IsRaisedCount : ℕ → ℕ → Type 0
+IsRaisedCount before now = (before < now) ⊎ ((before ≡ 2 ^ 64 - 1) × (now ≡ 2 ^ 64 - 1))
 
 -- a call fails for lack of memory, or with its device, which was counted (own)
 abbrev pub IsCallError : DeviceCall → StoreView → StoreView → Error → Type 0
-IsCallError call old new e = IsMemory e ⊎ ((e ≡ Device call) × raised old.faults new.faults)
+IsCallError call old new e = IsMemory e ⊎ ((e ≡ Device call) × IsRaisedCount old.faults new.faults)
 
 -- the count of faults never falls, and a call fails only for lack of memory or with its device (own)
 pub record HasCause {T : Type 0} (call : DeviceCall) (old new : StoreView) (result : Result T Error)

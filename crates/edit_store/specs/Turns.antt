@@ -6,7 +6,7 @@ use Rattle.edit_base.specs.declared.errors.Error.{Error}
 use Rattle.edit_base.specs.declared.errors.Error.TheVariants.{Device}
 use Rattle.edit_base.specs.Errors.{IsMemory}
 use Rattle.edit_store.specs.Memory.{files_in, writes_in}
-use Rattle.edit_store.specs.Store.{StoreView, raised}
+use Rattle.edit_store.specs.Store.{StoreView, IsRaisedCount}
 use Rattle.edit_store.specs.declared.fault_store.FaultStore.{FaultStore}
 
 -- how many calls come before the failing one; none once it has failed (own)
@@ -44,7 +44,7 @@ LeavesPrefix old new path bytes e =
 
 -- the error is a fault of the device in this call, and it is counted (own)
 abbrev pub IsCounted : DeviceCall → FaultStore → FaultStore → Error → Type 0
-IsCounted call old new e = (e ≡ Device call) × raised (faults_of old) (faults_of new)
+IsCounted call old new e = (e ≡ Device call) × IsRaisedCount (faults_of old) (faults_of new)
 
 -- the error of the failing call: a fault of the device, which is counted; a write may run out of memory
 -- first, while it stores the prefix, which is not counted (own)

@@ -1,5 +1,5 @@
 //! How a write that is ready is made.
-use crate::reason::{Answer, Reason};
+use crate::reason::{StoreResult, Reason};
 use crate::staged::{Staged, WriteMethod, make_backup};
 use crate::temporary::Temporary;
 use std::alloc::Global;
@@ -15,7 +15,7 @@ pub(crate) fn commit<R: Files<File = File> + Alloc<A = Global> + Env>(
     staged: &Staged,
     bytes: &[u8],
     process: u32,
-) -> Answer<()> {
+) -> StoreResult<()> {
     let target = staged.target.as_str();
     match &staged.way {
         WriteMethod::Rename(file) => {
@@ -38,10 +38,10 @@ fn rename<R: Files<File = File> + Alloc<A = Global> + Env>(
     target: &str,
     bytes: &[u8],
     process: u32,
-) -> Answer<()> {
+) -> StoreResult<()> {
     match fs::rename(rt, file.path.as_str(), target) {
         Ok(()) => Ok(()),
-        Err(error) if is_refused(error.kind()) => {
+        Err(error) if is_overwrite_fallback(error.kind()) => {
             let copy = make_backup(rt, alloc, target, process)?;
             overwrite_beside(rt, alloc, target, &copy, bytes)?;
             file.remove(rt);
@@ -53,7 +53,7 @@ fn rename<R: Files<File = File> + Alloc<A = Global> + Env>(
 
 /// Whether the machine refuses to move a file over another one that it might let be overwritten: one that is
 /// mounted, or another user's in a folder where each may remove only what is theirs.
-fn is_refused(kind: ErrorKind) -> bool {
+fn is_overwrite_fallback(kind: ErrorKind) -> bool {
     matches!(
         kind,
         ErrorKind::ResourceBusy | ErrorKind::PermissionDenied | ErrorKind::CrossesDevices
@@ -68,7 +68,7 @@ fn overwrite_beside<R: Files<File = File> + Alloc<A = Global>>(
     target: &str,
     copy: &Temporary,
     bytes: &[u8],
-) -> Answer<()> {
+) -> StoreResult<()> {
     let Err(error) = overwrite(rt, target, bytes) else {
         copy.remove(rt);
         return Ok(());

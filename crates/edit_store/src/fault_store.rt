@@ -1,6 +1,6 @@
 //! Files in memory, one call of which fails.
 ghost use Rattle.std.specs.Prelude.{◌≡◌, ◌↔◌, Some, true, IsTrue, IfOk, IfErr, OnErr, OnOk, option_map};
-ghost use Rattle.edit_store.specs.Store.{HasCause, IsWrittenAtMostOnce, IsWrittenOnce, SameFiles, SameBut, HasKindAt, raised};
+ghost use Rattle.edit_store.specs.Store.{HasCause, IsWrittenAtMostOnce, IsWrittenOnce, SameFiles, SameBut, HasKindAt, IsRaisedCount};
 ghost use Rattle.edit_store.specs.Memory.{files_in, writes_in};
 ghost use Rattle.edit_store.specs.Turns.{LeavesPrefix, TakesTurn, bytes_left, calls_left, fault_view, faults_of, one_less};
 
@@ -37,7 +37,7 @@ impl FaultStore {
     }
 
     /// Counts a call, and tells whether it is the one that fails.
-    fn is_due(&mut self) -> bool
+    fn take_turn(&mut self) -> bool
         ensures due { IsTrue result ↔ (self.old.left ≡ Some 0) }
         ensures turn { self.new ≡ record self.old { left = one_less self.old.left } }
     {
@@ -57,7 +57,7 @@ impl FaultStore {
     /// The fault of a call.
     fn fault(&mut self, call: DeviceCall) -> Error
         ensures error { result ≡ Error.Device call }
-        ensures raised { raised self.old.failed self.new.failed }
+        ensures raised { IsRaisedCount self.old.failed self.new.failed }
         ensures preserved { self.new ≡ record self.old { failed = self.new.failed } }
     {
         self.failed = self.failed.saturating_add(1);
@@ -75,7 +75,7 @@ impl Store for FaultStore {
         ensures cause { HasCause DeviceCall.Kind (fault_view self.old) (fault_view self.new) result }
         ensures turn { TakesTurn DeviceCall.Kind self.old self.new result }
     {
-        if self.is_due() {
+        if self.take_turn() {
             return Err(self.fault(DeviceCall::Kind));
         }
         self.inner.kind(alloc, path)
@@ -88,7 +88,7 @@ impl Store for FaultStore {
         ensures cause { HasCause DeviceCall.Read (fault_view self.old) (fault_view self.new) result }
         ensures turn { TakesTurn DeviceCall.Read self.old self.new result }
     {
-        if self.is_due() {
+        if self.take_turn() {
             return Err(self.fault(DeviceCall::Read));
         }
         self.inner.read(alloc, path)
@@ -115,7 +115,7 @@ impl Store for FaultStore {
         ensures torn { calls_left self.old ≡ Some 0
             → IfErr result (LeavesPrefix self.old self.new path.now bytes.now) }
     {
-        if self.is_due() {
+        if self.take_turn() {
             let end = bytes.len().min(self.cut);
             self.inner.write(alloc, path, &bytes[..end])?;
             return Err(self.fault(DeviceCall::Write));

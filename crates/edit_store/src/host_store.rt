@@ -1,10 +1,10 @@
 //! The files of the machine.
 ghost use Rattle.std.specs.Prelude.{◌≡◌, []};
-ghost use Rattle.edit_store.specs.Host.{IsRefusal, host_faults, host_stage_errors, host_view, host_writes};
-ghost use Rattle.edit_store.specs.Store.{raised};
+ghost use Rattle.edit_store.specs.Host.{IsHostError, host_faults, host_stage_errors, host_view, host_writes};
+ghost use Rattle.edit_store.specs.Store.{IsRaisedCount};
 
 use crate::reading::{read_regular, read_stream};
-use crate::reason::{Answer, Reason};
+use crate::reason::{StoreResult, Reason};
 use crate::store::{Kind, Store};
 use crate::temporary::remove_abandoned_files;
 use crate::work::Work;
@@ -58,8 +58,8 @@ impl<R: Files<File = File> + Alloc<A = Global> + Drop> HostStore<R> {
     }
 
     /// The error of a call. Each but want of memory counts as a fault.
-    fn refused(&mut self, call: DeviceCall, reason: Reason) -> Error
-        ensures cause { IsRefusal call self.old.failed self.new.failed result }
+    fn device_error(&mut self, call: DeviceCall, reason: Reason) -> Error
+        ensures cause { IsHostError call self.old.failed self.new.failed result }
         ensures ready { host_stage_errors self.new ≡ host_stage_errors self.old }
         ensures writes { host_writes self.new ≡ host_writes self.old }
     {
@@ -73,17 +73,17 @@ impl<R: Files<File = File> + Alloc<A = Global> + Drop> HostStore<R> {
 
     /// The error of a write that cannot be made ready.
     fn stage_error(&mut self, reason: Reason) -> Error
-        ensures cause { IsRefusal DeviceCall.Write self.old.failed self.new.failed result }
-        ensures counted { raised (host_stage_errors self.old) (host_stage_errors self.new) }
+        ensures cause { IsHostError DeviceCall.Write self.old.failed self.new.failed result }
+        ensures counted { IsRaisedCount (host_stage_errors self.old) (host_stage_errors self.new) }
         ensures writes { host_writes self.new ≡ host_writes self.old }
     {
         self.stage_errors = self.stage_errors.saturating_add(1);
-        self.refused(DeviceCall::Write, reason)
+        self.device_error(DeviceCall::Write, reason)
     }
 }
 
 /// The bytes of a file, where one stands: what the machine says of a path at which none stands is no error.
-fn absent_as_none(answer: Answer<Vec<u8>>) -> Answer<Option<Vec<u8>>> {
+fn absent_as_none(answer: StoreResult<Vec<u8>>) -> StoreResult<Option<Vec<u8>>> {
     match answer {
         Ok(bytes) => Ok(Some(bytes)),
         Err(Reason::Machine(error)) if is_absent(error.kind()) => Ok(None),
@@ -109,7 +109,7 @@ impl<R: Files<File = File> + Alloc<A = Global> + Env + Eprint + Clone + Drop> St
             Ok(metadata) if metadata.is_dir() => Ok(Kind::Folder),
             Ok(_) => Ok(Kind::Absent),
             Err(error) if is_absent(error.kind()) => Ok(Kind::Absent),
-            Err(error) => Err(self.refused(DeviceCall::Kind, Reason::from(error))),
+            Err(error) => Err(self.device_error(DeviceCall::Kind, Reason::from(error))),
         }
     }
 
@@ -120,14 +120,14 @@ impl<R: Files<File = File> + Alloc<A = Global> + Env + Eprint + Clone + Drop> St
                 Ok(Some(bytes))
             }
             Ok(None) => Ok(None),
-            Err(reason) => Err(self.refused(DeviceCall::Read, reason)),
+            Err(reason) => Err(self.device_error(DeviceCall::Read, reason)),
         }
     }
 
     fn read_stream(&mut self, alloc: Global, path: &str) -> CargoResult<Option<Vec<u8>>> {
         match absent_as_none(read_stream(&self.rt, alloc, path)) {
             Ok(bytes) => Ok(bytes),
-            Err(reason) => Err(self.refused(DeviceCall::Read, reason)),
+            Err(reason) => Err(self.device_error(DeviceCall::Read, reason)),
         }
     }
 
@@ -156,7 +156,7 @@ impl<R: Files<File = File> + Alloc<A = Global> + Env + Eprint + Clone + Drop> St
         self.writes.push(String::from_str(alloc, path)?)?;
         match self.work.write(&self.rt, alloc, path, bytes) {
             Ok(()) => Ok(()),
-            Err(reason) => Err(self.refused(DeviceCall::Write, reason)),
+            Err(reason) => Err(self.device_error(DeviceCall::Write, reason)),
         }
     }
 

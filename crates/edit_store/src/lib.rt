@@ -10,7 +10,7 @@ mod reason;
 mod staged;
 pub mod store;
 mod temporary;
-mod watched;
+mod replaced_file;
 mod work;
 
 pub use fault_store::FaultStore;

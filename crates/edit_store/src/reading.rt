@@ -1,5 +1,5 @@
 //! Reads files of the machine.
-use crate::reason::{Answer, found};
+use crate::reason::{StoreResult, found_reason};
 use std::alloc::Global;
 use std::fs;
 use std::fs::{File, Files, Metadata};
@@ -35,7 +35,7 @@ pub(crate) fn read_regular<R: Files<File = File>>(
     rt: &R,
     alloc: Global,
     path: &str,
-) -> Answer<Vec<u8>> {
+) -> StoreResult<Vec<u8>> {
     let metadata = fs::metadata(rt, path)?;
     if metadata.is_file() || metadata.is_dir() {
         let file = File::open(rt, path)?;
@@ -44,7 +44,7 @@ pub(crate) fn read_regular<R: Files<File = File>>(
     if metadata.file_type().is_char_device() {
         return read_device(alloc, File::open(rt, path)?);
     }
-    Err(found(alloc, "it is not a regular file"))
+    Err(found_reason(alloc, "it is not a regular file"))
 }
 
 /// Returns the bytes of a regular file, or of a pipe or a terminal up to its end.
@@ -52,7 +52,7 @@ pub(crate) fn read_stream<R: Files<File = File>>(
     rt: &R,
     alloc: Global,
     path: &str,
-) -> Answer<Vec<u8>> {
+) -> StoreResult<Vec<u8>> {
     let file = File::open(rt, path)?;
     let metadata = file.metadata()?;
     let kind = metadata.file_type();
@@ -63,23 +63,23 @@ pub(crate) fn read_stream<R: Files<File = File>>(
 }
 
 /// Returns the bytes of an open file; more than `LIMIT` bytes are an error.
-fn read_within(alloc: Global, file: File, metadata: &Metadata) -> Answer<Vec<u8>> {
+fn read_within(alloc: Global, file: File, metadata: &Metadata) -> StoreResult<Vec<u8>> {
     if metadata.is_file() && metadata.len() > LIMIT {
-        return Err(found(alloc, "it is larger than 1 GB"));
+        return Err(found_reason(alloc, "it is larger than 1 GB"));
     }
     let mut bytes = Vec::new(alloc);
     file.take(LIMIT + 1).read_to_end(&mut bytes)?;
     if bytes.len() as u64 > LIMIT {
-        return Err(found(alloc, "it is larger than 1 GB"));
+        return Err(found_reason(alloc, "it is larger than 1 GB"));
     }
     Ok(bytes)
 }
 
 /// Returns no bytes for a device that yields none; any byte is an error.
-fn read_device(alloc: Global, mut file: File) -> Answer<Vec<u8>> {
+fn read_device(alloc: Global, mut file: File) -> StoreResult<Vec<u8>> {
     let mut first = [0u8; 1];
     if file.read(&mut first)? > 0 {
-        return Err(found(alloc, "it is a device"));
+        return Err(found_reason(alloc, "it is a device"));
     }
     Ok(Vec::new(alloc))
 }

@@ -13,7 +13,7 @@ pub(crate) enum Reason {
 }
 
 /// What a step of a call answers.
-pub(crate) type Answer<T> = Result<T, Reason>;
+pub(crate) type StoreResult<T> = Result<T, Reason>;
 
 impl Reason {
     /// Whether memory ran out.
@@ -52,7 +52,7 @@ impl<T: Drop> From<AllocFailed<T>> for Reason {
 }
 
 /// What this store found wrong.
-pub(crate) fn found(alloc: Global, text: &str) -> Reason {
+pub(crate) fn found_reason(alloc: Global, text: &str) -> Reason {
     match String::from_str(alloc, text) {
         Ok(text) => Reason::Found(text),
         Err(error) => Reason::from(error),

@@ -1,6 +1,6 @@
 //! A write that is ready: the file that takes a manifest's place, or a copy of the manifest's text.
 use crate::reading::Fingerprint;
-use crate::reason::{Answer, Reason, found};
+use crate::reason::{StoreResult, Reason, found_reason};
 use crate::temporary::{Temporary, make_temporary};
 use edit_base::paths::folder;
 use std::alloc::Global;
@@ -45,7 +45,7 @@ pub(crate) fn prepare<R: Files<File = File> + Alloc<A = Global> + Env>(
     path: &str,
     bytes: &[u8],
     process: u32,
-) -> Answer<Staged> {
+) -> StoreResult<Staged> {
     let name = String::from_str(alloc, path)?;
     if is_descriptor(path) {
         let same = String::from_str(alloc, path)?;
@@ -108,7 +108,7 @@ fn prepare_new<R: Files<File = File>>(
     path: &str,
     bytes: &[u8],
     process: u32,
-) -> Answer<Staged> {
+) -> StoreResult<Staged> {
     let name = String::from_str(alloc, path)?;
     let same = String::from_str(alloc, path)?;
     if fs::symlink_metadata(rt, path).is_ok() {
@@ -149,7 +149,7 @@ fn choose_method<R: Files<File = File> + Alloc<A = Global> + Env>(
     old: &Metadata,
     bytes: &[u8],
     process: u32,
-) -> Answer<WriteMethod> {
+) -> StoreResult<WriteMethod> {
     may_write(rt, target, old)?;
     let made = make_temporary(rt, alloc, folder(target), process, 0o600, "tmp")?;
     if let Some((mut file, mut temporary)) = made {
@@ -199,7 +199,7 @@ pub(crate) fn make_backup<R: Files<File = File> + Alloc<A = Global> + Env>(
     alloc: Global,
     target: &str,
     process: u32,
-) -> Answer<Temporary> {
+) -> StoreResult<Temporary> {
     let bytes = fs::read(rt, target)?;
     let made = match make_temporary(rt, alloc, folder(target), process, 0o600, "old")? {
         Some(made) => Some(made),
@@ -209,7 +209,7 @@ pub(crate) fn make_backup<R: Files<File = File> + Alloc<A = Global> + Env>(
         }
     };
     let Some((mut file, copy)) = made else {
-        return Err(found(alloc, "no copy of it can be made before it is overwritten"));
+        return Err(found_reason(alloc, "no copy of it can be made before it is overwritten"));
     };
     match fill(&mut file, &bytes) {
         Ok(()) => Ok(copy),
@@ -221,7 +221,7 @@ pub(crate) fn make_backup<R: Files<File = File> + Alloc<A = Global> + Env>(
 }
 
 /// The folder for temporary files that `TMPDIR` names, else `/tmp`.
-fn temporary_folder<R: Env + Alloc<A = Global>>(rt: &R, alloc: Global) -> Answer<String> {
+fn temporary_folder<R: Env + Alloc<A = Global>>(rt: &R, alloc: Global) -> StoreResult<String> {
     match env::var(rt, "TMPDIR") {
         Ok(folder) if folder.starts_with('/') => Ok(folder),
         _ => Ok(String::from_str(alloc, "/tmp")?),
@@ -230,9 +230,9 @@ fn temporary_folder<R: Env + Alloc<A = Global>>(rt: &R, alloc: Global) -> Answer
 
 impl Staged {
     /// Whether the files that were made for the write stand as they were made.
-    pub(crate) fn stands<R: Files<File = File>>(&self, rt: &R) -> bool {
+    pub(crate) fn is_at_path<R: Files<File = File>>(&self, rt: &R) -> bool {
         match &self.way {
-            WriteMethod::Rename(file) | WriteMethod::InPlace(file) => file.stands(rt),
+            WriteMethod::Rename(file) | WriteMethod::InPlace(file) => file.is_at_path(rt),
             WriteMethod::Append => true,
         }
     }

@@ -1,7 +1,7 @@
 //! The trait of a store of files that may fail.
 ghost use Rattle.std.specs.Prelude.{◌≡◌, Some, true, IfOk, OnErr, OnOk, option_map};
 ghost use Rattle.edit_base.specs.declared.errors.DeviceCall.TheVariants as call;
-ghost use Rattle.edit_store.specs.Store.{HasCause, IsWrittenAtMostOnce, IsWrittenOnce, OnlyReads, SameFiles, SameBut, HasKindAt, StoreView, raised};
+ghost use Rattle.edit_store.specs.Store.{HasCause, IsWrittenAtMostOnce, IsWrittenOnce, OnlyReads, SameFiles, SameBut, HasKindAt, StoreView, IsRaisedCount};
 
 use edit_base::errors::{CargoResult, DeviceCall};
 use std::alloc::Global;
@@ -66,7 +66,7 @@ pub trait Store {
         ensures writes { (view self.new).writes ≡ (view self.old).writes }
         ensures cause { HasCause DeviceCall.Write (view self.old) (view self.new) result }
         ensures ready { OnOk result ((view self.new).stage_errors ≡ (view self.old).stage_errors) }
-        ensures counted { OnErr result (raised (view self.old).stage_errors (view self.new).stage_errors) }
+        ensures counted { OnErr result (IsRaisedCount (view self.old).stage_errors (view self.new).stage_errors) }
     {
         Ok(())
     }
@@ -79,7 +79,7 @@ pub trait Store {
         ensures writes { (view self.new).writes ≡ (view self.old).writes }
         ensures cause { HasCause DeviceCall.Write (view self.old) (view self.new) result }
         ensures ready { OnOk result ((view self.new).stage_errors ≡ (view self.old).stage_errors) }
-        ensures counted { OnErr result (raised (view self.old).stage_errors (view self.new).stage_errors) }
+        ensures counted { OnErr result (IsRaisedCount (view self.old).stage_errors (view self.new).stage_errors) }
     {
         Ok(())
     }
@@ -91,7 +91,7 @@ pub trait Store {
         ensures writes { (view self.new).writes ≡ (view self.old).writes }
         ensures cause { HasCause DeviceCall.Write (view self.old) (view self.new) result }
         ensures ready { OnOk result ((view self.new).stage_errors ≡ (view self.old).stage_errors) }
-        ensures counted { OnErr result (raised (view self.old).stage_errors (view self.new).stage_errors) }
+        ensures counted { OnErr result (IsRaisedCount (view self.old).stage_errors (view self.new).stage_errors) }
     {
         Ok(())
     }

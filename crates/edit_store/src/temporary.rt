@@ -1,5 +1,5 @@
 //! New files of a run beside a manifest, under names that no other program has.
-use crate::reason::{Answer, Reason};
+use crate::reason::{StoreResult, Reason};
 use edit_base::paths::folder;
 use std::alloc::Global;
 use std::fs::{DirEntry, File, Files, OpenOptions};
@@ -29,7 +29,7 @@ pub(crate) fn make_temporary<R: Files<File = File>>(
     process: u32,
     mode: u32,
     end: &str,
-) -> Answer<Option<(File, Temporary)>> {
+) -> StoreResult<Option<(File, Temporary)>> {
     for n in 0..1000u32 {
         let first = format!(in alloc; "{folder}/.cargo-edit.{process}-{n}.new")?;
         let made = OpenOptions::new()
@@ -38,7 +38,7 @@ pub(crate) fn make_temporary<R: Files<File = File>>(
             .mode(mode)
             .open(rt, first.as_str());
         match made {
-            Ok(file) => return named(rt, alloc, file, first.as_str(), process, end).map(Some),
+            Ok(file) => return finish_name(rt, alloc, file, first.as_str(), process, end).map(Some),
             Err(error) if error.kind() == ErrorKind::AlreadyExists => {}
             Err(error) if is_forbidden(error.kind()) => return Ok(None),
             Err(error) => return Err(Reason::from(error)),
@@ -56,14 +56,14 @@ fn is_forbidden(kind: ErrorKind) -> bool {
 }
 
 /// A new file under the name with its own number. It is removed where that fails.
-fn named<R: Files<File = File>>(
+fn finish_name<R: Files<File = File>>(
     rt: &R,
     alloc: Global,
     file: File,
     first: &str,
     process: u32,
     end: &str,
-) -> Answer<(File, Temporary)> {
+) -> StoreResult<(File, Temporary)> {
     match rename_by_number(rt, alloc, &file, first, process, end) {
         Ok(temporary) => Ok((file, temporary)),
         Err(reason) => {
@@ -81,7 +81,7 @@ fn rename_by_number<R: Files<File = File>>(
     first: &str,
     process: u32,
     end: &str,
-) -> Answer<Temporary> {
+) -> StoreResult<Temporary> {
     let metadata = file.metadata()?;
     let inode = metadata.ino();
     let folder = folder(first);
@@ -115,7 +115,7 @@ impl Temporary {
     }
 
     /// Whether its name still leads to it.
-    pub(crate) fn stands<R: Files<File = File>>(&self, rt: &R) -> bool {
+    pub(crate) fn is_at_path<R: Files<File = File>>(&self, rt: &R) -> bool {
         match fs::symlink_metadata(rt, self.path.as_str()) {
             Ok(there) => there.dev() == self.device && there.ino() == self.inode,
             Err(_) => false,
@@ -124,7 +124,7 @@ impl Temporary {
 
     /// Removes it.
     pub(crate) fn remove<R: Files<File = File>>(&self, rt: &R) {
-        if self.stands(rt) {
+        if self.is_at_path(rt) {
             let _ = fs::remove_file(rt, self.path.as_str());
         }
     }

@@ -1,9 +1,9 @@
 //! What a store of the machine's files has read, made ready and written in a run.
 use crate::commit::commit;
 use crate::reading::Fingerprint;
-use crate::reason::{Answer, Reason, found};
+use crate::reason::{StoreResult, Reason, found_reason};
 use crate::staged::{Staged, WriteMethod, prepare};
-use crate::watched::{ReplacedFile, WATCHED, settle};
+use crate::replaced_file::{ReplacedFile, WATCHED, check_replaced_files};
 use edit_base::paths::folder;
 use std::alloc::{AllocError, Global};
 use std::collections::BTreeMap;
@@ -79,7 +79,7 @@ impl Work {
         alloc: Global,
         path: &str,
         bytes: &[u8],
-    ) -> Answer<()> {
+    ) -> StoreResult<()> {
         if let Some(staged) = self.staged.get(path)
             && staged.text == Fingerprint::of(bytes)
         {
@@ -116,7 +116,7 @@ impl Work {
         alloc: Global,
         path: &str,
         bytes: &[u8],
-    ) -> Answer<Staged> {
+    ) -> StoreResult<Staged> {
         let mut staged = prepare(rt, alloc, path, bytes, self.process)?;
         if self.open >= OPEN
             && let Err(error) = staged.flush()
@@ -129,7 +129,7 @@ impl Work {
 
     /// Notes the path of a write that is ready, and answers a copy of it; an error where another path of the
     /// same file is staged.
-    fn put(&mut self, alloc: Global, path: &str, staged: &Staged) -> Answer<String> {
+    fn put(&mut self, alloc: Global, path: &str, staged: &Staged) -> StoreResult<String> {
         if let Some(identity) = staged.identity
             && matches!(staged.way, WriteMethod::Rename(_) | WriteMethod::InPlace(_))
         {
@@ -158,7 +158,7 @@ impl Work {
     }
 
     /// Flushes what is staged for a path to the disk. After an error it is staged no more.
-    pub(crate) fn flush<R: Files<File = File>>(&mut self, rt: &R, path: &str) -> Answer<()> {
+    pub(crate) fn flush<R: Files<File = File>>(&mut self, rt: &R, path: &str) -> StoreResult<()> {
         let Some(staged) = self.staged.get_mut(path) else {
             return Ok(());
         };
@@ -182,19 +182,19 @@ impl Work {
         rt: &R,
         alloc: Global,
         path: &str,
-    ) -> Answer<()> {
+    ) -> StoreResult<()> {
         let Some(staged) = self.staged.get_mut(path) else {
             return Ok(());
         };
         if staged.verified {
             return Ok(());
         }
-        if !staged.stands(rt) {
-            return Err(found(alloc, "another program moved its temporary file"));
+        if !staged.is_at_path(rt) {
+            return Err(found_reason(alloc, "another program moved its temporary file"));
         }
         if let Some(old) = self.texts.get(path) {
             let Some(watched) = ReplacedFile::open(rt, alloc, path, *old, staged.text)? else {
-                return Err(found(alloc, "the file was changed while cargo-edit ran"));
+                return Err(found_reason(alloc, "the file was changed while cargo-edit ran"));
             };
             if matches!(staged.way, WriteMethod::Rename(_)) && self.watched.len() < WATCHED {
                 self.watched.push(watched)?;
@@ -213,7 +213,7 @@ impl Work {
         alloc: Global,
         path: &str,
         bytes: &[u8],
-    ) -> Answer<()> {
+    ) -> StoreResult<()> {
         self.stage(rt, alloc, path, bytes)?;
         self.flush(rt, path)?;
         if let Err(reason) = self.verify(rt, alloc, path) {
@@ -225,15 +225,15 @@ impl Work {
         };
         self.verified = self.verified.saturating_sub(1);
         commit(rt, alloc, &staged, bytes, self.process)?;
-        self.note(alloc, &staged)?;
+        self.record_write(alloc, &staged)?;
         if self.verified == 0 {
-            return self.settle(rt, alloc);
+            return self.finish_writes(rt, alloc);
         }
         Ok(())
     }
 
-    /// Notes a write that was made.
-    fn note(&mut self, alloc: Global, staged: &Staged) -> Answer<()> {
+    /// Records a write that was made.
+    fn record_write(&mut self, alloc: Global, staged: &Staged) -> StoreResult<()> {
         let path = String::from_str(alloc, staged.path.as_str())?;
         self.texts.insert(path, staged.text)?;
         if matches!(staged.way, WriteMethod::Rename(_)) {
@@ -245,18 +245,18 @@ impl Work {
 
     /// Flushes the folders of the files that were replaced, and looks at those files again. A folder that
     /// cannot be flushed is passed over: each file is whole, the old one or the new one.
-    fn settle<R: Files<File = File> + Alloc<A = Global> + Env>(
+    fn finish_writes<R: Files<File = File> + Alloc<A = Global> + Env>(
         &mut self,
         rt: &R,
         alloc: Global,
-    ) -> Answer<()> {
+    ) -> StoreResult<()> {
         for folder in self.folders.iter() {
             if let Ok(file) = File::open(rt, folder.as_str()) {
                 let _ = file.sync_all();
             }
         }
         self.folders.clear();
-        let done = settle(rt, alloc, &mut self.watched, self.process);
+        let done = check_replaced_files(rt, alloc, &mut self.watched, self.process);
         self.watched.clear();
         done
     }
@@ -274,7 +274,7 @@ impl Work {
         self.paths = BTreeMap::new(alloc);
         self.open = 0;
         self.verified = 0;
-        let _ = self.settle(rt, alloc);
+        let _ = self.finish_writes(rt, alloc);
     }
 
     /// Locks a folder until the end of the run. Where another run has locked it, this is told, and waited

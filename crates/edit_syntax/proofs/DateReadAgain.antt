@@ -7,7 +7,7 @@ use Rattle.edit_syntax.specs.Characters.{All}
 use Rattle.edit_syntax.specs.Numbers.{is_decimal, Date, date, IsDate, Time, time, IsTime, HasDigits, fraction_text, Offset, local, zulu, shift, offset, IsOffset, DateTime, only_date, only_time, both, datetime_text, IsDateTime}
 use Rattle.edit_syntax.specs.Grammar.{datetime}
 use Rattle.edit_syntax.specs.ReadingSteps.{first}
-use Rattle.edit_syntax.specs.ReadingNumbers.{count_at, group_at, date_at, second_at, time_at, offset_at, joins, date_time_at, local_time_at, unsigned_at, number_at}
+use Rattle.edit_syntax.specs.ReadingNumbers.{count_at, group_at, date_at, second_at, time_at, offset_at, is_time_next, date_time_at, local_time_at, unsigned_at, number_at}
 use Rattle.edit_syntax.proofs.TokenLaws.{front_again, after_again}
 use Rattle.edit_syntax.proofs.NumberReadAgain.{number_unsigned, is_start, start_digit}
 use Rattle.edit_syntax.proofs.NumberEnds.{is_word, EndsValue}
@@ -122,7 +122,7 @@ time_first t rest h = count_first 2 t.hour _ (omega arith) h.0
 date_first : (d : Date) (rest : List ℕ) → IsDate d → is_decimal (first (date d rest)) ≡ true
 date_first d rest h = count_first 4 d.year _ (omega arith) h.0
 
-no_join : (rest : List ℕ) → EndsValue rest → joins rest ≡ false
+no_join : (rest : List ℕ) → EndsValue rest → is_time_next rest ≡ false
 no_join rest ends =
     let t : eqb (first rest) 84 ≡ false = not_big (first rest) ends.no_word in
     let u : eqb (first rest) 116 ≡ false = not_small (first rest) ends.no_word in
@@ -135,7 +135,7 @@ no_join rest ends =
     not_small b h = grind (arith, nat_tests)
 
 does_join : (b : ℕ) (text : List ℕ) → (eqb b 84 || eqb b 116 || eqb b 32) ≡ true
-    → is_decimal (first text) ≡ true → joins (b ∷ text) ≡ true
+    → is_decimal (first text) ≡ true → is_time_next (b ∷ text) ≡ true
 does_join b text h digit = rw digit (with_true (eqb b 84) (eqb b 116) (eqb b 32) h)
   where
     with_true : (x y z : Bool) → (x || y || z) ≡ true → (x || y || (z && true)) ≡ true

@@ -8,10 +8,10 @@ use Rattle.std.specs.Str.Pattern.{GetsRange}
 use Rattle.std.proofs.lemmas.Bool.Decides.{nat_tests}
 use Rattle.std.proofs.lemmas.List.{take_at, drop_at, length-append}
 use Rattle.std.proofs.lemmas.Str.{encode_ascii, IsUtf8-past_char, IsUtf8-drop, IsCharBoundary-before_ascii, IsCharBoundary-at_seam}
-use Rattle.edit_syntax.specs.declared.read.marks.MarkKind.{MarkKind}
-use Rattle.edit_syntax.specs.declared.read.marks.MarkKind.TheVariants.{BarePart, BasicPart, LiteralPart, BasicString, LiteralString, MultiBasicString, MultiLiteralString, Integer, Float, DateTime}
+use Rattle.edit_syntax.specs.declared.read.syntax_tokens.TokenKind.{TokenKind}
+use Rattle.edit_syntax.specs.declared.read.syntax_tokens.TokenKind.TheVariants.{BarePart, BasicPart, LiteralPart, BasicString, LiteralString, MultiBasicString, MultiLiteralString, Integer, Float, DateTime}
 use Rattle.edit_syntax.specs.Characters.{quote, apostrophe, is_bare, is_ascii, All}
-use Rattle.edit_syntax.specs.Strings.{said}
+use Rattle.edit_syntax.specs.Strings.{decoded_piece}
 use Rattle.edit_syntax.specs.Decoding as decoding
 use Rattle.edit_syntax.specs.Decoding.{delimited, HasBasicValue, HasDecodedValue}
 use Rattle.edit_syntax.specs.Reading.{front}
@@ -47,7 +47,7 @@ bares_ascii [] h = tt
 bares_ascii (b ∷ bytes) h = (bare_ascii b h.0, bares_ascii bytes h.1)
 
 -- the content and what follows it, and what follows it, are UTF-8
-abbrev pub PartsUtf8 : MarkKind → List ℕ → List ℕ → Type 0
+abbrev pub PartsUtf8 : TokenKind → List ℕ → List ℕ → Type 0
 PartsUtf8 kind content rest = IsUtf8 (content ++ (decoding.delimiter kind ++ rest))
     × IsUtf8 (decoding.delimiter kind ++ rest)
 
@@ -88,7 +88,7 @@ word_utf8 before (b ∷ content) rest some h u =
     let one = utf8_from before (content ++ rest) b u (ascii_byte b h.0) in
     (one, utf8_behind (b ∷ content) rest (ascii_bytes (b ∷ content) h) one)
 
-parts_utf8 : (kind : MarkKind) (before content rest said : List ℕ) → HasDecodedValue kind content said
+parts_utf8 : (kind : TokenKind) (before content rest said : List ℕ) → HasDecodedValue kind content said
     → IsUtf8 (before ++ delimited kind content rest) → PartsUtf8 kind content rest
 parts_utf8 BarePart before content rest said h u = bare_utf8 before content rest h.0 h.1 u
 parts_utf8 BasicPart before content rest said h u = quoted_utf8 quote before content rest (omega arith) u
@@ -132,7 +132,7 @@ content_at xs content ys i j u v e f =
       cut = range_of xs content ys i j e f;
     }
 
-pub content_found : (kind : MarkKind) (bytes before content rest said : List ℕ) (i j : ℕ) → IsUtf8 bytes
+pub content_found : (kind : TokenKind) (bytes before content rest said : List ℕ) (i j : ℕ) → IsUtf8 bytes
     → bytes ≡ before ++ delimited kind content rest → HasDecodedValue kind content said
     → i ≡ length before + length (decoding.delimiter kind) → j ≡ i + length content
     → IsContentAt bytes content i j
@@ -147,7 +147,7 @@ content_found kind bytes before content rest said i j u spelled h e f =
     (content_at (before ++ d) content (d ++ rest) i j parts.0 parts.1 n m)
 
 -- where the content of a mark stands
-pub content_range : (kind : MarkKind) (before content rest : List ℕ) (n from to width : ℕ)
+pub content_range : (kind : TokenKind) (before content rest : List ℕ) (n from to width : ℕ)
     → n ≡ length (before ++ delimited kind content rest) → from ≡ length (delimited kind content rest)
     → to ≡ length rest → width ≡ length (decoding.delimiter kind)
     → ((n - from) + width ≡ length before + length (decoding.delimiter kind))

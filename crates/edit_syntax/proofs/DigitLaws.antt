@@ -1,6 +1,6 @@
 -- Digits and numbers that the parser accepts are written as its result says.
 use Rattle.std.proofs.Common.{◌≡◌, ℕ, ◌<◌, Bool, true, false, eqb, List, ◌∷◌, ◌++◌, slice_index, drop, Some, refl, ap, subst, ◌∙◌, inl, inr, arith}
-use Rattle.edit_syntax.specs.Numbers.{Sign, sign, is_decimal, are_digits, is_whole, Base, base_letter, base_digit, Exponent, exponent, IsExponent}
+use Rattle.edit_syntax.specs.Numbers.{Sign, sign, is_decimal, are_digits, is_decimal_integer, Base, base_letter, base_digit, Exponent, exponent, IsExponent}
 use Rattle.edit_syntax.specs.Grammar.{Value, integer, float, datetime, value, IsValue}
 use Rattle.edit_syntax.specs.ReadingSteps.{first, front}
 use Rattle.edit_syntax.specs.ReadingNumbers.{is_marked, digits_at, whole_at, sign_of, past_sign, is_exponent_letter, exponent_at, fraction_read, whole_read, begins, decimal_at, based_at}
@@ -29,11 +29,11 @@ digits_sound class text x e =
     (run_parts (is_marked class) text, t.0)
 
 whole_sound : (text : List ℕ) (x : List ℕ × List ℕ) → whole_at text ≡ Some x → (text ≡ x.0 ++ x.1)
-    × (is_whole x.0 ≡ true)
+    × (is_decimal_integer x.0 ≡ true)
 unfolding whole_at
 whole_sound text x e =
-    let t = tested (is_whole (front (is_marked is_decimal) text)) _ x e in
-    subst (λ (y : List ℕ × List ℕ). (text ≡ y.0 ++ y.1) × (is_whole y.0 ≡ true)) (some_is _ x t.1)
+    let t = tested (is_decimal_integer (front (is_marked is_decimal) text)) _ x e in
+    subst (λ (y : List ℕ × List ℕ). (text ≡ y.0 ++ y.1) × (is_decimal_integer y.0 ≡ true)) (some_is _ x t.1)
     (run_parts (is_marked is_decimal) text, t.0)
 
 sign_sound : (text : List ℕ) → text ≡ sign (sign_of text) (past_sign text)
@@ -59,7 +59,7 @@ exponent_sound text x h e =
       (h, d.1),
     )
 
-fraction_sound : (s : Sign) (whole fraction text : List ℕ) (x : Value × List ℕ) → is_whole whole ≡ true
+fraction_sound : (s : Sign) (whole fraction text : List ℕ) (x : Value × List ℕ) → is_decimal_integer whole ≡ true
     → are_digits is_decimal fraction ≡ true → fraction_read s whole fraction text ≡ Some x
     → Spelled (sign s (whole ++ (46 ∷ (fraction ++ text)))) x
 unfolding fraction_read
@@ -74,7 +74,7 @@ fraction_sound s whole fraction text x hw hf e =
       | inr h ↦ subst P (some_is _ x h.1) (refl, (hw, hf, tt), tt)
     ]
 
-behind_sound : (s : Sign) (whole text : List ℕ) (x : Value × List ℕ) → is_whole whole ≡ true
+behind_sound : (s : Sign) (whole text : List ℕ) (x : Value × List ℕ) → is_decimal_integer whole ≡ true
     → whole_read s whole text ≡ Some x → Spelled (sign s (whole ++ text)) x
 unfolding whole_read
 behind_sound s whole text x hw e =

@@ -7,7 +7,7 @@ use Rattle.std.specs.Str.Parse.{digits_value}
 use Rattle.std.proofs.lemmas.Bool.Decides.{nat_tests}
 use Rattle.std.proofs.lemmas.List.{take_at, length-append}
 use Rattle.edit_syntax.specs.Characters.{quote, backslash, is_blank, is_basic_ch, is_unescaped, All}
-use Rattle.edit_syntax.specs.Strings.{LineEnd, lf, crlf, line_end, Space, spaces, IsSpace, Piece, plain, letter, short, long, feed, fold, delimiter, piece, pieces, is_escape, is_hex, IsScalarCode, IsBasicPiece, IsMultiPiece, IsRawPiece, FoldsAreWhole, begins_with_space, said, says, decoded_multi}
+use Rattle.edit_syntax.specs.Strings.{LineEnd, lf, crlf, line_end, Space, spaces, IsSpace, Piece, plain, letter, short, long, feed, fold, delimiter, piece, pieces, is_escape, is_hex, IsScalarCode, IsBasicPiece, IsMultiPiece, IsRawPiece, FoldsAreWhole, begins_with_space, decoded_piece, decoded_pieces, decoded_multi}
 use Rattle.edit_syntax.specs.Strings as strings
 use Rattle.edit_syntax.specs.Decoding.{BeginsWithBackslash, is_spacing}
 use Rattle.edit_syntax.specs.Reading.{scalar}
@@ -46,7 +46,7 @@ BeginsMarked (p ∷ ps) = BeginsWithBackslash p
 pub record Behind (bytes said : List ℕ) (rs : List Piece) : Type 0 where
   pub line : AreLine rs
   pub rest : drop (prefix_len is_unescaped bytes) bytes ≡ pieces quote rs []
-  pub says : said ≡ take (prefix_len is_unescaped bytes) bytes ++ says quote rs
+  pub says : said ≡ take (prefix_len is_unescaped bytes) bytes ++ decoded_pieces quote rs
   pub begins : BeginsMarked rs
 
 pub basic_unescaped : (b : ℕ) → is_basic_ch b ≡ true → is_unescaped b ≡ true
@@ -66,7 +66,7 @@ byte_behind b bytes said rs h more =
 
 marked_behind : (p : Piece) (qs : List Piece) (bytes : List ℕ) → AreLine (p ∷ qs) → BeginsWithBackslash p
     → pieces quote (p ∷ qs) [] ≡ backslash ∷ bytes
-    → Behind (pieces quote (p ∷ qs) []) (says quote (p ∷ qs)) (p ∷ qs)
+    → Behind (pieces quote (p ∷ qs) []) (decoded_pieces quote (p ∷ qs)) (p ∷ qs)
 marked_behind p qs bytes line marked e =
     let k : prefix_len is_unescaped (pieces quote (p ∷ qs) []) ≡ 0 = ap (prefix_len is_unescaped) e in
     record {
@@ -77,11 +77,11 @@ marked_behind p qs bytes line marked e =
     }
 
 pub run_behind : (qs : List Piece) → AreLine qs → (rs : List Piece)
-    × Behind (pieces quote qs []) (says quote qs) rs
+    × Behind (pieces quote qs []) (decoded_pieces quote qs) rs
 run_behind [] h = ([], record { line = h; rest = refl; says = refl; begins = tt })
 run_behind (plain b ∷ qs) h =
     let more = run_behind qs (record { all = h.all.1; folds = h.folds }) in
-    (more.0, byte_behind b (pieces quote qs []) (says quote qs) more.0 (basic_unescaped b h.all.0) more.1)
+    (more.0, byte_behind b (pieces quote qs []) (decoded_pieces quote qs) more.0 (basic_unescaped b h.all.0) more.1)
 run_behind (letter c ∷ qs) h = (letter c ∷ qs, marked_behind (letter c) qs (c ∷ pieces quote qs []) h tt refl)
 run_behind (short digits ∷ qs) h =
     (short digits ∷ qs, marked_behind (short digits) qs (117 ∷ (digits ++ pieces quote qs [])) h tt refl)
@@ -89,12 +89,12 @@ run_behind (long digits ∷ qs) h =
     (long digits ∷ qs, marked_behind (long digits) qs (85 ∷ (digits ++ pieces quote qs [])) h tt refl)
 run_behind (feed lf ∷ qs) h =
     let more = run_behind qs (record { all = h.all.1; folds = h.folds }) in
-    (more.0, byte_behind 10 (pieces quote qs []) (says quote qs) more.0 refl more.1)
+    (more.0, byte_behind 10 (pieces quote qs []) (decoded_pieces quote qs) more.0 refl more.1)
 run_behind (feed crlf ∷ qs) h =
     let more = run_behind qs (record { all = h.all.1; folds = h.folds }) in (
       more.0,
-      byte_behind 13 (10 ∷ pieces quote qs []) (10 ∷ says quote qs) more.0 refl
-          (byte_behind 10 (pieces quote qs []) (says quote qs) more.0 refl more.1),
+      byte_behind 13 (10 ∷ pieces quote qs []) (10 ∷ decoded_pieces quote qs) more.0 refl
+          (byte_behind 10 (pieces quote qs []) (decoded_pieces quote qs) more.0 refl more.1),
     )
 run_behind (fold ws end more ∷ qs) h = (
   fold ws end more ∷ qs,
@@ -103,7 +103,7 @@ run_behind (fold ws end more ∷ qs) h = (
 )
 run_behind (delimiter ∷ qs) h =
     let more = run_behind qs (record { all = h.all.1; folds = h.folds }) in
-    (more.0, byte_behind quote (pieces quote qs []) (says quote qs) more.0 refl more.1)
+    (more.0, byte_behind quote (pieces quote qs []) (decoded_pieces quote qs) more.0 refl more.1)
 
 run_stops : (class : ℕ → Bool) (bytes : List ℕ) → (prefix_len class bytes ≤ length bytes)
     × (prefix_len class bytes < length bytes → class (get_or bytes (prefix_len class bytes) 0) ≡ false)

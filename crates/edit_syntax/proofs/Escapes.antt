@@ -7,7 +7,7 @@ use Rattle.std.proofs.lemmas.Bool.Decides.{nat_tests}
 use Rattle.std.proofs.lemmas.List.{drop_at, append-nil, nil_from_length}
 use Rattle.std.proofs.lemmas.Str.{IsCharBoundary-at_seam}
 use Rattle.edit_syntax.specs.Characters.{quote, is_blank, is_basic_ch, is_unescaped, All}
-use Rattle.edit_syntax.specs.Strings.{LineEnd, lf, crlf, line_end, Space, spaces, Piece, plain, letter, short, long, feed, fold, delimiter, piece, pieces, is_escape, IsBasicPiece, IsMultiPiece, begins_with_space, said, says}
+use Rattle.edit_syntax.specs.Strings.{LineEnd, lf, crlf, line_end, Space, spaces, Piece, plain, letter, short, long, feed, fold, delimiter, piece, pieces, is_escape, IsBasicPiece, IsMultiPiece, begins_with_space, decoded_piece, decoded_pieces}
 use Rattle.edit_syntax.specs.Decoding.{IsEscape, BeginsWithBackslash, IsFoldEnd, is_spacing}
 use Rattle.edit_syntax.specs.Reading.{first}
 use Rattle.edit_syntax.proofs.TokenLaws.{prefix_len_run}
@@ -107,15 +107,15 @@ pub record Left (ps : List Piece) (rest out : List ℕ) : Type 0 where
   pub left : List Piece
   pub line : AreLine left
   pub spelled : rest ≡ pieces quote left []
-  pub says : out ++ says quote left ≡ says quote ps
+  pub says : out ++ decoded_pieces quote left ≡ decoded_pieces quote ps
 
 -- what the function that takes a piece promises of it
 abbrev pub Takes : List ℕ → List ℕ → List ℕ → ℕ → Type 0
 Takes tail out new len = (p : Piece) (r : List ℕ) → BeginsWithBackslash p → IsMultiPiece p → IsFoldEnd p (first r)
-    → tail ≡ piece quote p r → (new ≡ out ++ said quote p) × (len ≡ length (piece quote p []))
+    → tail ≡ piece quote p r → (new ≡ out ++ decoded_piece quote p) × (len ≡ length (piece quote p []))
 
 piece_turn : (ps rs : List Piece) (tail out new next : List ℕ) (len : ℕ) → AreLine rs → BeginsMarked rs
-    → tail ≡ pieces quote rs [] → out ++ says quote rs ≡ says quote ps → IsUtf8 tail → 0 < length tail
+    → tail ≡ pieces quote rs [] → out ++ decoded_pieces quote rs ≡ decoded_pieces quote ps → IsUtf8 tail → 0 < length tail
     → Takes tail out new len → (IsCharBoundary tail len → next ≡ drop len tail) → Left ps next new
 piece_turn ps [] tail out new next len line begins spelled says u some takes cut =
     absurd (omega (arith, ap length spelled))
@@ -127,14 +127,14 @@ piece_turn ps (p ∷ rs) tail out new next len line begins spelled same u some t
       left = rs;
       line = f.1;
       spelled = cut b.0 ∙ b.1;
-      says = ap (λ (e : List ℕ). e ++ says quote rs) a.0 ∙ append_assoc out (said quote p) (says quote rs) ∙
+      says = ap (λ (e : List ℕ). e ++ decoded_pieces quote rs) a.0 ∙ append_assoc out (decoded_piece quote p) (decoded_pieces quote rs) ∙
           same;
     }
 
 run_turn : (ps : List Piece) (rest out run tail : List ℕ) (l : Left ps rest out)
     → run ≡ take (prefix_len is_unescaped rest) rest → tail ≡ drop (prefix_len is_unescaped rest) rest
     → (rs : List Piece) × AreLine rs × BeginsMarked rs × (tail ≡ pieces quote rs [])
-    × ((out ++ run) ++ says quote rs ≡ says quote ps)
+    × ((out ++ run) ++ decoded_pieces quote rs ≡ decoded_pieces quote ps)
 run_turn ps rest out run tail l front back =
     let b = run_behind l.left l.line in
     let bytes = pieces quote l.left [] in
@@ -146,8 +146,8 @@ run_turn ps rest out run tail l front back =
       b.1.line,
       b.1.begins,
       t,
-      append_assoc out run (says quote b.0) ∙
-          ap (λ (r : List ℕ). out ++ (r ++ says quote b.0)) f ∙ ap (λ (r : List ℕ). out ++ r) (sym b.1.says) ∙
+      append_assoc out run (decoded_pieces quote b.0) ∙
+          ap (λ (r : List ℕ). out ++ (r ++ decoded_pieces quote b.0)) f ∙ ap (λ (r : List ℕ). out ++ r) (sym b.1.says) ∙
           l.says,
     )
 
@@ -160,7 +160,7 @@ turn ps rest out run tail new next len l front back u some takes cut =
     let r = run_turn ps rest out run tail l front back in
     piece_turn ps r.0 tail (out ++ run) new next len r.1 r.2 r.3 r.4 u some takes cut
 
-last_says : (rs : List Piece) → BeginsMarked rs → pieces quote rs [] ≡ [] → says quote rs ≡ []
+last_says : (rs : List Piece) → BeginsMarked rs → pieces quote rs [] ≡ [] → decoded_pieces quote rs ≡ []
 last_says [] begins e = refl
 last_says (plain b ∷ rs) begins e = absurd begins
 last_says (letter c ∷ rs) begins e = absurd cc
@@ -173,17 +173,17 @@ last_says (delimiter ∷ rs) begins e = absurd begins
 -- the last run was read
 pub done : (ps : List Piece) (rest out run tail : List ℕ) → Left ps rest out
     → run ≡ take (prefix_len is_unescaped rest) rest → tail ≡ drop (prefix_len is_unescaped rest) rest
-    → length tail ≡ 0 → out ++ run ≡ says quote ps
+    → length tail ≡ 0 → out ++ run ≡ decoded_pieces quote ps
 done ps rest out run tail l front back over =
     let r = run_turn ps rest out run tail l front back in
-    let none : says quote r.0 ≡ [] = last_says r.0 r.2 (sym r.3 ∙ nil_from_length tail over) in
+    let none : decoded_pieces quote r.0 ≡ [] = last_says r.0 r.2 (sym r.3 ∙ nil_from_length tail over) in
     sym (append-nil (out ++ run)) ∙ ap (λ (t : List ℕ). (out ++ run) ++ t) (sym none) ∙ r.4
 
 -- a fold was taken
 pub fold_taken : (p : Piece) (rest bytes out : List ℕ) (n : ℕ) → BeginsWithBackslash p → IsMultiPiece p
     → IsFoldEnd p (first rest) → bytes ≡ piece quote p rest → is_spacing (get_or bytes 1 0) ≡ true
     → n ≡ prefix_len is_spacing (drop 1 bytes)
-    → (out ≡ out ++ said quote p) × (1 + n ≡ length (piece quote p []))
+    → (out ≡ out ++ decoded_piece quote p) × (1 + n ≡ length (piece quote p []))
 fold_taken p rest bytes out n marked fine stops spelled here is =
     let f = (marked_next p rest marked fine).0 (rw spelled at here) in
     let q = fold f.0 f.1 f.2 in
@@ -196,8 +196,8 @@ fold_taken p rest bytes out n marked fine stops spelled here is =
 pub escape_taken : (p : Piece) (rest bytes out new : List ℕ) (named n : ℕ) → BeginsWithBackslash p
     → IsMultiPiece p
     → bytes ≡ piece quote p rest → is_spacing (get_or bytes 1 0) ≡ false → new ≡ out ++ encode_utf8 named
-    → (IsEscape p → IsBasicPiece p → (encode_utf8 named ≡ said quote p) × (n ≡ length (piece quote p [])))
-    → (new ≡ out ++ said quote p) × (n ≡ length (piece quote p []))
+    → (IsEscape p → IsBasicPiece p → (encode_utf8 named ≡ decoded_piece quote p) × (n ≡ length (piece quote p [])))
+    → (new ≡ out ++ decoded_piece quote p) × (n ≡ length (piece quote p []))
 escape_taken p rest bytes out new named n marked fine spelled other pushed names =
     let e = (marked_next p rest marked fine).1 (rw spelled at other) in
     let a = names e.0 e.1 in

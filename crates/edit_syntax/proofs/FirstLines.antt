@@ -1,7 +1,7 @@
 -- Parsing the text of lines gives back the first line.
 use Rattle.std.proofs.Common.{◌≡◌, ℕ, ◌≤◌, ◌++◌, List, [], Some, None, refl, sym, ap, ◌∙◌}
 use Rattle.std.proofs.lemmas.Option.{same_Some}
-use Rattle.edit_syntax.specs.declared.read.marks.Mark.{Mark}
+use Rattle.edit_syntax.specs.declared.read.syntax_tokens.SyntaxToken.{SyntaxToken}
 use Rattle.edit_syntax.specs.Strings.{LineEnd, line_end}
 use Rattle.edit_syntax.specs.Grammar.{Line, Lines, one_line, more_lines, lines, AreLines}
 use Rattle.edit_syntax.specs.Depth.{lines_depth}
@@ -29,7 +29,7 @@ marks_are (one_line l) = refl
 marks_are (more_lines l e ls) = refl
 
 -- what was read is the first line
-pub first_is : (bytes rest : List ℕ) (x : Line) (old new : List Mark) (form : Lines)
+pub first_is : (bytes rest : List ℕ) (x : Line) (old new : List SyntaxToken) (form : Lines)
     → line_at 80 bytes ≡ Some (x, rest) → new ≡ old ++ tokens_of_line x rest → bytes ≡ lines form
     → AreLines form
     → lines_depth form ≤ 80
@@ -39,7 +39,7 @@ first_is bytes rest x old new form e noted same h d =
     same_Some _ _ (sym e ∙ first_again bytes form same h d) in (
       ap (λ p. p.1) both,
       noted ∙ ap (λ (p : Line × List ℕ). old ++ tokens_of_line p.0 p.1) both ∙
-          ap (λ (m : List Mark). old ++ m) (marks_are form),
+          ap (λ (m : List SyntaxToken). old ++ m) (marks_are form),
     )
 
 -- it is not that nothing is read

@@ -8,8 +8,8 @@ use Rattle.std.proofs.lemmas.Bool.Decides.{nat_tests}
 use Rattle.std.proofs.lemmas.List.{take_all, drop_all, get_or_past, length-take-le, length-drop}
 use Rattle.std.proofs.lemmas.Slice.Eq.{bytes_eq-Decides}
 use Rattle.edit_syntax.specs.declared.span.Span.{Span}
-use Rattle.edit_syntax.specs.declared.read.marks.MarkKind.{MarkKind}
-use Rattle.edit_syntax.specs.declared.read.marks.MarkKind.TheVariants.{BasicPart, BasicString}
+use Rattle.edit_syntax.specs.declared.read.syntax_tokens.TokenKind.{TokenKind}
+use Rattle.edit_syntax.specs.declared.read.syntax_tokens.TokenKind.TheVariants.{BasicPart, BasicString}
 use Rattle.edit_syntax.specs.Characters.{is_unescaped}
 use Rattle.edit_syntax.specs.Decoding as decoding
 use Rattle.edit_syntax.specs.Decoding.{delimited, HasLineValue, HasDecodedValue}
@@ -86,7 +86,7 @@ unequal a b r long off = go (bytes_eq a b) refl
 -- ---- contents that are kept
 
 -- the span from behind a token's opening delimiter to before its closing one
-pub content_kept : (kind : MarkKind) (bytes before content rest said : List ℕ) (from width : ℕ) (span : Span)
+pub content_kept : (kind : TokenKind) (bytes before content rest said : List ℕ) (from width : ℕ) (span : Span)
     → IsUtf8 bytes → bytes ≡ before ++ delimited kind content rest
     → from ≡ length (delimited kind content rest)
     → HasDecodedValue kind content said → width ≡ length (decoding.delimiter kind) → span.from ≡ from - width
@@ -115,9 +115,9 @@ plain_line content said (ps, all, folds, spelled, says) le =
     (sym (take_all n content le)) (sym (drop_all n content le)) refl ∙ sym says
 
 -- the content of a basic string without a backslash
-pub plain_basic : (kind : MarkKind) (content said : List ℕ) → (kind ≡ BasicPart) ⊎ (kind ≡ BasicString)
+pub plain_basic : (kind : TokenKind) (content said : List ℕ) → (kind ≡ BasicPart) ⊎ (kind ≡ BasicString)
     → HasDecodedValue kind content said → length content ≤ prefix_len is_unescaped content → content ≡ said
 plain_basic kind content said (inl e) h le = plain_line content said
-    (basic_line content said (subst (λ (k : MarkKind). HasDecodedValue k content said) e h)) le
+    (basic_line content said (subst (λ (k : TokenKind). HasDecodedValue k content said) e h)) le
 plain_basic kind content said (inr e) h le = plain_line content said
-    (basic_line content said (subst (λ (k : MarkKind). HasDecodedValue k content said) e h)) le
+    (basic_line content said (subst (λ (k : TokenKind). HasDecodedValue k content said) e h)) le

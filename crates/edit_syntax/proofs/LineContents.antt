@@ -5,7 +5,7 @@ use Rattle.std.specs.Str.{IsUtf8, IsCharBoundary}
 use Rattle.std.proofs.lemmas.Bool.Decides.{nat_tests}
 use Rattle.std.proofs.lemmas.Str.{IsCharBoundary-after_ascii}
 use Rattle.edit_syntax.specs.Characters.{apostrophe, is_basic_ch, is_literal_ch}
-use Rattle.edit_syntax.specs.Strings.{lf, crlf, Piece, plain, letter, short, long, feed, fold, delimiter, pieces, IsRawPiece, said, says, decoded_multi}
+use Rattle.edit_syntax.specs.Strings.{lf, crlf, Piece, plain, letter, short, long, feed, fold, delimiter, pieces, IsRawPiece, decoded_piece, decoded_pieces, decoded_multi}
 use Rattle.edit_syntax.specs.Decoding.{HasBasicValue, HasLineValue, HasRawValue, past_break}
 use Rattle.edit_syntax.specs.Reading.{first}
 use Rattle.edit_syntax.proofs.TokenLaws.{AreBasic}
@@ -34,7 +34,7 @@ basic_no_break b h = (grind (arith, nat_tests), grind (arith, nat_tests))
 literal_no_break : (b : ℕ) → is_literal_ch b ≡ true → (eqb b 10 ≡ false) × (eqb b 13 ≡ false)
 literal_no_break b h = (grind (arith, nat_tests), grind (arith, nat_tests))
 
-raw_says : (ps : List Piece) → AllByRecursion IsRawPiece ps → says apostrophe ps ≡ pieces apostrophe ps []
+raw_says : (ps : List Piece) → AllByRecursion IsRawPiece ps → decoded_pieces apostrophe ps ≡ pieces apostrophe ps []
 raw_says [] h = refl
 raw_says (plain b ∷ ps) h = ap (λ (r : List ℕ). b ∷ r) (raw_says ps h.1)
 raw_says (letter c ∷ ps) h = absurd h.0

@@ -4,7 +4,7 @@ use Rattle.std.specs.List.{AllByRecursion}
 use Rattle.edit_syntax.specs.Characters.{quote, apostrophe, backslash, is_blank, is_basic_ch, is_literal_ch}
 use Rattle.edit_syntax.specs.Strings.{LineEnd, lf, crlf, line_end, Piece, plain, letter, short, long, feed, fold, delimiter, piece, pieces, IsBasicPiece, IsMultiPiece, IsRawPiece, RunsFit, FoldsAreWhole, begins_with_space}
 use Rattle.edit_syntax.specs.Grammar.{three}
-use Rattle.edit_syntax.specs.Reading.{first, blanks, past_blanks, line_end_at, begins_space, spaces_at, fold_at, text_newline_at, is_line_break, basic_piece_at, literal_piece_at, line_piece_at, closes, delimiter_at, body_at, multi_at}
+use Rattle.edit_syntax.specs.Reading.{first, blanks, past_blanks, line_end_at, begins_space, spaces_at, fold_at, text_newline_at, is_line_break, basic_piece_at, literal_piece_at, line_piece_at, is_closing_delimiter, delimiter_at, body_at, multi_at}
 use Rattle.edit_syntax.specs.ReadingNumbers.{begins}
 use Rattle.edit_syntax.proofs.TokenLaws.{bind_some, chosen, tested, some_is, first_is, first_of, at_drop, run_parts, run_all, escape_sound}
 use Rattle.std.proofs.lemmas.Bool.{and_parts}
@@ -151,7 +151,7 @@ pub record IsKind (mark : ℕ) (valid : Piece → Type 0) : Type 0 where
       → IsRead mark valid text x
   pub delimits : valid delimiter
 
-begins_three : (mark : ℕ) (text : List ℕ) → 0 < mark → closes mark text ≡ true
+begins_three : (mark : ℕ) (text : List ℕ) → 0 < mark → is_closing_delimiter mark text ≡ true
     → text ≡ three mark (drop 3 text)
 begins_three mark text lt e =
     let w = and_parts (begins mark mark mark text) _ e in
@@ -166,7 +166,7 @@ body_sound : (mark : ℕ) (valid : Piece → Type 0) → IsKind mark valid
     → IsBody mark valid few text x
 unfolding body_at
 body_sound mark valid kind zero few text x e = absurd cc
-body_sound mark valid kind (suc n) few text x e = elim (chosen (closes mark text) _ _ (Some x) e) [
+body_sound mark valid kind (suc n) few text x e = elim (chosen (is_closing_delimiter mark text) _ _ (Some x) e) [
   | inl h ↦ subst (IsBody mark valid few text) (some_is _ x h.1)
       (record { spelled = begins_three mark text kind.above h.0; fine = tt; runs = tt; folds = tt })
   | inr h ↦ elim (chosen (eqb (first text) mark) _ _ (Some x) h.1) [

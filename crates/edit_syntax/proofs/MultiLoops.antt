@@ -1,7 +1,7 @@
 -- One turn of each loop over a multi-line string.
 use Rattle.std.proofs.Common.{◌≡◌, ℕ, suc, true, false, eqb, List, ◌∷◌, drop, Some, None, refl}
 use Rattle.edit_syntax.specs.Strings.{delimiter}
-use Rattle.edit_syntax.specs.Reading.{◌>>=◌, Read, first, begins_space, space_at, spaces_at, line_piece_at, closes, body_at}
+use Rattle.edit_syntax.specs.Reading.{◌>>=◌, Read, first, begins_space, space_at, spaces_at, line_piece_at, is_closing_delimiter, body_at}
 use Rattle.edit_syntax.proofs.Loops.{rest_of}
 
 -- what stands before what is read does not change what follows it
@@ -44,32 +44,32 @@ spaces_none text = refl
 
 -- ---- pieces
 
-pub body_end : (mark n few : ℕ) (text : List ℕ) → closes mark text ≡ true
+pub body_end : (mark n few : ℕ) (text : List ℕ) → is_closing_delimiter mark text ≡ true
     → rest_of (body_at mark (suc n) few text) ≡ Some (drop 3 text)
 unfolding body_at
 body_end mark n few text closed = rw closed refl
 
-pub body_turn : (mark n few : ℕ) (text after : List ℕ) → closes mark text ≡ false
+pub body_turn : (mark n few : ℕ) (text after : List ℕ) → is_closing_delimiter mark text ≡ false
     → eqb (first text) mark ≡ false → Some after ≡ rest_of (line_piece_at mark text)
     → rest_of (body_at mark (suc n) few text) ≡ rest_of (body_at mark n 2 after)
 unfolding body_at
 body_turn mark n few text after going other e = rw (going, other)
     (first_turn after (line_piece_at mark text) (body_at mark n 2) e)
 
-pub body_stop : (mark n few : ℕ) (text : List ℕ) → closes mark text ≡ false → eqb (first text) mark ≡ false
+pub body_stop : (mark n few : ℕ) (text : List ℕ) → is_closing_delimiter mark text ≡ false → eqb (first text) mark ≡ false
     → None ≡ rest_of (line_piece_at mark text) → rest_of (body_at mark (suc n) few text) ≡ None
 unfolding body_at
 body_stop mark n few text going other e = rw (going, other)
     (first_stop (line_piece_at mark text) (body_at mark n 2) e)
 
-pub body_delimiter : (mark n few less : ℕ) (text : List ℕ) → few ≡ suc less → closes mark text ≡ false
+pub body_delimiter : (mark n few less : ℕ) (text : List ℕ) → few ≡ suc less → is_closing_delimiter mark text ≡ false
     → eqb (first text) mark ≡ true → rest_of (body_at mark (suc n) few text)
     ≡ rest_of (body_at mark n less (drop 1 text))
 unfolding body_at
 body_delimiter mark n few less text one going here = rw (one, going, here)
     (rest_behind delimiter (body_at mark n less (drop 1 text)))
 
-pub body_full : (mark n few : ℕ) (text : List ℕ) → few ≡ 0 → closes mark text ≡ false
+pub body_full : (mark n few : ℕ) (text : List ℕ) → few ≡ 0 → is_closing_delimiter mark text ≡ false
     → eqb (first text) mark ≡ true → rest_of (body_at mark (suc n) few text) ≡ None
 unfolding body_at
 body_full mark n few text none going here = rw (none, going, here) refl

@@ -3,7 +3,7 @@ use Rattle.std.proofs.Common.{◌≡◌, ℕ, nat_le, cond, not, Bool, true, fal
 use Rattle.std.proofs.lemmas.Bool.{and_parts}
 use Rattle.std.proofs.lemmas.Bool.Decides.{nat_tests}
 use Rattle.edit_syntax.specs.Characters.{is_blank, is_bare, All}
-use Rattle.edit_syntax.specs.Numbers.{is_decimal, are_digits, are_more_digits, is_whole}
+use Rattle.edit_syntax.specs.Numbers.{is_decimal, are_digits, are_more_digits, is_decimal_integer}
 use Rattle.edit_syntax.specs.ReadingSteps.{first}
 use Rattle.edit_syntax.specs.ReadingNumbers.{is_marked, digits_at, whole_at, is_exponent_letter}
 use Rattle.edit_syntax.proofs.TokenLaws.{front_again, after_again}
@@ -133,7 +133,7 @@ mutual
       (sym (ap (λ c. cond c (are_digits class ds) (class b && are_more_digits class ds)) h) ∙ e) in
       (marked_class class b g.0, more_marked class ds g.1))
 
-pub whole_marked : (ds : List ℕ) → is_whole ds ≡ true → All (is_marked is_decimal) ds
+pub whole_marked : (ds : List ℕ) → is_decimal_integer ds ≡ true → All (is_marked is_decimal) ds
 whole_marked [] e = absurd (true≢false (sym e))
 whole_marked (b ∷ []) e = (marked_class is_decimal b e, tt)
 whole_marked (b ∷ c ∷ ds) e = digits_marked is_decimal (b ∷ c ∷ ds)
@@ -147,7 +147,7 @@ digits_again class ds rest h stops =
     rw (front_again (is_marked class) ds rest all stops, after_again (is_marked class) ds rest all stops, h)
     refl
 
-pub whole_again : (ds rest : List ℕ) → is_whole ds ≡ true → is_marked is_decimal (first rest) ≡ false
+pub whole_again : (ds rest : List ℕ) → is_decimal_integer ds ≡ true → is_marked is_decimal (first rest) ≡ false
     → whole_at (ds ++ rest) ≡ Some (ds, rest)
 unfolding whole_at
 whole_again ds rest h stops =
@@ -164,7 +164,7 @@ pub digits_first : (ds rest : List ℕ) → are_digits is_decimal ds ≡ true
 digits_first [] rest e = absurd (true≢false (sym e))
 digits_first (b ∷ ds) rest e = (and_parts (is_decimal b) (are_more_digits is_decimal ds) e).0
 
-pub whole_first : (ds rest : List ℕ) → is_whole ds ≡ true → is_decimal (first (ds ++ rest)) ≡ true
+pub whole_first : (ds rest : List ℕ) → is_decimal_integer ds ≡ true → is_decimal (first (ds ++ rest)) ≡ true
 whole_first [] rest e = absurd (true≢false (sym e))
 whole_first (b ∷ []) rest e = e
 whole_first (b ∷ c ∷ ds) rest e = digits_first (b ∷ c ∷ ds) rest

@@ -7,7 +7,7 @@ use Rattle.edit_syntax.specs.Characters.{All}
 use Rattle.edit_syntax.specs.Numbers.{no_sign, plus, minus, is_decimal, Base, hexadecimal, octal, binary, base_letter, Date, date, IsDate, Time, time, IsTime, HasDigits, fraction_text, Offset, offset, IsOffset}
 use Rattle.edit_syntax.specs.Grammar.{Value}
 use Rattle.edit_syntax.specs.ReadingSteps.{first, after, past}
-use Rattle.edit_syntax.specs.ReadingNumbers.{based_at, count_at, group_at, date_at, second_at, time_at, offset_at, joins, date_time_at, local_time_at, unsigned_at, number_at}
+use Rattle.edit_syntax.specs.ReadingNumbers.{based_at, count_at, group_at, date_at, second_at, time_at, offset_at, is_time_next, date_time_at, local_time_at, unsigned_at, number_at}
 use Rattle.edit_syntax.proofs.TokenLaws.{bind_some, chosen, tested, some_is, first_is, first_of, at_drop, past_some, run_parts, run_all}
 use Rattle.edit_syntax.proofs.KeyLaws.{length_front}
 use Rattle.std.proofs.lemmas.Bool.{and_parts}
@@ -129,7 +129,7 @@ offset_sound text x e =
     ]
 
 -- the byte that joins a time to a date
-joins_between : (text : List ℕ) → joins text ≡ true → is_between (first text) ≡ true
+joins_between : (text : List ℕ) → is_time_next text ≡ true → is_between (first text) ≡ true
 joins_between text h = grind (arith, nat_tests)
 
 dated_sound : (text : List ℕ) (x : Value × List ℕ) → date_time_at text ≡ Some x → Spelled text x
@@ -137,7 +137,7 @@ unfolding date_time_at
 dated_sound text x e =
     let a = bind_some (date_at text) _ x e in
     let d = date_sound text a.0 a.1 in
-    elim (chosen (joins a.0.1) _ _ (Some x) a.2) [
+    elim (chosen (is_time_next a.0.1) _ _ (Some x) a.2) [
       | inl h ↦
           let b = bind_some (time_at (drop 1 a.0.1)) _ x h.1 in
           let c = bind_some (offset_at b.0.1) _ x b.2 in

@@ -4,7 +4,7 @@ use Rattle.std.proofs.lemmas.Bool.{and_parts}
 use Rattle.std.proofs.lemmas.Bool.Decides.{nat_tests}
 use Rattle.std.specs.List.{prefix_len}
 use Rattle.edit_syntax.specs.Characters.{All}
-use Rattle.edit_syntax.specs.Numbers.{Sign, no_sign, plus, minus, sign, is_decimal, are_digits, is_whole, Base, hexadecimal, octal, binary, base_letter, base_digit, Integer, decimal, based, integer_text, IsInteger, Exponent, exponent, IsExponent, optional_exponent, Float, with_fraction, with_exponent, infinite, not_a_number, float_text, IsFloat}
+use Rattle.edit_syntax.specs.Numbers.{Sign, no_sign, plus, minus, sign, is_decimal, are_digits, is_decimal_integer, Base, hexadecimal, octal, binary, base_letter, base_digit, Integer, decimal, based, integer_text, IsInteger, Exponent, exponent, IsExponent, optional_exponent, Float, with_fraction, with_exponent, infinite, not_a_number, float_text, IsFloat}
 use Rattle.edit_syntax.specs.Grammar.{integer, float}
 use Rattle.edit_syntax.specs.ReadingSteps.{first, after}
 use Rattle.edit_syntax.specs.ReadingNumbers.{is_marked, sign_of, past_sign, is_exponent_letter, exponent_at, fraction_read, whole_read, decimal_at, based_at, unsigned_at, number_at}
@@ -74,7 +74,7 @@ fraction_behind s whole fraction e rest hf h ends =
       fraction_again s whole fraction e rest h ends,
     ) refl
 
-decimal_again : (s : Sign) (whole more : List ℕ) → is_whole whole ≡ true → EndsWhole (first more)
+decimal_again : (s : Sign) (whole more : List ℕ) → is_decimal_integer whole ≡ true → EndsWhole (first more)
     → decimal_at s (whole ++ more) ≡ whole_read s whole more
 unfolding decimal_at
 decimal_again s whole more h ends =
@@ -100,7 +100,7 @@ behind_digits c (b ∷ ds) more bar all stops other = go (is_decimal b) refl all
     go false e m others = let bar2 : eqb b 95 ≡ true = (rw e at m) in rw e (same b bar2 ∙ bar)
 
 -- no prefix of a base
-no_prefix : (c : ℕ) (ds more : List ℕ) → is_whole ds ≡ true → eqb (first more) c ≡ false
+no_prefix : (c : ℕ) (ds more : List ℕ) → is_decimal_integer ds ≡ true → eqb (first more) c ≡ false
     → (eqb (first (ds ++ more)) 48 && eqb (slice_index (ds ++ more) 1) c) ≡ false
 no_prefix c [] more h other = absurd (true≢false (sym h))
 no_prefix c (b ∷ []) [] h other = rw other (go (eqb b 48))
@@ -118,7 +118,7 @@ no_prefix c (b ∷ d ∷ ds) more h other =
     let not_zero : eqb b 48 ≡ false = grind (arith, nat_tests) in
     rw not_zero refl
 
-unsigned_again : (whole more : List ℕ) → is_whole whole ≡ true → EndsWhole (first more)
+unsigned_again : (whole more : List ℕ) → is_decimal_integer whole ≡ true → EndsWhole (first more)
     → unsigned_at (whole ++ more) ≡ decimal_at no_sign (whole ++ more)
 unfolding unsigned_at
 unsigned_again whole more h ends =
@@ -136,7 +136,7 @@ pub number_unsigned : (text : List ℕ) → is_decimal (first text) ≡ true →
 unfolding number_at
 number_unsigned text h = let d = digit_alone (first text) h in rw (d.no_plus, d.no_dash) refl
 
-number_decimal : (s : Sign) (whole more : List ℕ) → is_whole whole ≡ true → EndsWhole (first more)
+number_decimal : (s : Sign) (whole more : List ℕ) → is_decimal_integer whole ≡ true → EndsWhole (first more)
     → number_at (sign s (whole ++ more)) ≡ whole_read s whole more
 unfolding number_at
 number_decimal no_sign whole more h ends = number_unsigned (whole ++ more) (whole_first whole more h) ∙

@@ -4,10 +4,10 @@ use Rattle.std.specs.Prelude.{encode_utf8}
 use Rattle.std.specs.List.{prefix_len, AllByRecursion}
 use Rattle.std.specs.Str.Parse.{digits_value}
 use Rattle.std.proofs.lemmas.Str.{length-encode, len_utf8_bounds}
-use Rattle.edit_syntax.specs.declared.read.marks.MarkKind.{MarkKind}
-use Rattle.edit_syntax.specs.declared.read.marks.MarkKind.TheVariants.{BasicPart, BasicString}
+use Rattle.edit_syntax.specs.declared.read.syntax_tokens.TokenKind.{TokenKind}
+use Rattle.edit_syntax.specs.declared.read.syntax_tokens.TokenKind.TheVariants.{BasicPart, BasicString}
 use Rattle.edit_syntax.specs.Characters.{quote, is_unescaped}
-use Rattle.edit_syntax.specs.Strings.{Piece, plain, letter, short, long, feed, fold, delimiter, pieces, IsBasicPiece, says}
+use Rattle.edit_syntax.specs.Strings.{Piece, plain, letter, short, long, feed, fold, delimiter, pieces, IsBasicPiece, decoded_pieces}
 use Rattle.edit_syntax.specs.Decoding.{HasBasicValue, HasDecodedValue}
 use Rattle.edit_syntax.proofs.EscapeRuns.{basic_unescaped}
 
@@ -24,17 +24,17 @@ code_fewer digits bytes said enough le =
 
 -- pieces say no more bytes than they have
 says_fewer : (ps : List Piece) → AllByRecursion IsBasicPiece ps
-    → length (says quote ps) ≤ length (pieces quote ps [])
+    → length (decoded_pieces quote ps) ≤ length (pieces quote ps [])
 says_fewer [] all = omega arith
 says_fewer (plain b ∷ ps) all = let k = says_fewer ps all.1 in omega arith
 says_fewer (letter c ∷ ps) all = let k = says_fewer ps all.1 in omega arith
 says_fewer (short digits ∷ ps) all =
     let n = all.0.0 in
-    let k = code_fewer digits (pieces quote ps []) (says quote ps) (omega arith) (says_fewer ps all.1) in
+    let k = code_fewer digits (pieces quote ps []) (decoded_pieces quote ps) (omega arith) (says_fewer ps all.1) in
     omega arith
 says_fewer (long digits ∷ ps) all =
     let n = all.0.0 in
-    let k = code_fewer digits (pieces quote ps []) (says quote ps) (omega arith) (says_fewer ps all.1) in
+    let k = code_fewer digits (pieces quote ps []) (decoded_pieces quote ps) (omega arith) (says_fewer ps all.1) in
     omega arith
 says_fewer (feed e ∷ ps) all = absurd all.0
 says_fewer (fold ws e more ∷ ps) all = absurd all.0
@@ -42,7 +42,7 @@ says_fewer (delimiter ∷ ps) all = absurd all.0
 
 -- pieces that say as many bytes as they have are bytes that stand for themselves
 all_plain : (ps : List Piece) → AllByRecursion IsBasicPiece ps
-    → length (pieces quote ps []) ≤ length (says quote ps)
+    → length (pieces quote ps []) ≤ length (decoded_pieces quote ps)
     → length (pieces quote ps []) ≤ prefix_len is_unescaped (pieces quote ps [])
 all_plain [] all le = omega arith
 all_plain (plain b ∷ ps) all le =
@@ -52,12 +52,12 @@ all_plain (plain b ∷ ps) all le =
 all_plain (letter c ∷ ps) all le = absurd (let k = says_fewer ps all.1 in omega arith)
 all_plain (short digits ∷ ps) all le = absurd (
     let n = all.0.0 in
-    let k = code_fewer digits (pieces quote ps []) (says quote ps) (omega arith) (says_fewer ps all.1) in
+    let k = code_fewer digits (pieces quote ps []) (decoded_pieces quote ps) (omega arith) (says_fewer ps all.1) in
     omega arith
     )
 all_plain (long digits ∷ ps) all le = absurd (
     let n = all.0.0 in
-    let k = code_fewer digits (pieces quote ps []) (says quote ps) (omega arith) (says_fewer ps all.1) in
+    let k = code_fewer digits (pieces quote ps []) (decoded_pieces quote ps) (omega arith) (says_fewer ps all.1) in
     omega arith
     )
 all_plain (feed e ∷ ps) all le = absurd all.0
@@ -67,14 +67,14 @@ all_plain (delimiter ∷ ps) all le = absurd all.0
 own_plain : (content : List ℕ) → HasBasicValue content content
     → length content ≤ prefix_len is_unescaped content
 own_plain content (ps, all, spelled, said) =
-    let le : length (pieces quote ps []) ≤ length (says quote ps) =
+    let le : length (pieces quote ps []) ≤ length (decoded_pieces quote ps) =
     let a = ap length spelled in let b = ap length said in omega arith in
     rw spelled (all_plain ps all le)
 
 -- the content of a basic string that says itself has no backslash
-pub own_basic : (kind : MarkKind) (content : List ℕ) → (kind ≡ BasicPart) ⊎ (kind ≡ BasicString)
+pub own_basic : (kind : TokenKind) (content : List ℕ) → (kind ≡ BasicPart) ⊎ (kind ≡ BasicString)
     → HasDecodedValue kind content content → length content ≤ prefix_len is_unescaped content
 own_basic kind content (inl e) h = own_plain content
-    (subst (λ (k : MarkKind). HasDecodedValue k content content) e h)
+    (subst (λ (k : TokenKind). HasDecodedValue k content content) e h)
 own_basic kind content (inr e) h = own_plain content
-    (subst (λ (k : MarkKind). HasDecodedValue k content content) e h)
+    (subst (λ (k : TokenKind). HasDecodedValue k content content) e h)

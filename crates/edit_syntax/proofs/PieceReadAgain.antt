@@ -4,7 +4,7 @@ use Rattle.std.proofs.lemmas.Bool.Decides.{nat_tests}
 use Rattle.std.specs.List.{AllByRecursion}
 use Rattle.edit_syntax.specs.Characters.{quote, apostrophe, backslash, is_blank, is_basic_ch, is_literal_ch, All}
 use Rattle.edit_syntax.specs.Strings.{LineEnd, lf, crlf, line_end, Space, spaces, IsSpace, Piece, plain, letter, short, long, feed, fold, delimiter, piece, IsMultiPiece, IsRawPiece, is_escape}
-use Rattle.edit_syntax.specs.Reading.{◌>>=◌, first, begins_space, fold_at, text_newline_at, is_line_break, escape_at, basic_piece_at, literal_piece_at, line_piece_at, closes, delimiter_at, body_at, multi_at}
+use Rattle.edit_syntax.specs.Reading.{◌>>=◌, first, begins_space, fold_at, text_newline_at, is_line_break, escape_at, basic_piece_at, literal_piece_at, line_piece_at, is_closing_delimiter, delimiter_at, body_at, multi_at}
 use Rattle.edit_syntax.specs.Reading as reading
 use Rattle.edit_syntax.proofs.TokenLaws.{front_again, after_again, piece_again, basic_ch_not}
 use Rattle.edit_syntax.proofs.MultiLaws.{IsOther, FoldEnds}

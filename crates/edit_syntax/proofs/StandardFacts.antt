@@ -2,7 +2,7 @@
 use Rattle.std.proofs.Common.{◌≡◌, List, [], ◌∷◌, refl}
 use Rattle.std.specs.Prelude.{codes}
 use Rattle.edit_syntax.specs.Characters.{quote}
-use Rattle.edit_syntax.specs.Strings.{Piece, letter, short, long, pieces, says}
+use Rattle.edit_syntax.specs.Strings.{Piece, letter, short, long, pieces, decoded_pieces}
 
 -- "String": each escape, as it is spelled and as what it says
 abbrev pub every_escape : List Piece
@@ -14,7 +14,7 @@ every_escape = letter 98 ∷
 pub every_escape_spelled : pieces quote every_escape [] ≡ codes "\\b\\t\\n\\f\\r\\\"\\\\\\u00E9\\U0001F600"
 every_escape_spelled = refl
 
-pub every_escape_says : says quote every_escape
+pub every_escape_says : decoded_pieces quote every_escape
     ≡ 8 ∷ (9 ∷ (10 ∷ (12 ∷ (13 ∷ (34 ∷ (92 ∷ (195 ∷ (169 ∷ (240 ∷ (159 ∷ (152 ∷ (128 ∷ []))))))))))))
 unfolding lib.Utf8.encode
 every_escape_says = refl

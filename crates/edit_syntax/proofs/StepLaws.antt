@@ -8,8 +8,8 @@ use Rattle.edit_syntax.specs.Reading.{first, past_blanks, past, key_at, value_at
 use Rattle.edit_syntax.specs.Steps.{ends_item, IsItem, IsKeyAndSign}
 use Rattle.edit_base.specs.Errors.{IsMemory}
 use Rattle.edit_base.specs.declared.errors.Error.{Error}
-use Rattle.edit_syntax.specs.declared.read.marks.ReadError.{ReadError}
-use Rattle.edit_syntax.specs.declared.read.marks.ReadError.TheVariants.{Memory, NotToml}
+use Rattle.edit_syntax.specs.declared.read.syntax_tokens.ReadError.{ReadError}
+use Rattle.edit_syntax.specs.declared.read.syntax_tokens.ReadError.TheVariants.{Memory, NotToml}
 use Rattle.edit_syntax.proofs.TokenLaws.{some_is, after_again}
 use Rattle.edit_syntax.proofs.NumberEnds.{is_stop}
 use Rattle.edit_syntax.proofs.GapLaws.{opens_gap, gap_ends}

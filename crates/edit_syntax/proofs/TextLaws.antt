@@ -6,7 +6,7 @@ use Rattle.edit_syntax.specs.Characters.{is_blank, is_bare, All}
 use Rattle.edit_syntax.specs.Strings.{LineEnd, lf, crlf, line_end, Part, bare, basic_part, literal_part, part, IsPart}
 use Rattle.edit_syntax.specs.Grammar.{Statement, pair, header, element_header, statement, IsStatement, comment, Line, empty_line, full_line, line, IsLine, Lines, one_line, more_lines, lines, AreLines, Text, text, byte_order_mark, Spells}
 use Rattle.edit_syntax.specs.Depth.{lines_depth, text_depth}
-use Rattle.edit_syntax.specs.Reading.{◌>>=◌, first, lines_at, is_marked, past_mark, read_text}
+use Rattle.edit_syntax.specs.Reading.{◌>>=◌, first, lines_at, is_marked, skip_byte_order_mark, read_text}
 use Rattle.edit_syntax.proofs.TokenLaws.{first_is, at_drop}
 use Rattle.edit_syntax.proofs.LineSound.{AreGoodLines, lines_sound}
 use Rattle.edit_syntax.proofs.LineLaws.{lines_again, few_lines}
@@ -18,7 +18,7 @@ pub record IsReadText (n : ℕ) (bytes : List ℕ) (t : Text) : Type 0 where
   pub spells : Spells bytes t
   pub shallow : text_depth t ≤ n
 
-mark_parts : (bytes : List ℕ) → bytes ≡ byte_order_mark (is_marked bytes) (past_mark bytes)
+mark_parts : (bytes : List ℕ) → bytes ≡ byte_order_mark (is_marked bytes) (skip_byte_order_mark bytes)
 mark_parts bytes = go (is_marked bytes) refl
   where
     go : (b : Bool) → is_marked bytes ≡ b → bytes ≡ byte_order_mark b (cond b (drop 3 bytes) bytes)
@@ -31,7 +31,7 @@ mark_parts bytes = go (is_marked bytes) refl
     go false e = refl
 
 -- lines that were read behind a mark or nothing
-pub lines_found : (n : ℕ) (bytes : List ℕ) (ls : Lines) → past_mark bytes ≡ lines ls → AreLines ls
+pub lines_found : (n : ℕ) (bytes : List ℕ) (ls : Lines) → skip_byte_order_mark bytes ≡ lines ls → AreLines ls
     → lines_depth ls ≤ n → IsReadText n bytes (record { marked = is_marked bytes; lines = ls })
 lines_found n bytes ls e valid shallow = record {
   spells = record {
@@ -86,12 +86,12 @@ unmarked bytes e = rw e refl
 
 -- the lines of any form of a text are those behind its mark
 mark_of : (b : Bool) (ls : Lines) → AreLines ls → (is_marked (byte_order_mark b (lines ls)) ≡ b)
-    × (past_mark (byte_order_mark b (lines ls)) ≡ lines ls)
+    × (skip_byte_order_mark (byte_order_mark b (lines ls)) ≡ lines ls)
 mark_of true ls h = (refl, refl)
 mark_of false ls h = let e = unmarked (lines ls) (lines_unmarked ls h) in (e, rw e refl)
 
-pub lines_only : (bytes : List ℕ) (t : Text) → Spells bytes t → past_mark bytes ≡ lines t.lines
-lines_only bytes t h = ap past_mark h.spelled ∙ (mark_of t.marked t.lines h.well_formed).1
+pub lines_only : (bytes : List ℕ) (t : Text) → Spells bytes t → skip_byte_order_mark bytes ≡ lines t.lines
+lines_only bytes t h = ap skip_byte_order_mark h.spelled ∙ (mark_of t.marked t.lines h.well_formed).1
 
 pub lines_read : (n : ℕ) (bytes : List ℕ) (ls : Lines) → lines_at n (length bytes + 1) bytes ≡ Some ls
     → (bytes ≡ lines ls) × AreGoodLines n ls

@@ -6,7 +6,7 @@ use Rattle.std.specs.List.{AllByRecursion}
 use Rattle.std.specs.Char.{is_digit}
 use Rattle.edit_syntax.specs.Characters.{quote, apostrophe, left_bracket, right_bracket, left_brace, right_brace, All}
 use Rattle.edit_syntax.specs.Strings.{pieces}
-use Rattle.edit_syntax.specs.Numbers.{Sign, no_sign, plus, minus, sign, Base, hexadecimal, octal, binary, base_digit, base_letter, is_decimal, are_digits, are_more_digits, is_whole, Integer, decimal, based, integer_text, IsInteger, Exponent, exponent, IsExponent, optional_exponent, Float, with_fraction, with_exponent, infinite, not_a_number, float_text, IsFloat, Date, Time, date, time, IsDate, IsTime, fraction_text, Offset, local, zulu, shift, offset, IsOffset, DateTime, only_date, only_time, both, datetime_text, IsDateTime}
+use Rattle.edit_syntax.specs.Numbers.{Sign, no_sign, plus, minus, sign, Base, hexadecimal, octal, binary, base_digit, base_letter, is_decimal, are_digits, are_more_digits, is_decimal_integer, Integer, decimal, based, integer_text, IsInteger, Exponent, exponent, IsExponent, optional_exponent, Float, with_fraction, with_exponent, infinite, not_a_number, float_text, IsFloat, Date, Time, date, time, IsDate, IsTime, fraction_text, Offset, local, zulu, shift, offset, IsOffset, DateTime, only_date, only_time, both, datetime_text, IsDateTime}
 use Rattle.edit_syntax.specs.Grammar.{gap, Value, basic, literal, multi_basic, multi_literal, boolean, integer, float, datetime, array, inline, value, elements, members, IsValue}
 use Rattle.edit_syntax.proofs.PutBefore.{gap_before, elements_before, members_before, value_before, pieces_rest, Behind, behind_one}
 use Rattle.edit_syntax.proofs.Cases.{by_test}
@@ -95,13 +95,13 @@ digits_some : (class : ℕ → Bool) (ds : List ℕ) → are_digits class ds ≡
 digits_some class [] e = absurd (true≢false (sym e))
 digits_some class (b ∷ ds) e = omega arith
 
-whole_ascii : (ds : List ℕ) → is_whole ds ≡ true → Ascii ds
+whole_ascii : (ds : List ℕ) → is_decimal_integer ds ≡ true → Ascii ds
 whole_ascii [] e = tt
 whole_ascii (b ∷ []) e = (decimal_ascii b e, tt)
 whole_ascii (b ∷ c ∷ ds) e = digits_ascii is_decimal (b ∷ c ∷ ds) decimal_ascii
     (and_parts (nat_le 49 b) (are_digits is_decimal (b ∷ c ∷ ds)) e).1
 
-whole_some : (ds : List ℕ) → is_whole ds ≡ true → 0 < length ds
+whole_some : (ds : List ℕ) → is_decimal_integer ds ≡ true → 0 < length ds
 whole_some [] e = absurd (true≢false (sym e))
 whole_some (b ∷ ds) e = omega arith
 

@@ -2,14 +2,14 @@
 -- "String").
 use Rattle.std.specs.Prelude.{◌≡◌, ℕ, ◌<◌, Bool, false, ◌&&◌, ◌||◌, ◌==◌, if◌then◌else◌, List, [], ◌∷◌, ◌++◌, length, drop, slice_index, ⊤}
 use Rattle.std.specs.List.{AllByRecursion}
-use Rattle.edit_syntax.specs.declared.read.marks.MarkKind.{MarkKind}
-use Rattle.edit_syntax.specs.declared.read.marks.MarkKind.TheVariants.{BarePart, BasicPart, LiteralPart, BasicString, LiteralString, MultiBasicString, MultiLiteralString, Integer, Float, DateTime}
+use Rattle.edit_syntax.specs.declared.read.syntax_tokens.TokenKind.{TokenKind}
+use Rattle.edit_syntax.specs.declared.read.syntax_tokens.TokenKind.TheVariants.{BarePart, BasicPart, LiteralPart, BasicString, LiteralString, MultiBasicString, MultiLiteralString, Integer, Float, DateTime}
 use Rattle.edit_syntax.specs.Characters.{line_feed, carriage_return, quote, apostrophe, is_blank, is_bare, is_literal_ch, is_ascii, All}
-use Rattle.edit_syntax.specs.Strings.{Piece, letter, short, long, fold, pieces, IsBasicPiece, IsMultiPiece, IsRawPiece, FoldsAreWhole, says, decoded_multi}
+use Rattle.edit_syntax.specs.Strings.{Piece, letter, short, long, fold, pieces, IsBasicPiece, IsMultiPiece, IsRawPiece, FoldsAreWhole, decoded_pieces, decoded_multi}
 use Rattle.edit_syntax.specs.ReadingSteps.{first}
 
 -- the delimiter of a token of this kind; empty where the kind has none
-abbrev pub delimiter : MarkKind → List ℕ
+abbrev pub delimiter : TokenKind → List ℕ
 delimiter BasicPart = quote ∷ []
 delimiter LiteralPart = apostrophe ∷ []
 delimiter BasicString = quote ∷ []
@@ -19,7 +19,7 @@ delimiter MultiLiteralString = apostrophe ∷ (apostrophe ∷ (apostrophe ∷ []
 delimiter _ = []
 
 -- a token of this kind with its delimiters around this content, before the text that follows
-abbrev pub delimited : MarkKind → List ℕ → List ℕ → List ℕ
+abbrev pub delimited : TokenKind → List ℕ → List ℕ → List ℕ
 delimited kind content rest = delimiter kind ++ (content ++ (delimiter kind ++ rest))
 
 -- the piece is an escape of a character
@@ -49,13 +49,13 @@ IsFoldEnd _ b = ⊤
 -- the content of a basic string, and its decoded value
 abbrev pub HasBasicValue : List ℕ → List ℕ → Type 0
 HasBasicValue content said = (ps : List Piece) × AllByRecursion IsBasicPiece ps
-    × (content ≡ pieces quote ps []) × (said ≡ says quote ps)
+    × (content ≡ pieces quote ps []) × (said ≡ decoded_pieces quote ps)
 
 -- the content of a string that may span lines, and its decoded value; a newline at its start is part of the
 -- value
 abbrev pub HasLineValue : List ℕ → List ℕ → Type 0
 HasLineValue content said = (ps : List Piece) × AllByRecursion IsMultiPiece ps × FoldsAreWhole ps
-    × (content ≡ pieces quote ps []) × (said ≡ says quote ps)
+    × (content ≡ pieces quote ps []) × (said ≡ decoded_pieces quote ps)
 
 -- the content without a newline at its start
 abbrev pub past_break : List ℕ → List ℕ
@@ -80,7 +80,7 @@ abbrev pub HasPlainValue : List ℕ → List ℕ → Type 0
 HasPlainValue content said = (0 < length content) × All is_ascii content × (said ≡ content)
 
 -- the content of a token of this kind, and its decoded value
-abbrev pub HasDecodedValue : MarkKind → List ℕ → List ℕ → Type 0
+abbrev pub HasDecodedValue : TokenKind → List ℕ → List ℕ → Type 0
 HasDecodedValue BarePart content said = (0 < length content) × All is_bare content × (said ≡ content)
 HasDecodedValue BasicPart content said = HasBasicValue content said
 HasDecodedValue LiteralPart content said = All is_literal_ch content × (said ≡ content)
@@ -94,7 +94,7 @@ HasDecodedValue MultiLiteralString content said = HasRawValue content said
 HasDecodedValue _ content said = ⊥
 
 -- a kind of token that has no line break in it: each but the strings over several lines ("String")
-abbrev pub IsOneLine : MarkKind → Type 0
+abbrev pub IsOneLine : TokenKind → Type 0
 IsOneLine MultiBasicString = ⊥
 IsOneLine MultiLiteralString = ⊥
 IsOneLine _ = ⊤

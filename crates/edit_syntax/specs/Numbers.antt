@@ -35,10 +35,10 @@ abbrev mutual
       if b == 95 then are_digits class rest else (class b && are_more_digits class rest)
 
 -- the digits of a decimal integer: 0, or digits that do not begin with 0 ("Integer", no leading zeros)
-abbrev pub is_whole : List ℕ → Bool
-is_whole [] = false
-is_whole (b ∷ []) = is_decimal b
-is_whole (b ∷ c ∷ rest) = nat_le 49 b && are_digits is_decimal (b ∷ c ∷ rest)
+abbrev pub is_decimal_integer : List ℕ → Bool
+is_decimal_integer [] = false
+is_decimal_integer (b ∷ []) = is_decimal b
+is_decimal_integer (b ∷ c ∷ rest) = nat_le 49 b && are_digits is_decimal (b ∷ c ∷ rest)
 
 -- the bases that have a prefix ("Integer")
 pub data Base : Type 0 where
@@ -70,7 +70,7 @@ integer_text (based b digits) rest = 48 ∷ (base_letter b ∷ (digits · rest))
 
 -- the digits of an integer are those of its base
 abbrev pub IsInteger : Integer → Type 0
-IsInteger (decimal s digits) = is_whole digits ≡ true
+IsInteger (decimal s digits) = is_decimal_integer digits ≡ true
 IsInteger (based b digits) = are_digits (base_digit b) digits ≡ true
 
 -- an exponent: `e` or `E`, an optional sign, and digits ("Float")
@@ -110,8 +110,8 @@ float_text (not_a_number s) rest = sign s (110 ∷ (97 ∷ (110 ∷ rest)))
 -- a float is well formed: leading zeros are allowed in its fraction and exponent only ("Float")
 abbrev pub IsFloat : Float → Type 0
 IsFloat (with_fraction s whole fraction e) =
-    (is_whole whole ≡ true) × (are_digits is_decimal fraction ≡ true) × IfSome e IsExponent
-IsFloat (with_exponent s whole e) = (is_whole whole ≡ true) × IsExponent e
+    (is_decimal_integer whole ≡ true) × (are_digits is_decimal fraction ≡ true) × IfSome e IsExponent
+IsFloat (with_exponent s whole e) = (is_decimal_integer whole ≡ true) × IsExponent e
 IsFloat (infinite s) = ⊤
 IsFloat (not_a_number s) = ⊤
 

@@ -6,7 +6,7 @@ use Rattle.edit_syntax.specs.Strings.{Key}
 use Rattle.edit_syntax.specs.Grammar.{Value, basic, literal, multi_basic, multi_literal, boolean, array, inline, Elements, no_elements, last_element, element, Members, no_members, last_member, member, Statement, pair, header, element_header, Line, empty_line, full_line, Lines, one_line, more_lines, Text}
 use Rattle.edit_syntax.specs.ReadingNumbers.{begins, number_at}
 pub use Rattle.edit_syntax.specs.ReadingSteps.{Read, ◌>>=◌, first, front, after, blanks, past_blanks, past}
-unfoldable pub use Rattle.edit_syntax.specs.ReadingTexts.{line_end_at, between_at, and_more, gap_at, gap_front, past_gap, scalar, scalar_escape_at, escape_at, piece_at, pieces_at, basic_at, literal_at, begins_space, space_at, spaces_at, fold_at, is_line_break, text_newline_at, basic_piece_at, literal_piece_at, line_piece_at, closes, delimiter_at, body_at, multi_at, part_at, dotted_at, key_at}
+unfoldable pub use Rattle.edit_syntax.specs.ReadingTexts.{line_end_at, between_at, and_more, gap_at, gap_front, past_gap, scalar, scalar_escape_at, escape_at, piece_at, pieces_at, basic_at, literal_at, begins_space, space_at, spaces_at, fold_at, is_line_break, text_newline_at, basic_piece_at, literal_piece_at, line_piece_at, is_closing_delimiter, delimiter_at, body_at, multi_at, part_at, dotted_at, key_at}
 
 -- ---- values
 
@@ -137,10 +137,10 @@ abbrev pub is_marked : List ℕ → Bool
 is_marked text = first text == 0xEF && slice_index text 1 == 0xBB && slice_index text 2 == 0xBF
 
 -- the text without a byte order mark at its start
-abbrev pub past_mark : List ℕ → List ℕ
-past_mark text = if is_marked text then drop 3 text else text
+abbrev pub skip_byte_order_mark : List ℕ → List ℕ
+skip_byte_order_mark text = if is_marked text then drop 3 text else text
 
 -- a text whose arrays and inline tables nest at most the given depth
 unfoldable pub read_text : ℕ → List ℕ → Option Text
-read_text depth text = lines_at depth (length (past_mark text) + 1) (past_mark text)
+read_text depth text = lines_at depth (length (skip_byte_order_mark text) + 1) (skip_byte_order_mark text)
     >>= λ ls. Some (record { marked = is_marked text; lines = ls })

@@ -2,7 +2,7 @@
 -- "Local Time"). What may follow a value is not checked here but where the value is used.
 use Rattle.std.specs.Prelude.{ℕ, Bool, ◌&&◌, ◌||◌, ◌==◌, nat_le, if◌then◌else◌, List, take, drop, slice_index, Option, Some, None}
 use Rattle.std.specs.List.{prefix_len}
-use Rattle.edit_syntax.specs.Numbers.{Sign, no_sign, plus, minus, is_decimal, are_digits, is_whole, Base, hexadecimal, octal, binary, base_digit, decimal, based, Exponent, with_fraction, with_exponent, infinite, not_a_number, Date, Time, Offset, local, zulu, shift, only_date, only_time, both}
+use Rattle.edit_syntax.specs.Numbers.{Sign, no_sign, plus, minus, is_decimal, are_digits, is_decimal_integer, Base, hexadecimal, octal, binary, base_digit, decimal, based, Exponent, with_fraction, with_exponent, infinite, not_a_number, Date, Time, Offset, local, zulu, shift, only_date, only_time, both}
 use Rattle.edit_syntax.specs.Grammar.{Value, integer, float, datetime}
 use Rattle.edit_syntax.specs.ReadingSteps.{Read, ◌>>=◌, first, front, after, past}
 
@@ -19,7 +19,7 @@ digits_at class text = if are_digits class (front (is_marked class) text)
 
 -- the longest prefix of digits and underscores, if it is a decimal integer without leading zeros ("Integer")
 unfoldable pub whole_at : List ℕ → Read (List ℕ)
-whole_at text = if is_whole (front (is_marked is_decimal) text)
+whole_at text = if is_decimal_integer (front (is_marked is_decimal) text)
     then Some (front (is_marked is_decimal) text, after (is_marked is_decimal) text) else None
 
 -- ---- numbers
@@ -110,13 +110,13 @@ offset_at text =
     else Some (local, text))
 
 -- the input begins with `T`, `t`, or a space and a digit, which join a time to a date ("Offset Date-Time")
-abbrev pub joins : List ℕ → Bool
-joins text = first text == 84 || first text == 116 || (first text == 32 && is_decimal (first (drop 1 text)))
+abbrev pub is_time_next : List ℕ → Bool
+is_time_next text = first text == 84 || first text == 116 || (first text == 32 && is_decimal (first (drop 1 text)))
 
 -- a date and an optional time after it ("Offset Date-Time", "Local Date-Time", "Local Date")
 unfoldable pub date_time_at : List ℕ → Read Value
 date_time_at text = date_at text >>= λ d.
-    if joins d.1 then (time_at (drop 1 d.1) >>= λ t. offset_at t.1
+    if is_time_next d.1 then (time_at (drop 1 d.1) >>= λ t. offset_at t.1
     >>= λ o. Some (datetime (both d.0 (first d.1) t.0 o.0), o.1))
     else Some (datetime (only_date d.0), d.1)
 

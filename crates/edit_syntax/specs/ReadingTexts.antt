@@ -138,8 +138,8 @@ unfoldable pub line_piece_at : ℕ → List ℕ → Read Piece
 line_piece_at mark text = if mark == quote then basic_piece_at text else literal_piece_at text
 
 -- the input begins with exactly three delimiters, which close the string; up to two more may precede these
-abbrev pub closes : ℕ → List ℕ → Bool
-closes mark text = begins mark mark mark text && not (slice_index text 3 == mark)
+abbrev pub is_closing_delimiter : ℕ → List ℕ → Bool
+is_closing_delimiter mark text = begins mark mark mark text && not (slice_index text 3 == mark)
 
 -- a delimiter that is part of the string, where one more is allowed
 abbrev pub delimiter_at : (ℕ → List ℕ → Read (List Piece)) → ℕ → List ℕ → Read (List Piece)
@@ -151,7 +151,7 @@ delimiter_at body (suc few) text = body few (drop 1 text) >>= λ ps. Some (delim
 unfoldable pub body_at : ℕ → ℕ → ℕ → List ℕ → Read (List Piece)
 body_at mark zero few text = None
 body_at mark (suc n) few text =
-    if closes mark text then Some ([], drop 3 text)
+    if is_closing_delimiter mark text then Some ([], drop 3 text)
     else (if first text == mark then delimiter_at (body_at mark n) few text
     else (line_piece_at mark text >>= λ p. body_at mark n 2 p.1 >>= λ ps. Some (p.0 ∷ ps.0, ps.1)))
 

@@ -144,29 +144,29 @@ FoldsAreWhole (_ ∷ ps) = FoldsAreWhole ps
 -- ---- decoded values of strings
 
 -- the character that an escape letter stands for ("String")
-abbrev pub escaped : ℕ → ℕ
-escaped c = if c == 98 then 8 else (if c == 116
+abbrev pub letter_value : ℕ → ℕ
+letter_value c = if c == 98 then 8 else (if c == 116
     then 9 else (if c == 110 then 10 else (if c == 102 then 12 else (if c == 114 then 13 else c))))
 
 -- the decoded value of a piece in a string with this delimiter
-abbrev pub said : ℕ → Piece → List ℕ
-said mark (plain b) = b ∷ []
-said mark (letter c) = escaped c ∷ []
-said mark (short digits) = encode_utf8 (digits_value 16 digits)
-said mark (long digits) = encode_utf8 (digits_value 16 digits)
-said mark (feed e) = line_end e []
-said mark (fold ws e more) = []
-said mark delimiter = mark ∷ []
+abbrev pub decoded_piece : ℕ → Piece → List ℕ
+decoded_piece mark (plain b) = b ∷ []
+decoded_piece mark (letter c) = letter_value c ∷ []
+decoded_piece mark (short digits) = encode_utf8 (digits_value 16 digits)
+decoded_piece mark (long digits) = encode_utf8 (digits_value 16 digits)
+decoded_piece mark (feed e) = line_end e []
+decoded_piece mark (fold ws e more) = []
+decoded_piece mark delimiter = mark ∷ []
 
 -- the decoded value of the pieces of a string
-abbrev pub says : ℕ → List Piece → List ℕ
-says mark ps = flat_map (said mark) ps
+abbrev pub decoded_pieces : ℕ → List Piece → List ℕ
+decoded_pieces mark ps = flat_map (decoded_piece mark) ps
 
 -- the decoded value of a multi-line string, which leaves out a newline right behind the opening delimiter
 -- ("String")
 abbrev pub decoded_multi : ℕ → List Piece → List ℕ
-decoded_multi mark (feed e ∷ ps) = says mark ps
-decoded_multi mark ps = says mark ps
+decoded_multi mark (feed e ∷ ps) = decoded_pieces mark ps
+decoded_multi mark ps = decoded_pieces mark ps
 
 -- ---- keys
 
@@ -200,7 +200,7 @@ IsPart (literal_part text) = All is_literal_ch text
 -- the decoded name of a part of a key
 abbrev pub name : Part → List ℕ
 name (bare text) = text
-name (basic_part ps) = says quote ps
+name (basic_part ps) = decoded_pieces quote ps
 name (literal_part text) = text
 
 -- a part of a key that follows a dot, with the white space before and after the dot ("Keys", dotted keys)

@@ -5,5 +5,5 @@
 pub mod read;
 pub mod span;
 
-pub use read::{Mark, MarkKind, first_line, next_line, past_mark, read_marks};
+pub use read::{SyntaxToken, TokenKind, first_line, next_line, skip_byte_order_mark, tokenize};
 pub use span::Span;

@@ -1,4 +1,4 @@
-//! The tokenizer: reads a text into a list of tokens (`Mark`).
+//! The tokenizer: reads a text into a list of tokens (`SyntaxToken`).
 ghost use Rattle.std.specs.Prelude.{◌≡◌, ◌≤◌, IfOk, IfErr, MatchResult, length};
 ghost use Rattle.edit_base.specs.Errors.{IsMemory};
 ghost use Rattle.edit_syntax.specs.Grammar.{Text, Spells};
@@ -12,7 +12,7 @@ pub mod decode;
 pub mod gaps;
 mod line_by_line;
 mod lines;
-pub mod marks;
+pub mod syntax_tokens;
 mod multi;
 mod numbers;
 pub mod steps;
@@ -20,17 +20,17 @@ mod tokens;
 mod values;
 
 use bytes::{byte_at, first, skip};
-pub use decode::{content, content_span, is_plain, said};
+pub use decode::{content, content_span, is_plain, decoded_text};
 use edit_base::errors::{CargoResult, Error};
 pub use line_by_line::{first_line, next_line};
 use lines::lines;
-use marks::ReadError;
-pub use marks::{Mark, MarkKind};
+use syntax_tokens::ReadError;
+pub use syntax_tokens::{SyntaxToken, TokenKind};
 use std::alloc::Global;
 
 /// Skips the UTF-8 byte order mark at the start of a text, if there is one.
-pub fn past_mark(text: &[u8]) -> &[u8]
-    ensures { result.now ≡ reading.past_mark text.now }
+pub fn skip_byte_order_mark(text: &[u8]) -> &[u8]
+    ensures { result.now ≡ reading.skip_byte_order_mark text.now }
 {
     if first(text) == 0xEF && byte_at(text, 1) == 0xBB && byte_at(text, 2) == 0xBF {
         skip(text, 3)
@@ -41,7 +41,7 @@ pub fn past_mark(text: &[u8]) -> &[u8]
 
 /// The tokens of a text, with arrays and inline tables nested at most 80 deep.
 /// `Error::NotToml` holds the offset of the part that could not be read.
-pub fn read_marks(alloc: Global, text: &[u8]) -> CargoResult<Vec<Mark>>
+pub fn tokenize(alloc: Global, text: &[u8]) -> CargoResult<Vec<SyntaxToken>>
     // A text that is read without an error is in the grammar.
     ensures found { IfOk result (λ v.
         (form : Text) × Spells text.now form × (text_depth form ≤ 80)
@@ -52,7 +52,7 @@ pub fn read_marks(alloc: Global, text: &[u8]) -> CargoResult<Vec<Mark>>
     // The offset in an error is at most the length of the text.
     ensures error { IfErr result (IsTokenizeError (length text.now)) }
 {
-    let body = past_mark(text);
+    let body = skip_byte_order_mark(text);
     match lines(alloc, body) {
         Ok(marks) => Ok(marks),
         Err(ReadError::Memory) => Err(Error::Memory),

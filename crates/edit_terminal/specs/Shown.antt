@@ -37,12 +37,12 @@ terminal_char c =
     if is_active c then escape c else encode_utf8 c
 
 -- characters as they are written to a terminal
-abbrev pub shown : List ℕ → List ℕ
-shown cs = flat_map terminal_char cs
+abbrev pub terminal_chars : List ℕ → List ℕ
+terminal_chars cs = flat_map terminal_char cs
 
 -- a stream has the complete characters of some bytes, as they are written to a terminal, and `rest` of the
 -- bytes begin a character that is still incomplete
 unfoldable pub HasEscaped : Option (List ℕ) → Option (List ℕ) → List ℕ → List ℕ → Type 0
 HasEscaped old new bytes rest =
     (cs : List ℕ) × (all_scalars cs ≡ true) × (bytes ≡ encode_utf8_all cs ++ rest) × (length rest < 4)
-    × Appends old new (shown cs)
+    × Appends old new (terminal_chars cs)

@@ -2,7 +2,7 @@
 ghost use Rattle.std.specs.Prelude.{◌≡◌, OnOk};
 ghost use Rattle.std.specs.Io.KnownBytes.{Appends};
 ghost use Rattle.std.specs.Str.{chars};
-ghost use Rattle.edit_terminal.specs.Shown.{code_escape, escape, is_active, is_directional, is_within, shown, terminal_char};
+ghost use Rattle.edit_terminal.specs.Shown.{code_escape, escape, is_active, is_directional, is_within, terminal_chars, terminal_char};
 
 use std::io;
 
@@ -71,8 +71,8 @@ fn write_char<W: io::Write>(to: &mut W, c: char) -> io::Result<()>
 }
 
 /// Writes a text so that a terminal shows each of its characters: those on which it would act as `\u{1b}`.
-pub fn write_shown<W: io::Write>(to: &mut W, text: &str) -> io::Result<()>
-    ensures { OnOk result (Appends (W.contents to.old) (W.contents to.new) (shown (chars text.now))) }
+pub fn write_for_terminal<W: io::Write>(to: &mut W, text: &str) -> io::Result<()>
+    ensures { OnOk result (Appends (W.contents to.old) (W.contents to.new) (terminal_chars (chars text.now))) }
 {
     for c in text.chars() {
         write_char(to, c)?;

@@ -4,5 +4,5 @@
 mod characters;
 mod writer;
 
-pub use characters::write_shown;
+pub use characters::write_for_terminal;
 pub use writer::TerminalWriter;

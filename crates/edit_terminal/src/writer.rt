@@ -3,13 +3,13 @@ ghost use Rattle.std.specs.Prelude.{◌≡◌, ◌+◌, ◌++◌, ◌<◌, ◌�
 ghost use Rattle.std.specs.Str.{IsUtf8};
 ghost use Rattle.edit_terminal.specs.Shown.{HasEscaped};
 
-use crate::characters::write_shown;
+use crate::characters::write_for_terminal;
 use std::alloc::Global;
 use std::io::ErrorKind;
 use std::{io, mem, str};
 
 /// A writer to a terminal, which hands on each character so that the terminal shows it and does nothing else
-/// with it: see `write_shown`. It takes texts in UTF-8, in pieces of any length; other bytes are an error.
+/// with it: see `write_for_terminal`. It takes texts in UTF-8, in pieces of any length; other bytes are an error.
 /// After an error it begins anew, as if no byte had come.
 #[derive(Drop)]
 pub struct TerminalWriter<W: io::Write + Drop> {
@@ -67,7 +67,7 @@ impl<W: io::Write + Drop> io::Write for TerminalWriter<W> {
         let Ok(text) = str::from_utf8(&bytes) else {
             return Err(io::Error::from(ErrorKind::InvalidData));
         };
-        write_shown(&mut self.to, text)?;
+        write_for_terminal(&mut self.to, text)?;
         self.rest = rest;
         Ok(buf.len())
     }

@@ -13,7 +13,7 @@ pub(crate) fn unwrap_ok<T: Drop>(rt: &impl Abort, answer: CargoResult<T>) -> T
 }
 
 /// Unwraps the result of a call that fails only where memory runs out; ends the test where it failed.
-pub(crate) fn kept<T: Drop>(rt: &impl Abort, answer: Result<T, AllocError>) -> T
+pub(crate) fn unwrap_alloc<T: Drop>(rt: &impl Abort, answer: Result<T, AllocError>) -> T
     ensures { answer ≡ Ok result }
 {
     answer.expect(rt, "memory")
@@ -30,19 +30,19 @@ pub(crate) fn push<T: Drop>(rt: &impl Abort, list: &mut Vec<T>, item: T)
 pub(crate) fn text(rt: &impl Abort, alloc: Global, text: &str) -> String
     ensures { string_bytes result ≡ text.now }
 {
-    kept(rt, String::from_str(alloc, text))
+    unwrap_alloc(rt, String::from_str(alloc, text))
 }
 
 /// A field with line ends in place of `@`.
-pub(crate) fn unfolded(rt: &impl Abort, alloc: Global, field: &str) -> String {
-    let lines: Vec<&str> = kept(rt, field.split('@').collect(alloc));
-    kept(rt, lines.join(alloc, "\n"))
+pub(crate) fn unfold_lines(rt: &impl Abort, alloc: Global, field: &str) -> String {
+    let lines: Vec<&str> = unwrap_alloc(rt, field.split('@').collect(alloc));
+    unwrap_alloc(rt, lines.join(alloc, "\n"))
 }
 
 /// An error's number and message, separated by a space.
-pub(crate) fn told(rt: &impl Abort, alloc: Global, error: Error) -> String {
+pub(crate) fn error_number_and_text(rt: &impl Abort, alloc: Global, error: Error) -> String {
     let number = error.number();
-    kept(rt, format!(in alloc; "{number} {error}"))
+    unwrap_alloc(rt, format!(in alloc; "{number} {error}"))
 }
 
 /// A given word where a call succeeded, else the error's number and message.
@@ -54,15 +54,15 @@ pub(crate) fn word_or_error<T: Drop>(
 ) -> String {
     match answer {
         Ok(_) => text(rt, alloc, success),
-        Err(error) => told(rt, alloc, error),
+        Err(error) => error_number_and_text(rt, alloc, error),
     }
 }
 
 /// The text that a call returned, else the error's number and message.
-pub(crate) fn made(rt: &impl Abort, alloc: Global, answer: CargoResult<String>) -> String {
+pub(crate) fn text_or_error(rt: &impl Abort, alloc: Global, answer: CargoResult<String>) -> String {
     match answer {
         Ok(text) => text,
-        Err(error) => told(rt, alloc, error),
+        Err(error) => error_number_and_text(rt, alloc, error),
     }
 }
 

@@ -1,7 +1,7 @@
 //! Tests of what `Debug` prints of documents and of views of their items: what Rust's derive prints of structs
 //! and enums with these names and fields. A document is printed as a struct with one field, its text, that has
 //! no name.
-use crate::assertion_helpers::{kept, push, text, unwrap_ok};
+use crate::assertion_helpers::{unwrap_alloc, push, text, unwrap_ok};
 use crate::rows::{LINES, check_rows};
 use edit_document::{Document, Item, NewItem, NewValue};
 use std::alloc::Global;
@@ -35,9 +35,9 @@ Item { source: Part(EntryPart { item: @, part: Member(("o", Bool(true))) }) }|ta
 Item { source: Part(EntryPart { item: @, part: MemberElement(("f", Strings(["s"])), 0) }) }|table|f 0"#;
 
 /// The `Debug` text of a value, with `@` for a text in it.
-fn printed<D: Debug>(rt: &impl Abort, alloc: Global, value: &D, part: &str) -> String {
-    let all = kept(rt, format!(in alloc; "{value:?}"));
-    kept(rt, all.replace(alloc, part, "@"))
+fn debug_text<D: Debug>(rt: &impl Abort, alloc: Global, value: &D, part: &str) -> String {
+    let all = unwrap_alloc(rt, format!(in alloc; "{value:?}"));
+    unwrap_alloc(rt, all.replace(alloc, part, "@"))
 }
 
 /// The item one step below an item: an element by its index, or a member by its key.
@@ -50,12 +50,12 @@ fn child_item<'a>(rt: &impl Abort, item: Item<'a>, step: &str) -> Item<'a> {
 }
 
 /// The `Debug` text of the item that these steps lead to.
-fn below(rt: &impl Abort, alloc: Global, root: Item<'_>, steps: &str, part: &str) -> String {
+fn debug_text_at(rt: &impl Abort, alloc: Global, root: Item<'_>, steps: &str, part: &str) -> String {
     let mut item = root;
     'steps: for step in steps.split_whitespace() {
         item = child_item(rt, item, step);
     }
-    printed(rt, alloc, &item, part)
+    debug_text(rt, alloc, &item, part)
 }
 
 /// The `Debug` text of the keys of an item, after some of them are taken.
@@ -64,7 +64,7 @@ fn keys(rt: &impl Abort, alloc: Global, item: Item<'_>, taken: &str) -> String {
     if taken == "1" {
         let _ = keys.next();
     }
-    printed(rt, alloc, &keys, DOCUMENT)
+    debug_text(rt, alloc, &keys, DOCUMENT)
 }
 
 /// A list of texts.
@@ -97,25 +97,25 @@ fn of_document(rt: &impl Abort, alloc: Global, view: &str, rest: &str) -> String
     let document = unwrap_ok(rt, Document::read(alloc, TEXT));
     let root = document.item(&[]).expect(rt, "the root");
     match view {
-        "document" => printed(rt, alloc, &document, DOCUMENT),
+        "document" => debug_text(rt, alloc, &document, DOCUMENT),
         "keys" => keys(rt, alloc, root, rest),
-        _ => below(rt, alloc, root, rest, DOCUMENT),
+        _ => debug_text_at(rt, alloc, root, rest, DOCUMENT),
     }
 }
 
 /// The `Debug` text of a view of a document or of a new entry.
-fn shown(rt: &impl Abort, alloc: Global, view: &str, rest: &str) -> String {
+fn view_text(rt: &impl Abort, alloc: Global, view: &str, rest: &str) -> String {
     match view {
         "list" => {
             let entry = NewItem::Value(list(rt, alloc, &["\"", ""]));
-            below(rt, alloc, entry.view(), rest, LIST)
+            debug_text_at(rt, alloc, entry.view(), rest, LIST)
         }
-        "table" => below(rt, alloc, table(rt, alloc).view(), rest, TABLE),
+        "table" => debug_text_at(rt, alloc, table(rt, alloc).view(), rest, TABLE),
         _ => of_document(rt, alloc, view, rest),
     }
 }
 
 #[test]
 fn printed_as_derived(rt: HostRuntime) {
-    check_rows(&rt, rt.alloc(), PRINTED, LINES, shown);
+    check_rows(&rt, rt.alloc(), PRINTED, LINES, view_text);
 }

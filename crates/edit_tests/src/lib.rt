@@ -22,7 +22,7 @@ mod plans;
 #[cfg(test)]
 mod records;
 #[cfg(test)]
-mod refusals;
+mod error_tests;
 #[cfg(test)]
 mod reports;
 #[cfg(test)]

@@ -1,5 +1,5 @@
 //! Tests of paths.
-use crate::assertion_helpers::{made, text};
+use crate::assertion_helpers::{text_or_error, text};
 use crate::rows::{LINES, check_rows};
 use edit_base::paths::{folder, join, normal, relative};
 use std::alloc::Global;
@@ -35,9 +35,9 @@ c|relative|/a//b/./c /a/b/";
 fn path(rt: &impl Abort, alloc: Global, call: &str, argument: &str) -> String {
     let (first, second) = argument.split_once(' ').unwrap_or((argument, ""));
     match call {
-        "join" => made(rt, alloc, join(alloc, first, second)),
-        "normal" => made(rt, alloc, normal(alloc, first)),
-        "relative" => made(rt, alloc, relative(alloc, first, second)),
+        "join" => text_or_error(rt, alloc, join(alloc, first, second)),
+        "normal" => text_or_error(rt, alloc, normal(alloc, first)),
+        "relative" => text_or_error(rt, alloc, relative(alloc, first, second)),
         _ => text(rt, alloc, folder(first)),
     }
 }

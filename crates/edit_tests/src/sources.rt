@@ -1,7 +1,7 @@
 //! Tests of sources.
 mod addresses;
 mod calls;
-mod kept;
-mod looks;
+mod cached_answers;
+mod index_texts;
 mod steps;
 mod stores;

@@ -1,5 +1,5 @@
 //! Tests of copies of `TargetVersion`, which no program makes.
-use crate::assertion_helpers::{check_result, kept, unwrap_ok};
+use crate::assertion_helpers::{check_result, unwrap_alloc, unwrap_ok};
 use edit_set_version::TargetVersion;
 use semver::Version;
 use std::alloc::Global;
@@ -15,7 +15,7 @@ fn next(rt: &impl Abort, alloc: Global, target: &TargetVersion) -> String {
     let copy = unwrap_ok(rt, target.try_clone(alloc));
     let current = version_of(rt, alloc, "1.0.0-rc.1");
     let next = unwrap_ok(rt, copy.bump(alloc, &current, None)).expect(rt, "a next version");
-    kept(rt, next.to_string(alloc))
+    unwrap_alloc(rt, next.to_string(alloc))
 }
 
 #[test]

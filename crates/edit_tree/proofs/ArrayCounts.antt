@@ -2,7 +2,7 @@
 use Rattle.std.proofs.Common.{◌≡◌, ℕ, suc, Bool, true, false, cond, ◌&&◌, List, [], ◌∷◌, ◌++◌, Some, refl, sym, ap, ◌∙◌, ◌⊎◌, inl, inr, append_assoc, subst}
 use Rattle.std.specs.List.{AllByRecursion}
 use Rattle.edit_syntax.specs.Grammar.{Value, basic, literal, multi_basic, multi_literal, boolean, integer, float, datetime, array, inline, Elements, no_elements, last_element, element, Members, no_members, last_member, member, Statement, pair, header, element_header}
-use Rattle.edit_tree.specs.Assertions.{key, index, Place, at, same_place, Kind, dotted, leaf, super, header_kind, array_kind, element_kind, Assertion, asserts, are_compatible, AreCompatible, names, named, of_key, of_value, of_elements, of_members, is_array, is_array_at, elements_at, resolved, fronts, header_place, of_statement}
+use Rattle.edit_tree.specs.Assertions.{key, index, Place, at, same_place, Kind, dotted, leaf, super, header_kind, array_kind, element_kind, Assertion, asserts, are_compatible, AreCompatible, names, named, of_key, of_value, of_elements, of_members, is_array, is_array_at, elements_at, last_element_or_self, fronts, header_place, of_statement}
 use Rattle.edit_tree.specs.Tree.{kind_at}
 use Rattle.edit_tree.proofs.SamePlace.{same_place_is, last_same, other_place, same_place_self, place_or}
 use Rattle.edit_tree.proofs.MoreMembers.{is_element, elements_below, elements_stay, elements_grow, elements_else}
@@ -182,7 +182,7 @@ pub plain_fronts : (earlier : List Assertion) (by p : Place) (ns : List (List �
 plain_fronts earlier by p [] = tt
 plain_fronts earlier by p (n ∷ []) = tt
 plain_fronts earlier by p (n ∷ m ∷ ns) =
-    (refl, plain_fronts earlier by (resolved earlier (at p (key n))) (m ∷ ns))
+    (refl, plain_fronts earlier by (last_element_or_self earlier (at p (key n))) (m ∷ ns))
 
 -- ---- statements
 

@@ -4,7 +4,7 @@ use Rattle.std.proofs.lemmas.Bool.{ltb-true}
 use Rattle.edit_syntax.specs.Grammar.{Statement, pair, header, element_header}
 use Rattle.edit_syntax.proofs.Cases.{by_test}
 use Rattle.edit_syntax.proofs.Members.{Among}
-use Rattle.edit_tree.specs.Assertions.{Place, key, index, at, same_place, Kind, dotted, super, header_kind, array_kind, element_kind, Assertion, asserts, names, named, is_array, is_array_at, elements_at, resolved, fronts, header_place, of_statement, prefix_after}
+use Rattle.edit_tree.specs.Assertions.{Place, key, index, at, same_place, Kind, dotted, super, header_kind, array_kind, element_kind, Assertion, asserts, names, named, is_array, is_array_at, elements_at, last_element_or_self, fronts, header_place, of_statement, prefix_after}
 use Rattle.edit_tree.specs.EditBytes.{is_within}
 use Rattle.edit_tree.proofs.ArrayCounts.{ArePlain, plain_array}
 use Rattle.edit_tree.proofs.Asserters.{Paved, Made, AreMade, Part, left_part, right_part, both_made, paved_root, paved_at, paved_any, key_ground, index_ground}
@@ -49,9 +49,9 @@ elementless made earlier more h all p i lt =
 
 module _ (made earlier : List Assertion) (by : Place) (all : Elemented made earlier) where
   resolved_way : (p : Place) (n : List ℕ) → Paved made by true p
-      → Among (asserts by (resolved earlier (at p (key n))) super) made
-      → is_within (resolved earlier (at p (key n))) by ≡ true
-      → Paved made by true (resolved earlier (at p (key n)))
+      → Among (asserts by (last_element_or_self earlier (at p (key n))) super) made
+      → is_within (last_element_or_self earlier (at p (key n))) by ≡ true
+      → Paved made by true (last_element_or_self earlier (at p (key n)))
   resolved_way p n way m low = by_test (nat_lt 0 (elements_at earlier (at p (key n)))) some none
     where
       q : Place
@@ -61,21 +61,21 @@ module _ (made earlier : List Assertion) (by : Place) (all : Elemented made earl
       i = elements_at earlier (at p (key n)) - 1
 
       to : (b : Bool) → nat_lt 0 (elements_at earlier (at p (key n))) ≡ b
-          → resolved earlier (at p (key n))
+          → last_element_or_self earlier (at p (key n))
           ≡ cond b (at (at p (key n)) (index (elements_at earlier (at p (key n)) - 1))) (at p (key n))
       to b e = ap (λ b. cond b (at (at p (key n)) (index (elements_at earlier (at p (key n)) - 1)))
           (at p (key n))) e
 
       none : nat_lt 0 (elements_at earlier (at p (key n))) ≡ false
-          → Paved made by true (resolved earlier (at p (key n)))
+          → Paved made by true (last_element_or_self earlier (at p (key n)))
       none e =
           subst (Paved made by true) (sym (to false e))
           (paved_at made by true p (key n) way
-          (key_ground made by true p n (asserts by (resolved earlier (at p (key n))) super) m (to false e)
+          (key_ground made by true p n (asserts by (last_element_or_self earlier (at p (key n))) super) m (to false e)
           (inside_self by) (λ f. refl)))
 
       some : nat_lt 0 (elements_at earlier (at p (key n))) ≡ true
-          → Paved made by true (resolved earlier (at p (key n)))
+          → Paved made by true (last_element_or_self earlier (at p (key n)))
       some e =
           let lt = ltb-true 0 (elements_at earlier q) e in
           let two = all q i (omega (arith, lt)) in
@@ -94,7 +94,7 @@ module _ (made earlier : List Assertion) (by : Place) (all : Elemented made earl
       → (u : Place) × (l : List ℕ) × (header_place earlier p (n ∷ ns) ≡ at u (key l)) × Paved made by true u
   fronts_way p n [] way h low = (p, n, refl, way)
   fronts_way p n (m ∷ ns) way h low =
-      let r = resolved earlier (at p (key n)) in
+      let r = last_element_or_self earlier (at p (key n)) in
       let near = inside_trans r (header_place earlier r (m ∷ ns)) by (inside_header earlier r m ns) low in
       fronts_way r m ns (resolved_way p n way (h _ (inl refl)) near) (λ b x. h b (inr x)) low
 
@@ -103,9 +103,9 @@ module _ (made earlier : List Assertion) (by : Place) (all : Elemented made earl
       → is_within (at r (key m)) (header_place earlier r (m ∷ ns)) ≡ true
   next_part r m [] = inside_self (at r (key m))
   next_part r m (l ∷ ns) =
-      inside_trans (at r (key m)) (resolved earlier (at r (key m))) _
+      inside_trans (at r (key m)) (last_element_or_self earlier (at r (key m))) _
       (go (nat_lt 0 (elements_at earlier (at r (key m)))))
-      (inside_header earlier (resolved earlier (at r (key m))) l ns)
+      (inside_header earlier (last_element_or_self earlier (at r (key m))) l ns)
     where
       go : (b : Bool) → is_within (at r (key m))
           (cond b (at (at r (key m)) (index (elements_at earlier (at r (key m)) - 1))) (at r (key m))) ≡ true
@@ -118,7 +118,7 @@ module _ (made earlier : List Assertion) (by : Place) (all : Elemented made earl
       → AreMade made (fronts earlier by p (n ∷ ns))
   fronts_made p n [] way h low whole = tt
   fronts_made p n (m ∷ ns) way h low whole =
-      let r = resolved earlier (at p (key n)) in
+      let r = last_element_or_self earlier (at p (key n)) in
       let near = inside_trans r (header_place earlier r (m ∷ ns)) by (inside_header earlier r m ns) low in
       let on = resolved_way p n way (h _ (inl refl)) near in (
         record {

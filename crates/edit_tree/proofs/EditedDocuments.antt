@@ -6,7 +6,7 @@ use Rattle.edit_tree.specs.Tree.{View, view_at}
 use Rattle.edit_tree.specs.EditBytes.{inserted_text, replaced_text}
 use Rattle.edit_tree.specs.RemovedBytes.{removed_text}
 use Rattle.edit_tree.specs.NewItems.{NewValue, NewItem}
-use Rattle.edit_tree.specs.IntendedTrees.{Tree, Grown, Inserted, InsertFails, SameButOrder, Loses, moved, Removed, RemoveFails, item_view, above, is_inline_table, HasReplaced, ReplaceFails}
+use Rattle.edit_tree.specs.IntendedTrees.{Tree, Grown, Inserted, InsertFails, SameButOrder, Loses, place_after_removal, Removed, RemoveFails, item_view, above, is_inline_table, HasReplaced, ReplaceFails}
 
 -- two trees that show the same everywhere
 abbrev Alike : Tree → Tree → Type 0
@@ -69,8 +69,8 @@ pub removed_along : (form : Text) (gone : Place) (s t u w : Tree) → Alike s t 
     → Removed form gone s u → Removed form gone t w
 removed_along form gone s t u w old new h = record {
   nothing_there = λ member q low. sym (new q) ∙ h.nothing_there member q low;
-  beside = λ q below above. subst (λ o. SameButOrder o (w (moved gone q))) (old q)
-      (subst (λ o. SameButOrder (s q) o) (new (moved gone q)) (h.beside q below above));
+  beside = λ q below above. subst (λ o. SameButOrder o (w (place_after_removal gone q))) (old q)
+      (subst (λ o. SameButOrder (s q) o) (new (place_after_removal gone q)) (h.beside q below above));
   stays = λ q x r e next. subst (λ o. SameButOrder o (w q)) (old q)
       (subst (λ o. SameButOrder (s q) o) (new q) (h.stays q x r e next));
   loses = λ q x r e left lost. subst (λ o. Loses x o (w q)) (old q)

@@ -6,7 +6,7 @@ use Rattle.std.specs.Str.Parse.{digits_value}
 use Rattle.std.proofs.lemmas.List.{append-nil}
 use Rattle.std.proofs.lemmas.Str.{IsUtf8-append, IsUtf8-nil, IsUtf8-encode, IsUtf8-take, IsUtf8-drop, IsUtf8-from_ascii, IsCharBoundary-before_ascii, IsCharBoundary-after_ascii}
 use Rattle.edit_syntax.specs.Characters.{quote, backslash, equals, is_bare, All}
-use Rattle.edit_syntax.specs.Strings.{Piece, plain, letter, short, long, feed, fold, delimiter, pieces, says, IsBasicPiece, Part, part, LineEnd, line_end, lf, crlf, Key, key, is_escape, escaped, is_hex, is_scalar}
+use Rattle.edit_syntax.specs.Strings.{Piece, plain, letter, short, long, feed, fold, delimiter, pieces, decoded_pieces, IsBasicPiece, Part, part, LineEnd, line_end, lf, crlf, Key, key, is_escape, letter_value, is_hex, is_scalar}
 use Rattle.edit_syntax.specs.Grammar.{Between, gap, Value, value, Line, line}
 use Rattle.std.specs.Char.{IsScalar}
 use Rattle.std.proofs.lemmas.Bool.Decides.{nat_tests}
@@ -133,7 +133,7 @@ bare_small b e = grind (arith, nat_tests)
 pub escape_small : Small is_escape
 escape_small b e = grind (arith, nat_tests)
 
-pub escaped_small : (c : ℕ) → c < 128 → escaped c < 128
+pub escaped_small : (c : ℕ) → c < 128 → letter_value c < 128
 escaped_small c h = grind (arith, nat_tests)
 
 pub scalar_is : (c : ℕ) → is_scalar c ≡ true → IsScalar c
@@ -141,10 +141,10 @@ scalar_is c e = grind (arith, nat_tests)
 
 -- what a basic string says is a text, where the string stands in one
 pub says_text : (xs : List ℕ) (ps : List Piece) (rest : List ℕ) → AllByRecursion IsBasicPiece ps
-    → IsUtf8 (xs ++ pieces quote ps (quote ∷ rest)) → IsUtf8 (xs ++ says quote ps)
+    → IsUtf8 (xs ++ pieces quote ps (quote ∷ rest)) → IsUtf8 (xs ++ decoded_pieces quote ps)
 says_text xs [] rest h u = subst IsUtf8 (sym (append-nil xs)) (text_before xs rest quote (lit< tt) u)
 says_text xs (plain b ∷ ps) rest h u =
-    subst IsUtf8 (append_assoc xs (b ∷ []) (says quote ps))
+    subst IsUtf8 (append_assoc xs (b ∷ []) (decoded_pieces quote ps))
     (says_text (xs ++ b ∷ []) ps rest h.1
     (subst IsUtf8 (sym (append_assoc xs (b ∷ []) (pieces quote ps (quote ∷ rest)))) u))
 says_text xs (letter c ∷ ps) rest h u =
@@ -152,26 +152,26 @@ says_text xs (letter c ∷ ps) rest h u =
     let more = says_text [] ps rest h.1
     (text_behind [] (pieces quote ps (quote ∷ rest)) c small
     (text_behind xs (c ∷ pieces quote ps (quote ∷ rest)) backslash (lit< tt) u)) in
-    IsUtf8-append xs (escaped c ∷ says quote ps)
+    IsUtf8-append xs (letter_value c ∷ decoded_pieces quote ps)
     (text_before xs (c ∷ pieces quote ps (quote ∷ rest)) backslash (lit< tt) u)
-    (IsUtf8-append (escaped c ∷ []) (says quote ps) (one_text (escaped c) (escaped_small c small)) more)
+    (IsUtf8-append (letter_value c ∷ []) (decoded_pieces quote ps) (one_text (letter_value c) (escaped_small c small)) more)
 says_text xs (short ds ∷ ps) rest h u =
     let behind = text_behind [] (ds ++ pieces quote ps (quote ∷ rest)) 117 (lit< tt)
     (text_behind xs (117 ∷ (ds ++ pieces quote ps (quote ∷ rest))) backslash (lit< tt) u) in
     let more = says_text [] ps rest h.1
     (past_ascii is_hex hex_small ds (pieces quote ps (quote ∷ rest)) h.0.1 behind) in
-    IsUtf8-append xs (encode_utf8 (digits_value 16 ds) ++ says quote ps)
+    IsUtf8-append xs (encode_utf8 (digits_value 16 ds) ++ decoded_pieces quote ps)
     (text_before xs (117 ∷ (ds ++ pieces quote ps (quote ∷ rest))) backslash (lit< tt) u)
-    (IsUtf8-append (encode_utf8 (digits_value 16 ds)) (says quote ps)
+    (IsUtf8-append (encode_utf8 (digits_value 16 ds)) (decoded_pieces quote ps)
     (IsUtf8-encode (digits_value 16 ds) (scalar_is (digits_value 16 ds) h.0.2)) more)
 says_text xs (long ds ∷ ps) rest h u =
     let behind = text_behind [] (ds ++ pieces quote ps (quote ∷ rest)) 85 (lit< tt)
     (text_behind xs (85 ∷ (ds ++ pieces quote ps (quote ∷ rest))) backslash (lit< tt) u) in
     let more = says_text [] ps rest h.1
     (past_ascii is_hex hex_small ds (pieces quote ps (quote ∷ rest)) h.0.1 behind) in
-    IsUtf8-append xs (encode_utf8 (digits_value 16 ds) ++ says quote ps)
+    IsUtf8-append xs (encode_utf8 (digits_value 16 ds) ++ decoded_pieces quote ps)
     (text_before xs (85 ∷ (ds ++ pieces quote ps (quote ∷ rest))) backslash (lit< tt) u)
-    (IsUtf8-append (encode_utf8 (digits_value 16 ds)) (says quote ps)
+    (IsUtf8-append (encode_utf8 (digits_value 16 ds)) (decoded_pieces quote ps)
     (IsUtf8-encode (digits_value 16 ds) (scalar_is (digits_value 16 ds) h.0.2)) more)
 says_text xs (feed e ∷ ps) rest h u = absurd h.0
 says_text xs (fold ws e more ∷ ps) rest h u = absurd h.0

@@ -5,7 +5,7 @@ use Rattle.std.specs.List.{list_any}
 use Rattle.edit_tree.specs.Statements.{stated_line}
 use Rattle.edit_syntax.specs.Grammar.{Statement, pair, header, element_header, empty_line, full_line, Lines, one_line, more_lines, Text}
 use Rattle.edit_syntax.proofs.Cases.{by_test}
-use Rattle.edit_tree.specs.Assertions.{Place, Step, key, index, at, same_step, same_place, Kind, super, header_kind, array_kind, element_kind, Assertion, asserts, names, is_array, is_array_at, elements_at, resolved, fronts, header_place, of_statement, prefix_after, of_lines, assertions}
+use Rattle.edit_tree.specs.Assertions.{Place, Step, key, index, at, same_step, same_place, Kind, super, header_kind, array_kind, element_kind, Assertion, asserts, names, is_array, is_array_at, elements_at, last_element_or_self, fronts, header_place, of_statement, prefix_after, of_lines, assertions}
 use Rattle.edit_tree.specs.EditBytes.{is_within as is_inside, is_header_of}
 use Rattle.edit_tree.proofs.NamedHeads.{has_head, head_append, ArePaired, pair_pairs, statement_heads}
 use Rattle.edit_tree.proofs.NamedPairs.{is_paired}
@@ -83,35 +83,35 @@ through : (earlier : List Assertion) (by q : Place) (n : List ℕ) (ns : List (L
 through earlier by q n [] t far near = inr (inside_step t q (key n) far near)
 through earlier by q n (m ∷ ns) t far near =
     go (nat_lt 0 (elements_at earlier (at q (key n)))) refl
-    (λ out. through earlier by (resolved earlier (at q (key n))) m ns t out near)
+    (λ out. through earlier by (last_element_or_self earlier (at q (key n))) m ns t out near)
   where
-    more : (r : Place) → resolved earlier (at q (key n)) ≡ r → is_inside t r ≡ false
-        → (is_inside t (resolved earlier (at q (key n))) ≡ false
+    more : (r : Place) → last_element_or_self earlier (at q (key n)) ≡ r → is_inside t r ≡ false
+        → (is_inside t (last_element_or_self earlier (at q (key n))) ≡ false
         → ((is_headed_at earlier t ≡ true)
-        ⊎ (is_headed_at (fronts earlier by (resolved earlier (at q (key n))) (m ∷ ns)) t ≡ true))
-        ⊎ (t ≡ header_place earlier (resolved earlier (at q (key n))) (m ∷ ns)))
+        ⊎ (is_headed_at (fronts earlier by (last_element_or_self earlier (at q (key n))) (m ∷ ns)) t ≡ true))
+        ⊎ (t ≡ header_place earlier (last_element_or_self earlier (at q (key n))) (m ∷ ns)))
         → ((is_headed_at earlier t ≡ true) ⊎ (is_headed_at (fronts earlier by q (n ∷ m ∷ ns)) t ≡ true))
         ⊎ (t ≡ header_place earlier q (n ∷ m ∷ ns))
     more r e out ih =
         ⊎_elim (λ h. inl (⊎_elim (λ a. inl a)
-        (λ b. inr (or_right (same_place (resolved earlier (at q (key n))) t) _ b)) h)) (λ h. inr h)
+        (λ b. inr (or_right (same_place (last_element_or_self earlier (at q (key n))) t) _ b)) h)) (λ h. inr h)
         (ih (ap (λ z. is_inside t z) e ∙ out))
 
-    here : (r : Place) → resolved earlier (at q (key n)) ≡ r → t ≡ r
+    here : (r : Place) → last_element_or_self earlier (at q (key n)) ≡ r → t ≡ r
         → is_headed_at (fronts earlier by q (n ∷ m ∷ ns)) t ≡ true
     here r e same =
-        or_left (same_place (resolved earlier (at q (key n))) t) _ (ap (λ z. same_place z t) (e ∙ sym same) ∙
+        or_left (same_place (last_element_or_self earlier (at q (key n))) t) _ (ap (λ z. same_place z t) (e ∙ sym same) ∙
         same_place_self t)
 
     go : (b : Bool) → nat_lt 0 (elements_at earlier (at q (key n))) ≡ b
-        → (is_inside t (resolved earlier (at q (key n))) ≡ false
+        → (is_inside t (last_element_or_self earlier (at q (key n))) ≡ false
         → ((is_headed_at earlier t ≡ true)
-        ⊎ (is_headed_at (fronts earlier by (resolved earlier (at q (key n))) (m ∷ ns)) t ≡ true))
-        ⊎ (t ≡ header_place earlier (resolved earlier (at q (key n))) (m ∷ ns)))
+        ⊎ (is_headed_at (fronts earlier by (last_element_or_self earlier (at q (key n))) (m ∷ ns)) t ≡ true))
+        ⊎ (t ≡ header_place earlier (last_element_or_self earlier (at q (key n))) (m ∷ ns)))
         → ((is_headed_at earlier t ≡ true) ⊎ (is_headed_at (fronts earlier by q (n ∷ m ∷ ns)) t ≡ true))
         ⊎ (t ≡ header_place earlier q (n ∷ m ∷ ns))
     go false e ih =
-        let r : resolved earlier (at q (key n)) ≡ at q (key n) =
+        let r : last_element_or_self earlier (at q (key n)) ≡ at q (key n) =
         ap (λ b. if b then at (at q (key n)) (index (elements_at earlier (at q (key n)) - 1)) else at q
         (key n)) e in
         by_test (is_inside t (at q (key n)))
@@ -120,7 +120,7 @@ through earlier by q n (m ∷ ns) t far near =
     go true e ih =
         let c = at q (key n) in
         let d = at c (index (elements_at earlier c - 1)) in
-        let r : resolved earlier c ≡ d =
+        let r : last_element_or_self earlier c ≡ d =
         ap (λ b. if b then at c (index (elements_at earlier c - 1)) else c) e in
         by_test (is_inside t c)
         (λ h. inl (inl (ap (λ z. is_headed_at earlier z) (inside_step t q (key n) far h) ∙
@@ -208,7 +208,7 @@ inside_trans (s ∷ p) (u ∷ q) (w ∷ r) e f =
     (inside_trans p q r a.1 b.1)
 
 pub inside_resolved : (earlier : List Assertion) (q : Place) (n : List ℕ)
-    → is_inside q (resolved earlier (at q (key n))) ≡ true
+    → is_inside q (last_element_or_self earlier (at q (key n))) ≡ true
 inside_resolved earlier q n = go (nat_lt 0 (elements_at earlier (at q (key n))))
   where
     go : (b : Bool) → is_inside q
@@ -221,15 +221,15 @@ pub inside_header : (earlier : List Assertion) (q : Place) (n : List ℕ) (ns : 
     → is_inside q (header_place earlier q (n ∷ ns)) ≡ true
 inside_header earlier q n [] = inside_more q q (key n ∷ []) (inside_self q)
 inside_header earlier q n (m ∷ ns) =
-    inside_trans q (resolved earlier (at q (key n))) _ (inside_resolved earlier q n)
-    (inside_header earlier (resolved earlier (at q (key n))) m ns)
+    inside_trans q (last_element_or_self earlier (at q (key n))) _ (inside_resolved earlier q n)
+    (inside_header earlier (last_element_or_self earlier (at q (key n))) m ns)
 
 fronts_up : (earlier : List Assertion) (by q : Place) (n : List ℕ) (ns : List (List ℕ)) (t : Place)
     → is_headed_at (fronts earlier by q (n ∷ ns)) t ≡ true
     → is_inside t (header_place earlier q (n ∷ ns)) ≡ true
 fronts_up earlier by q n [] t e = absurd (true≢false (sym e))
 fronts_up earlier by q n (m ∷ ns) t e =
-    let r = resolved earlier (at q (key n)) in
+    let r = last_element_or_self earlier (at q (key n)) in
     ⊎_elim (λ x. ap (λ z. is_inside z (header_place earlier r (m ∷ ns))) (sym (same_place_is r t x)) ∙
     inside_header earlier r m ns)
     (λ y. fronts_up earlier by r m ns t y) (or_cases (same_place r t) _ e)

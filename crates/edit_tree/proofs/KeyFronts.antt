@@ -5,10 +5,10 @@ use Rattle.std.proofs.lemmas.Option.{slice_get_read}
 use Rattle.edit_tree.specs.declared.nodes.Node.{Node}
 use Rattle.edit_syntax.specs.declared.span.Span.{Span}
 use Rattle.edit_tree.specs.declared.nodes.DefinedBy.{DefinedBy}
-use Rattle.edit_tree.specs.declared.nodes.Words.{Words}
+use Rattle.edit_tree.specs.declared.nodes.DecodedText.{DecodedText}
 use Rattle.edit_syntax.specs.Reading.{◌>>=◌}
 use Rattle.edit_tree.specs.Nodes.{Shape, ModelNode, bytes_of, RepresentsNodes}
-use Rattle.edit_tree.specs.Walk.{child, target_of, node_extended, added, member_defined_at, member_defined, with_index, reached}
+use Rattle.edit_tree.specs.Walk.{child, target_of, node_extended, member_added, member_defined_at, member_defined, with_index, fronts_followed}
 use Rattle.edit_tree.specs.WalkState.{HasNodes, HasNodeAt}
 use Rattle.edit_syntax.proofs.ListElements.{drop_from}
 
@@ -16,7 +16,7 @@ use Rattle.edit_syntax.proofs.ListElements.{drop_from}
 
 pub asserted_new : (spots : List ModelNode) (t : ℕ) (name : List ℕ) (shape : Shape) (taken : DefinedBy)
     (span : Option Span) → child spots t name ≡ None → member_defined spots t name shape taken span
-    ≡ added spots t name shape taken span
+    ≡ member_added spots t name shape taken span
 unfolding member_defined
 asserted_new spots t name shape taken span e =
     ap (λ (o : Option ℕ). member_defined_at o spots t name shape taken span) e
@@ -56,17 +56,17 @@ pub record Reaches (text : List ℕ) (nodes : List Node) (total : Option (List M
     (left : List (List ℕ)) (shape : Shape) (taken : DefinedBy) : Type 0 where
   pub spots : List ModelNode
   pub holds : RepresentsNodes text nodes spots
-  pub same : total ≡ reached spots table left shape taken
+  pub same : total ≡ fronts_followed spots table left shape taken
 
 pub reached_more : (spots : List ModelNode) (t : ℕ) (name : List ℕ) (names : List (List ℕ)) (shape : Shape)
-    (taken : DefinedBy) → reached spots t (name ∷ names) shape taken
-    ≡ (member_defined spots t name shape taken None >>= λ r. reached r.0 r.1 names shape taken)
-unfolding reached
+    (taken : DefinedBy) → fronts_followed spots t (name ∷ names) shape taken
+    ≡ (member_defined spots t name shape taken None >>= λ r. fronts_followed r.0 r.1 names shape taken)
+unfolding fronts_followed
 reached_more spots t name names shape taken = refl
 
 pub reached_none : (spots : List ModelNode) (t : ℕ) (shape : Shape) (taken : DefinedBy)
-    → reached spots t [] shape taken ≡ Some (spots, t)
-unfolding reached
+    → fronts_followed spots t [] shape taken ≡ Some (spots, t)
+unfolding fronts_followed
 reached_none spots t shape taken = refl
 
 pub reaches_turn : {text : List ℕ} (nodes nodes2 : List Node) (total : Option (List ModelNode × ℕ)) (t next : ℕ)
@@ -78,7 +78,7 @@ reaches_turn nodes nodes2 total t next name left shape taken r (spots, made, hol
   spots = spots;
   holds = holds;
   same = r.same ∙ reached_more r.spots t name left shape taken ∙
-      ap (λ (o : Option (List ModelNode × ℕ)). o >>= λ q. reached q.0 q.1 left shape taken) made;
+      ap (λ (o : Option (List ModelNode × ℕ)). o >>= λ q. fronts_followed q.0 q.1 left shape taken) made;
 }
 
 pub reaches_stop : {text : List ℕ} (nodes : List Node) (total : Option (List ModelNode × ℕ)) (t : ℕ)
@@ -87,7 +87,7 @@ pub reaches_stop : {text : List ℕ} (nodes : List Node) (total : Option (List M
     → member_defined r.spots t name shape taken None ≡ None → total ≡ None
 reaches_stop nodes total t name left shape taken r none =
     r.same ∙ reached_more r.spots t name left shape taken ∙
-    ap (λ (o : Option (List ModelNode × ℕ)). o >>= λ q. reached q.0 q.1 left shape taken) none
+    ap (λ (o : Option (List ModelNode × ℕ)). o >>= λ q. fronts_followed q.0 q.1 left shape taken) none
 
 pub reaches_end : {text : List ℕ} (nodes : List Node) (total : Option (List ModelNode × ℕ)) (t : ℕ) (shape : Shape)
     (taken : DefinedBy) → Reaches text nodes total t [] shape taken → HasNodeAt text nodes total (Some t)
@@ -95,12 +95,12 @@ reaches_end nodes total t shape taken r = (r.spots, r.same ∙ reached_none r.sp
 
 -- the next front part
 pub reaches_next : {text : List ℕ} (nodes : List Node) (total : Option (List ModelNode × ℕ)) (t i : ℕ)
-    (fronts : List Words) (item : Words) (shape : Shape) (taken : DefinedBy) → i < length fronts
+    (fronts : List DecodedText) (item : DecodedText) (shape : Shape) (taken : DefinedBy) → i < length fronts
     → item ≡ get_or fronts i item
     → Reaches text nodes total t (map (bytes_of text) (drop i fronts)) shape taken
     → Reaches text nodes total t (bytes_of text item ∷ map (bytes_of text) (drop (i + 1) fronts)) shape taken
 reaches_next {text} nodes total t i fronts item shape taken lt is r =
-    subst (λ (ns : List Words). Reaches text nodes total t (map (bytes_of text) ns) shape taken)
+    subst (λ (ns : List DecodedText). Reaches text nodes total t (map (bytes_of text) ns) shape taken)
     (drop_from fronts i item (slice_get_read fronts (length fronts) i item refl lt is)) r
 
 pub front_made : (text : List ℕ) (nodes : List Node) (spots : List ModelNode) (t : ℕ) (seen name : List ℕ)

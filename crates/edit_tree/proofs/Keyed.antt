@@ -5,7 +5,7 @@ use Rattle.std.specs.Prelude.{map}
 use Rattle.std.proofs.lemmas.Option.{same_Some}
 use Rattle.edit_syntax.specs.Strings.{Key}
 use Rattle.edit_syntax.specs.Grammar.{Value, basic, literal, multi_basic, multi_literal, boolean, integer, float, datetime, array, inline, Elements, no_elements, last_element, element, Members, no_members, last_member, member, Statement, pair, header, element_header, empty_line, full_line, Lines, one_line, more_lines, Text}
-use Rattle.edit_tree.specs.Assertions.{Place, key, index, at, same_place, Kind, dotted, leaf, super, header_kind, array_kind, element_kind, Assertion, asserts, names, named, of_key, of_value, of_elements, of_members, elements_at, resolved, fronts, header_place, of_statement, prefix_after, of_lines, assertions, are_compatible, AreCompatible}
+use Rattle.edit_tree.specs.Assertions.{Place, key, index, at, same_place, Kind, dotted, leaf, super, header_kind, array_kind, element_kind, Assertion, asserts, names, named, of_key, of_value, of_elements, of_members, elements_at, last_element_or_self, fronts, header_place, of_statement, prefix_after, of_lines, assertions, are_compatible, AreCompatible}
 use Rattle.edit_tree.specs.Tree.{kind_at}
 use Rattle.edit_syntax.proofs.Cases.{by_test}
 use Rattle.edit_tree.proofs.SamePlace.{same_place_is, same_place_self, last_same}
@@ -140,7 +140,7 @@ mutual
 -- ---- headers
 
 resolved_under : (made earlier : List Assertion) (p : Place) (n : List ℕ) → Tabled made p
-    → Under made (resolved earlier (at p (key n)))
+    → Under made (last_element_or_self earlier (at p (key n)))
 resolved_under made earlier p n t =
     by_test (nat_lt 0 (elements_at earlier (at p (key n))))
     (λ e. subst (Under made)
@@ -155,7 +155,7 @@ fronts_under : (made earlier : List Assertion) (by p : Place) (n : List ℕ) (ns
     → AreUnder made (fronts earlier by p (n ∷ ns)) × Under made (header_place earlier p (n ∷ ns))
 fronts_under made earlier by p n [] t h = (tt, name_under made p n t)
 fronts_under made earlier by p n (m ∷ ns) t h =
-    let q = resolved earlier (at p (key n)) in
+    let q = last_element_or_self earlier (at p (key n)) in
     let r = fronts_under made earlier by q m ns (inr (h q (inl (refl, refl)))) (λ x y. h x (inr y)) in
     ((resolved_under made earlier p n t, r.0), r.1)
 

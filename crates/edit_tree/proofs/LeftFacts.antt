@@ -6,7 +6,7 @@ use Rattle.edit_syntax.specs.Grammar.{Text}
 use Rattle.edit_tree.specs.Assertions.{Place, key, index, assertions}
 use Rattle.edit_tree.specs.Tree.{View, string, static_array, table_array, inline_table, table, view_in}
 use Rattle.edit_tree.specs.NewItems.{a_string, a_truth, a_table}
-use Rattle.edit_tree.specs.IntendedTrees.{assertions_left, moved, item_view}
+use Rattle.edit_tree.specs.IntendedTrees.{assertions_left, place_after_removal, item_view}
 use Rattle.edit_tree.proofs.OnTexts.{on_texts}
 
 -- what the assertions that stay show at a place, once all that names another place or one below it is gone
@@ -57,12 +57,12 @@ unfolding on_texts
 the_later_element = refl
 
 -- the later element moves up, with what is below it
-pub moves_up : moved (key (codes "a") ∷ index 0 ∷ []) (key (codes "a") ∷ index 1 ∷ key (codes "b") ∷ [])
+pub moves_up : place_after_removal (key (codes "a") ∷ index 0 ∷ []) (key (codes "a") ∷ index 1 ∷ key (codes "b") ∷ [])
     ≡ key (codes "a") ∷ index 0 ∷ key (codes "b") ∷ []
 moves_up = refl
 
 -- the elements before it and other places stay where they are
-pub stays_there : moved (key (codes "a") ∷ index 1 ∷ []) (key (codes "a") ∷ index 0 ∷ key (codes "b") ∷ [])
+pub stays_there : place_after_removal (key (codes "a") ∷ index 1 ∷ []) (key (codes "a") ∷ index 0 ∷ key (codes "b") ∷ [])
     ≡ key (codes "a") ∷ index 0 ∷ key (codes "b") ∷ []
 stays_there = refl
 

@@ -3,13 +3,13 @@ use Rattle.std.proofs.Common.{◌≡◌, ℕ, ◌+◌, ◌-◌, ◌<◌, ◌≤�
 use Rattle.std.proofs.lemmas.Bool.Decides.{nat_tests}
 use Rattle.std.proofs.lemmas.List.{drop_more, take_more, drop_all}
 use Rattle.edit_syntax.specs.Characters.{quote}
-use Rattle.edit_tree.specs.Literals.{literal_piece, literal_body, literal_bytes, escaped, is_escaped}
+use Rattle.edit_tree.specs.Literals.{literal_piece, literal_body, literal_bytes, escaped_byte, is_escaped}
 use Rattle.edit_syntax.proofs.PutBefore.{piece_rest, pieces_rest}
 
 pub literal_parts : (said : List ℕ) → literal_bytes said ≡ quote ∷ (literal_body said ++ quote ∷ [])
 literal_parts said = ap (λ (l : List ℕ). quote ∷ l) (pieces_rest quote (map literal_piece said) (quote ∷ []))
 
-body_more : (b : ℕ) (bs : List ℕ) → literal_body (b ∷ bs) ≡ escaped b ++ literal_body bs
+body_more : (b : ℕ) (bs : List ℕ) → literal_body (b ∷ bs) ≡ escaped_byte b ++ literal_body bs
 body_more b bs = piece_rest quote (literal_piece b) (literal_body bs)
 
 -- ---- which bytes are escaped
@@ -17,7 +17,7 @@ body_more b bs = piece_rest quote (literal_piece b) (literal_body bs)
 pub escaped_ascii : (b : ℕ) → is_escaped b ≡ true → b < 128
 escaped_ascii b e = grind (arith, nat_tests)
 
-pub escaped_plain : (b : ℕ) → is_escaped b ≡ false → escaped b ≡ b ∷ []
+pub escaped_plain : (b : ℕ) → is_escaped b ≡ false → escaped_byte b ≡ b ∷ []
 escaped_plain b e =
     let quoted : (b == 34) ≡ false = grind (arith, nat_tests) in
     let slashed : (b == 92) ≡ false = grind (arith, nat_tests) in
@@ -41,7 +41,7 @@ escaped_plain b e =
 -- ---- one byte more
 
 body-drop : (s : List ℕ) (i : ℕ) → i < length s → literal_body (drop i s)
-    ≡ escaped (get_or s i 0) ++ literal_body (drop (i + 1) s)
+    ≡ escaped_byte (get_or s i 0) ++ literal_body (drop (i + 1) s)
 body-drop s i h = ap literal_body (drop_more s i 0 h) ∙ body_more (get_or s i 0) (drop (i + 1) s)
 
 omega-add : (a b : ℕ) → a ≤ b → a + (b - a) ≡ b
@@ -63,7 +63,7 @@ keep_byte s done total start i low within same whole =
 -- an escape ends the run
 pub escape_byte : (s done total : List ℕ) (start i : ℕ) → i < length s
     → done ++ (take (i - start) (drop start s) ++ literal_body (drop i s)) ≡ total
-    → ((done ++ take (i - start) (drop start s)) ++ escaped (get_or s i 0)) ++
+    → ((done ++ take (i - start) (drop start s)) ++ escaped_byte (get_or s i 0)) ++
     (take (i + 1 - (i + 1)) (drop (i + 1) s) ++ literal_body (drop (i + 1) s)) ≡ total
 escape_byte s done total start i within whole =
     let zero : i + 1 - (i + 1) ≡ 0 = omega arith in

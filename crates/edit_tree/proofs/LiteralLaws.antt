@@ -4,7 +4,7 @@ use Rattle.std.proofs.lemmas.Bool.{and_parts, cases_lt, eqb-true}
 use Rattle.std.specs.List.{AllByRecursion, list_all}
 use Rattle.std.specs.Str.Parse.{digits_value}
 use Rattle.edit_syntax.specs.Characters.{quote, is_basic_ch, All}
-use Rattle.edit_syntax.specs.Strings.{Piece, plain, letter, short, long, feed, fold, delimiter, is_escape, is_hex, is_scalar, IsBasicPiece, said, says}
+use Rattle.edit_syntax.specs.Strings.{Piece, plain, letter, short, long, feed, fold, delimiter, is_escape, is_hex, is_scalar, IsBasicPiece, decoded_piece, decoded_pieces}
 use Rattle.edit_syntax.specs.Grammar.{IsValue}
 use Rattle.edit_tree.specs.Assertions.{same_bytes}
 use Rattle.edit_tree.specs.Literals.{literal_piece, literal_of}
@@ -49,7 +49,7 @@ is_fine (feed l) e = absurd (true≢false (sym e))
 is_fine (fold ws l more) e = absurd (true≢false (sym e))
 is_fine delimiter e = absurd (true≢false (sym e))
 
-checked : all_below (λ b. fine (literal_piece b) && same_bytes (said quote (literal_piece b)) (b ∷ [])) 128
+checked : all_below (λ b. fine (literal_piece b) && same_bytes (decoded_piece quote (literal_piece b)) (b ∷ [])) 128
     ≡ true
 unfolding all_below fine lib.Utf8.encode
 checked = refl
@@ -87,18 +87,18 @@ past_basic b g = rw (
     high : (b : ℕ) → 128 ≤ b → nat_le 32 b ≡ true
     high b g = grind arith
 
-pub piece_fine : (b : ℕ) → IsBasicPiece (literal_piece b) × (said quote (literal_piece b) ≡ b ∷ [])
+pub piece_fine : (b : ℕ) → IsBasicPiece (literal_piece b) × (decoded_piece quote (literal_piece b) ≡ b ∷ [])
 piece_fine b = ⊎_elim (λ l. low l) (λ g. high g) (cases_lt b 128)
   where
-    low : b < 128 → IsBasicPiece (literal_piece b) × (said quote (literal_piece b) ≡ b ∷ [])
+    low : b < 128 → IsBasicPiece (literal_piece b) × (decoded_piece quote (literal_piece b) ≡ b ∷ [])
     low h =
-        let c = and_parts (fine (literal_piece b)) (same_bytes (said quote (literal_piece b)) (b ∷ []))
-        (from_all (λ b. fine (literal_piece b) && same_bytes (said quote (literal_piece b)) (b ∷ [])) 128 b
+        let c = and_parts (fine (literal_piece b)) (same_bytes (decoded_piece quote (literal_piece b)) (b ∷ []))
+        (from_all (λ b. fine (literal_piece b) && same_bytes (decoded_piece quote (literal_piece b)) (b ∷ [])) 128 b
         checked h) in
         (is_fine (literal_piece b) c.0, same_bytes_is _ _ c.1)
 
-    high : 128 ≤ b → IsBasicPiece (literal_piece b) × (said quote (literal_piece b) ≡ b ∷ [])
-    high g = subst (λ p. IsBasicPiece p × (said quote p ≡ b ∷ [])) (sym (past_ascii b g))
+    high : 128 ≤ b → IsBasicPiece (literal_piece b) × (decoded_piece quote (literal_piece b) ≡ b ∷ [])
+    high g = subst (λ p. IsBasicPiece p × (decoded_piece quote p ≡ b ∷ [])) (sym (past_ascii b g))
         (past_basic b g, refl)
 
 -- ---- the literal of a text
@@ -110,7 +110,7 @@ literal_is_value text = go text
     go [] = tt
     go (b ∷ bs) = ((piece_fine b).0, go bs)
 
-pub literal_says : (text : List ℕ) → says quote (map literal_piece text) ≡ text
+pub literal_says : (text : List ℕ) → decoded_pieces quote (map literal_piece text) ≡ text
 literal_says [] = refl
-literal_says (b ∷ bs) = ap (λ l. l ++ says quote (map literal_piece bs)) (piece_fine b).1 ∙
+literal_says (b ∷ bs) = ap (λ l. l ++ decoded_pieces quote (map literal_piece bs)) (piece_fine b).1 ∙
     ap (λ l. b ∷ l) (literal_says bs)

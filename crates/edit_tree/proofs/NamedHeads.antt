@@ -3,7 +3,7 @@ use Rattle.std.proofs.Common.{◌≡◌, ℕ, suc, ◌==◌, Bool, true, false, 
 use Rattle.std.specs.List.{AllByRecursion, list_any}
 use Rattle.edit_syntax.specs.Strings.{◌·◌, Key, line_end}
 use Rattle.edit_syntax.specs.Grammar.{Value, basic, literal, multi_basic, multi_literal, boolean, integer, float, datetime, array, inline, Elements, no_elements, last_element, element, Members, no_members, last_member, member, Statement, pair, header, element_header, comment, empty_line, full_line, Lines, one_line, more_lines, lines, Text}
-use Rattle.edit_tree.specs.Assertions.{Place, key, index, at, Kind, dotted, leaf, super, header_kind, array_kind, element_kind, Assertion, asserts, names, named, elements_at, of_key, of_value, of_elements, of_members, resolved, fronts, header_place, of_statement, prefix_after, of_lines, assertions}
+use Rattle.edit_tree.specs.Assertions.{Place, key, index, at, Kind, dotted, leaf, super, header_kind, array_kind, element_kind, Assertion, asserts, names, named, elements_at, of_key, of_value, of_elements, of_members, last_element_or_self, fronts, header_place, of_statement, prefix_after, of_lines, assertions}
 use Rattle.edit_tree.specs.EditBytes.{is_within as is_inside, is_header_of, is_one_statement}
 use Rattle.edit_tree.specs.Statements.{PlacedStatement, stated_line, stated_in}
 use Rattle.edit_tree.proofs.NamedPairs.{is_paired, pairs_at, IsKeyed, pairs_named}
@@ -98,7 +98,7 @@ fronts_no_head : (earlier : List Assertion) (by q : Place) (ns : List (List ℕ)
     → has_head (fronts earlier by q ns) t ≡ false
 fronts_no_head earlier by q [] t = refl
 fronts_no_head earlier by q (n ∷ []) t = refl
-fronts_no_head earlier by q (n ∷ m ∷ ns) t = fronts_no_head earlier by (resolved earlier (at q (key n)))
+fronts_no_head earlier by q (n ∷ m ∷ ns) t = fronts_no_head earlier by (last_element_or_self earlier (at q (key n)))
     (m ∷ ns) t
 
 or_none : (b : Bool) → (b || false) ≡ b

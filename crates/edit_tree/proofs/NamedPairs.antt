@@ -5,9 +5,9 @@ use Rattle.edit_syntax.specs.Characters.{comma, right_bracket, right_brace}
 use Rattle.edit_syntax.specs.Strings.{◌·◌, Dotted, Key, name, line_end}
 use Rattle.edit_syntax.specs.Grammar.{gap, Value, basic, literal, multi_basic, multi_literal, boolean, integer, float, datetime, array, inline, Elements, no_elements, last_element, element, elements, Members, no_members, last_member, member, members, Statement, pair, header, element_header, comment, empty_line, full_line, Lines, one_line, more_lines, lines, Text}
 use Rattle.edit_syntax.proofs.Cases.{by_test}
-use Rattle.edit_tree.specs.Assertions.{Place, key, index, at, same_place, Kind, dotted, leaf, header_kind, array_kind, element_kind, Assertion, asserts, names, named, elements_at, of_key, of_value, of_elements, of_members, resolved, fronts, header_place, of_statement, prefix_after, of_lines, assertions}
+use Rattle.edit_tree.specs.Assertions.{Place, key, index, at, same_place, Kind, dotted, leaf, header_kind, array_kind, element_kind, Assertion, asserts, names, named, elements_at, of_key, of_value, of_elements, of_members, last_element_or_self, fronts, header_place, of_statement, prefix_after, of_lines, assertions}
 use Rattle.edit_tree.specs.EditBytes.{unresolved, part_to, is_within}
-use Rattle.edit_tree.specs.Statements.{dotted_parts, behind_part, PlacedPair, paired, paired_members, paired_value, paired_statement, PlacedStatement, stated_line, stated_in, line_pairs, inner_pairs}
+use Rattle.edit_tree.specs.Statements.{dotted_parts, behind_part, PlacedPair, placed_pair, paired_members, paired_value, paired_statement, PlacedStatement, stated_line, stated_in, line_pairs, inner_pairs}
 use Rattle.edit_tree.specs.Replaces.{is_below}
 use Rattle.edit_tree.specs.Written.{placed_value, inside, in_elements, in_members, in_statement, in_lines}
 use Rattle.edit_tree.proofs.SamePlace.{same_place_is, other_place}
@@ -124,7 +124,7 @@ key_named t d by q n x (e ∷ ds) rest v = go (same_place (at q (key n)) t) refl
     go false h ih = ih
 
 pair_named : (t : Place) (d : Bool) (by q : Place) (k : Key) (a b : List ℕ) (v : Value) (behind : List ℕ)
-    → pairs_at (of_key d by q (names k) v) t ≡ cond (is_some (part_to t (paired q k a b v behind))) 1 0
+    → pairs_at (of_key d by q (names k) v) t ≡ cond (is_some (part_to t (placed_pair q k a b v behind))) 1 0
 pair_named t d by q k a b v behind = key_named t d by q (name k.first) _ k.others _ v
 
 -- ---- values
@@ -182,7 +182,7 @@ mutual
         pairs_append (of_key true q p (names k) v) (of_value q v) t,
         pair_named t true q p k a b v (gap c rest),
         value_named t keyed q v (gap c rest),
-        named_more t (paired p k a b v (gap c rest)) [],
+        named_more t (placed_pair p k a b v (gap c rest)) [],
       )
   members_named t keyed p (member k a b v c d ms) rest =
       let q = named p (names k) in
@@ -194,7 +194,7 @@ mutual
         pair_named t true q p k a b v after,
         value_named t keyed q v after,
         members_named t keyed p ms rest,
-        named_more t (paired p k a b v after) (paired_members p ms rest),
+        named_more t (placed_pair p k a b v after) (paired_members p ms rest),
         flat_append paired_value (placed_value q v after ∷ inside q v after) (in_members p ms rest) t,
       )
 
@@ -204,7 +204,7 @@ fronts_none : (earlier : List Assertion) (by q : Place) (ns : List (List ℕ)) (
     → pairs_at (fronts earlier by q ns) t ≡ 0
 fronts_none earlier by q [] t = refl
 fronts_none earlier by q (n ∷ []) t = refl
-fronts_none earlier by q (n ∷ m ∷ ns) t = fronts_none earlier by (resolved earlier (at q (key n))) (m ∷ ns) t
+fronts_none earlier by q (n ∷ m ∷ ns) t = fronts_none earlier by (last_element_or_self earlier (at q (key n))) (m ∷ ns) t
 
 -- what a statement asserts, with this text behind it
 statement_named : (t : Place) → IsKeyed t → (s : PlacedStatement)
@@ -223,7 +223,7 @@ statement_named t keyed s = go s.statement
           pairs_append (of_key false q s.prefix (names k) v) (of_value q v) t,
           pair_named t false q s.prefix k a b v s.behind,
           value_named t keyed q v s.behind,
-          named_more t (paired s.prefix k a b v s.behind) [],
+          named_more t (placed_pair s.prefix k a b v s.behind) [],
         )
     go (header a k b) =
         let place = header_place s.earlier [] (names k) in

@@ -4,7 +4,7 @@ use Rattle.std.proofs.Common.{◌≡◌, ℕ, suc, Bool, true, false, ◌-◌, n
 use Rattle.std.proofs.lemmas.Bool.{and_parts}
 use Rattle.edit_syntax.specs.Strings.{Key, name}
 use Rattle.edit_syntax.specs.Grammar.{Value, basic, literal, multi_basic, multi_literal, boolean, integer, float, datetime, array, inline, Elements, no_elements, last_element, element, Members, no_members, last_member, member, Statement, pair, header, element_header, empty_line, full_line, Lines, one_line, more_lines, Text}
-use Rattle.edit_tree.specs.Assertions.{Place, Step, key, index, at, same_place, Kind, dotted, leaf, super, header_kind, array_kind, element_kind, Assertion, asserts, names, named, of_key, of_value, of_elements, of_members, of_pair, is_array, is_array_at, elements_at, resolved, fronts, header_place, of_statement, prefix_after, of_lines, assertions}
+use Rattle.edit_tree.specs.Assertions.{Place, Step, key, index, at, same_place, Kind, dotted, leaf, super, header_kind, array_kind, element_kind, Assertion, asserts, names, named, of_key, of_value, of_elements, of_members, of_pair, is_array, is_array_at, elements_at, last_element_or_self, fronts, header_place, of_statement, prefix_after, of_lines, assertions}
 use Rattle.edit_syntax.proofs.Cases.{by_test}
 use Rattle.edit_tree.proofs.SamePlace.{same_place_is}
 
@@ -156,7 +156,7 @@ rooted_fronts : (earlier base : List Assertion) → ((r : Place) → Opened earl
 rooted_fronts earlier base knows by p n [] tail st end = end base p n refl st
 rooted_fronts earlier base knows by p n (m ∷ ns) tail st end =
     let q = at p (key n) in
-    let r = resolved earlier q in
+    let r = last_element_or_self earlier q in
     let more : Rooted (asserts by r super ∷ base) (fronts earlier by r (m ∷ ns) ++ tail) =
     rooted_fronts earlier (asserts by r super ∷ base) (λ z o. inr (knows z o)) by r m ns tail
     (inr (inl (refl, refl))) end in

@@ -4,7 +4,7 @@ use Rattle.std.proofs.Common.{◌≡◌, ℕ, suc, ◌+◌, Bool, true, false, �
 use Rattle.std.specs.List.{AllByRecursion}
 use Rattle.edit_syntax.specs.Grammar.{Value, basic, literal, multi_basic, multi_literal, boolean, integer, float, datetime, array, inline, Elements, no_elements, last_element, element, Members, no_members, last_member, member, Statement, pair, header, element_header, empty_line, full_line, Lines, one_line, more_lines, Text}
 use Rattle.edit_syntax.proofs.Cases.{by_test}
-use Rattle.edit_tree.specs.Assertions.{Place, Step, key, index, at, same_place, Kind, dotted, leaf, header_kind, array_kind, element_kind, Assertion, asserts, names, named, elements_at, of_key, of_value, of_elements, of_members, resolved, fronts, header_place, of_statement, prefix_after, of_lines, assertions}
+use Rattle.edit_tree.specs.Assertions.{Place, Step, key, index, at, same_place, Kind, dotted, leaf, header_kind, array_kind, element_kind, Assertion, asserts, names, named, elements_at, of_key, of_value, of_elements, of_members, last_element_or_self, fronts, header_place, of_statement, prefix_after, of_lines, assertions}
 use Rattle.edit_tree.specs.Replaces.{is_below}
 use Rattle.edit_tree.specs.Tree.{step_from}
 use Rattle.edit_tree.proofs.Below.{step_from_at, step_from_is}
@@ -208,7 +208,7 @@ fronts_even : (t : Place) (earlier : List Assertion) (by q : Place) (ns : List (
     → IsEven t (fronts earlier by q ns)
 fronts_even t earlier by q [] = refl
 fronts_even t earlier by q (n ∷ []) = refl
-fronts_even t earlier by q (n ∷ m ∷ ns) = fronts_even t earlier by (resolved earlier (at q (key n))) (m ∷ ns)
+fronts_even t earlier by q (n ∷ m ∷ ns) = fronts_even t earlier by (last_element_or_self earlier (at q (key n))) (m ∷ ns)
 
 statement_even : (t : Place) (earlier : List Assertion) (prefix : Place) (s : Statement)
     → same_place prefix t ≡ false → IsOpen t (of_statement earlier prefix s)

@@ -4,7 +4,7 @@ use Rattle.std.specs.List.{AllByRecursion}
 use Rattle.std.proofs.lemmas.List.{length_push, length-append}
 use Rattle.edit_syntax.specs.Strings.{name, Dotted as DottedPart}
 use Rattle.edit_syntax.specs.Grammar.{Between, Value, basic, literal, multi_basic, multi_literal, boolean, integer, float, datetime, array, inline, Elements, no_elements, last_element, element, Members, no_members, last_member, member, Statement, pair, header, element_header, empty_line, full_line, Lines, one_line, more_lines, Text}
-use Rattle.edit_tree.specs.Assertions.{key, index, Place, at, same_place, leaf, header_kind, array_kind, element_kind, Assertion, asserts, names, named, of_key, of_value, of_elements, of_members, resolved, fronts, header_place, of_statement, prefix_after, of_lines, assertions}
+use Rattle.edit_tree.specs.Assertions.{key, index, Place, at, same_place, leaf, header_kind, array_kind, element_kind, Assertion, asserts, names, named, of_key, of_value, of_elements, of_members, last_element_or_self, fronts, header_place, of_statement, prefix_after, of_lines, assertions}
 use Rattle.edit_tree.specs.Tree.{kind_at, count_elements}
 use Rattle.edit_tree.proofs.SamePlace.{same_place_is, same_place_self}
 use Rattle.edit_tree.proofs.PlainValues.{HasLeaf}
@@ -250,7 +250,7 @@ front_values : (earlier : List Assertion) (by p : Place) (ns : List (List ℕ)) 
 front_values earlier by p [] q v h = h
 front_values earlier by p (n ∷ []) q v h = h
 front_values earlier by p (n ∷ m ∷ ns) q v (inl h) = cc
-front_values earlier by p (n ∷ m ∷ ns) q v (inr h) = front_values earlier by (resolved earlier (at p (key n)))
+front_values earlier by p (n ∷ m ∷ ns) q v (inr h) = front_values earlier by (last_element_or_self earlier (at p (key n)))
     (m ∷ ns) q v h
 
 whole_statement : (earlier : List Assertion) (prefix : Place) (s : Statement)

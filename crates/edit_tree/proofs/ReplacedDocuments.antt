@@ -4,7 +4,7 @@ use Rattle.edit_syntax.specs.Grammar.{Text, text}
 use Rattle.edit_tree.specs.Assertions.{IsDocument, Place}
 use Rattle.edit_tree.specs.Tree.{View, view_at}
 use Rattle.edit_tree.specs.DocumentViews.{DocumentViews, tree_of, ShowsTree}
-use Rattle.edit_tree.specs.Replaces.{Edits, replaced, written, tree_without_below, is_below_any, is_string, AreStrings, AreValues, AreOutside}
+use Rattle.edit_tree.specs.Replaces.{Edits, replaced, tree_with_strings, tree_without_below, is_below_any, is_string, AreStrings, AreValues, AreOutside}
 use Rattle.edit_tree.proofs.ReplacedTree.{AreApart, replaced_document, replaced_view}
 use Rattle.edit_tree.proofs.ReplacedStrings.{written_same, strings_values, strings_outside, strings_emptied}
 use Rattle.edit_tree.proofs.Shallow.{one_form}
@@ -13,7 +13,7 @@ use Rattle.edit_tree.proofs.Shallow.{one_form}
 pub tree_again : (edits : Edits) (old new : List ℕ) (form : Text) (t : Place → Option View)
     → IsDocument old form → AreApart edits form → ((q : Place) → t q ≡ view_at form q)
     → new ≡ text (replaced edits form)
-    → (g : Text) → IsDocument new g → (q : Place) → view_at g q ≡ written edits (tree_without_below edits t) q
+    → (g : Text) → IsDocument new g → (q : Place) → view_at g q ≡ tree_with_strings edits (tree_without_below edits t) q
 tree_again edits old new form t manifest apart same e g read q =
     let is = subst (λ (b : List ℕ). IsDocument b (replaced edits form)) (sym e)
     (replaced_document edits old form manifest) in

@@ -5,7 +5,7 @@ use Rattle.edit_syntax.specs.Grammar.{Value, basic, literal, multi_basic, multi_
 use Rattle.edit_tree.specs.Assertions.{Place, same_place, Kind, dotted, leaf, super, header_kind, array_kind, element_kind, Assertion, assertions, AreCompatible, IsDocument}
 use Rattle.edit_tree.specs.Tree.{View, string, view_at, view_of_kind, kind_at, is_value_at}
 use Rattle.std.specs.List.{AllByRecursion, list_any}
-use Rattle.edit_tree.specs.Replaces.{Edits, new_text, replaced, is_below, is_below_any, written, tree_without_below, is_string, AreStrings, AreValues, AreOutside}
+use Rattle.edit_tree.specs.Replaces.{Edits, new_text, replaced, is_below, is_below_any, tree_with_strings, tree_without_below, is_string, AreStrings, AreValues, AreOutside}
 use Rattle.edit_tree.proofs.SamePlaces.{not_below_itself}
 use Rattle.edit_tree.proofs.ThinnedForms.{is_leaf}
 use Rattle.edit_tree.proofs.NothingBelow.{opens}
@@ -135,7 +135,7 @@ strings_apart edits old form document all p said e =
     )
 
 pub written_same : (edits : Edits) (t u : Place → Option View) (q : Place) → t q ≡ u q
-    → written edits t q ≡ written edits u q
+    → tree_with_strings edits t q ≡ tree_with_strings edits u q
 written_same [] t u q e = e
 written_same (x ∷ edits) t u q e = ap (λ v. cond (same_place x.0 q) (Some (string x.1)) v)
     (written_same edits t u q e)
@@ -185,7 +185,7 @@ strings_emptied edits old form q document all =
 
 pub strings_view : (edits : Edits) (old : List ℕ) (form : Text) → IsDocument old form
     → AreStrings edits (view_at form) → (q : Place) → view_at (replaced edits form) q
-    ≡ written edits (view_at form) q
+    ≡ tree_with_strings edits (view_at form) q
 strings_view edits old form document all q =
     replaced_view edits old form document (strings_apart edits old form document all) q
     ∙ written_same edits (tree_without_below edits (view_at form)) (view_at form) q

@@ -4,7 +4,7 @@ use Rattle.edit_syntax.specs.Grammar.{Value, basic, literal, multi_basic, multi_
 use Rattle.edit_tree.specs.Assertions.{Place, Step, at, index, names, named, same_place, leaf, Assertion, of_statement, assertions, prefix_after, AreCompatible, IsDocument}
 use Rattle.edit_tree.specs.Tree.{View, string, view_at, view_of_kind, kind_at}
 use Rattle.edit_tree.specs.Literals.{literal_of}
-use Rattle.edit_tree.specs.Replaces.{Edits, Writer, new_text, written_or, put, replaced_inside, replaced_elements, replaced_members, replaced_statement, replaced_lines, replaced, is_below, is_below_any, written, tree_without_below}
+use Rattle.edit_tree.specs.Replaces.{Edits, Writer, new_text, written_or, put, replaced_inside, replaced_elements, replaced_members, replaced_statement, replaced_lines, replaced, is_below, is_below_any, tree_with_strings, tree_without_below}
 use Rattle.edit_tree.proofs.LiteralLaws.{literal_is_value, literal_says}
 use Rattle.edit_tree.proofs.ThinnedForms.{Thin, none}
 use Rattle.edit_tree.proofs.ThinnedLines.{thin_lines, thin_short, thin_no_clash}
@@ -133,26 +133,26 @@ AreApart edits form = (p : Place) (said : List ℕ) → new_text edits p ≡ Som
     × (is_below_any edits p ≡ false)
 
 written_there : (edits : Edits) (tree : Place → Option View) (q : Place) (said : List ℕ)
-    → new_text edits q ≡ Some said → written edits tree q ≡ Some (string said)
+    → new_text edits q ≡ Some said → tree_with_strings edits tree q ≡ Some (string said)
 written_there [] tree q said e = absurd cc
 written_there (x ∷ edits) tree q said e =
     by_test (same_place x.0 q)
     (λ h. let is : Some x.1 ≡ Some said = sym (ap (λ c. cond c (Some x.1) (new_text edits q)) h) ∙ e in
-    let same : x.1 ≡ said = cc in ap (λ c. cond c (Some (string x.1)) (written edits tree q)) h ∙
+    let same : x.1 ≡ said = cc in ap (λ c. cond c (Some (string x.1)) (tree_with_strings edits tree q)) h ∙
     ap (λ t. Some (string t)) same)
-    (λ h. ap (λ c. cond c (Some (string x.1)) (written edits tree q)) h
+    (λ h. ap (λ c. cond c (Some (string x.1)) (tree_with_strings edits tree q)) h
     ∙ written_there edits tree q said (sym (ap (λ c. cond c (Some x.1) (new_text edits q)) h) ∙ e))
 
 some_none : (l : List ℕ) → Some l ≡ None → ⊥
 some_none l h = cc
 
 written_elsewhere : (edits : Edits) (tree : Place → Option View) (q : Place) → new_text edits q ≡ None
-    → written edits tree q ≡ tree q
+    → tree_with_strings edits tree q ≡ tree q
 written_elsewhere [] tree q e = refl
 written_elsewhere (x ∷ edits) tree q e =
     by_test (same_place x.0 q)
     (λ h. absurd (some_none x.1 (sym (ap (λ c. cond c (Some x.1) (new_text edits q)) h) ∙ e)))
-    (λ h. ap (λ c. cond c (Some (string x.1)) (written edits tree q)) h
+    (λ h. ap (λ c. cond c (Some (string x.1)) (tree_with_strings edits tree q)) h
     ∙ written_elsewhere edits tree q (sym (ap (λ c. cond c (Some x.1) (new_text edits q)) h) ∙ e))
 
 pub no_root : (base xs : List Assertion) → Rooted base xs → kind_at xs [] ≡ None
@@ -203,7 +203,7 @@ edit_above (e ∷ edits) q low =
 
 pub replaced_view : (edits : Edits) (old : List ℕ) (form : Text) → IsDocument old form → AreApart edits form
     → (q : Place)
-    → view_at (replaced edits form) q ≡ written edits (tree_without_below edits (view_at form)) q
+    → view_at (replaced edits form) q ≡ tree_with_strings edits (tree_without_below edits (view_at form)) q
 replaced_view edits old form document apart q = go (new_text edits q) refl
   where
     literal_at : (p : Place) (said : List ℕ) → new_text edits p ≡ Some said
@@ -213,7 +213,7 @@ replaced_view edits old form document apart q = go (new_text edits q) refl
         (thinned edits form)
 
     go : (o : Option (List ℕ)) → new_text edits q ≡ o → view_at (replaced edits form) q
-        ≡ written edits (tree_without_below edits (view_at form)) q
+        ≡ tree_with_strings edits (tree_without_below edits (view_at form)) q
     go (Some said) e = literal_view (replaced edits form) q said (literal_at q said e) ∙
         sym (written_there edits (tree_without_below edits (view_at form)) q said e)
     go None e =

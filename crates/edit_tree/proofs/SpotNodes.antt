@@ -8,7 +8,7 @@ use Rattle.std.proofs.lemmas.Option.{slice_get_past, slice_get_read, same_Some}
 use Rattle.edit_tree.specs.declared.nodes.Node.{Node}
 use Rattle.edit_tree.specs.declared.nodes.DefinedBy.{DefinedBy}
 use Rattle.edit_tree.specs.Assertions.{key}
-use Rattle.edit_tree.specs.Redefinition.{joins, merged_definition}
+use Rattle.edit_tree.specs.Redefinition.{can_extend, merged_definition}
 use Rattle.edit_tree.specs.Nodes.{ModelNode, entries_of, number_in, RepresentsNode, RepresentsNodes, below}
 use Rattle.edit_tree.specs.Walk.{child, with_definition, node_extended}
 use Rattle.edit_tree.specs.WalkState.{HasNodes}
@@ -82,24 +82,24 @@ again_past nodes spots t taken holds le = rw (slice_get_past spots t (let l = ho
 
 pub again_stopped : {text : List ℕ} (nodes : List Node) (spots : List ModelNode) (t : ℕ) (node : Node)
     (taken : DefinedBy) → RepresentsNodes text nodes spots → t < length nodes → node ≡ get_or nodes t node
-    → joins node.taken taken ≡ false → node_extended spots t taken ≡ None
+    → can_extend node.taken taken ≡ false → node_extended spots t taken ≡ None
 unfolding node_extended
 again_stopped nodes spots t node taken holds lt is refusal =
     let k = kept_at nodes spots t node holds lt is in
-    let test : joins k.spot.taken taken ≡ false = ap (λ (b : DefinedBy). joins b taken) (sym k.keeps.taken) ∙
+    let test : can_extend k.spot.taken taken ≡ false = ap (λ (b : DefinedBy). can_extend b taken) (sym k.keeps.taken) ∙
     refusal in
     rw (k.spot_is, test) refl
 
 pub again_done : {text : List ℕ} (nodes : List Node) (spots : List ModelNode) (t : ℕ) (node old : Node)
     (taken now : DefinedBy) → RepresentsNodes text nodes spots → t < length nodes → node ≡ get_or nodes t node
-    → old ≡ get_or nodes t old → joins node.taken taken ≡ true → now ≡ merged_definition node.taken taken
+    → old ≡ get_or nodes t old → can_extend node.taken taken ≡ true → now ≡ merged_definition node.taken taken
     → HasNodes text (slice_set nodes t (record old { taken = now })) (node_extended spots t taken) true
 unfolding node_extended
 again_done {text} nodes spots t node old taken now holds lt is was granted strong =
     let k = kept_at nodes spots t node holds lt is in
     let one : old ≡ node = same_Some old node (sym (slice_get_read nodes (length nodes) t old refl lt was) ∙
     k.stands) in
-    let test : joins k.spot.taken taken ≡ true = ap (λ (b : DefinedBy). joins b taken) (sym k.keeps.taken) ∙
+    let test : can_extend k.spot.taken taken ≡ true = ap (λ (b : DefinedBy). can_extend b taken) (sym k.keeps.taken) ∙
     granted in
     let keeps : RepresentsNode text (record old { taken = now }) (with_definition k.spot taken) =
     subst (λ (n : Node). RepresentsNode text (record n { taken = now }) (with_definition k.spot taken)) (sym one)

@@ -11,7 +11,7 @@ use Rattle.edit_tree.specs.declared.nodes.DefinedBy.{DefinedBy}
 use Rattle.edit_tree.specs.declared.nodes.DefinedBy.TheVariants.{Dotted, Value, Super, Header, Array, Element}
 use Rattle.edit_tree.specs.Assertions.{key, index, Place, at}
 use Rattle.edit_tree.specs.Nodes.{Shape, ModelNode, shape_of, entries_of, elements_of, IsIndexed, RepresentsNode, RepresentsNodes}
-use Rattle.edit_tree.specs.Walk.{last_table, model_node_at, target_of, with_member, with_element, added, element_added}
+use Rattle.edit_tree.specs.Walk.{last_table, model_node_at, target_of, with_member, with_element, member_added, element_added}
 use Rattle.edit_tree.proofs.SpotNodes.{holds_set, holds_push, kept_at}
 
 -- ---- targets
@@ -56,34 +56,34 @@ not_deepest n e = grind (arith, nat_tests)
 
 pub added_past : {text : List ℕ} (nodes : List Node) (spots : List ModelNode) (t : ℕ) (name : List ℕ)
     (shape : Shape) (taken : DefinedBy) (span : Option Span) → RepresentsNodes text nodes spots → length nodes ≤ t
-    → added spots t name shape taken span ≡ None
-unfolding added
+    → member_added spots t name shape taken span ≡ None
+unfolding member_added
 added_past nodes spots t name shape taken span holds le =
     rw (slice_get_past spots t (let l = holds.len in omega arith)) refl
 
 pub added_long : (spots : List ModelNode) (t : ℕ) (name : List ℕ) (shape : Shape) (taken : DefinedBy)
     (span : Option Span) (s : ModelNode) → slice_get spots t ≡ Some s → 80 ≤ length s.place
-    → added spots t name shape taken span ≡ None
-unfolding added
+    → member_added spots t name shape taken span ≡ None
+unfolding member_added
 added_long spots t name shape taken span s e le = let test : nat_le 80 (length s.place) ≡ true =
     grind (arith, nat_tests) in rw (e, test) refl
 
 pub added_made : (spots : List ModelNode) (t : ℕ) (name : List ℕ) (shape : Shape) (taken : DefinedBy)
     (span : Option Span) (s : ModelNode) → slice_get spots t ≡ Some s → length s.place < 80
-    → added spots t name shape taken span
+    → member_added spots t name shape taken span
     ≡ Some (
       slice_set spots t (with_member s name (length spots)) ++ model_node_at
           (at s.place (key name)) shape taken span ∷ [],
       length spots,
     )
-unfolding added
+unfolding member_added
 added_made spots t name shape taken span s e lt = let test : nat_le 80 (length s.place) ≡ false =
     grind (arith, nat_tests) in rw (e, test) refl
 
 pub add_stopped : {text : List ℕ} (nodes : List Node) (spots : List ModelNode) (t : ℕ) (node : Node)
     (name : List ℕ) (shape : Shape) (taken : DefinedBy) (span : Option Span) → RepresentsNodes text nodes spots
     → t < length nodes → node ≡ get_or nodes t node → 80 ≤ node.steps
-    → added spots t name shape taken span ≡ None
+    → member_added spots t name shape taken span ≡ None
 add_stopped nodes spots t node name shape taken span holds lt is le =
     let k = kept_at nodes spots t node holds lt is in
     added_long spots t name shape taken span k.spot k.spot_is (let e = k.keeps.steps in omega arith)
@@ -141,7 +141,7 @@ pub add_done : {text : List ℕ} (nodes nodes2 : List Node) (spots : List ModelN
     → RepresentsNodes text nodes spots → t < count → count ≡ length nodes
     → old ≡ get_or nodes t old → old.steps < 80 → Inserted text old node2 name count
     → Starts text last content taken old.steps span → nodes2 ≡ slice_set nodes t node2 ++ last ∷ []
-    → (made : List ModelNode) × (added spots t name (shape_of text content) taken span ≡ Some (made, count))
+    → (made : List ModelNode) × (member_added spots t name (shape_of text content) taken span ≡ Some (made, count))
     × RepresentsNodes text nodes2 made
 add_done {text} nodes nodes2 spots t count old node2 last name content taken span holds lt size was few
     inserted starts made =

@@ -3,9 +3,9 @@ use Rattle.std.proofs.Common.{◌≡◌, true, ◌&&◌, refl}
 use Rattle.edit_tree.specs.declared.nodes.DefinedBy.{DefinedBy}
 use Rattle.edit_tree.specs.declared.nodes.DefinedBy.TheVariants.{Dotted, Value, Super, Header, Array, Element}
 use Rattle.edit_tree.specs.Assertions.{Kind, dotted, leaf, super, header_kind, array_kind, element_kind, are_compatible}
-use Rattle.edit_tree.specs.Redefinition.{defined_by, joins, merged_definition}
+use Rattle.edit_tree.specs.Redefinition.{defined_by, can_extend, merged_definition}
 
-pub together_is : (j k : Kind) → are_compatible j k ≡ joins (defined_by j) (defined_by k)
+pub together_is : (j k : Kind) → are_compatible j k ≡ can_extend (defined_by j) (defined_by k)
 together_is (dotted a) (dotted b) = refl
 together_is (dotted a) (leaf w) = refl
 together_is (dotted a) super = refl
@@ -44,8 +44,8 @@ together_is element_kind array_kind = refl
 together_is element_kind element_kind = refl
 
 -- what may take a place after two that may take it is what may take it after the stronger
-pub stronger_is : (j k l : DefinedBy) → joins j k ≡ true
-    → joins (merged_definition j k) l ≡ (joins j l && joins k l)
+pub stronger_is : (j k l : DefinedBy) → can_extend j k ≡ true
+    → can_extend (merged_definition j k) l ≡ (can_extend j l && can_extend k l)
 stronger_is Dotted Dotted Dotted e = refl
 stronger_is Dotted Dotted Value e = refl
 stronger_is Dotted Dotted Super e = refl

@@ -2,7 +2,7 @@
 use Rattle.std.proofs.Common.{◌≡◌, ℕ, suc, true, false, ◌&&◌, ◌-◌, nat_lt, if◌then◌else◌, cond, List, [], ◌∷◌, ◌++◌, refl, sym, ap, ◌∙◌, subst}
 use Rattle.std.specs.List.{AllByRecursion}
 use Rattle.edit_syntax.specs.Grammar.{Value, Statement, pair, header, element_header, empty_line, full_line, Lines, one_line, more_lines}
-use Rattle.edit_tree.specs.Assertions.{Place, key, index, at, same_place, Kind, dotted, leaf, super, header_kind, array_kind, element_kind, Assertion, asserts, names, is_array_at, elements_at, resolved, fronts, header_place, of_statement, prefix_after, of_lines, are_compatible, AreCompatible, AreShort}
+use Rattle.edit_tree.specs.Assertions.{Place, key, index, at, same_place, Kind, dotted, leaf, super, header_kind, array_kind, element_kind, Assertion, asserts, names, is_array_at, elements_at, last_element_or_self, fronts, header_place, of_statement, prefix_after, of_lines, are_compatible, AreCompatible, AreShort}
 use Rattle.edit_tree.specs.Literals.{literal_of}
 use Rattle.edit_tree.specs.Replaces.{Edits, replaced_statement, replaced_lines}
 use Rattle.edit_tree.proofs.ThinnedForms.{Thin, none, keep, swap, lose, HasNoLeaf, thin_same, thin_append, thin_pair}
@@ -23,7 +23,7 @@ thin_count edits xs ys p (lose x us vs b k t) =
 abbrev pub Counts : List Assertion → List Assertion → Type 0
 Counts xs ys = (p : Place) → elements_at xs p ≡ elements_at ys p
 
-same_resolved : (xs ys : List Assertion) (p : Place) → Counts xs ys → resolved xs p ≡ resolved ys p
+same_resolved : (xs ys : List Assertion) (p : Place) → Counts xs ys → last_element_or_self xs p ≡ last_element_or_self ys p
 same_resolved xs ys p t = ap (λ n. if nat_lt 0 n then at p (index (n - 1)) else p) (t p)
 
 same_fronts : (xs ys : List Assertion) (by p : Place) (ns : List (List ℕ)) → Counts xs ys
@@ -32,8 +32,8 @@ same_fronts xs ys by p [] t = refl
 same_fronts xs ys by p (n ∷ []) t = refl
 same_fronts xs ys by p (n ∷ m ∷ ns) t =
     ap (λ q. asserts by q super ∷ fronts xs by q (m ∷ ns)) (same_resolved xs ys (at p (key n)) t)
-    ∙ ap (λ l. asserts by (resolved ys (at p (key n))) super ∷ l)
-    (same_fronts xs ys by (resolved ys (at p (key n))) (m ∷ ns) t)
+    ∙ ap (λ l. asserts by (last_element_or_self ys (at p (key n))) super ∷ l)
+    (same_fronts xs ys by (last_element_or_self ys (at p (key n))) (m ∷ ns) t)
 
 same_header : (xs ys : List Assertion) (p : Place) (ns : List (List ℕ)) → Counts xs ys
     → header_place xs p ns ≡ header_place ys p ns
@@ -41,7 +41,7 @@ same_header xs ys p [] t = refl
 same_header xs ys p (n ∷ []) t = refl
 same_header xs ys p (n ∷ m ∷ ns) t =
     ap (λ q. header_place xs q (m ∷ ns)) (same_resolved xs ys (at p (key n)) t) ∙
-    same_header xs ys (resolved ys (at p (key n))) (m ∷ ns) t
+    same_header xs ys (last_element_or_self ys (at p (key n))) (m ∷ ns) t
 
 pub same_prefix : (xs ys : List Assertion) (prefix : Place) (s : Statement) → Counts xs ys
     → prefix_after xs prefix s ≡ prefix_after ys prefix s
@@ -75,7 +75,7 @@ pub fronts_no_leaf : (earlier : List Assertion) (by p : Place) (ns : List (List 
 fronts_no_leaf earlier by p [] = tt
 fronts_no_leaf earlier by p (n ∷ []) = tt
 fronts_no_leaf earlier by p (n ∷ m ∷ ns) =
-    (refl, fronts_no_leaf earlier by (resolved earlier (at p (key n))) (m ∷ ns))
+    (refl, fronts_no_leaf earlier by (last_element_or_self earlier (at p (key n))) (m ∷ ns))
 
 pub no_leaf_append : (xs ys : List Assertion) → HasNoLeaf xs → HasNoLeaf ys → HasNoLeaf (xs ++ ys)
 no_leaf_append [] ys h more = more

@@ -6,7 +6,7 @@ use Rattle.std.specs.List.{AllByRecursion, filter_map, cons_option, list_any}
 use Rattle.edit_syntax.specs.Characters.{comma, right_bracket, right_brace}
 use Rattle.edit_syntax.specs.Strings.{Key, line_end}
 use Rattle.edit_syntax.specs.Grammar.{gap, Value, basic, literal, multi_basic, multi_literal, boolean, integer, float, datetime, array, inline, Elements, no_elements, last_element, element, elements, Members, no_members, last_member, member, members, Statement, pair, header, element_header, empty_line, full_line, comment, Lines, one_line, more_lines, lines, Text}
-use Rattle.edit_tree.specs.Assertions.{Place, key, index, at, names, named, Kind, dotted, leaf, super, header_kind, array_kind, element_kind, Assertion, of_key, of_value, of_elements, of_members, fronts, resolved, of_statement, prefix_after, of_lines, assertions, are_compatible, same_place, AreCompatible}
+use Rattle.edit_tree.specs.Assertions.{Place, key, index, at, names, named, Kind, dotted, leaf, super, header_kind, array_kind, element_kind, Assertion, of_key, of_value, of_elements, of_members, fronts, last_element_or_self, of_statement, prefix_after, of_lines, assertions, are_compatible, same_place, AreCompatible}
 use Rattle.edit_tree.specs.Tree.{is_value_at}
 use Rattle.edit_tree.specs.Written.{PlacedValue, placed_value, inside, in_elements, in_members, in_statement, in_lines, values}
 use Rattle.edit_syntax.proofs.Members.{Among, among_all, among_map, map_among, filter_among}
@@ -91,7 +91,7 @@ front_leaves : (earlier : List Assertion) (by p : Place) (ns : List (List ℕ))
     → leaves (fronts earlier by p ns) ≡ []
 front_leaves earlier by p [] = refl
 front_leaves earlier by p (n ∷ []) = refl
-front_leaves earlier by p (n ∷ m ∷ ns) = front_leaves earlier by (resolved earlier (at p (key n))) (m ∷ ns)
+front_leaves earlier by p (n ∷ m ∷ ns) = front_leaves earlier by (last_element_or_self earlier (at p (key n))) (m ∷ ns)
 
 statement_leaves : (earlier : List Assertion) (prefix : Place) (s : Statement) (after : List ℕ)
     → leaves (of_statement earlier prefix s) ≡ places (in_statement prefix s after)

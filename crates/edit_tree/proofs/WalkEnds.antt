@@ -5,14 +5,14 @@ use Rattle.std.specs.List.{AllByRecursion}
 use Rattle.std.proofs.lemmas.Option.{slice_get_read, slice_get-get_or, slice_get_within}
 use Rattle.edit_tree.specs.declared.nodes.Node.{Node}
 use Rattle.edit_syntax.specs.declared.span.Span.{Span}
-use Rattle.edit_tree.specs.declared.nodes.Words.{Words}
+use Rattle.edit_tree.specs.declared.nodes.DecodedText.{DecodedText}
 use Rattle.edit_tree.specs.declared.walk.Walk.{Walk}
-use Rattle.edit_syntax.specs.declared.read.marks.Mark.{Mark}
-use Rattle.edit_syntax.specs.declared.read.marks.MarkKind.{MarkKind}
-use Rattle.edit_syntax.specs.declared.read.marks.MarkKind.TheVariants as kinds
+use Rattle.edit_syntax.specs.declared.read.syntax_tokens.SyntaxToken.{SyntaxToken}
+use Rattle.edit_syntax.specs.declared.read.syntax_tokens.TokenKind.{TokenKind}
+use Rattle.edit_syntax.specs.declared.read.syntax_tokens.TokenKind.TheVariants as kinds
 use Rattle.edit_syntax.specs.Reading.{◌>>=◌}
 use Rattle.edit_tree.specs.Nodes.{Shape, scalar_shape, ModelNode, bytes_of, RepresentsNodes}
-use Rattle.edit_tree.specs.Walk.{State, said, last_of, without_last, with_key_part, value_added, value_closed, span_of_mark, worded, act, step, start, walked}
+use Rattle.edit_tree.specs.Walk.{State, token_value, last_of, without_last, with_key_part, value_added, value_closed, span_of_mark, scalar_added, act, step, start, state_after}
 use Rattle.edit_tree.specs.WalkState.{Walks, HasNextState, IsDecodedAt, has_token_value, IsToken, KeepsState}
 use Rattle.edit_tree.proofs.Below.{all_at}
 use Rattle.edit_tree.proofs.Ends.{take_length}
@@ -128,14 +128,14 @@ without_push base t =
 
 -- ---- one mark
 
-pub step_is : (bytes : List ℕ) (m : Mark) (st : State) (k : MarkKind) → m.kind ≡ k
+pub step_is : (bytes : List ℕ) (m : SyntaxToken) (st : State) (k : TokenKind) → m.kind ≡ k
     → step bytes m st ≡ act k bytes m st
 unfolding step
-step_is bytes m st k e = ap (λ (j : MarkKind). act j bytes m st) e
+step_is bytes m st k e = ap (λ (j : TokenKind). act j bytes m st) e
 
 -- a name waits
-named_by : (walk old : Walk) (bytes : List ℕ) (m : Mark) (st : State) (s : Words) (k : MarkKind) → m.kind ≡ k
-    → has_token_value k ≡ true → act k bytes m st ≡ (said bytes m >>= λ n. Some (with_key_part st n)) → Walks bytes old st
+named_by : (walk old : Walk) (bytes : List ℕ) (m : SyntaxToken) (st : State) (s : DecodedText) (k : TokenKind) → m.kind ≡ k
+    → has_token_value k ≡ true → act k bytes m st ≡ (token_value bytes m >>= λ n. Some (with_key_part st n)) → Walks bytes old st
     → IsToken bytes m
     → ((n : List ℕ) → IsDecodedAt bytes m n → bytes_of bytes s ≡ n)
     → ((x : State) → Walks bytes old x → Walks bytes walk (with_key_part x (bytes_of bytes s)))
@@ -147,7 +147,7 @@ named_by walk old bytes m st s k kind says does w token told waits =
     ap (λ (n : List ℕ). Some (with_key_part st n)) (sym (told t.0 t.2)) in
     (with_key_part st (bytes_of bytes s), here, waits st w)
 
-pub goes_named : (walk old : Walk) (bytes : List ℕ) (m : Mark) (st : State) (s : Words)
+pub goes_named : (walk old : Walk) (bytes : List ℕ) (m : SyntaxToken) (st : State) (s : DecodedText)
     → (m.kind ≡ kinds.BarePart) ⊎ ((m.kind ≡ kinds.BasicPart) ⊎ (m.kind ≡ kinds.LiteralPart))
     → Walks bytes old st → IsToken bytes m
     → ((n : List ℕ) → IsDecodedAt bytes m n → bytes_of bytes s ≡ n)
@@ -158,9 +158,9 @@ goes_named walk old bytes m st s (inr (inl e)) = named_by walk old bytes m st s 
 goes_named walk old bytes m st s (inr (inr e)) = named_by walk old bytes m st s kinds.LiteralPart e refl refl
 
 -- a string, a number, a date or a time
-word_by : (bytes : List ℕ) (m : Mark) (st : State) (s : Shape) (k : MarkKind) → m.kind ≡ k
+word_by : (bytes : List ℕ) (m : SyntaxToken) (st : State) (s : Shape) (k : TokenKind) → m.kind ≡ k
     → has_token_value k ≡ true
-    → act k bytes m st ≡ worded bytes m st → IsToken bytes m
+    → act k bytes m st ≡ scalar_added bytes m st → IsToken bytes m
     → ((n : List ℕ) → IsDecodedAt bytes m n → s ≡ scalar_shape m.kind n)
     → step bytes m st ≡ value_added st s (Some (span_of_mark m))
 word_by bytes m st s k kind says does token told =
@@ -170,13 +170,13 @@ word_by bytes m st s k kind says does token told =
     ap (λ (x : Shape). value_added st x (Some (span_of_mark m))) (sym (told t.0 t.2))
 
 -- a mark of a string, a number, a date or a time
-abbrev pub IsWorded : MarkKind → Type 0
+abbrev pub IsWorded : TokenKind → Type 0
 IsWorded k =
     (k ≡ kinds.BasicString)
     ⊎ ((k ≡ kinds.LiteralString) ⊎ ((k ≡ kinds.MultiBasicString) ⊎ ((k ≡ kinds.MultiLiteralString)
     ⊎ ((k ≡ kinds.Integer) ⊎ ((k ≡ kinds.Float) ⊎ (k ≡ kinds.DateTime))))))
 
-pub word_step : (bytes : List ℕ) (m : Mark) (st : State) (s : Shape) → IsWorded m.kind → IsToken bytes m
+pub word_step : (bytes : List ℕ) (m : SyntaxToken) (st : State) (s : Shape) → IsWorded m.kind → IsToken bytes m
     → ((n : List ℕ) → IsDecodedAt bytes m n → s ≡ scalar_shape m.kind n)
     → step bytes m st ≡ value_added st s (Some (span_of_mark m))
 word_step bytes m st s (inl e) = word_by bytes m st s kinds.BasicString e refl refl
@@ -188,7 +188,7 @@ word_step bytes m st s (inr (inr (inr (inr (inr (inl e)))))) = word_by bytes m s
 word_step bytes m st s (inr (inr (inr (inr (inr (inr e)))))) = word_by bytes m st s kinds.DateTime e refl refl
 
 -- the end of an array or of an inline table
-pub close_step : (bytes : List ℕ) (m : Mark) (st : State) → (m.kind ≡ kinds.CloseArray)
+pub close_step : (bytes : List ℕ) (m : SyntaxToken) (st : State) → (m.kind ≡ kinds.CloseArray)
     ⊎ (m.kind ≡ kinds.CloseTable) → step bytes m st ≡ value_closed st m.to
 close_step bytes m st (inl e) = step_is bytes m st kinds.CloseArray e
 close_step bytes m st (inr e) = step_is bytes m st kinds.CloseTable e
@@ -196,46 +196,46 @@ close_step bytes m st (inr e) = step_is bytes m st kinds.CloseTable e
 -- ---- all marks
 
 -- what is left to walk gives what the whole walk gives
-pub record Along (walk : Walk) (bytes : List ℕ) (all left : List Mark) : Type 0 where
+pub record Along (walk : Walk) (bytes : List ℕ) (all left : List SyntaxToken) : Type 0 where
   pub state : State
   pub walks : Walks bytes walk state
-  pub same : walked bytes all start ≡ walked bytes left state
+  pub same : state_after bytes all start ≡ state_after bytes left state
 
-pub along_start : (walk : Walk) (bytes : List ℕ) (all : List Mark) → Walks bytes walk start
+pub along_start : (walk : Walk) (bytes : List ℕ) (all : List SyntaxToken) → Walks bytes walk start
     → Along walk bytes all all
 along_start walk bytes all w = record { state = start; walks = w; same = refl }
 
-pub along_next : (walk next : Walk) (bytes : List ℕ) (all left : List Mark) (m : Mark)
+pub along_next : (walk next : Walk) (bytes : List ℕ) (all left : List SyntaxToken) (m : SyntaxToken)
     → (a : Along walk bytes all (m ∷ left)) → HasNextState bytes next (step bytes m a.state) true
     → Along next bytes all left
 along_next walk next bytes all left m a (st, e, w) =
     record { state = st; walks = w; same = a.same ∙ walked_first bytes m left a.state st e }
 
-pub along_stop : (walk : Walk) (bytes : List ℕ) (all left : List Mark) (m : Mark)
-    → (a : Along walk bytes all (m ∷ left)) → step bytes m a.state ≡ None → walked bytes all start ≡ None
+pub along_stop : (walk : Walk) (bytes : List ℕ) (all left : List SyntaxToken) (m : SyntaxToken)
+    → (a : Along walk bytes all (m ∷ left)) → step bytes m a.state ≡ None → state_after bytes all start ≡ None
 along_stop walk bytes all left m a e = a.same ∙ walked_stops bytes m left a.state e
 
-pub along_end : (walk : Walk) (bytes : List ℕ) (all : List Mark) → Along walk bytes all []
-    → KeepsState bytes walk.nodes.items (walked bytes all start)
+pub along_end : (walk : Walk) (bytes : List ℕ) (all : List SyntaxToken) → Along walk bytes all []
+    → KeepsState bytes walk.nodes.items (state_after bytes all start)
 along_end walk bytes all a = subst (KeepsState bytes walk.nodes.items)
     (sym (a.same ∙ walked_none bytes a.state)) a.walks.holds
 
 -- a turn of the loop over all marks
-abbrev pub Turns : Walk → Walk → List ℕ → Mark → Bool → Type 0
+abbrev pub Turns : Walk → Walk → List ℕ → SyntaxToken → Bool → Type 0
 Turns walk new bytes m b = (st : State) → Walks bytes walk st → IsToken bytes m
     → HasNextState bytes new (step bytes m st) b
 
-left_at : (walk : Walk) (bytes : List ℕ) (marks : List Mark) (i : ℕ) (d : Mark) → i < length marks
+left_at : (walk : Walk) (bytes : List ℕ) (marks : List SyntaxToken) (i : ℕ) (d : SyntaxToken) → i < length marks
     → Along walk bytes marks (drop i marks) → Along walk bytes marks (get_or marks i d ∷ drop (i + 1) marks)
 left_at walk bytes marks i d lt a = subst (Along walk bytes marks)
     (drop_from marks i (get_or marks i d) (slice_get-get_or marks i d lt)) a
 
-token_there : (bytes : List ℕ) (marks : List Mark) (i : ℕ) (d : Mark) → i < length marks
+token_there : (bytes : List ℕ) (marks : List SyntaxToken) (i : ℕ) (d : SyntaxToken) → i < length marks
     → AllByRecursion (IsToken bytes) marks → IsToken bytes (get_or marks i d)
 token_there bytes marks i d lt h = all_at (IsToken bytes) marks i (get_or marks i d) h
     (slice_get-get_or marks i d lt)
 
-pub turn_on : (walk new : Walk) (bytes : List ℕ) (marks : List Mark) (i : ℕ) (d : Mark) (b : Bool)
+pub turn_on : (walk new : Walk) (bytes : List ℕ) (marks : List SyntaxToken) (i : ℕ) (d : SyntaxToken) (b : Bool)
     → i < length marks → AllByRecursion (IsToken bytes) marks → b ≡ true
     → Turns walk new bytes (get_or marks i d) b → Along walk bytes marks (drop i marks)
     → Along new bytes marks (drop (i + 1) marks)
@@ -245,10 +245,10 @@ turn_on walk new bytes marks i d b lt tokens on turns a =
     (subst (λ (x : Bool). HasNextState bytes new (step bytes (get_or marks i d) here.state) x) on
     (turns here.state here.walks (token_there bytes marks i d lt tokens)))
 
-pub turn_off : (walk new : Walk) (bytes : List ℕ) (marks : List Mark) (i : ℕ) (d : Mark) (b : Bool)
+pub turn_off : (walk new : Walk) (bytes : List ℕ) (marks : List SyntaxToken) (i : ℕ) (d : SyntaxToken) (b : Bool)
     → i < length marks → AllByRecursion (IsToken bytes) marks → b ≡ false
     → Turns walk new bytes (get_or marks i d) b → Along walk bytes marks (drop i marks)
-    → walked bytes marks start ≡ None
+    → state_after bytes marks start ≡ None
 turn_off walk new bytes marks i d b lt tokens off turns a =
     let here = left_at walk bytes marks i d lt a in
     along_stop walk bytes marks (drop (i + 1) marks) (get_or marks i d) here

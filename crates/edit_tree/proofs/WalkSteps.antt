@@ -4,13 +4,13 @@ use Rattle.std.specs.Prelude.{IfOk, option_map, option_to_list, map}
 use Rattle.std.proofs.lemmas.List.{map-append}
 use Rattle.edit_tree.specs.declared.nodes.Node.{Node}
 use Rattle.edit_syntax.specs.declared.span.Span.{Span}
-use Rattle.edit_tree.specs.declared.nodes.Words.{Words}
+use Rattle.edit_tree.specs.declared.nodes.DecodedText.{DecodedText}
 use Rattle.edit_tree.specs.declared.nodes.DefinedBy.{DefinedBy}
 use Rattle.edit_tree.specs.declared.nodes.DefinedBy.TheVariants.{Dotted, Value, Super, Header, Array, Element}
 use Rattle.edit_tree.specs.declared.walk.Walk.{Walk}
 use Rattle.edit_syntax.specs.Reading.{◌>>=◌}
 use Rattle.edit_tree.specs.Nodes.{Shape, section, sections, ModelNode, bytes_of, RepresentsNodes}
-use Rattle.edit_tree.specs.Walk.{State, last_of, member_defined, element_added, front_shape, reached, with_key_part, without_pending, is_dotted_within, pending_defined, value_added_below, value_added_at, opened, turned, headed, array_table_opened}
+use Rattle.edit_tree.specs.Walk.{State, last_of, member_defined, element_added, front_shape, fronts_followed, with_key_part, without_pending, is_dotted_within, pending_defined, value_added_below, value_added_at, value_opened, with_only_table, table_opened, array_table_opened}
 use Rattle.edit_tree.specs.WalkState.{HasNodeAt, Walks, HasNextState, HasDefinedState}
 
 pub if_ok_map : {A E : Type 0} {P Q : A → Type 0} (r : Result A E) → IfOk r P → ((x : A) → P x → Q x)
@@ -21,7 +21,7 @@ if_ok_map (Err e) h f = tt
 -- ---- names and keys
 
 -- the names of the front parts are those behind the ones that waited
-pub awaits : {text : List ℕ} (old walk : Walk) (st : State) (name : Words) → Walks text old st
+pub awaits : {text : List ℕ} (old walk : Walk) (st : State) (name : DecodedText) → Walks text old st
     → walk.nodes.items ≡ old.nodes.items → walk.tables.items ≡ old.tables.items
     → walk.fronts.items ≡ old.fronts.items ++ option_to_list old.name → walk.name ≡ Some name
     → Walks text walk (with_key_part st (bytes_of text name))
@@ -35,7 +35,7 @@ awaits {text} old walk st name w ns ts fs n = record {
   name = ap (option_map (bytes_of text)) n;
 }
   where
-    listed : (o : Option Words) → map (bytes_of text) (option_to_list o)
+    listed : (o : Option DecodedText) → map (bytes_of text) (option_to_list o)
         ≡ option_to_list (option_map (bytes_of text) o)
     listed None = refl
     listed (Some s) = refl
@@ -43,12 +43,12 @@ awaits {text} old walk st name w ns ts fs n = record {
 pub settled_is : (st : State) (number : ℕ) (front : DefinedBy) (shape : Shape) (taken : DefinedBy)
     (span : Option Span) (name : List ℕ) → st.name ≡ Some name
     → pending_defined st number front shape taken span
-    ≡ (reached st.spots number st.fronts
+    ≡ (fronts_followed st.spots number st.fronts
     (front_shape (is_dotted_within (length st.tables) front)) front >>= λ r.
     member_defined r.0 r.1 name shape taken span >>= λ q. Some (without_pending q.0 st.tables, q.1))
 unfolding pending_defined
 settled_is st number front shape taken span name n =
-    ap (λ (o : Option (List ℕ)). o >>= λ x. reached st.spots number st.fronts
+    ap (λ (o : Option (List ℕ)). o >>= λ x. fronts_followed st.spots number st.fronts
     (front_shape (is_dotted_within (length st.tables) front)) front >>= λ r.
     member_defined r.0 r.1 x shape taken span >>= λ q. Some (without_pending q.0 st.tables, q.1)) n
 
@@ -61,17 +61,17 @@ settled_unnamed st number front shape taken span n = rw n refl
 pub reach_of : (text : List ℕ) (nodes : List Node) (st : State) (number : ℕ) (names : List (List ℕ))
     (within : Bool) (front : DefinedBy) (r : Option ℕ) → names ≡ st.fronts
     → within ≡ is_dotted_within (length st.tables) front
-    → HasNodeAt text nodes (reached st.spots number names (front_shape within) front) r
-    → HasNodeAt text nodes (reached st.spots number st.fronts
+    → HasNodeAt text nodes (fronts_followed st.spots number names (front_shape within) front) r
+    → HasNodeAt text nodes (fronts_followed st.spots number st.fronts
     (front_shape (is_dotted_within (length st.tables) front)) front) r
 reach_of text nodes st number names within front r a b h =
     subst (λ (ns : List (List ℕ)). HasNodeAt text nodes
-    (reached st.spots number ns (front_shape (is_dotted_within (length st.tables) front)) front) r) a
-    (subst (λ (x : Bool). HasNodeAt text nodes (reached st.spots number names (front_shape x) front) r) b h)
+    (fronts_followed st.spots number ns (front_shape (is_dotted_within (length st.tables) front)) front) r) a
+    (subst (λ (x : Bool). HasNodeAt text nodes (fronts_followed st.spots number names (front_shape x) front) r) b h)
 
 pub settled_unreached : (st : State) (number : ℕ) (front : DefinedBy) (shape : Shape) (taken : DefinedBy)
     (span : Option Span) (name : List ℕ) → st.name ≡ Some name
-    → reached st.spots number st.fronts (front_shape (is_dotted_within (length st.tables) front)) front ≡ None
+    → fronts_followed st.spots number st.fronts (front_shape (is_dotted_within (length st.tables) front)) front ≡ None
     → pending_defined st number front shape taken span ≡ None
 settled_unreached st number front shape taken span name n none =
     settled_is st number front shape taken span name n ∙
@@ -81,7 +81,7 @@ settled_unreached st number front shape taken span name n none =
 pub settles : (text : List ℕ) (walk : Walk) (st : State) (number : ℕ) (front : DefinedBy) (shape : Shape)
     (taken : DefinedBy) (span : Option Span) (name : List ℕ) (spots : List ModelNode) (table : ℕ) (r : Option ℕ)
     → st.name ≡ Some name
-    → reached st.spots number st.fronts (front_shape (is_dotted_within (length st.tables) front)) front
+    → fronts_followed st.spots number st.fronts (front_shape (is_dotted_within (length st.tables) front)) front
     ≡ Some (spots, table) → walk.tables.items ≡ st.tables → walk.fronts.items ≡ [] → walk.name ≡ None
     → HasNodeAt text walk.nodes.items (member_defined spots table name shape taken span) r
     → HasDefinedState text walk (pending_defined st number front shape taken span) r
@@ -152,7 +152,7 @@ settles_element {text} old walk st shape span number r w top bare puts ts fs n =
 
 -- where a key waits it settles
 pub settles_named : {text : List ℕ} (old walk : Walk) (st : State) (shape : Shape) (span : Option Span)
-    (number : ℕ) (name : Words) (r : Option ℕ) → Walks text old st → last_of old.tables.items ≡ Some number
+    (number : ℕ) (name : DecodedText) (r : Option ℕ) → Walks text old st → last_of old.tables.items ≡ Some number
     → old.name ≡ Some name → HasDefinedState text walk (pending_defined st number Dotted shape Value span) r
     → HasDefinedState text walk (value_added_at st shape span) r
 settles_named {text} old walk st shape span number name r w top waits settles =
@@ -171,7 +171,7 @@ pub goes_opened : (text : List ℕ) (middle walk : Walk) (st : State) (shape : S
     (number : ℕ) → HasDefinedState text middle (value_added_at st shape span) (Some number)
     → walk.nodes.items ≡ middle.nodes.items → walk.tables.items ≡ middle.tables.items ++ number ∷ []
     → walk.fronts.items ≡ middle.fronts.items → walk.name ≡ middle.name
-    → HasNextState text walk (opened st shape span) true
+    → HasNextState text walk (value_opened st shape span) true
 goes_opened text middle walk st shape span number (next, e, w) ns ts fs n = (
   record next { tables = next.tables ++ number ∷ [] },
   ap (λ (o : Option (State × ℕ)). o >>= λ r. Some (record r.0 { tables = r.0.tables ++ r.1 ∷ [] })) e,
@@ -184,7 +184,7 @@ goes_opened text middle walk st shape span number (next, e, w) ns ts fs n = (
 )
 
 pub opened_refused : (text : List ℕ) (middle : Walk) (st : State) (shape : Shape) (span : Option Span)
-    → HasDefinedState text middle (value_added_at st shape span) None → opened st shape span ≡ None
+    → HasDefinedState text middle (value_added_at st shape span) None → value_opened st shape span ≡ None
 opened_refused text middle st shape span e =
     ap (λ (o : Option (State × ℕ)). o >>= λ r. Some (record r.0 { tables = r.0.tables ++ r.1 ∷ [] })) e
 
@@ -203,17 +203,17 @@ turns {text} old walk st number w ns ts fs n = record {
 pub goes_headed : (text : List ℕ) (middle walk : Walk) (st : State) (number : ℕ)
     → HasDefinedState text middle (pending_defined st 0 Super section Header None) (Some number)
     → ((s : State) → Walks text middle s → Walks text walk (record s { tables = number ∷ [] }))
-    → HasNextState text walk (headed st) true
+    → HasNextState text walk (table_opened st) true
 goes_headed text middle walk st number (next, e, w) turn =
-    (turned (next, number), ap (λ (o : Option (State × ℕ)). o >>= λ r. Some (turned r)) e, turn next w)
+    (with_only_table (next, number), ap (λ (o : Option (State × ℕ)). o >>= λ r. Some (with_only_table r)) e, turn next w)
 
 pub headed_refused : (text : List ℕ) (middle : Walk) (st : State)
-    → HasDefinedState text middle (pending_defined st 0 Super section Header None) None → headed st ≡ None
-headed_refused text middle st e = ap (λ (o : Option (State × ℕ)). o >>= λ r. Some (turned r)) e
+    → HasDefinedState text middle (pending_defined st 0 Super section Header None) None → table_opened st ≡ None
+headed_refused text middle st e = ap (λ (o : Option (State × ℕ)). o >>= λ r. Some (with_only_table r)) e
 
 abbrev pub with_element_of : State × ℕ → Option State
 with_element_of r = element_added r.0.spots r.1 section Element None >>= λ q. Some
-    (turned (record r.0 { spots = q.0 }, q.1))
+    (with_only_table (record r.0 { spots = q.0 }, q.1))
 
 pub element_unheaded : (text : List ℕ) (middle : Walk) (st : State)
     → HasDefinedState text middle (pending_defined st 0 Super sections Array None) None
@@ -226,7 +226,7 @@ pub element_refused : (text : List ℕ) (middle : Walk) (nodes : List Node) (st 
     → HasNodeAt text nodes (element_added spots number section Element None) None) → array_table_opened st ≡ None
 element_refused text middle nodes st number (next, e, w) stops =
     ap (λ (o : Option (State × ℕ)). o >>= λ r. with_element_of r) e ∙
-    ap (λ (o : Option (List ModelNode × ℕ)). o >>= λ q. Some (turned (record next { spots = q.0 }, q.1)))
+    ap (λ (o : Option (List ModelNode × ℕ)). o >>= λ q. Some (with_only_table (record next { spots = q.0 }, q.1)))
     (stops next.spots w.holds)
 
 pub goes_element : (text : List ℕ) (middle walk : Walk) (nodes : Walk) (st : State) (number element : ℕ)
@@ -246,9 +246,9 @@ goes_element text middle walk nodes st number element (next, e, w) puts ts fs n 
       fronts = ap (map (bytes_of text)) fs ∙ w.fronts;
       name = ap (option_map (bytes_of text)) n ∙ w.name;
     } in (
-      turned (record next { spots = p.0 }, element),
+      with_only_table (record next { spots = p.0 }, element),
       ap (λ (o : Option (State × ℕ)). o >>= λ r. with_element_of r) e ∙
-          ap (λ (o : Option (List ModelNode × ℕ)). o >>= λ q. Some (turned (record next { spots = q.0 }, q.1)))
+          ap (λ (o : Option (List ModelNode × ℕ)). o >>= λ q. Some (with_only_table (record next { spots = q.0 }, q.1)))
           p.1,
       turn (record next { spots = p.0 }) inner,
     )

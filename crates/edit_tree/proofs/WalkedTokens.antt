@@ -4,14 +4,14 @@ use Rattle.std.specs.Prelude.{map, option_map, IsUtf8}
 use Rattle.std.specs.List.{AllByRecursion}
 use Rattle.std.proofs.lemmas.List.{append-nil}
 use Rattle.std.proofs.lemmas.Str.{is_utf8-from_IsUtf8}
-use Rattle.edit_syntax.specs.declared.read.marks.Mark.{Mark}
+use Rattle.edit_syntax.specs.declared.read.syntax_tokens.SyntaxToken.{SyntaxToken}
 use Rattle.edit_syntax.specs.Characters.{quote, apostrophe, is_blank, is_bare, is_literal_ch, All}
-use Rattle.edit_syntax.specs.Strings.{Piece, pieces, says, IsBasicPiece, Part, bare, basic_part, literal_part, part, IsPart, name, basic_text, literal_text, Dotted, dotted, Key, IsKey}
+use Rattle.edit_syntax.specs.Strings.{Piece, pieces, decoded_pieces, IsBasicPiece, Part, bare, basic_part, literal_part, part, IsPart, name, basic_text, literal_text, Dotted, dotted, Key, IsKey}
 use Rattle.edit_syntax.specs.Strings as strings
 use Rattle.edit_tree.specs.Assertions.{names}
 use Rattle.edit_syntax.specs.Reading.{◌>>=◌}
 use Rattle.edit_tree.specs.Nodes.{ModelNode}
-use Rattle.edit_tree.specs.Walk.{suffix, basic_value, literal_value, as_text, said, State, with_key_part, without_pending, step, walked}
+use Rattle.edit_tree.specs.Walk.{suffix, basic_value, literal_value, as_text, token_value, State, with_key_part, without_pending, step, state_after}
 use Rattle.edit_syntax.specs.SyntaxTokens.{token_of_part, tokens_of_dotted, tokens_of_key}
 use Rattle.edit_syntax.proofs.TokenLaws.{basic_again, literal_again}
 use Rattle.edit_tree.proofs.Ends.{Ends, ends_past, ends_one, ends_part, suffix_is, take_length, text_before, text_behind, ascii_text, bare_small, says_text}
@@ -27,14 +27,14 @@ behind_mark bytes c s small u h = text_behind h.0 s c small (subst IsUtf8 h.1 u)
 
 pub said_basic : (bytes : List ℕ) (ps : List Piece) (rest : List ℕ) (n : ℕ) → AllByRecursion IsBasicPiece ps
     → IsUtf8 bytes → Ends bytes (basic_text ps rest)
-    → (basic_value (drop 1 (suffix bytes (length (basic_text ps rest)))) >>= as_text) ≡ Some (says quote ps)
+    → (basic_value (drop 1 (suffix bytes (length (basic_text ps rest)))) >>= as_text) ≡ Some (decoded_pieces quote ps)
 said_basic bytes ps rest n h u ends =
     let u2 = says_text [] ps rest h
     (behind_mark bytes quote (pieces quote ps (quote ∷ rest)) (lit< tt) u ends) in
     ap (λ (s : List ℕ). basic_value (drop 1 s) >>= as_text) (suffix_is bytes (basic_text ps rest) ends)
     ∙ ap (λ (o : Option (List Piece × List ℕ)). option_map
-    (λ (p : List Piece × List ℕ). says quote p.0) o >>= as_text) (basic_again ps rest h) ∙
-    text_is (says quote ps) u2
+    (λ (p : List Piece × List ℕ). decoded_pieces quote p.0) o >>= as_text) (basic_again ps rest h) ∙
+    text_is (decoded_pieces quote ps) u2
 
 pub said_literal : (bytes text rest : List ℕ) (n : ℕ) → All is_literal_ch text → IsUtf8 bytes
     → Ends bytes (literal_text text rest)
@@ -57,8 +57,8 @@ said_word bytes word rest u ends =
     ∙ ap (λ (k : ℕ). as_text (take k (word ++ rest))) n ∙ ap as_text (take_length word rest) ∙ text_is word u
 
 pub said_part : (bytes : List ℕ) (p : Part) (rest : List ℕ) → IsPart p → IsUtf8 bytes
-    → Ends bytes (part p rest) → said bytes (token_of_part p rest) ≡ Some (name p)
-unfolding said
+    → Ends bytes (part p rest) → token_value bytes (token_of_part p rest) ≡ Some (name p)
+unfolding token_value
 said_part bytes (bare text) rest h u ends = said_word bytes text rest
     (ascii_text is_bare bare_small text h.1) ends
 said_part bytes (basic_part ps) rest h u ends = said_basic bytes ps rest 0 h u ends
@@ -86,9 +86,9 @@ waits st (n ∷ ns) = waits (with_key_part st n) ns
 abbrev IsDotted : Dotted → Type 0
 IsDotted d = All is_blank d.before × All is_blank d.behind × IsPart d.part
 
-walked_dotted : (bytes : List ℕ) (ds : List Dotted) (rest : List ℕ) (ms : List Mark) (st : State)
+walked_dotted : (bytes : List ℕ) (ds : List Dotted) (rest : List ℕ) (ms : List SyntaxToken) (st : State)
     → AllByRecursion IsDotted ds → IsUtf8 bytes → Ends bytes (dotted ds rest)
-    → walked bytes (tokens_of_dotted ds rest ++ ms) st ≡ walked bytes ms
+    → state_after bytes (tokens_of_dotted ds rest ++ ms) st ≡ state_after bytes ms
     (waits st (map (λ (d : Dotted). name d.part) ds))
 walked_dotted bytes [] rest ms st h u ends = refl
 walked_dotted bytes (d ∷ ds) rest ms st h u ends =
@@ -102,9 +102,9 @@ walked_dotted bytes (d ∷ ds) rest ms st h u ends =
     (ends_part bytes d.part (dotted ds rest) here)
 
 -- the marks of a key leave its names waiting
-pub walked_key : (bytes : List ℕ) (k : Key) (rest : List ℕ) (ms : List Mark) (st : State) → IsKey k
-    → IsUtf8 bytes → Ends bytes (strings.key k rest) → walked bytes (tokens_of_key k rest ++ ms) st
-    ≡ walked bytes ms (waits st (names k))
+pub walked_key : (bytes : List ℕ) (k : Key) (rest : List ℕ) (ms : List SyntaxToken) (st : State) → IsKey k
+    → IsUtf8 bytes → Ends bytes (strings.key k rest) → state_after bytes (tokens_of_key k rest ++ ms) st
+    ≡ state_after bytes ms (waits st (names k))
 walked_key bytes k rest ms st h u ends =
     walked_first bytes (token_of_part k.first (dotted k.others rest)) (tokens_of_dotted k.others rest ++ ms) st
     (with_key_part st (name k.first)) (part_step bytes k.first (dotted k.others rest) st h.0 u ends)

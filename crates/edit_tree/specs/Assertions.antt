@@ -130,22 +130,22 @@ elements_at (a ∷ earlier) place =
     cond (is_array_at place a) (suc (elements_at earlier place)) (elements_at earlier place)
 
 -- the last element of an array of tables at this place, or the place itself where there is none
-abbrev pub resolved : List Assertion → Place → Place
-resolved earlier place =
+abbrev pub last_element_or_self : List Assertion → Place → Place
+last_element_or_self earlier place =
     if nat_lt 0 (elements_at earlier place) then at place (index (elements_at earlier place - 1)) else place
 
 -- what the front parts of a header's key define: a super-table each
 abbrev pub fronts : List Assertion → Place → Place → List (List ℕ) → List Assertion
 fronts earlier by place [] = []
 fronts earlier by place (n ∷ []) = []
-fronts earlier by place (n ∷ m ∷ ns) = asserts by (resolved earlier (at place (key n))) super
-    ∷ fronts earlier by (resolved earlier (at place (key n))) (m ∷ ns)
+fronts earlier by place (n ∷ m ∷ ns) = asserts by (last_element_or_self earlier (at place (key n))) super
+    ∷ fronts earlier by (last_element_or_self earlier (at place (key n))) (m ∷ ns)
 
 -- the place that a header's key names, where each front part refers to the last element of an array of tables
 abbrev pub header_place : List Assertion → Place → List (List ℕ) → Place
 header_place earlier place [] = place
 header_place earlier place (n ∷ []) = at place (key n)
-header_place earlier place (n ∷ m ∷ ns) = header_place earlier (resolved earlier (at place (key n))) (m ∷ ns)
+header_place earlier place (n ∷ m ∷ ns) = header_place earlier (last_element_or_self earlier (at place (key n))) (m ∷ ns)
 
 -- ---- texts
 

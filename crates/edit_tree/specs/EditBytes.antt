@@ -5,7 +5,7 @@ use Rattle.std.specs.List.{list_all, list_any, filter}
 use Rattle.edit_syntax.specs.Characters.{comma, line_feed, carriage_return, right_brace}
 use Rattle.edit_syntax.specs.Strings.{◌·◌, LineEnd, lf, crlf, line_end}
 use Rattle.edit_syntax.specs.Grammar.{Between, blank, gap, Value, inline, value, Members, no_members, last_member, member, Statement, pair, lines, Text, text}
-use Rattle.edit_tree.specs.Assertions.{Place, same_step, same_place, resolved, prefix_after, place_named}
+use Rattle.edit_tree.specs.Assertions.{Place, same_step, same_place, last_element_or_self, prefix_after, place_named}
 use Rattle.edit_tree.specs.NewItems.{NewValue, NewItem, new_value, new_pair, new_entry}
 use Rattle.edit_tree.specs.Statements.{PlacedStatement, placed_statements, front_parts, behind_part, PlacedPair, paired_statement, line_pairs, inner_pairs, PlacedHeader, headers}
 use Rattle.edit_tree.specs.Written.{PlacedValue, values}
@@ -212,7 +212,7 @@ in_super table m t = first_result grow (headers t)
     grow : PlacedHeader → Option Splice
     grow h =
         option_map (λ spot. put_before h.line (section (before h.from spot)))
-        (behind_part (resolved h.earlier) table [] (front_parts h.parts))
+        (behind_part (last_element_or_self h.earlier) table [] (front_parts h.parts))
 
 -- the insertion into the root where it has no pair of its own: at the start of the text, behind U+FEFF
 abbrev pub at_start : List ℕ → Text → Splice

@@ -93,11 +93,11 @@ abbrev pub Vanishes : Text → Place → Place → Type 0
 Vanishes form gone place = view_in (assertions_left gone (assertions form)) place ≡ None
 
 -- where a place is after another one is removed: later elements of the same array move down by one index
-abbrev pub moved : Place → Place → Place
-moved [] q = q
-moved (s ∷ gone) [] = []
-moved (index i ∷ []) (index j ∷ q) = index (if nat_lt i j then j - 1 else j) ∷ q
-moved (s ∷ gone) (t ∷ q) = t ∷ (if same_step s t then moved gone q else q)
+abbrev pub place_after_removal : Place → Place → Place
+place_after_removal [] q = q
+place_after_removal (s ∷ gone) [] = []
+place_after_removal (index i ∷ []) (index j ∷ q) = index (if nat_lt i j then j - 1 else j) ∷ q
+place_after_removal (s ∷ gone) (t ∷ q) = t ∷ (if same_step s t then place_after_removal gone q else q)
 
 -- the two lists have the same members, in any order
 pub record SameMembers (ms ns : List Step) : Type 0 where
@@ -139,7 +139,7 @@ pub record Removed (form : Text) (gone : Place) (old new : Tree) : Type 0 where
   pub nothing_there : is_member gone ≡ true → (q : Place) → is_within gone q ≡ true → new q ≡ None
   -- what is neither in the item nor around it is unchanged at its new place, except for the order of members
   pub beside : (q : Place) → is_within gone q ≡ false → is_within q gone ≡ false
-      → SameButOrder (old q) (new (moved gone q))
+      → SameButOrder (old q) (new (place_after_removal gone q))
   -- a table or array around the item is unchanged where its child on the way to the item stays
   pub stays : (q : Place) (t : Step) (r : Place) → gone ≡ q ++ t ∷ r → (Vanishes form gone (at q t) → ⊥)
       → SameButOrder (old q) (new q)

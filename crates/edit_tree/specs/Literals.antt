@@ -30,8 +30,8 @@ abbrev pub literal_bytes : List ℕ → List ℕ
 literal_bytes said = value (literal_of said) []
 
 -- the bytes of a character in a literal
-abbrev pub escaped : ℕ → List ℕ
-escaped b = piece quote (literal_piece b) []
+abbrev pub escaped_byte : ℕ → List ℕ
+escaped_byte b = piece quote (literal_piece b) []
 
 -- the bytes of a string literal between its quotes
 abbrev pub literal_body : List ℕ → List ℕ

@@ -7,8 +7,8 @@ use Rattle.std.specs.Str.{bytes_eq}
 use Rattle.std.specs.BTreeMap.{BTreeMap, get_by_text}
 use Rattle.edit_syntax.specs.declared.span.Span.{Span}
 use Rattle.edit_syntax.specs.Spans.{bytes_at}
-use Rattle.edit_tree.specs.declared.nodes.Words.{Words}
-use Rattle.edit_tree.specs.declared.nodes.Words.TheVariants.{Kept, Made}
+use Rattle.edit_tree.specs.declared.nodes.DecodedText.{DecodedText}
+use Rattle.edit_tree.specs.declared.nodes.DecodedText.TheVariants.{Kept, Made}
 use Rattle.edit_tree.specs.declared.nodes.Content.{Content}
 use Rattle.edit_tree.specs.declared.nodes.Content.TheVariants as content
 use Rattle.edit_tree.specs.declared.nodes.DefinedBy.{DefinedBy}
@@ -20,8 +20,8 @@ use Rattle.edit_tree.specs.declared.members.Parts.TheVariants as parts
 use Rattle.edit_tree.specs.declared.members.Members.{Members}
 use Rattle.edit_tree.specs.declared.nodes.Node.{Node}
 use Rattle.edit_tree.specs.Assertions.{Step, key, index, Place, at}
-use Rattle.edit_syntax.specs.declared.read.marks.MarkKind.{MarkKind}
-use Rattle.edit_syntax.specs.declared.read.marks.MarkKind.TheVariants as kinds
+use Rattle.edit_syntax.specs.declared.read.syntax_tokens.TokenKind.{TokenKind}
+use Rattle.edit_syntax.specs.declared.read.syntax_tokens.TokenKind.TheVariants as kinds
 use Rattle.edit_tree.specs.Tree.{View, string, truth, whole, fractional, moment, static_array, table_array, inline_table, table}
 
 -- the kind and content of a node, without its members
@@ -33,7 +33,7 @@ pub data Shape : Type 0 where
   sections : Shape
 
 -- the shape of a value with a token of this kind and this decoded text (own)
-abbrev pub scalar_shape : MarkKind → List ℕ → Shape
+abbrev pub scalar_shape : TokenKind → List ℕ → Shape
 scalar_shape kinds.Integer text = scalar (whole text)
 scalar_shape kinds.Float text = scalar (fractional text)
 scalar_shape kinds.DateTime text = scalar (moment text)
@@ -68,7 +68,7 @@ model_node_view s = (s.place, view_of_shape s.shape (names_of s) (length s.eleme
 -- ---- how the table of nodes represents the model
 
 -- the decoded text of a string or of a part of a key
-abbrev pub bytes_of : List ℕ → Words → List ℕ
+abbrev pub bytes_of : List ℕ → DecodedText → List ℕ
 bytes_of text (Kept span) = bytes_at text span
 bytes_of text (Made boxed) = string_bytes boxed.value
 

@@ -14,17 +14,17 @@ defined_by array_kind = Array
 defined_by element_kind = Element
 
 -- a place defined in the first way may be extended in the second
-abbrev pub joins : DefinedBy → DefinedBy → Bool
-joins Dotted Dotted = true
-joins Dotted Super = true
-joins Super Dotted = true
-joins Header Super = true
-joins Super Header = true
-joins Super Super = true
-joins Super Element = true
-joins Element Super = true
-joins Array Array = true
-joins _ _ = false
+abbrev pub can_extend : DefinedBy → DefinedBy → Bool
+can_extend Dotted Dotted = true
+can_extend Dotted Super = true
+can_extend Super Dotted = true
+can_extend Header Super = true
+can_extend Super Header = true
+can_extend Super Super = true
+can_extend Super Element = true
+can_extend Element Super = true
+can_extend Array Array = true
+can_extend _ _ = false
 
 -- how a place counts as defined after it was extended; a super-table takes over the later definition
 abbrev pub merged_definition : DefinedBy → DefinedBy → DefinedBy

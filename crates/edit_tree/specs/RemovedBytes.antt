@@ -11,15 +11,15 @@ use Rattle.edit_tree.specs.EditBytes.{before, with_splice, last_result, is_withi
 -- ---- lines
 
 -- the statement names the place or one below it, so that it is removed
-abbrev pub is_gone : Place → PlacedStatement → Bool
-is_gone gone s = is_within gone (place_named s.earlier s.prefix s.statement)
+abbrev pub is_removed_statement : Place → PlacedStatement → Bool
+is_removed_statement gone s = is_within gone (place_named s.earlier s.prefix s.statement)
 
 -- What is left of lines from here on. A removed statement takes with it the blank and comment lines before
 -- it, and its own lines with their newline.
 abbrev pub lines_left : Place → List ℕ → List PlacedStatement → List ℕ
 lines_left gone from [] = from
 lines_left gone from (s ∷ ss) =
-    if is_gone gone s then lines_left gone s.next ss else before from s.next ++ lines_left gone s.next ss
+    if is_removed_statement gone s then lines_left gone s.next ss else before from s.next ++ lines_left gone s.next ss
 
 -- ---- arrays and inline tables
 

@@ -1,6 +1,6 @@
 -- Elements of arrays and members of inline tables where they are written in a text.
 use Rattle.std.specs.Prelude.{◌≡◌, ◌≤◌, ℕ, true, List, [], ◌∷◌, ◌++◌, Bool, ⊤}
-use Rattle.edit_syntax.specs.declared.read.marks.Mark.{Mark}
+use Rattle.edit_syntax.specs.declared.read.syntax_tokens.SyntaxToken.{SyntaxToken}
 use Rattle.edit_syntax.specs.Depth.{depth}
 use Rattle.edit_syntax.specs.Grammar.{Between, gap, IsGap, inline, value, IsValue, Members}
 use Rattle.edit_syntax.specs.ReadingSteps.{first}
@@ -9,7 +9,7 @@ use Rattle.edit_tree.specs.WalkState.{IsDecodedAt}
 use Rattle.edit_tree.specs.Slots.{Slot, slot, IsSlot}
 
 -- the tokens of these parts of a key have these decoded names
-abbrev pub AreDecodedAs : List ℕ → List Mark → List (List ℕ) → Type 0
+abbrev pub AreDecodedAs : List ℕ → List SyntaxToken → List (List ℕ) → Type 0
 AreDecodedAs text [] [] = ⊤
 AreDecodedAs text [] (n ∷ ns) = ⊥
 AreDecodedAs text (m ∷ ms) [] = ⊥

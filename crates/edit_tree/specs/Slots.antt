@@ -73,18 +73,18 @@ of_members (member k a b v c d ms) = more_slots (of_pair k a b v) c d (of_member
 
 -- The item at this index is removed: it is the element at the place, or a member that names the place or one
 -- below it. The place is relative to the array or inline table.
-abbrev pub goes : Place → ℕ → Slot → Bool
-goes below i (of_value v) = same_place (index i ∷ []) below
-goes below i (of_pair k a b v) = is_within below (map name_step (names k))
+abbrev pub is_item_removed : Place → ℕ → Slot → Bool
+is_item_removed below i (of_value v) = same_place (index i ∷ []) below
+is_item_removed below i (of_pair k a b v) = is_within below (map name_step (names k))
 
 -- the items that are left, from this index on
 abbrev pub slots_left : Place → ℕ → Slots → List ℕ → Left
 slots_left below i no_slots rest = left_with_comma rest
 slots_left below i (last_slot s c) rest =
-    if goes below i s then left_without_comma (gap c rest) else left_with_comma (slot s (gap c rest))
+    if is_item_removed below i s then left_without_comma (gap c rest) else left_with_comma (slot s (gap c rest))
 slots_left below i (more_slots s c d ss) rest =
     let l = slots_left below (suc i) ss rest in
-    if goes below i s then without_member (gap c) (gap d) l
+    if is_item_removed below i s then without_member (gap c) (gap d) l
     else left_with_comma (slot s (gap c (behind_comma (gap d) l)))
 
 -- the text of an array or an inline table without what is removed

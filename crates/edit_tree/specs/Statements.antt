@@ -88,17 +88,17 @@ pub record PlacedPair : Type 0 where
   pub behind : List ℕ
 
 -- a pair with this text behind its value
-abbrev pub paired : Place → Key → List ℕ → List ℕ → Value → List ℕ → PlacedPair
-paired table k a b v behind =
+abbrev pub placed_pair : Place → Key → List ℕ → List ℕ → Value → List ℕ → PlacedPair
+placed_pair table k a b v behind =
     let rest = a · equals ∷ (b · value v behind) in
     record { table = table; from = key k rest; parts = parts k rest; behind = behind }
 
 -- the pairs of an inline table ("Inline Table")
 abbrev pub paired_members : Place → Members → List ℕ → List PlacedPair
 paired_members table no_members rest = []
-paired_members table (last_member k a b v c) rest = paired table k a b v (gap c rest) ∷ []
+paired_members table (last_member k a b v c) rest = placed_pair table k a b v (gap c rest) ∷ []
 paired_members table (member k a b v c d ms) rest =
-    paired table k a b v (gap c (comma ∷ gap d (members ms rest))) ∷ paired_members table ms rest
+    placed_pair table k a b v (gap c (comma ∷ gap d (members ms rest))) ∷ paired_members table ms rest
 
 -- the pairs of a value, where it is an inline table
 abbrev pub paired_value : PlacedValue → List PlacedPair
@@ -113,7 +113,7 @@ abbrev pub paired_statement : PlacedStatement → List PlacedPair
 paired_statement s = of_statement s.statement
   where
     of_statement : Statement → List PlacedPair
-    of_statement (pair k a b v) = paired s.prefix k a b v s.behind ∷ []
+    of_statement (pair k a b v) = placed_pair s.prefix k a b v s.behind ∷ []
     of_statement _ = []
 
 -- the pairs of a text that are statements

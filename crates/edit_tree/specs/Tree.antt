@@ -2,7 +2,7 @@
 use Rattle.std.specs.Prelude.{ℕ, suc, Bool, true, false, not, ◌&&◌, if◌then◌else◌, List, [], ◌∷◌, Option, Some, None, option_map}
 use Rattle.std.specs.List.{filter, list_any, filter_map}
 use Rattle.edit_syntax.specs.Characters.{quote, apostrophe}
-use Rattle.edit_syntax.specs.Strings.{says, decoded_multi}
+use Rattle.edit_syntax.specs.Strings.{decoded_pieces, decoded_multi}
 use Rattle.edit_syntax.specs.Numbers.{integer_text, float_text, datetime_text}
 use Rattle.edit_syntax.specs.Grammar.{Value, basic, literal, multi_basic, multi_literal, boolean, integer, float, datetime, array, inline, Elements, no_elements, last_element, element, Text}
 use Rattle.edit_tree.specs.Assertions.{Step, Place, same_step, same_place, Kind, dotted, leaf, super, header_kind, array_kind, element_kind, Assertion, assertions, elements_at}
@@ -45,7 +45,7 @@ count_elements (element v g h es) = suc (count_elements es)
 
 -- the view of a value at its place
 abbrev pub view_of_value : List Assertion → Place → Value → View
-view_of_value made place (basic ps) = string (says quote ps)
+view_of_value made place (basic ps) = string (decoded_pieces quote ps)
 view_of_value made place (literal text) = string text
 view_of_value made place (multi_basic ps) = string (decoded_multi quote ps)
 view_of_value made place (multi_literal ps) = string (decoded_multi apostrophe ps)

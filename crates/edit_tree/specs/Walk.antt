@@ -2,19 +2,19 @@
 -- cite these definitions; proofs/ relates them to the assertions of a syntax tree.
 use Rattle.std.specs.Prelude.{ℕ, ◌-◌, Bool, true, false, nat_le, nat_lt, if◌then◌else◌, List, [], ◌∷◌, ◌++◌, length, take, drop, slice_get, slice_set, Option, Some, None, option_map, option_to_list, unwrap_or}
 use Rattle.std.specs.Str.{is_utf8}
-use Rattle.edit_syntax.specs.declared.read.marks.Mark.{Mark}
-use Rattle.edit_syntax.specs.declared.read.marks.MarkKind.{MarkKind}
-use Rattle.edit_syntax.specs.declared.read.marks.MarkKind.TheVariants as kinds
+use Rattle.edit_syntax.specs.declared.read.syntax_tokens.SyntaxToken.{SyntaxToken}
+use Rattle.edit_syntax.specs.declared.read.syntax_tokens.TokenKind.{TokenKind}
+use Rattle.edit_syntax.specs.declared.read.syntax_tokens.TokenKind.TheVariants as kinds
 use Rattle.edit_syntax.specs.declared.span.Span.{Span}
 use Rattle.edit_tree.specs.declared.nodes.DefinedBy.{DefinedBy}
 use Rattle.edit_tree.specs.declared.nodes.DefinedBy.TheVariants.{Dotted, Value, Super, Header, Array, Element}
 use Rattle.edit_syntax.specs.Characters.{quote, apostrophe}
-use Rattle.edit_syntax.specs.Strings.{says, decoded_multi}
+use Rattle.edit_syntax.specs.Strings.{decoded_pieces, decoded_multi}
 use Rattle.edit_syntax.specs.Reading.{◌>>=◌, basic_at, literal_at, multi_at}
 use Rattle.edit_tree.specs.Assertions.{Place, key, index, at}
 use Rattle.edit_tree.specs.Tree.{truth}
 use Rattle.edit_tree.specs.Nodes.{Shape, scalar_shape, scalar, listed, inline, section, sections, ModelNode, below}
-use Rattle.edit_tree.specs.Redefinition.{joins, merged_definition}
+use Rattle.edit_tree.specs.Redefinition.{can_extend, merged_definition}
 
 -- the last number of a list
 abbrev pub last_of : List ℕ → Option ℕ
@@ -28,7 +28,7 @@ suffix bytes n = drop (length bytes - n) bytes
 
 -- the decoded value of a basic string; the input begins behind its opening quote
 abbrev pub basic_value : List ℕ → Option (List ℕ)
-basic_value text = option_map (λ p. says quote p.0) (basic_at text)
+basic_value text = option_map (λ p. decoded_pieces quote p.0) (basic_at text)
 
 -- the decoded value of a literal string; the input begins behind its opening apostrophe
 abbrev pub literal_value : List ℕ → Option (List ℕ)
@@ -39,26 +39,26 @@ abbrev pub multi_value : ℕ → List ℕ → Option (List ℕ)
 multi_value mark text = option_map (λ p. decoded_multi mark p.0) (multi_at mark text)
 
 -- the decoded value of a token of this kind and length at the front of a text
-abbrev pub told : MarkKind → List ℕ → ℕ → Option (List ℕ)
-told kinds.BarePart text n = Some (take n text)
-told kinds.BasicPart text n = basic_value (drop 1 text)
-told kinds.LiteralPart text n = literal_value (drop 1 text)
-told kinds.BasicString text n = basic_value (drop 1 text)
-told kinds.LiteralString text n = literal_value (drop 1 text)
-told kinds.MultiBasicString text n = multi_value quote (drop 3 (take n text))
-told kinds.MultiLiteralString text n = multi_value apostrophe (drop 3 (take n text))
-told kinds.Integer text n = Some (take n text)
-told kinds.Float text n = Some (take n text)
-told kinds.DateTime text n = Some (take n text)
-told _ text n = None
+abbrev pub decoded_prefix : TokenKind → List ℕ → ℕ → Option (List ℕ)
+decoded_prefix kinds.BarePart text n = Some (take n text)
+decoded_prefix kinds.BasicPart text n = basic_value (drop 1 text)
+decoded_prefix kinds.LiteralPart text n = literal_value (drop 1 text)
+decoded_prefix kinds.BasicString text n = basic_value (drop 1 text)
+decoded_prefix kinds.LiteralString text n = literal_value (drop 1 text)
+decoded_prefix kinds.MultiBasicString text n = multi_value quote (drop 3 (take n text))
+decoded_prefix kinds.MultiLiteralString text n = multi_value apostrophe (drop 3 (take n text))
+decoded_prefix kinds.Integer text n = Some (take n text)
+decoded_prefix kinds.Float text n = Some (take n text)
+decoded_prefix kinds.DateTime text n = Some (take n text)
+decoded_prefix _ text n = None
 
 -- the bytes, where they are UTF-8
 abbrev pub as_text : List ℕ → Option (List ℕ)
 as_text bytes = if is_utf8 bytes then Some bytes else None
 
 -- the decoded value of a token
-unfoldable pub said : List ℕ → Mark → Option (List ℕ)
-said bytes m = told m.kind (suffix bytes m.from) (m.from - m.to) >>= as_text
+unfoldable pub token_value : List ℕ → SyntaxToken → Option (List ℕ)
+token_value bytes m = decoded_prefix m.kind (suffix bytes m.from) (m.from - m.to) >>= as_text
 
 -- ---- nodes
 
@@ -89,7 +89,7 @@ with_definition s taken = record s { taken = merged_definition s.taken taken }
 -- the nodes after one is extended; none where TOML does not allow it
 unfoldable pub node_extended : List ModelNode → ℕ → DefinedBy → Option (List ModelNode)
 node_extended spots number taken = slice_get spots number >>= λ s.
-    if joins s.taken taken then Some (slice_set spots number (with_definition s taken)) else None
+    if can_extend s.taken taken then Some (slice_set spots number (with_definition s taken)) else None
 
 -- a node with one more member
 abbrev pub with_member : ModelNode → List ℕ → ℕ → ModelNode
@@ -100,8 +100,8 @@ abbrev pub with_element : ModelNode → ℕ → ModelNode
 with_element s number = record s { elements = s.elements ++ number ∷ [] }
 
 -- the nodes with a new member of one of them, and the index of the new one; none beyond 80 steps
-unfoldable pub added : List ModelNode → ℕ → List ℕ → Shape → DefinedBy → Option Span → Option (List ModelNode × ℕ)
-added spots number name shape taken span = slice_get spots number >>= λ s.
+unfoldable pub member_added : List ModelNode → ℕ → List ℕ → Shape → DefinedBy → Option Span → Option (List ModelNode × ℕ)
+member_added spots number name shape taken span = slice_get spots number >>= λ s.
     if nat_le 80 (length s.place) then None
     else Some (
       slice_set spots number (with_member s name (length spots))
@@ -126,7 +126,7 @@ with_index number o = option_map (λ spots. (spots, number)) o
 -- the nodes after the member at this index is extended, or after a member is added where there is none
 abbrev pub member_defined_at : Option ℕ → List ModelNode → ℕ → List ℕ → Shape → DefinedBy → Option Span
     → Option (List ModelNode × ℕ)
-member_defined_at None spots number name shape taken span = added spots number name shape taken span
+member_defined_at None spots number name shape taken span = member_added spots number name shape taken span
 member_defined_at (Some j) spots number name shape taken span =
     with_index (target_of spots j taken) (node_extended spots (target_of spots j taken) taken)
 
@@ -141,10 +141,10 @@ front_shape is_inline = if is_inline then inline else section
 
 -- the nodes after all front parts of a key are followed from a table on, and the index of the table of its
 -- last part
-unfoldable pub reached : List ModelNode → ℕ → List (List ℕ) → Shape → DefinedBy → Option (List ModelNode × ℕ)
-reached spots number [] shape taken = Some (spots, number)
-reached spots number (name ∷ names) shape taken =
-    member_defined spots number name shape taken None >>= λ r. reached r.0 r.1 names shape taken
+unfoldable pub fronts_followed : List ModelNode → ℕ → List (List ℕ) → Shape → DefinedBy → Option (List ModelNode × ℕ)
+fronts_followed spots number [] shape taken = Some (spots, number)
+fronts_followed spots number (name ∷ names) shape taken =
+    member_defined spots number name shape taken None >>= λ r. fronts_followed r.0 r.1 names shape taken
 
 -- ---- the walk
 
@@ -176,7 +176,7 @@ is_dotted_within count _ = false
 -- the state after the pending key is defined below a table, and the index of its node
 unfoldable pub pending_defined : State → ℕ → DefinedBy → Shape → DefinedBy → Option Span → Option (State × ℕ)
 pending_defined st number front shape taken span = st.name
-    >>= λ name. reached st.spots number st.fronts
+    >>= λ name. fronts_followed st.spots number st.fronts
     (front_shape (is_dotted_within (length st.tables) front)) front >>= λ r.
     member_defined r.0 r.1 name shape taken span >>= λ q. Some (without_pending q.0 st.tables, q.1)
 
@@ -195,8 +195,8 @@ abbrev pub value_added : State → Shape → Option Span → Option State
 value_added st shape span = value_added_at st shape span >>= λ r. Some r.0
 
 -- the state after an array or an inline table is opened
-abbrev pub opened : State → Shape → Option Span → Option State
-opened st shape span =
+abbrev pub value_opened : State → Shape → Option Span → Option State
+value_opened st shape span =
     value_added_at st shape span >>= λ r. Some (record r.0 { tables = r.0.tables ++ r.1 ∷ [] })
 
 -- the state after the innermost array or inline table is closed; its text ends n bytes before the end of the
@@ -210,50 +210,50 @@ value_closed st to = last_of st.tables >>= λ number. slice_get st.spots number 
     })
 
 -- the state with one table open and no other
-abbrev pub turned : State × ℕ → State
-turned r = record r.0 { tables = r.1 ∷ [] }
+abbrev pub with_only_table : State × ℕ → State
+with_only_table r = record r.0 { tables = r.1 ∷ [] }
 
 -- the state after the pending key becomes a header `[key]`
-abbrev pub headed : State → Option State
-headed st = pending_defined st 0 Super section Header None >>= λ r. Some (turned r)
+abbrev pub table_opened : State → Option State
+table_opened st = pending_defined st 0 Super section Header None >>= λ r. Some (with_only_table r)
 
 -- the state after the pending key becomes a header `[[key]]`
 abbrev pub array_table_opened : State → Option State
 array_table_opened st =
     pending_defined st 0 Super sections Array None >>= λ r. element_added r.0.spots r.1 section Element None >>= λ q.
-    Some (turned (record r.0 { spots = q.0 }, q.1))
+    Some (with_only_table (record r.0 { spots = q.0 }, q.1))
 
 -- the span of a token
-abbrev pub span_of_mark : Mark → Span
+abbrev pub span_of_mark : SyntaxToken → Span
 span_of_mark m = record { from = m.from; to = m.to }
 
 -- the state after a string, a number, a date or a time is added
-abbrev pub worded : List ℕ → Mark → State → Option State
-worded bytes m st = said bytes m >>= λ text. value_added st (scalar_shape m.kind text) (Some (span_of_mark m))
+abbrev pub scalar_added : List ℕ → SyntaxToken → State → Option State
+scalar_added bytes m st = token_value bytes m >>= λ text. value_added st (scalar_shape m.kind text) (Some (span_of_mark m))
 
 -- the state after a token of this kind
-abbrev pub act : MarkKind → List ℕ → Mark → State → Option State
-act kinds.BarePart bytes m st = said bytes m >>= λ name. Some (with_key_part st name)
-act kinds.BasicPart bytes m st = said bytes m >>= λ name. Some (with_key_part st name)
-act kinds.LiteralPart bytes m st = said bytes m >>= λ name. Some (with_key_part st name)
-act kinds.BasicString bytes m st = worded bytes m st
-act kinds.LiteralString bytes m st = worded bytes m st
-act kinds.MultiBasicString bytes m st = worded bytes m st
-act kinds.MultiLiteralString bytes m st = worded bytes m st
-act kinds.Integer bytes m st = worded bytes m st
-act kinds.Float bytes m st = worded bytes m st
-act kinds.DateTime bytes m st = worded bytes m st
+abbrev pub act : TokenKind → List ℕ → SyntaxToken → State → Option State
+act kinds.BarePart bytes m st = token_value bytes m >>= λ name. Some (with_key_part st name)
+act kinds.BasicPart bytes m st = token_value bytes m >>= λ name. Some (with_key_part st name)
+act kinds.LiteralPart bytes m st = token_value bytes m >>= λ name. Some (with_key_part st name)
+act kinds.BasicString bytes m st = scalar_added bytes m st
+act kinds.LiteralString bytes m st = scalar_added bytes m st
+act kinds.MultiBasicString bytes m st = scalar_added bytes m st
+act kinds.MultiLiteralString bytes m st = scalar_added bytes m st
+act kinds.Integer bytes m st = scalar_added bytes m st
+act kinds.Float bytes m st = scalar_added bytes m st
+act kinds.DateTime bytes m st = scalar_added bytes m st
 act kinds.True bytes m st = value_added st (scalar (truth true)) (Some (span_of_mark m))
 act kinds.False bytes m st = value_added st (scalar (truth false)) (Some (span_of_mark m))
-act kinds.OpenArray bytes m st = opened st listed (Some (span_of_mark m))
+act kinds.OpenArray bytes m st = value_opened st listed (Some (span_of_mark m))
 act kinds.CloseArray bytes m st = value_closed st m.to
-act kinds.OpenTable bytes m st = opened st inline (Some (span_of_mark m))
+act kinds.OpenTable bytes m st = value_opened st inline (Some (span_of_mark m))
 act kinds.CloseTable bytes m st = value_closed st m.to
-act kinds.Header bytes m st = headed st
+act kinds.Header bytes m st = table_opened st
 act kinds.ElementHeader bytes m st = array_table_opened st
 
 -- the state after a token
-unfoldable pub step : List ℕ → Mark → State → Option State
+unfoldable pub step : List ℕ → SyntaxToken → State → Option State
 step bytes m st = act m.kind bytes m st
 
 -- the state at the start, with the root alone
@@ -261,6 +261,6 @@ abbrev pub start : State
 start = without_pending (model_node_at [] section Header None ∷ []) (0 ∷ [])
 
 -- the state after a list of tokens
-unfoldable pub walked : List ℕ → List Mark → State → Option State
-walked bytes [] st = Some st
-walked bytes (m ∷ ms) st = step bytes m st >>= λ next. walked bytes ms next
+unfoldable pub state_after : List ℕ → List SyntaxToken → State → Option State
+state_after bytes [] st = Some st
+state_after bytes (m ∷ ms) st = step bytes m st >>= λ next. state_after bytes ms next

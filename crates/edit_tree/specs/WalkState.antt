@@ -1,13 +1,13 @@
 -- How the code represents the state of the walk over tokens.
 use Rattle.std.specs.Prelude.{◌≡◌, ℕ, Bool, true, false, List, ◌++◌, length, map, Option, Some, None, option_map}
-use Rattle.edit_syntax.specs.declared.read.marks.Mark.{Mark}
-use Rattle.edit_syntax.specs.declared.read.marks.MarkKind.{MarkKind}
-use Rattle.edit_syntax.specs.declared.read.marks.MarkKind.TheVariants as kinds
+use Rattle.edit_syntax.specs.declared.read.syntax_tokens.SyntaxToken.{SyntaxToken}
+use Rattle.edit_syntax.specs.declared.read.syntax_tokens.TokenKind.{TokenKind}
+use Rattle.edit_syntax.specs.declared.read.syntax_tokens.TokenKind.TheVariants as kinds
 use Rattle.edit_tree.specs.declared.nodes.Node.{Node}
 use Rattle.edit_tree.specs.declared.walk.Walk.{Walk}
 use Rattle.edit_syntax.specs.Decoding.{delimited, HasDecodedValue}
 use Rattle.edit_tree.specs.Nodes.{ModelNode, bytes_of, RepresentsNodes}
-use Rattle.edit_tree.specs.Walk.{State, said}
+use Rattle.edit_tree.specs.Walk.{State, token_value}
 
 -- the nodes represent the result, or there is no result and the function returns false
 abbrev pub HasNodes : List ℕ → List Node → Option (List ModelNode) → Bool → Type 0
@@ -45,14 +45,14 @@ KeepsState text nodes (Some st) = RepresentsNodes text nodes st.spots
 -- ---- tokens
 
 -- the token is in the text and has this decoded value
-abbrev pub IsDecodedAt : List ℕ → Mark → List ℕ → Type 0
+abbrev pub IsDecodedAt : List ℕ → SyntaxToken → List ℕ → Type 0
 IsDecodedAt bytes m name =
     (before : List ℕ) × (content : List ℕ) × (rest : List ℕ)
     × (bytes ≡ before ++ delimited m.kind content rest)
     × (m.from ≡ length (delimited m.kind content rest)) × (m.to ≡ length rest) × HasDecodedValue m.kind content name
 
 -- tokens of this kind have a decoded value
-abbrev pub has_token_value : MarkKind → Bool
+abbrev pub has_token_value : TokenKind → Bool
 has_token_value kinds.BarePart = true
 has_token_value kinds.BasicPart = true
 has_token_value kinds.LiteralPart = true
@@ -66,5 +66,5 @@ has_token_value kinds.DateTime = true
 has_token_value _ = false
 
 -- the token is in the text; where its kind has a decoded value, it is the one that the walk computes
-abbrev pub IsToken : List ℕ → Mark → Type 0
-IsToken bytes m = has_token_value m.kind ≡ true → (name : List ℕ) × (said bytes m ≡ Some name) × IsDecodedAt bytes m name
+abbrev pub IsToken : List ℕ → SyntaxToken → Type 0
+IsToken bytes m = has_token_value m.kind ≡ true → (name : List ℕ) × (token_value bytes m ≡ Some name) × IsDecodedAt bytes m name

@@ -4,11 +4,11 @@ ghost use Rattle.std.specs.Prelude.{◌≡◌, ℕ, List, IfOk, None, map, nat_l
 ghost use Rattle.edit_tree.specs.Nodes.{ModelNode, RepresentsNodes, bytes_of, elements_of, shape_of};
 ghost use Rattle.edit_tree.specs.Redefinition as taking;
 ghost use Rattle.edit_tree.specs.declared.nodes.DefinedBy.TheVariants.{Super};
-ghost use Rattle.edit_tree.specs.Walk.{child, last_table, target_of, node_extended, added, element_added, member_defined, front_shape, reached};
+ghost use Rattle.edit_tree.specs.Walk.{child, last_table, target_of, node_extended, member_added, element_added, member_defined, front_shape, fronts_followed};
 ghost use Rattle.edit_tree.specs.WalkState.{HasNodes, HasNodeAt};
 
 use crate::members::Members;
-use crate::nodes::{Content, DefinedBy, Node, Words, copied, decoded_str};
+use crate::nodes::{Content, DefinedBy, Node, DecodedText, clone_decoded, decoded_str};
 use edit_syntax::Span;
 use std::alloc::{AllocError, Global};
 
@@ -22,8 +22,8 @@ pub(crate) struct Definition {
 }
 
 /// Whether a table or key already defined in the way `before` may be extended in the way `after`.
-fn joins(before: DefinedBy, after: DefinedBy) -> bool
-    ensures { result ≡ taking.joins before after }
+fn can_extend(before: DefinedBy, after: DefinedBy) -> bool
+    ensures { result ≡ taking.can_extend before after }
 {
     match before {
         DefinedBy::Dotted => matches!(after, DefinedBy::Dotted | DefinedBy::Super),
@@ -60,7 +60,7 @@ fn extend_node(nodes: &mut Vec<Node>, number: usize, taken: DefinedBy) -> bool
         return false;
     }
     let before = nodes[number].taken;
-    if !joins(before, taken) {
+    if !can_extend(before, taken) {
         return false;
     }
     let node = &mut nodes[number];
@@ -133,13 +133,13 @@ fn add(
     text: &str,
     nodes: &mut Vec<Node>,
     number: usize,
-    name: Words,
+    name: DecodedText,
     definition: Definition,
 ) -> Result<Option<usize>, AllocError>
     ensures added { (spots : List ModelNode) → RepresentsNodes text.now nodes.old.items spots
         → child spots number (bytes_of text.now name) ≡ None
         → IfOk result (HasNodeAt text.now nodes.new.items
-        (added spots number (bytes_of text.now name) (shape_of text.now definition.content)
+        (member_added spots number (bytes_of text.now name) (shape_of text.now definition.content)
         definition.taken definition.span)) }
 {
     let count = nodes.len();
@@ -203,7 +203,7 @@ pub(crate) fn assert_member(
     text: &str,
     nodes: &mut Vec<Node>,
     number: usize,
-    name: Words,
+    name: DecodedText,
     definition: Definition,
 ) -> Result<Option<usize>, AllocError>
     ensures made { (spots : List ModelNode) → RepresentsNodes text.now nodes.old.items spots
@@ -223,22 +223,22 @@ pub(crate) fn assert_member(
 
 /// Follows all parts of a key but its last from the table at `number`, defining each on the way. Returns the
 /// index of the table that the last part belongs to.
-pub(crate) fn reach(
+pub(crate) fn follow_fronts(
     alloc: Global,
     text: &str,
     nodes: &mut Vec<Node>,
     number: usize,
-    fronts: &[Words],
+    fronts: &[DecodedText],
     is_inline: bool,
     taken: DefinedBy,
 ) -> Result<Option<usize>, AllocError>
     ensures made { (spots : List ModelNode) → RepresentsNodes text.now nodes.old.items spots
         → IfOk result (HasNodeAt text.now nodes.new.items
-        (reached spots number (map (bytes_of text.now) fronts.now) (front_shape is_inline) taken)) }
+        (fronts_followed spots number (map (bytes_of text.now) fronts.now) (front_shape is_inline) taken)) }
 {
     let mut table = number;
     'fronts: for front in fronts {
-        let name = copied(alloc, front)?;
+        let name = clone_decoded(alloc, front)?;
         let content = front_content(is_inline);
         let definition = Definition {
             content,

@@ -1,7 +1,7 @@
 //! Headers: each opens one table and closes all others.
 ghost use Rattle.std.specs.Prelude.{◌≡◌, ◌∷◌, [], ℕ, List, IfOk, IfErr};
 ghost use Rattle.edit_base.specs.Errors.{IsMemory};
-ghost use Rattle.edit_tree.specs.Walk.{State, headed, array_table_opened};
+ghost use Rattle.edit_tree.specs.Walk.{State, table_opened, array_table_opened};
 ghost use Rattle.edit_tree.specs.WalkState.{Walks, HasNextState};
 
 use crate::assertions::add_element;
@@ -22,12 +22,12 @@ impl Walk {
     }
 
     /// Opens the table that the pending `[key]` names; returns false where TOML does not allow it.
-    pub(crate) fn head(&mut self, alloc: Global, text: &str) -> CargoResult<bool>
+    pub(crate) fn open_header_table(&mut self, alloc: Global, text: &str) -> CargoResult<bool>
         ensures goes { (st : State) → Walks text.now self.old st
-            → IfOk result (HasNextState text.now self.new (headed st)) }
+            → IfOk result (HasNextState text.now self.new (table_opened st)) }
         ensures error { IfErr result IsMemory }
     {
-        let Some(number) = self.settle(
+        let Some(number) = self.define_pending(
             alloc,
             text,
             0,
@@ -50,7 +50,7 @@ impl Walk {
             → IfOk result (HasNextState text.now self.new (array_table_opened st)) }
         ensures error { IfErr result IsMemory }
     {
-        let Some(number) = self.settle(
+        let Some(number) = self.define_pending(
             alloc,
             text,
             0,

@@ -9,6 +9,6 @@ pub mod members;
 pub mod nodes;
 pub mod place;
 pub mod walk;
-pub mod words;
+pub mod token_content;
 
 pub use place::{Place, Step};

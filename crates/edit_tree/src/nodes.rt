@@ -13,7 +13,7 @@ use std::collections::BTreeMap;
 
 /// The decoded text of a string or of a part of a key.
 #[derive(Drop)]
-pub enum Words {
+pub enum DecodedText {
     /// It is the text between the delimiters as written, at this position.
     Kept(Span),
     /// It differs from the text as written, because of an escape or a line fold.
@@ -24,7 +24,7 @@ pub enum Words {
 #[derive(Drop)]
 pub enum Content {
     /// A string.
-    Text(Words),
+    Text(DecodedText),
     Truth(bool),
     /// A number, a date or a time, by its position in the text.
     Integer(Span),
@@ -105,7 +105,7 @@ impl Lookup {
 /// The name of a member and the index of its node.
 #[derive(Drop)]
 pub struct Member {
-    name: Words,
+    name: DecodedText,
     number: usize,
 }
 
@@ -163,7 +163,7 @@ impl MemberList {
     }
 
     /// The first `FEW` members, which are searched linearly.
-    fn few(&self) -> &[Member]
+    fn first_members(&self) -> &[Member]
         ensures { result.now ≡ take 8 self.now.list.items }
     {
         if self.list.len() <= FEW {
@@ -177,7 +177,7 @@ impl MemberList {
     pub(crate) fn get(&self, text: &str, name: &str) -> Option<usize>
         ensures { IsListIndexed text.now self.now → result ≡ number_in (entries_listed text.now self.now) name.now }
     {
-        match number_among(text, self.few(), name) {
+        match number_among(text, self.first_members(), name) {
             Some(number) => Some(number),
             None => self.others.get(name),
         }
@@ -197,7 +197,7 @@ impl MemberList {
         &mut self,
         alloc: Global,
         text: &str,
-        name: Words,
+        name: DecodedText,
         number: usize,
     ) -> Result<(), AllocError>
         ensures added { IfOk result (λ _. entries_listed text.now self.new ≡ entries_listed text.now self.old
@@ -229,7 +229,7 @@ pub struct Node {
 }
 
 /// The slice of a text at a position; empty where that is out of range or cuts a character.
-pub fn cut(text: &str, span: Span) -> &str
+pub fn span_text(text: &str, span: Span) -> &str
     ensures { result.now ≡ bytes_at text.now span }
 {
     between(text, span.from as usize, span.to as usize)
@@ -248,44 +248,44 @@ fn may_have(text: &str, span: Span, len: usize) -> bool
 }
 
 /// Whether a name equals the slice of the text at a position; lengths are compared first.
-fn is_kept(text: &str, span: Span, name: &str) -> bool
+fn is_span_text(text: &str, span: Span, name: &str) -> bool
     ensures { result ≡ bytes_eq name.now (bytes_at text.now span) }
 {
     if !may_have(text, span, name.len()) {
         return false;
     }
-    name == cut(text, span)
+    name == span_text(text, span)
 }
 
 /// Whether a name equals the decoded text.
-fn is_named(text: &str, words: &Words, name: &str) -> bool
+fn is_named(text: &str, words: &DecodedText, name: &str) -> bool
     ensures { result ≡ bytes_eq name.now (bytes_of text.now words.now) }
 {
     match words {
-        Words::Kept(span) => is_kept(text, *span, name),
-        Words::Made(said) => name == said.as_str(),
+        DecodedText::Kept(span) => is_span_text(text, *span, name),
+        DecodedText::Made(said) => name == said.as_str(),
     }
 }
 
 /// The decoded text of a string or of a part of a key.
-pub fn decoded_str<'a>(text: &'a str, words: &'a Words) -> &'a str
+pub fn decoded_str<'a>(text: &'a str, words: &'a DecodedText) -> &'a str
     ensures { result.now ≡ bytes_of text.now words.now }
 {
     match words {
-        Words::Kept(span) => cut(text, *span),
-        Words::Made(said) => said.as_str(),
+        DecodedText::Kept(span) => span_text(text, *span),
+        DecodedText::Made(said) => said.as_str(),
     }
 }
 
 /// A copy of the decoded text.
-pub(crate) fn copied(alloc: Global, words: &Words) -> Result<Words, AllocError>
+pub(crate) fn clone_decoded(alloc: Global, words: &DecodedText) -> Result<DecodedText, AllocError>
     ensures same { (text : List ℕ) → IfOk result (λ copy. bytes_of text copy ≡ bytes_of text words.now) }
 {
     match words {
-        Words::Kept(span) => Ok(Words::Kept(*span)),
-        Words::Made(said) => {
+        DecodedText::Kept(span) => Ok(DecodedText::Kept(*span)),
+        DecodedText::Made(said) => {
             let copy = String::from_str(alloc, said.as_str())?;
-            Ok(Words::Made(Box::new(alloc, copy)?))
+            Ok(DecodedText::Made(Box::new(alloc, copy)?))
         }
     }
 }

@@ -2,18 +2,18 @@
 ghost use Rattle.std.specs.Prelude.{◌≡◌, ◌∷◌, [], ℕ, List, IfOk, IfErr, MatchResult, length, Some, None};
 ghost use Rattle.edit_base.specs.Errors.{IsMemory};
 ghost use Rattle.edit_tree.specs.Nodes.{bytes_of, shape_of};
-ghost use Rattle.edit_tree.specs.Walk.{State, with_key_part, is_dotted_within, pending_defined, value_added_at, value_added, opened, value_closed, headed, array_table_opened, start, step, walked};
+ghost use Rattle.edit_tree.specs.Walk.{State, with_key_part, is_dotted_within, pending_defined, value_added_at, value_added, value_opened, value_closed, table_opened, array_table_opened, start, step, state_after};
 ghost use Rattle.edit_tree.specs.WalkState.{Walks, HasNextState, HasDefinedState, IsToken, KeepsState};
 ghost use Rattle.edit_syntax.specs.SyntaxTokens.{IsTokenizeError};
 ghost use Rattle.std.specs.List.{AllByRecursion};
 
-use crate::assertions::{Definition, add_element, assert_member, reach};
+use crate::assertions::{Definition, add_element, assert_member, follow_fronts};
 use crate::members::Members;
-use crate::nodes::{Content, DefinedBy, Node, Words};
-use crate::words::{worded, words_of};
+use crate::nodes::{Content, DefinedBy, Node, DecodedText};
+use crate::token_content::{decode_token, scalar_content};
 use edit_base::errors::{CargoResult, Error};
 use edit_syntax::Span;
-use edit_syntax::read::{Mark, MarkKind};
+use edit_syntax::read::{SyntaxToken, TokenKind};
 use std::alloc::{AllocError, Global};
 
 /// The state of the walk over the tokens: the nodes so far, the indices of the open tables and arrays (the
@@ -22,8 +22,8 @@ use std::alloc::{AllocError, Global};
 pub(crate) struct Walk {
     pub(crate) nodes: Vec<Node>,
     pub(crate) tables: Vec<usize>,
-    fronts: Vec<Words>,
-    name: Option<Words>,
+    fronts: Vec<DecodedText>,
+    name: Option<DecodedText>,
 }
 
 impl Walk {
@@ -63,7 +63,7 @@ impl Walk {
     }
 
     /// Appends a part to the pending key.
-    fn push_key_part(&mut self, name: Words) -> Result<(), AllocError>
+    fn push_key_part(&mut self, name: DecodedText) -> Result<(), AllocError>
         ensures goes { IfOk result (λ _. (text : List ℕ) (st : State) → Walks text self.old st
             → Walks text self.new (with_key_part st (bytes_of text name))) }
     {
@@ -75,7 +75,7 @@ impl Walk {
     }
 
     /// Whether a dotted key belongs to an inline table.
-    fn is_within(&self, front: DefinedBy) -> bool
+    fn is_dotted_inline(&self, front: DefinedBy) -> bool
         ensures { result ≡ is_dotted_within (length self.now.tables.items) front }
     {
         match front {
@@ -85,7 +85,7 @@ impl Walk {
     }
 
     /// Defines the table or value that the pending key names below a table. Returns the index of its node.
-    pub(crate) fn settle(
+    pub(crate) fn define_pending(
         &mut self,
         alloc: Global,
         text: &str,
@@ -102,8 +102,8 @@ impl Walk {
         let Some(name) = self.name.take() else {
             return Ok(None);
         };
-        let is_inline = self.is_within(front);
-        let Some(table) = reach(
+        let is_inline = self.is_dotted_inline(front);
+        let Some(table) = follow_fronts(
             alloc,
             text,
             &mut self.nodes,
@@ -139,7 +139,7 @@ impl Walk {
             return Ok(None);
         };
         match &self.name {
-            Some(_) => self.settle(
+            Some(_) => self.define_pending(
                 alloc,
                 text,
                 number,
@@ -160,7 +160,7 @@ impl Walk {
     }
 
     /// Adds a value to the innermost open table or array; returns false where TOML does not allow it.
-    fn enter(
+    fn add_value(
         &mut self,
         alloc: Global,
         text: &str,
@@ -177,7 +177,7 @@ impl Walk {
     /// Opens an array or an inline table.
     fn open(&mut self, alloc: Global, text: &str, content: Content, span: Span) -> CargoResult<bool>
         ensures goes { (st : State) → Walks text.now self.old st
-            → IfOk result (HasNextState text.now self.new (opened st (shape_of text.now content) (Some span))) }
+            → IfOk result (HasNextState text.now self.new (value_opened st (shape_of text.now content) (Some span))) }
         ensures error { IfErr result IsMemory }
     {
         let Some(number) = self.add_value_at(alloc, text, content, Some(span))? else {
@@ -210,7 +210,7 @@ impl Walk {
     }
 
     /// Processes the next token; returns false where TOML does not allow it here.
-    fn take(&mut self, alloc: Global, text: &str, mark: Mark) -> CargoResult<bool>
+    fn process_token(&mut self, alloc: Global, text: &str, mark: SyntaxToken) -> CargoResult<bool>
         ensures goes { (st : State) → Walks text.now self.old st → IsToken text.now mark
             → IfOk result (HasNextState text.now self.new (step text.now mark st)) }
         ensures error { IfErr result IsMemory }
@@ -220,42 +220,42 @@ impl Walk {
             to: mark.to,
         };
         match mark.kind {
-            MarkKind::BarePart | MarkKind::BasicPart | MarkKind::LiteralPart => {
-                let name = words_of(alloc, text, mark)?;
+            TokenKind::BarePart | TokenKind::BasicPart | TokenKind::LiteralPart => {
+                let name = decode_token(alloc, text, mark)?;
                 self.push_key_part(name)?;
                 Ok(true)
             }
-            MarkKind::BasicString
-            | MarkKind::LiteralString
-            | MarkKind::MultiBasicString
-            | MarkKind::MultiLiteralString
-            | MarkKind::Integer
-            | MarkKind::Float
-            | MarkKind::DateTime => {
-                let content = worded(alloc, text, mark)?;
-                self.enter(alloc, text, content, Some(span))
+            TokenKind::BasicString
+            | TokenKind::LiteralString
+            | TokenKind::MultiBasicString
+            | TokenKind::MultiLiteralString
+            | TokenKind::Integer
+            | TokenKind::Float
+            | TokenKind::DateTime => {
+                let content = scalar_content(alloc, text, mark)?;
+                self.add_value(alloc, text, content, Some(span))
             }
-            MarkKind::True => self.enter(alloc, text, Content::Truth(true), Some(span)),
-            MarkKind::False => self.enter(alloc, text, Content::Truth(false), Some(span)),
-            MarkKind::OpenArray => self.open(alloc, text, Content::Array, span),
-            MarkKind::OpenTable => self.open(alloc, text, Content::Inline, span),
-            MarkKind::CloseArray | MarkKind::CloseTable => Ok(self.close(mark.to)),
-            MarkKind::Header => self.head(alloc, text),
-            MarkKind::ElementHeader => self.open_array_table(alloc, text),
+            TokenKind::True => self.add_value(alloc, text, Content::Truth(true), Some(span)),
+            TokenKind::False => self.add_value(alloc, text, Content::Truth(false), Some(span)),
+            TokenKind::OpenArray => self.open(alloc, text, Content::Array, span),
+            TokenKind::OpenTable => self.open(alloc, text, Content::Inline, span),
+            TokenKind::CloseArray | TokenKind::CloseTable => Ok(self.close(mark.to)),
+            TokenKind::Header => self.open_header_table(alloc, text),
+            TokenKind::ElementHeader => self.open_array_table(alloc, text),
         }
     }
 }
 
 /// Builds the nodes of a text from its tokens.
-pub fn nodes_of(alloc: Global, text: &str, marks: &[Mark]) -> CargoResult<Vec<Node>>
+pub fn nodes_of(alloc: Global, text: &str, marks: &[SyntaxToken]) -> CargoResult<Vec<Node>>
     ensures nodes { AllByRecursion (IsToken text.now) marks.now
-        → MatchResult result (λ v. KeepsState text.now v.items (walked text.now marks.now start))
-        (λ e. (IsMemory e → ⊥) → walked text.now marks.now start ≡ None) }
+        → MatchResult result (λ v. KeepsState text.now v.items (state_after text.now marks.now start))
+        (λ e. (IsMemory e → ⊥) → state_after text.now marks.now start ≡ None) }
     ensures error { IfErr result (IsTokenizeError (length text.now)) }
 {
     let mut walk = Walk::new(alloc, marks.len())?;
     'marks: for mark in marks {
-        if !walk.take(alloc, text, *mark)? {
+        if !walk.process_token(alloc, text, *mark)? {
             return Err(Error::NotToml {
                 at: text.len().saturating_sub(mark.from as usize),
             });

@@ -12,7 +12,7 @@ use Rattle.edit_tree.proofs.SamePlace.{same_bytes_is}
 use Rattle.edit_document.proofs.EntryPartViews.{same_texts}
 use Rattle.edit_base.specs.Errors.{IsMemory}
 use Rattle.edit_base.specs.declared.errors.Error.{Error}
-use Rattle.edit_record.specs.EntryRecords.{Refusal}
+use Rattle.edit_record.specs.EntryRecords.{EntryError}
 use Rattle.edit_record.specs.EachOnce.{each_once}
 use Rattle.edit_update.specs.EntryUpdates.{texts_or_none}
 use Rattle.edit_record.specs.RecordViews.{IsErrorOfResult}
@@ -155,7 +155,7 @@ join_more done (x ∷ xs) s = join_more (joins done x) xs s
 -- ---- features that cannot be read
 
 -- features that cannot be read count as none, if memory did not run out
-pub refused_texts : (told : Result (Option (List (List ℕ))) Refusal) (e : Error) → IsErrorOfResult told e
+pub refused_texts : (told : Result (Option (List (List ℕ))) EntryError) (e : Error) → IsErrorOfResult told e
     → (IsMemory e → ⊥) → [] ≡ texts_or_none told
 refused_texts told e (inl memory) not_memory = absurd (not_memory memory)
 refused_texts told e (inr h) not_memory = rw h.1 refl

@@ -6,7 +6,7 @@ use Rattle.edit_tree.specs.DocumentViews.{node_at}
 use Rattle.edit_tree.specs.Tree.{View, inline_table, static_array, string, table, truth}
 use Rattle.edit_update.specs.Features.{features, stale_strings}
 use Rattle.edit_update.specs.RemovedEntries.{empty_table_place, missing_table}
-use Rattle.edit_manifest.specs.Tables.{Tree, keyed}
+use Rattle.edit_manifest.specs.Tables.{Tree, place_of_keys}
 
 -- `x` below `[features]`
 abbrev x : Place
@@ -22,9 +22,9 @@ with more nodes = node_at (([], table (key (codes "features") ∷ more))
 -- `dep` below this table, with this member `optional`
 abbrev an_entry : List (List ℕ) → View → List (Place × View)
 an_entry path optional =
-    (keyed path, table (key (codes "dep") ∷ []))
-    ∷ (keyed (path ++ codes "dep" ∷ []), inline_table (key (codes "optional") ∷ []))
-    ∷ (keyed (path ++ codes "dep" ∷ codes "optional" ∷ []), optional) ∷ []
+    (place_of_keys path, table (key (codes "dep") ∷ []))
+    ∷ (place_of_keys (path ++ codes "dep" ∷ []), inline_table (key (codes "optional") ∷ []))
+    ∷ (place_of_keys (path ++ codes "dep" ∷ codes "optional" ∷ []), optional) ∷ []
 
 -- no section has the key: the key, and what begins with it and a slash, the last first
 pub both_go : stale_strings (with [] []) (codes "dep") ≡ at x (index 2) ∷ at x (index 0) ∷ []
@@ -42,20 +42,20 @@ nothing_goes = refl
 
 -- an optional entry of the workspace does not count
 pub the_workspace_counts_not : stale_strings (with (key (codes "workspace") ∷ [])
-    ((keyed (codes "workspace" ∷ []), table (key (codes "dependencies") ∷ []))
+    ((place_of_keys (codes "workspace" ∷ []), table (key (codes "dependencies") ∷ []))
     ∷ an_entry (codes "workspace" ∷ codes "dependencies" ∷ []) (truth true))) (codes "dep")
     ≡ at x (index 2) ∷ at x (index 0) ∷ []
 the_workspace_counts_not = refl
 
 -- of `target.x.dependencies`, where there is a `target` without `x`
 pub the_first_missing : missing_table (node_at (([], table (key (codes "target") ∷ []))
-    ∷ (keyed (codes "target" ∷ []), table []) ∷ [])) (codes "target" ∷ codes "x" ∷ codes "dependencies" ∷ [])
+    ∷ (place_of_keys (codes "target" ∷ []), table []) ∷ [])) (codes "target" ∷ codes "x" ∷ codes "dependencies" ∷ [])
     ≡ Some (codes "x")
 the_first_missing = refl
 
 -- what is no table leads nowhere
 pub no_table : missing_table (node_at (([], table (key (codes "dependencies") ∷ []))
-    ∷ (keyed (codes "dependencies" ∷ []), truth true) ∷ [])) (codes "dependencies" ∷ [])
+    ∷ (place_of_keys (codes "dependencies" ∷ []), truth true) ∷ [])) (codes "dependencies" ∷ [])
     ≡ Some (codes "dependencies")
 no_table = refl
 
@@ -64,9 +64,9 @@ pub the_root : missing_table (node_at (([], table []) ∷ [])) [] ≡ None
 the_root = refl
 
 -- an empty table goes, and the empty root stays
-pub a_bare_table : empty_table_place (node_at ((keyed (codes "d" ∷ []), inline_table []) ∷ []))
-    (keyed (codes "d" ∷ []))
-    ≡ keyed (codes "d" ∷ []) ∷ []
+pub a_bare_table : empty_table_place (node_at ((place_of_keys (codes "d" ∷ []), inline_table []) ∷ []))
+    (place_of_keys (codes "d" ∷ []))
+    ≡ place_of_keys (codes "d" ∷ []) ∷ []
 a_bare_table = refl
 
 pub the_bare_root : empty_table_place (node_at (([], table []) ∷ [])) [] ≡ []

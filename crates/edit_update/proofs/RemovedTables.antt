@@ -17,7 +17,7 @@ use Rattle.edit_tree.specs.Tree.{View, view_at}
 use Rattle.edit_tree.proofs.HeadedPlaces.{inside_more, inside_self}
 use Rattle.edit_update.specs.Removals.{IsTextWithout, HasFailedRemoval}
 use Rattle.edit_update.specs.RemovedEntries.{RemovesEntry, HasFailedEntryRemoval, entry_stays, table_stays, IsRemovalError, IsEntryRemovalError, empty_table_place, entry_of, is_empty_table, missing_table}
-use Rattle.edit_manifest.specs.Tables.{keyed}
+use Rattle.edit_manifest.specs.Tables.{place_of_keys}
 use Rattle.edit_update.proofs.MissingTables.{more_than_none}
 use Rattle.edit_update.proofs.RemovalSteps.{first_stays, shown_removed, without_one}
 
@@ -30,7 +30,7 @@ member_at (index i ∷ []) n = refl
 member_at (key m ∷ s ∷ p) n = member_at (s ∷ p) n
 member_at (index i ∷ s ∷ p) n = member_at (s ∷ p) n
 
-member_keyed : (n : List ℕ) (ns : List (List ℕ)) → is_member (keyed (n ∷ ns)) ≡ true
+member_keyed : (n : List ℕ) (ns : List (List ℕ)) → is_member (place_of_keys (n ∷ ns)) ≡ true
 member_keyed n [] = refl
 member_keyed n (m ∷ ns) = member_keyed m ns
 
@@ -42,7 +42,7 @@ member_gone p n form old new removed = removed.nothing_there (member_at p n) (at
 
 -- a key of a table that was removed is not there
 pub inner_gone : (path : List (List ℕ)) (p : Place) (n : List ℕ) (form : Text) (old new : Tree)
-    → p ≡ keyed path → (p ≡ [] → ⊥) → Removed form p old new → new (at p (key n)) ≡ None
+    → p ≡ place_of_keys path → (p ≡ [] → ⊥) → Removed form p old new → new (at p (key n)) ≡ None
 inner_gone [] p n form old new e inner removed = absurd (inner e)
 inner_gone (m ∷ ms) p n form old new e inner removed =
     removed.nothing_there (ap is_member e ∙ member_keyed m ms) (at p (key n))
@@ -89,7 +89,7 @@ bare_some t (s ∷ ss) inner e = ap (λ b. cond b ((s ∷ ss) ∷ []) []) e
 -- ---- both removals
 
 module _ (path : List (List ℕ)) (name : List ℕ) (old : DocumentViews) (form : Text) (r p : Place)
-    (table : r ≡ keyed path)
+    (table : r ≡ place_of_keys path)
     (entry : p ≡ at r (key name)) (reads : IsDocument old.bytes form) (shown : ShowsTree old form) where
   place_is : p ≡ entry_of path name
   place_is = entry ∙ ap (λ q. at q (key name)) table
@@ -117,8 +117,8 @@ module _ (path : List (List ℕ)) (name : List ℕ) (old : DocumentViews) (form 
     form = g;
     reads = again;
     emptied = subst (λ (ps : List Place). IsTextWithout ps middle.bytes new.bytes)
-        (ap (empty_table_place (tree_of middle)) table ∙ bare_same (tree_of middle) (view_at g) (keyed path)
-        (shows (keyed path)))
+        (ap (empty_table_place (tree_of middle)) table ∙ bare_same (tree_of middle) (view_at g) (place_of_keys path)
+        (shows (place_of_keys path)))
         rest;
   }
 
@@ -158,7 +158,7 @@ module _ (path : List (List ℕ)) (name : List ℕ) (old : DocumentViews) (form 
         why.0,
         table_stays middle.bytes g (first_out middle g bytes again shows removed) again
             (subst (λ (ps : List Place). HasFailedRemoval ps middle.bytes)
-            (ap (empty_table_place (tree_of middle)) table ∙ bare_same (tree_of middle) (view_at g) (keyed path)
-            (shows (keyed path)))
+            (ap (empty_table_place (tree_of middle)) table ∙ bare_same (tree_of middle) (view_at g) (place_of_keys path)
+            (shows (place_of_keys path)))
             why.1),
       )

@@ -11,17 +11,17 @@ use Rattle.edit_tree.specs.declared.place.Step.{Step as WrittenStep}
 use Rattle.edit_tree.specs.Assertions.{Place, at, index}
 use Rattle.edit_document.specs.Items.{count_in, is_static_array, place_view, string_in}
 use Rattle.edit_tree.specs.Tree.{View, string, truth, whole, fractional, moment, static_array, table_array, inline_table, table}
-use Rattle.edit_update.specs.Features.{elements_back, elements_of, goes, is_stale, stale_in}
+use Rattle.edit_update.specs.Features.{elements_back, elements_of, is_stale_item, is_stale, stale_in}
 use Rattle.edit_manifest.specs.Places.{places_view}
 use Rattle.edit_manifest.specs.Tables.{Tree}
 
 -- those among so many elements of an array
 abbrev pub stale_back : Tree → Bool → List ℕ → Place → ℕ → List Place
-stale_back t held name array n = filter (λ p. goes held name (t p)) (elements_back array n)
+stale_back t held name array n = filter (λ p. is_stale_item held name (t p)) (elements_back array n)
 
 module _ (t : Tree) (held : Bool) (name : List ℕ) (array : Place) where
   -- one that goes
-  pub back_goes : (n m : ℕ) → n ≡ suc m → goes held name (t (at array (index m))) ≡ true
+  pub back_goes : (n m : ℕ) → n ≡ suc m → is_stale_item held name (t (at array (index m))) ≡ true
       → stale_back t held name array n ≡ at array (index m) ∷ stale_back t held name array m
   back_goes n m e h =
       ap (stale_back t held name array) e
@@ -29,7 +29,7 @@ module _ (t : Tree) (held : Bool) (name : List ℕ) (array : Place) where
       (stale_back t held name array m)) h
 
   -- one that stays
-  pub back_stays : (n m : ℕ) → n ≡ suc m → goes held name (t (at array (index m))) ≡ false
+  pub back_stays : (n m : ℕ) → n ≡ suc m → is_stale_item held name (t (at array (index m))) ≡ false
       → stale_back t held name array n ≡ stale_back t held name array m
   back_stays n m e h =
       ap (stale_back t held name array) e
@@ -39,7 +39,7 @@ module _ (t : Tree) (held : Bool) (name : List ℕ) (array : Place) where
   -- an element that is removed is listed, and then those before it
   pub told_goes : (n m : ℕ) (xs new : List (Vec WrittenStep)) (x : Vec WrittenStep) (all : List Place)
       → n ≡ suc m
-      → goes held name (t (at array (index m))) ≡ true → new ≡ xs ++ x ∷ []
+      → is_stale_item held name (t (at array (index m))) ≡ true → new ≡ xs ++ x ∷ []
       → place_view x.items ≡ at array (index m)
       → places_view xs ++ stale_back t held name array n ≡ all
       → places_view new ++ stale_back t held name array m ≡ all
@@ -53,7 +53,7 @@ module _ (t : Tree) (held : Bool) (name : List ℕ) (array : Place) where
 
   -- an element that stays is not listed
   pub told_stays : (n m : ℕ) (xs : List (Vec WrittenStep)) (all : List Place) → n ≡ suc m
-      → goes held name (t (at array (index m))) ≡ false
+      → is_stale_item held name (t (at array (index m))) ≡ false
       → places_view xs ++ stale_back t held name array n ≡ all
       → places_view xs ++ stale_back t held name array m ≡ all
   told_stays n m xs all e h told = sym (ap (λ l. places_view xs ++ l) (back_stays n m e h)) ∙ told
@@ -84,11 +84,11 @@ module _ (t : Tree) (held : Bool) (name : List ℕ) (array : Place) where
 
   pub stale_all : (v : View) → t array ≡ Some v → is_static_array v ≡ true
       → stale_in t held name array ≡ stale_back t held name array (count_in v)
-  stale_all v e is = ap (λ ps. filter (λ p. goes held name (t p)) ps)
+  stale_all v e is = ap (λ ps. filter (λ p. is_stale_item held name (t p)) ps)
       (ap (elements_of array) e ∙ of_view v is)
 
   pub stale_none : (v : View) → t array ≡ Some v → is_static_array v ≡ false → stale_in t held name array ≡ []
-  stale_none v e is = ap (λ ps. filter (λ p. goes held name (t p)) ps)
+  stale_none v e is = ap (λ ps. filter (λ p. is_stale_item held name (t p)) ps)
       (ap (elements_of array) e ∙ of_other v is)
 
 -- ---- tests
@@ -108,7 +108,7 @@ any_next test ps p more e h = ap (list_any test) e ∙ ap (λ b. b || list_any t
 -- a string that begins with the key and a slash goes, where no section holds the key
 pub goes_front : (held : Bool) (name text front : List ℕ) (r : Bool) (v : View) (o : Option View) → o ≡ Some v
     → Some text ≡ string_in v → bytes_eq text name ≡ false → held ≡ false → front ≡ name ++ codes "/"
-    → r ≡ starts_with nat_eq text front → r ≡ goes held name o
+    → r ≡ starts_with nat_eq text front → r ≡ is_stale_item held name o
 goes_front held name text front r v o is said other free begins e =
     e ∙ ap (starts_with nat_eq text) begins
     ∙ sym (ap (λ w. option_map_or (is_stale held name) (option_and_then string_in w) false) is

@@ -5,12 +5,12 @@ use Rattle.std.specs.List.{AllByRecursion, filter, flat_map}
 use Rattle.edit_syntax.specs.Grammar.{Text}
 use Rattle.edit_syntax.proofs.Cases.{by_test}
 use Rattle.edit_tree.specs.Assertions.{Place, key, index, at, same_bytes, assertions}
-use Rattle.edit_tree.specs.IntendedTrees.{moved}
+use Rattle.edit_tree.specs.IntendedTrees.{place_after_removal}
 use Rattle.edit_tree.specs.Tree.{View, string, truth, whole, fractional, moment, static_array, table_array, inline_table, table, view_at}
 use Rattle.edit_document.specs.Items.{viewed, names_in}
 use Rattle.edit_compare.proofs.ApartViews.{apart_view}
 use Rattle.edit_tree.proofs.SamePlace.{same_bytes_is}
-use Rattle.edit_update.specs.Features.{elements_back, elements_of, features, goes, is_plain, stale_in, stale_strings, has_any_optional_entry, is_held}
+use Rattle.edit_update.specs.Features.{elements_back, elements_of, features, is_stale_item, is_plain, stale_in, stale_strings, has_any_optional_entry, has_any_entry}
 use Rattle.edit_update.specs.Removals.{AreInTurn, AreStrings, HasString, IsUnmovedBy}
 use Rattle.edit_manifest.specs.Tables.{Tree, member_names}
 
@@ -77,7 +77,7 @@ other_feature : (f g : List ℕ) (i j : ℕ) → same_bytes f g ≡ false
 other_feature f g i j e = (
   ap (λ b. b && (i == j && true)) e,
   ap (λ b. b && (j == i && true)) (other_name f g e),
-  ap (λ b. key (codes "features") ∷ key g ∷ cond b (moved (index i ∷ []) (index j ∷ [])) (index j ∷ [])) e,
+  ap (λ b. key (codes "features") ∷ key g ∷ cond b (place_after_removal (index i ∷ []) (index j ∷ [])) (index j ∷ [])) e,
 )
 
 not_same : (i j : ℕ) → j < i → (i == j) ≡ false
@@ -96,7 +96,7 @@ later_element f i j lt = by_test (same_bytes f f)
     (λ h. (
       ap (λ b. b && (i == j && true)) h ∙ ap (λ b. b && true) (not_same i j lt),
       ap (λ b. b && (j == i && true)) h ∙ ap (λ b. b && true) (not_same_back i j lt),
-      ap (λ b. key (codes "features") ∷ key f ∷ cond b (moved (index i ∷ []) (index j ∷ [])) (index j ∷ [])) h
+      ap (λ b. key (codes "features") ∷ key f ∷ cond b (place_after_removal (index i ∷ []) (index j ∷ [])) (index j ∷ [])) h
           ∙ ap (λ b. key (codes "features") ∷ key f ∷ index (cond b (j - 1) j) ∷ []) (not_less i j lt),
     ))
     (λ h. other_feature f f i j h)
@@ -174,7 +174,7 @@ module _ (t : Tree) (held : Bool) (name : List ℕ) where
 
   stale_own : (f : List ℕ) → AllByRecursion (IsOf f) (stale_in t held name (of_feature f))
   stale_own f =
-      all_filter (IsOf f) (λ p. goes held name (t p)) (elements_of (of_feature f) (t (of_feature f)))
+      all_filter (IsOf f) (λ p. is_stale_item held name (t p)) (elements_of (of_feature f) (t (of_feature f)))
       (elements_own f (t (of_feature f)))
 
   apart_elements : (f g : List ℕ) → same_bytes f g ≡ false → (p q : Place) → IsOf f p → IsOf g q
@@ -195,14 +195,14 @@ module _ (t : Tree) (held : Bool) (name : List ℕ) where
   names_turn [] d = tt
   names_turn (n ∷ ns) d =
       turn_append (stale_in t held name (of_feature n)) (of_names ns)
-      (turn_filter (λ p. goes held name (t p)) (elements_of (of_feature n) (t (of_feature n)))
+      (turn_filter (λ p. is_stale_item held name (t p)) (elements_of (of_feature n) (t (of_feature n)))
       (elements_in_turn n (t (of_feature n))))
       (names_turn ns d.1)
       (all_weaker (IsOf n) (λ x. AllByRecursion (IsUnmovedBy x) (of_names ns)) (λ q b. behind n q b ns d.0)
       (stale_in t held name (of_feature n)) (stale_own n))
 
   -- what is removed is a string
-  string_goes : (o : Option View) → goes held name o ≡ true → (text : List ℕ) × (o ≡ Some (string text))
+  string_goes : (o : Option View) → is_stale_item held name o ≡ true → (text : List ℕ) × (o ≡ Some (string text))
   string_goes None e = absurd cc
   string_goes (Some (string s)) e = (s, refl)
   string_goes (Some (truth b)) e = absurd cc
@@ -214,13 +214,13 @@ module _ (t : Tree) (held : Bool) (name : List ℕ) where
   string_goes (Some (inline_table ms)) e = absurd cc
   string_goes (Some (table ms)) e = absurd cc
 
-  strings_filter : (ps : List Place) → AreStrings t (filter (λ p. goes held name (t p)) ps)
+  strings_filter : (ps : List Place) → AreStrings t (filter (λ p. is_stale_item held name (t p)) ps)
   strings_filter [] = tt
-  strings_filter (p ∷ ps) = go (goes held name (t p)) refl (strings_filter ps)
+  strings_filter (p ∷ ps) = go (is_stale_item held name (t p)) refl (strings_filter ps)
     where
-      go : (b : Bool) → goes held name (t p) ≡ b → AreStrings t (filter (λ p. goes held name (t p)) ps)
-          → AreStrings t (cond b (p ∷ filter (λ p. goes held name (t p)) ps)
-          (filter (λ p. goes held name (t p)) ps))
+      go : (b : Bool) → is_stale_item held name (t p) ≡ b → AreStrings t (filter (λ p. is_stale_item held name (t p)) ps)
+          → AreStrings t (cond b (p ∷ filter (λ p. is_stale_item held name (t p)) ps)
+          (filter (λ p. is_stale_item held name (t p)) ps))
       go true e rest = (string_goes (t p) e, rest)
       go false e rest = rest
 
@@ -246,10 +246,10 @@ pub stale_turns : (form : Text) (t : Tree) (name : List ℕ) → ((p : Place) �
     → AreInTurn (stale_strings t name)
 stale_turns form t name shows = go (has_any_optional_entry t name) (is_plain (t features))
   where
-    go : (b c : Bool) → AreInTurn (cond b [] (cond c (of_names t (is_held t name) name
+    go : (b c : Bool) → AreInTurn (cond b [] (cond c (of_names t (has_any_entry t name) name
         (member_names (t features))) []))
     go true c = tt
-    go false true = names_turn t (is_held t name) name (member_names (t features))
+    go false true = names_turn t (has_any_entry t name) name (member_names (t features))
         (feature_names form t shows)
     go false false = tt
 
@@ -257,8 +257,8 @@ stale_turns form t name shows = go (has_any_optional_entry t name) (is_plain (t 
 pub stale_are_strings : (t : Tree) (name : List ℕ) → AreStrings t (stale_strings t name)
 stale_are_strings t name = go (has_any_optional_entry t name) (is_plain (t features))
   where
-    go : (b c : Bool) → AreStrings t (cond b [] (cond c (of_names t (is_held t name) name
+    go : (b c : Bool) → AreStrings t (cond b [] (cond c (of_names t (has_any_entry t name) name
         (member_names (t features))) []))
     go true c = tt
-    go false true = names_strings t (is_held t name) name (member_names (t features))
+    go false true = names_strings t (has_any_entry t name) name (member_names (t features))
     go false false = tt

@@ -2,7 +2,7 @@
 use Rattle.std.proofs.Common.{◌≡◌, ℕ, List, Option, Some, sym, ap, ◌∙◌}
 use Rattle.edit_syntax.specs.Grammar.{Text}
 use Rattle.edit_tree.specs.Assertions.{Place}
-use Rattle.edit_tree.specs.IntendedTrees.{Tree, Removed, SameButOrder, same, tables, inline_tables, moved}
+use Rattle.edit_tree.specs.IntendedTrees.{Tree, Removed, SameButOrder, same, tables, inline_tables, place_after_removal}
 use Rattle.edit_tree.specs.Tree.{View, string}
 use Rattle.edit_update.specs.Removals.{HasString, IsUnmovedBy}
 
@@ -16,5 +16,5 @@ pub string_stays : (form : Text) (gone q : Place) (old new : Tree) → Removed f
     → IsUnmovedBy gone q → HasString old q → HasString new q
 string_stays form gone q old new removed out h = (
   h.0,
-  ap new (sym out.2) ∙ same_string (old q) (new (moved gone q)) h.0 h.1 (removed.beside q out.0 out.1),
+  ap new (sym out.2) ∙ same_string (old q) (new (place_after_removal gone q)) h.0 h.1 (removed.beside q out.0 out.1),
 )

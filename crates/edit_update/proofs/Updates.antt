@@ -20,12 +20,12 @@ use Rattle.edit_tree.specs.IntendedTrees.{Tree, HasSet, HasReplaced, Inserted, R
 use Rattle.edit_tree.proofs.EditedDocuments.{inserted_along, removed_along, replaced_along}
 use Rattle.edit_update.specs.FinalValueViews.{final_value_view, final_values_view}
 use Rattle.edit_record.specs.EntryRecords.{EntryRecord, Origin, from_registry, from_path, from_git, from_workspace}
-use Rattle.edit_update.specs.EntryUpdates.{Change, FinalValue, changed_by, changes, ends, has_single_key, removal_of, removes, replaced_by, update_of, writes}
+use Rattle.edit_update.specs.EntryUpdates.{Change, FinalValue, changed_by, changes, final_values_of, has_single_key, removal_of, removes, replaced_by, update_of, writes}
 use Rattle.edit_record.specs.NewEntries.{is_short, item_by, item_of}
 use Rattle.edit_record.specs.ReadEntries.{below}
 use Rattle.edit_record.specs.RecordViews.{item_tree}
 use Rattle.edit_update.specs.UpdatedTexts.{ChangeFails, Changed, HasChanged, IsSame, OneFails, ReadsChanged, ReadsReplaced, changed_text, is_there, update_in}
-use Rattle.edit_update.specs.declared.ends.FinalValue.{FinalValue as WrittenEnd}
+use Rattle.edit_update.specs.declared.final_values.FinalValue.{FinalValue as WrittenEnd}
 use Rattle.edit_syntax.specs.Grammar.{Text}
 
 -- ---- texts
@@ -240,7 +240,7 @@ is_other d form place root r shows is =
 -- or its members change
 is_changed : (d : DocumentViews) (form : Text) (place : Place) (root : List ℕ) (r : EntryRecord) (es : List FinalValue)
     → ShowsTree d form → (is_one_statement form place && has_single_key (tree_of d place)) ≡ false
-    → es ≡ ends (below (tree_of d) place) root r → update_in form place root r ≡ changed_by (changes es)
+    → es ≡ final_values_of (below (tree_of d) place) root r → update_in form place root r ≡ changed_by (changes es)
 is_changed d form place root r es shows is same =
     ap (λ t. update_of t (is_one_statement form place) root r) (sym (entry_tree d form place shows))
     ∙ rw (ap (λ p. is_one_statement form place && has_single_key (tree_of d p)) (append-nil place) ∙ is) refl
@@ -248,10 +248,10 @@ is_changed d form place root r es shows is same =
 
 -- the final values for an item's tree are those for the entry's place
 entry_ends : (i : Item) (d : DocumentViews) (place : Place) (root : List ℕ) (r : EntryRecord) (es : List FinalValue)
-    → document_of i ≡ d → place_of i ≡ place → es ≡ ends (item_tree i) root r
-    → es ≡ ends (below (tree_of d) place) root r
+    → document_of i ≡ d → place_of i ≡ place → es ≡ final_values_of (item_tree i) root r
+    → es ≡ final_values_of (below (tree_of d) place) root r
 entry_ends i d place root r es same there is =
-    is ∙ ap (λ t. ends t root r) (λ j. below (tree_of (same j)) (there j))
+    is ∙ ap (λ t. final_values_of t root r) (λ j. below (tree_of (same j)) (there j))
 
 -- an item at the place decides whether another entry comes there
 decided : (d : DocumentViews) (form : Text) (place : Place) (v : Option View) (b c : Bool)
@@ -271,7 +271,7 @@ item_other d form place root r v b shows here is same =
 pub item_changed : (i : Item) (d : DocumentViews) (form : Text) (place : Place) (root : List ℕ) (r : EntryRecord)
     (es : List FinalValue)
     (v : Option View) (b : Bool)
-    → ShowsTree d form → document_of i ≡ d → place_of i ≡ place → es ≡ ends (item_tree i) root r
+    → ShowsTree d form → document_of i ≡ d → place_of i ≡ place → es ≡ final_values_of (item_tree i) root r
     → tree_of d place ≡ v → b ≡ (is_one_statement form place && has_single_key v) → b ≡ false
     → update_in form place root r ≡ changed_by (changes es)
 item_changed i d form place root r es v b shows same there ends_are here is fails =

@@ -7,7 +7,7 @@ use Rattle.edit_document.specs.Items.{count_in, is_string, is_tabular}
 use Rattle.edit_tree.specs.NewItems.{NewValue, a_string, a_truth, a_list, NewItem}
 use Rattle.edit_tree.specs.Tree.{View}
 use Rattle.edit_record.specs.EachOnce.{each_once}
-use Rattle.edit_record.specs.EntryRecords.{EntryRecord, Origin, from_registry, from_path, from_git, from_workspace, Refusal, origin_version}
+use Rattle.edit_record.specs.EntryRecords.{EntryRecord, Origin, from_registry, from_path, from_git, from_workspace, EntryError, origin_version}
 use Rattle.edit_record.specs.NewEntries.{item_of, written_name}
 use Rattle.edit_record.specs.ReadEntries.{Tree, member_in, features_at}
 use Rattle.edit_record.specs.RelativePaths.{path_field}
@@ -68,7 +68,7 @@ package_value (Some name) origin = (codes "package", Some (a_string name)) ∷ [
 package_value None origin = workspace_removal (codes "package") origin
 
 -- a list of strings that was read; empty where it is absent or malformed (own)
-abbrev pub texts_or_none : Result (Option (List (List ℕ))) Refusal → List (List ℕ)
+abbrev pub texts_or_none : Result (Option (List (List ℕ))) EntryError → List (List ℕ)
 texts_or_none (Ok (Some ss)) = ss
 texts_or_none other = []
 
@@ -77,8 +77,8 @@ abbrev pub joined_features : Tree → List (List ℕ) → NewValue
 joined_features t new = a_list (each_once (texts_or_none (features_at t []) ++ new))
 
 -- the keys of an entry with their final values, in their order; any other key is unchanged (own)
-abbrev pub ends : Tree → List ℕ → EntryRecord → List FinalValue
-ends t root r =
+abbrev pub final_values_of : Tree → List ℕ → EntryRecord → List FinalValue
+final_values_of t root r =
     all_source_values root r.origin
     ++ (workspace_removal (codes "registry-index") r.origin
     ++ ((codes "registry", if ends_with_version t r.origin then option_map a_string r.registry else None)
@@ -121,4 +121,4 @@ has_single_key (Some v) = is_string v || (is_tabular v && (count_in v == 1))
 -- defines it (`one`), and any other entry is edited key by key (own)
 abbrev pub update_of : Tree → Bool → List ℕ → EntryRecord → Update
 update_of t one root r =
-    if one && has_single_key (t []) then replaced_by (item_of root r) else changed_by (changes (ends t root r))
+    if one && has_single_key (t []) then replaced_by (item_of root r) else changed_by (changes (final_values_of t root r))

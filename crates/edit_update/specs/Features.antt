@@ -12,7 +12,7 @@ use Rattle.edit_document.specs.Items.{string_in, truth_in}
 use Rattle.edit_tree.specs.DocumentViews.{DocumentViews, tree_of}
 use Rattle.edit_tree.specs.Tree.{View, static_array, table}
 use Rattle.edit_update.specs.Removals.{HasFailedRemoval}
-use Rattle.edit_manifest.specs.Tables.{Tree, dependency_tables, keyed, member_names}
+use Rattle.edit_manifest.specs.Tables.{Tree, dependency_tables, place_of_keys, member_names}
 
 -- ---- dependency tables of the package
 
@@ -32,8 +32,8 @@ abbrev pub is_section : Tree → Place → Bool
 is_section t place = not (is_in_workspace place) && is_plain (t place)
 
 -- the dependency table belongs to the package itself and has this key
-abbrev pub holds : Tree → List ℕ → Place → Bool
-holds t name place = is_section t place && is_some (t (at place (key name)))
+abbrev pub has_section_entry : Tree → List ℕ → Place → Bool
+has_section_entry t name place = is_section t place && is_some (t (at place (key name)))
 
 -- the dependency table belongs to the package itself and has an optional entry of this key: its `optional`
 -- is true
@@ -42,8 +42,8 @@ has_optional_entry t name place = is_section t place
     && unwrap_or (option_and_then truth_in (t (at (at place (key name)) (key (codes "optional"))))) false
 
 -- some dependency table of the package has this key
-abbrev pub is_held : Tree → List ℕ → Bool
-is_held t name = list_any (holds t name) (dependency_tables t)
+abbrev pub has_any_entry : Tree → List ℕ → Bool
+has_any_entry t name = list_any (has_section_entry t name) (dependency_tables t)
 
 -- some dependency table of the package has an optional entry of this key
 abbrev pub has_any_optional_entry : Tree → List ℕ → Bool
@@ -53,7 +53,7 @@ has_any_optional_entry t name = list_any (has_optional_entry t name) (dependency
 
 -- `features`
 abbrev pub features : Place
-features = keyed (codes "features" ∷ [])
+features = place_of_keys (codes "features" ∷ [])
 
 -- the places of the first `n` elements of an array, the last one first
 abbrev pub elements_back : Place → ℕ → List Place
@@ -72,12 +72,12 @@ is_stale held name text =
     bytes_eq text name || (not held && starts_with nat_eq text (name ++ codes "/"))
 
 -- the item is a string that refers to the removed dependency
-abbrev pub goes : Bool → List ℕ → Option View → Bool
-goes held name view = option_map_or (is_stale held name) (option_and_then string_in view) false
+abbrev pub is_stale_item : Bool → List ℕ → Option View → Bool
+is_stale_item held name view = option_map_or (is_stale held name) (option_and_then string_in view) false
 
 -- the places of the elements of an array that refer to the removed dependency, the last one first
 abbrev pub stale_in : Tree → Bool → List ℕ → Place → List Place
-stale_in t held name array = filter (λ p. goes held name (t p)) (elements_of array (t array))
+stale_in t held name array = filter (λ p. is_stale_item held name (t p)) (elements_of array (t array))
 
 -- the places of such elements of all features, feature by feature, if `features` is a table that is not
 -- inline
@@ -89,7 +89,7 @@ stale_in_features t held name =
 -- The places of the elements to remove, in the order of removal: none if some dependency table of the
 -- package has an optional entry of this key.
 abbrev pub stale_strings : Tree → List ℕ → List Place
-stale_strings t name = if has_any_optional_entry t name then [] else stale_in_features t (is_held t name) name
+stale_strings t name = if has_any_optional_entry t name then [] else stale_in_features t (has_any_entry t name) name
 
 -- the errors: lack of memory, or one of the elements cannot be removed
 abbrev pub IsFeatureError : List ℕ → DocumentViews → Error → Type 0

@@ -2,7 +2,7 @@
 use Rattle.std.specs.Prelude.{List, map, option_map}
 use Rattle.edit_document.specs.NewItemViews.{new_value_view}
 use Rattle.edit_update.specs.EntryUpdates.{FinalValue}
-use Rattle.edit_update.specs.declared.ends.FinalValue.{FinalValue as WrittenEnd}
+use Rattle.edit_update.specs.declared.final_values.FinalValue.{FinalValue as WrittenEnd}
 
 -- the model of a key with its final value (own)
 abbrev pub final_value_view : WrittenEnd → FinalValue

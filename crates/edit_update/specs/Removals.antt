@@ -3,7 +3,7 @@ use Rattle.std.specs.Prelude.{◌≡◌, ℕ, false, List, [], ◌∷◌, ◌++�
 use Rattle.std.specs.List.{AllByRecursion}
 use Rattle.edit_tree.specs.Assertions.{IsDocument, Place}
 use Rattle.edit_tree.specs.EditBytes.{is_within}
-use Rattle.edit_tree.specs.IntendedTrees.{Tree, Removed, RemoveFails, moved}
+use Rattle.edit_tree.specs.IntendedTrees.{Tree, Removed, RemoveFails, place_after_removal}
 use Rattle.edit_tree.specs.RemovedBytes.{removed_text}
 use Rattle.edit_tree.specs.Tree.{string, view_at}
 use Rattle.edit_syntax.specs.Grammar.{Text}
@@ -40,7 +40,7 @@ AreStrings t places = AllByRecursion (HasString t) places
 -- removed
 abbrev pub IsUnmovedBy : Place → Place → Type 0
 IsUnmovedBy gone place =
-    (is_within gone place ≡ false) × (is_within place gone ≡ false) × (moved gone place ≡ place)
+    (is_within gone place ≡ false) × (is_within place gone ≡ false) × (place_after_removal gone place ≡ place)
 
 -- each of these places is unchanged after those before it are removed
 abbrev pub AreInTurn : List Place → Type 0

@@ -9,7 +9,7 @@ use Rattle.edit_tree.specs.DocumentViews.{DocumentViews, tree_of}
 use Rattle.edit_tree.specs.Tree.{View, table, inline_table, view_at}
 use Rattle.edit_syntax.specs.Grammar.{Text}
 use Rattle.edit_update.specs.Removals.{IsTextWithout, HasFailedRemoval}
-use Rattle.edit_manifest.specs.Tables.{Tree, is_table_like, keyed}
+use Rattle.edit_manifest.specs.Tables.{Tree, is_table_like, place_of_keys}
 
 -- ---- tables
 
@@ -25,7 +25,7 @@ missing_table t path = missing_below t [] path
 
 -- the place of an entry in the table of a path
 abbrev pub entry_of : List (List ℕ) → List ℕ → Place
-entry_of path name = at (keyed path) (key name)
+entry_of path name = at (place_of_keys path) (key name)
 
 -- an empty table or inline table
 abbrev pub is_empty_table : Option View → Bool
@@ -48,7 +48,7 @@ pub record RemovesEntry (path : List (List ℕ)) (name : List ℕ) (old new : Do
   pub entry : IsTextWithout (entry_of path name ∷ []) old.bytes between
   pub form : Text
   pub reads : IsDocument between form
-  pub emptied : IsTextWithout (empty_table_place (view_at form) (keyed path)) between new.bytes
+  pub emptied : IsTextWithout (empty_table_place (view_at form) (place_of_keys path)) between new.bytes
 
 -- ---- errors
 
@@ -56,7 +56,7 @@ pub record RemovesEntry (path : List (List ℕ)) (name : List ℕ) (old new : Do
 pub data HasFailedEntryRemoval (path : List (List ℕ)) (name : List ℕ) (old : List ℕ) : Type 0 where
   entry_stays : HasFailedRemoval (entry_of path name ∷ []) old → HasFailedEntryRemoval path name old
   table_stays : (between : List ℕ) (form : Text) → IsTextWithout (entry_of path name ∷ []) old between
-      → IsDocument between form → HasFailedRemoval (empty_table_place (view_at form) (keyed path)) between
+      → IsDocument between form → HasFailedRemoval (empty_table_place (view_at form) (place_of_keys path)) between
       → HasFailedEntryRemoval path name old
 
 -- the error is `NoTable` with this key

@@ -6,16 +6,16 @@ ghost use Rattle.edit_tree.specs.Assertions.{Place as PlaceSeen, at, index as in
 ghost use Rattle.edit_document.specs.ItemViews.{Finds};
 ghost use Rattle.edit_document.specs.Items.{place_view};
 ghost use Rattle.edit_tree.specs.DocumentViews.{DocumentViews, tree_of};
-ghost use Rattle.edit_update.specs.Features.{IsFeatureError, goes, holds, is_held, is_in_workspace, has_any_optional_entry, is_plain, is_section, has_optional_entry, stale_in, stale_in_features, stale_strings};
+ghost use Rattle.edit_update.specs.Features.{IsFeatureError, is_stale_item, has_section_entry, has_any_entry, is_in_workspace, has_any_optional_entry, is_plain, is_section, has_optional_entry, stale_in, stale_in_features, stale_strings};
 ghost use Rattle.edit_manifest.specs.Places.{places_view};
 ghost use Rattle.edit_update.specs.Removals.{AreInTurn, AreStrings, HasFailedRemoval, IsTextWithout};
 ghost use Rattle.edit_manifest.specs.Tables.{dependency_tables};
 
 use edit_base::errors::CargoResult;
 use edit_changes::DocumentExt;
-use edit_document::{Document, Item, Place, Step, copied_place, member_place};
+use edit_document::{Document, Item, Place, Step, clone_place, member_place};
 use edit_manifest::dependency_tables;
-use edit_manifest::ways::{item_below, place_of};
+use edit_manifest::key_places::{item_below, place_of};
 use std::alloc::Global;
 
 /// Whether an item is a table that is not an inline table.
@@ -48,8 +48,8 @@ fn is_section(document: &Document, place: &[Step]) -> bool
 }
 
 /// Whether the dependency table at a place belongs to the package itself and has this key.
-fn holds(document: &Document, place: &[Step], name: &str) -> bool
-    ensures { result ≡ holds (tree_of document.now) name.now (place_view place.now) }
+fn has_section_entry(document: &Document, place: &[Step], name: &str) -> bool
+    ensures { result ≡ has_section_entry (tree_of document.now) name.now (place_view place.now) }
 {
     is_section(document, place) && item_below(document, document.item(place), name).is_some()
 }
@@ -70,12 +70,12 @@ fn has_optional_entry(document: &Document, place: &[Step], name: &str) -> bool
 }
 
 /// Whether some dependency table of the package has this key.
-fn is_held(document: &Document, tables: &[Place], name: &str) -> bool
+fn has_any_entry(document: &Document, tables: &[Place], name: &str) -> bool
     requires tables { places_view tables.now ≡ dependency_tables (tree_of document.now) }
-    ensures { result ≡ is_held (tree_of document.now) name.now }
+    ensures { result ≡ has_any_entry (tree_of document.now) name.now }
 {
     'tables: for table in tables {
-        if holds(document, table, name) {
+        if has_section_entry(document, table, name) {
             return true;
         }
     }
@@ -106,9 +106,9 @@ struct RemovedDependency<'a> {
 }
 
 /// Whether an element of a feature refers to the removed dependency.
-fn goes(item: Option<Item>, gone: RemovedDependency) -> bool
+fn is_stale_item(item: Option<Item>, gone: RemovedDependency) -> bool
     ensures { (d : DocumentViews) → (place : PlaceSeen) → Finds d place item.entry
-        → result ≡ goes gone.entry.is_held gone.entry.name.now (tree_of d place) }
+        → result ≡ is_stale_item gone.entry.is_held gone.entry.name.now (tree_of d place) }
 {
     let Some(item) = item else {
         return false;
@@ -124,7 +124,7 @@ fn element_place(alloc: Global, array: &[Step], index: usize) -> CargoResult<Pla
     ensures ok { IfOk result (λ p. place_view p.items ≡ at (place_view array.now) (index_step index)) }
     ensures error { IfErr result IsMemory }
 {
-    let mut place = copied_place(alloc, array)?;
+    let mut place = clone_place(alloc, array)?;
     place.push(Step::Index(index))?;
     Ok(place)
 }
@@ -150,7 +150,7 @@ fn push_stale(
     let mut left = elements.len();
     'elements: while left > 0 {
         left -= 1;
-        if goes(elements.at(left), gone) {
+        if is_stale_item(elements.at(left), gone) {
             let place = element_place(alloc, array, left)?;
             places.push(place)?;
         }
@@ -197,13 +197,13 @@ fn stale_strings(alloc: Global, document: &Document, name: &str) -> CargoResult<
     let gone = RemovedDependency {
         name,
         front: front.as_str(),
-        is_held: is_held(document, &tables, name),
+        is_held: has_any_entry(document, &tables, name),
     };
     stale_in_features(alloc, document, gone)
 }
 
 /// Removes the strings at these places from a copy of the document, one after the other.
-fn without(alloc: Global, document: &Document, places: &[Place]) -> CargoResult<Document>
+fn remove_strings(alloc: Global, document: &Document, places: &[Place]) -> CargoResult<Document>
     requires strings { AreStrings (tree_of document.now) (places_view places.now) }
     requires apart { AreInTurn (places_view places.now) }
     ensures without { IfOk result (λ d. IsTextWithout (places_view places.now) document.now.bytes d.bytes) }
@@ -231,5 +231,5 @@ pub(crate) fn remove_features(
 {
     document.lemma_form();
     let places = stale_strings(alloc, document, name)?;
-    without(alloc, document, &places)
+    remove_strings(alloc, document, &places)
 }

@@ -9,7 +9,7 @@ ghost use Rattle.edit_update.specs.EntryUpdates.{joined_features, texts_or_none}
 
 use edit_base::errors::{CargoResult, Error};
 use edit_document::{Item, NewValue};
-use edit_record::dependency::{features_at, joined};
+use edit_record::dependency::{features_at, append_texts};
 use std::alloc::{AllocError, Global};
 use std::collections::BTreeSet;
 
@@ -56,6 +56,6 @@ pub(crate) fn joined_features(
     ensures error { IfErr result IsMemory }
 {
     let old = old_features(alloc, entry)?;
-    let all = joined(old, new.clone()?)?;
+    let all = append_texts(old, new.clone()?)?;
     Ok(NewValue::Strings(remove_duplicates(alloc, &all)?))
 }

@@ -1,7 +1,7 @@
 //! Updates entries from dependencies, and removes entries and features from a manifest.
 #![tactic(auto)]
 
-mod ends;
+mod final_values;
 mod features;
 mod joined_features;
 mod manifest_ext;

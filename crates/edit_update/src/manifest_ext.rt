@@ -6,7 +6,7 @@ ghost use Rattle.edit_update.specs.Removals.{IsTextWithout};
 ghost use Rattle.edit_update.specs.RemovedEntries.{IsEntryRemovalError, RemovesEntry, entry_of};
 
 use crate::features::remove_features;
-use crate::remove::taken_out;
+use crate::remove::remove_table_entry;
 use edit_base::errors::CargoResult;
 use edit_manifest::Manifest;
 use std::alloc::Global;
@@ -46,7 +46,7 @@ impl ManifestExt for Manifest {
         ensures error { IfErr result
             (IsEntryRemovalError (map string_bytes table_path.now) name.now self.old.document) }
     {
-        let document = taken_out(alloc, &self.document, table_path, name)?;
+        let document = remove_table_entry(alloc, &self.document, table_path, name)?;
         self.document = document;
         Ok(())
     }

@@ -8,12 +8,12 @@ ghost use Rattle.edit_document.specs.Items.{place_view};
 ghost use Rattle.edit_tree.specs.DocumentViews.{DocumentViews, tree_of};
 ghost use Rattle.edit_update.specs.Removals.{HasFailedRemoval, IsTextWithout};
 ghost use Rattle.edit_update.specs.RemovedEntries.{IsEntryRemovalError, NamesEntry, NamesStep, RemovesEntry, empty_table_place, entry_of, is_empty_table, missing_table};
-ghost use Rattle.edit_manifest.specs.Tables.{is_table_like, keyed};
+ghost use Rattle.edit_manifest.specs.Tables.{is_table_like, place_of_keys};
 
 use edit_base::errors::{CargoResult, Error};
 use edit_changes::DocumentExt;
 use edit_document::{Document, Item, Place, Step, member_place};
-use edit_manifest::ways::item_below;
+use edit_manifest::key_places::item_below;
 use std::alloc::{AllocError, Global};
 
 /// Whether an item is a table or an inline table.
@@ -44,7 +44,7 @@ fn missing_table<'p>(document: &Document, table_path: &'p [String]) -> Option<&'
 
 /// The place that these keys lead to from the root.
 fn path_place(alloc: Global, table_path: &[String]) -> Result<Place, AllocError>
-    ensures ok { IfOk result (λ p. place_view p.items ≡ keyed (map string_bytes table_path.now)) }
+    ensures ok { IfOk result (λ p. place_view p.items ≡ place_of_keys (map string_bytes table_path.now)) }
 {
     let mut place = Vec::with_capacity(alloc, table_path.len())?;
     'steps: for step in table_path {
@@ -82,7 +82,7 @@ fn remove_empty_table(alloc: Global, document: &mut Document, table: &[Step]) ->
     ensures without { OnOk result (IsTextWithout (empty_table_place (tree_of document.old) (place_view table.now))
         document.old.bytes document.new.bytes) }
     ensures gone { OnOk result ((path : List (List ℕ)) → (name : List ℕ)
-        → place_view table.now ≡ keyed path
+        → place_view table.now ≡ place_of_keys path
         → tree_of document.old (at (place_view table.now) (key name)) ≡ None
         → tree_of document.new (at (place_view table.now) (key name)) ≡ None) }
     ensures error { IfErr result (λ e. IsMemory e ⊎ ((e ≡ EditRefused)
@@ -112,7 +112,7 @@ fn is_empty_table(item: Option<Item>) -> bool
 }
 
 /// Removes an entry from a table in a copy of the document, and the table too if that leaves it empty.
-pub(crate) fn taken_out(
+pub(crate) fn remove_table_entry(
     alloc: Global,
     document: &Document,
     table_path: &[String],

@@ -14,7 +14,7 @@ ghost use Rattle.edit_update.specs.EntryUpdates.{has_single_key, removal_of, rem
 ghost use Rattle.edit_record.specs.RecordViews.{record_view};
 ghost use Rattle.edit_update.specs.UpdatedTexts.{ChangeFails, Changed, HasChanged, OneFails, Updated, UpdateFails, changed_text};
 
-use crate::ends::{FinalValue, ends};
+use crate::final_values::{FinalValue, final_values_of};
 use edit_base::errors::CargoResult;
 use edit_changes::DocumentExt;
 use edit_document::{Document, Item, NewValue, Step, member_place};
@@ -156,7 +156,7 @@ fn update_copy(
         document.lemma_form();
         return Ok(());
     }
-    let ends = ends(dependency, alloc, crate_root, item)?;
+    let ends = final_values_of(dependency, alloc, crate_root, item)?;
     write_members(alloc, document, entry, ends.as_slice())?;
     remove_members(alloc, document, entry, ends.as_slice())
 }

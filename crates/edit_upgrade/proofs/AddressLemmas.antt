@@ -11,7 +11,7 @@ use Rattle.edit_sources.specs.Definitions.{Defines}
 use Rattle.edit_sources.specs.declared.config.Config.{Config}
 use Rattle.edit_sources.specs.declared.registry.definitions.Definitions.{Definitions}
 use Rattle.url.specs.Parts as url
-use Rattle.edit_upgrade.specs.Addresses.{AreAddresses, is_named, url_at}
+use Rattle.edit_upgrade.specs.Addresses.{AreAddresses, is_same_registry, url_at}
 use Rattle.edit_upgrade.specs.declared.addresses.Addresses.{Addresses}
 
 none_some : {A : Type 0} (a : A) → None ≡ Some a → ⊥
@@ -23,7 +23,7 @@ some_one a b h = cc
 false_true : false ≡ true → ⊥
 false_true h = cc
 
-same_name : (a b : Option (List ℕ)) → is_named a b ≡ true → a ≡ b
+same_name : (a b : Option (List ℕ)) → is_same_registry a b ≡ true → a ≡ b
 same_name None None h = refl
 same_name None (Some b) h = absurd (false_true h)
 same_name (Some a) None h = absurd (false_true h)
@@ -67,13 +67,13 @@ pub one_resolved : (configs : List Config) (registry : Option (List ℕ)) (given
     → mid.default ≡ old.default → mid.named ≡ old.named
     → new.configs ≡ mid.configs → new.definitions ≡ mid.definitions
     → ((named : Option (List ℕ)) → url_at new named
-    ≡ (if is_named registry named then Some given else url_at mid named))
+    ≡ (if is_same_registry registry named then Some given else url_at mid named))
     → HasAddress configs registry given → AreAddresses configs new
 one_resolved configs registry given old mid new are first defines default named next same kept has = record {
   own = ap (λ (b : Bor (List Config)). b.now) (next ∙ first) ∙ are.own;
   defines = subst (λ (d : Option Definitions). IfSome d (Defines configs)) (sym same) defines;
   has = λ name address h. one_more configs registry name given address (url_at mid name)
-      (is_named registry name) (same_name registry name) has
+      (is_same_registry registry name) (same_name registry name) has
       (λ before. are.has name address (sym (same_urls old mid default named name) ∙ before))
       (sym (kept name) ∙ h);
 }

@@ -5,7 +5,7 @@ use Rattle.std.specs.List.{filter}
 use Rattle.std.specs.Str.{bytes_eq}
 use Rattle.edit_metadata.specs.Workspaces.{package_view, packages_view}
 use Rattle.edit_metadata.specs.declared.workspace.Package.{Package}
-use Rattle.edit_upgrade.specs.UpdateCalls.{named}
+use Rattle.edit_upgrade.specs.UpdateCalls.{packages_named}
 
 cond-filter : {A B : Type 0} (f : A → B) (b : Bool) (x : A) (xs : List A) (ys : List B) → map f xs ≡ ys
     → map f (cond b (x ∷ xs) xs) ≡ cond b (f x ∷ ys) ys
@@ -22,5 +22,5 @@ map-filter f p (x ∷ xs) =
 -- the packages of a name, as what is said of them
 pub group-said : (name : List ℕ) (packages : List Package)
     → packages_view (filter (λ p. bytes_eq name (string_bytes p.name)) packages)
-    ≡ named name (packages_view packages)
+    ≡ packages_named name (packages_view packages)
 group-said name packages = map-filter package_view (λ p. bytes_eq name p.name) packages

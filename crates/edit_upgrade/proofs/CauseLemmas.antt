@@ -15,8 +15,8 @@ use Rattle.edit_upgrade.specs.Looks.{CachedAnswers}
 use Rattle.edit_report.specs.declared.row.Row.{Row}
 use Rattle.edit_upgrade.specs.Drafts.{ArePlanned}
 use Rattle.edit_upgrade.specs.Lines.{line_of}
-use Rattle.edit_upgrade.specs.Lists.{Told}
-use Rattle.edit_upgrade.specs.Records.{seen}
+use Rattle.edit_upgrade.specs.Lists.{WarningView}
+use Rattle.edit_upgrade.specs.Records.{row_entries}
 use Rattle.edit_upgrade.specs.Rows.{Line}
 use Rattle.edit_upgrade.specs.Upgraded.{IsNeeded}
 use Rattle.edit_upgrade.specs.declared.decision.options.Options.{Options}
@@ -47,7 +47,7 @@ bad-from Needed own bytes was now next e left h = record {
 
 -- a plan of inputs at one of them, before which others were planned
 module _ {o : Options} {inputs : List Input} {configs : List (Vec Config)} {k : ℕ} {x : Input}
-    {own : Vec Config} {here : List Config} {ls : List Line} {os : List Output} {ts : List Told}
+    {own : Vec Config} {here : List Config} {ls : List Line} {os : List Output} {ts : List WarningView}
     (was now next : CacheView) (e : Error) (at : IsInputAt inputs configs k x own here)
     (p : ArePlanned o now.kept (take k inputs) (take k configs) ls os ts)
     (left : LeavesCache (IsNeeded inputs configs) was now) (stays : Stays now.kept next.kept) where
@@ -60,7 +60,7 @@ module _ {o : Options} {inputs : List Input} {configs : List (Vec Config)} {k : 
       record {
         form = q.form;
         manifest = q.manifest;
-        passed = passed-stays d.items now.kept next.kept (seen (view_at q.form)) stays q.passed;
+        passed = passed-stays d.items now.kept next.kept (row_entries (view_at q.form)) stays q.passed;
       })
 
   stops-here : (Stops : List Config → List ℕ → Type 0) → Stops own.items x.bytes.items
@@ -95,7 +95,7 @@ module _ {o : Options} {inputs : List Input} {configs : List (Vec Config)} {k : 
       (inr (entry-here bad))
 
 -- memory ran out after all inputs were planned
-pub finish-refused : {o : Options} {kept : CachedAnswers} {ls : List Line} {os : List Output} {ts : List Told}
+pub finish-refused : {o : Options} {kept : CachedAnswers} {ls : List Line} {os : List Output} {ts : List WarningView}
     (inputs : List Input) (configs : List (Vec Config)) (was next : CacheView) (e : Error)
     → ArePlanned o kept inputs configs ls os ts → length configs ≡ length inputs → (ls ≡ [] → ⊥)
     → All (λ (x : Input). IsUtf8 x.bytes.items) inputs → IsMemory e

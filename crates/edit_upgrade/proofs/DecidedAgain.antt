@@ -8,7 +8,7 @@ use Rattle.semver.specs.Grammar.{IsValid}
 use Rattle.semver.specs.Parse.{Held, Parts, req_of}
 use Rattle.semver.specs.declared.Op.{Op}
 use Rattle.edit_version.specs.Laws.{HasSameOperators}
-use Rattle.edit_version.specs.Requirement.{Nothing, UpgradeResult, Text, Unread, Unsupported, raise}
+use Rattle.edit_version.specs.Requirement.{Nothing, UpgradeResult, Text, Unread, Unsupported, upgrade_of}
 use Rattle.edit_version.specs.Selection.{IsCompatible, IsLatest, is_admitted, is_offered}
 use Rattle.edit_version.proofs.Orders.{greatest-has, greatest-same}
 use Rattle.edit_version.proofs.Outcomes.{form-of, text-outcome, valid-version}
@@ -128,7 +128,7 @@ self-none o r m old near far b h g =
 -- after the compatible version was written, no later one that is not too low is
 for-compatible : (o : Options) (r m : Bool) (xs : List Parts) (old t : List ℕ) (u : Parts)
     (far0 far : Option Parts) → All IsValid xs
-    → raise old u ≡ Text t → IsCompatible old xs (Some u) → IsLatest old xs far0
+    → upgrade_of old u ≡ Text t → IsCompatible old xs (Some u) → IsLatest old xs far0
     → far_for m old far0 (Some u) ≡ None → IsLatest t xs far
     → some_if (jump o r t) (far_for m t far (Some u)) ≡ None
 for-compatible o r m xs old t u far0 far all raised near islatest none isfar =
@@ -145,7 +145,7 @@ for-compatible o r m xs old t u far0 far all raised near islatest none isfar =
 -- the compatible version was written
 compatible-row : (o : Options) (r m : Bool) (xs : List Parts) (old t : List ℕ) (u : Parts)
     (far0 near far : Option Parts) (raised : UpgradeResult)
-    → All IsValid xs → is_ok (req_of old) ≡ true → raise old u ≡ raised → text_or old raised ≡ Some t
+    → All IsValid xs → is_ok (req_of old) ≡ true → upgrade_of old u ≡ raised → text_or old raised ≡ Some t
     → IsCompatible old xs (Some u) → IsLatest old xs far0
     → some_if (jump o r old) (far_for m old far0 (Some u)) ≡ None
     → some_if o.compatible (near_text old (Some u)) ≡ Some t
@@ -168,7 +168,7 @@ compatible-row o r m xs old t u far0 near far
     ∙ ap (λ (x : List ℕ). Some x) (sym same)))
 compatible-row o r m xs old t u far0 near far (Text s) all b e h iscomp islatest none some isnear isfar =
     let same : s ≡ t = cc h in
-    let raised : raise old u ≡ Text t = e ∙ ap Text same in
+    let raised : upgrade_of old u ≡ Text t = e ∙ ap Text same in
     let c = compatible-near xs old t u near all raised iscomp isnear in
     let valid = greatest-has IsValid (is_admitted old) xs u all iscomp in
     let pins = pin-same old t (form-of old u t (valid-version u valid) (text-outcome old u t raised)).0 in
@@ -208,7 +208,7 @@ rows o false r m xs old near0 far0 near far true None (Some t) all iscomp islate
     let none = subst (λ (y : Option Parts). some_if (jump o r old) (far_for m old far0 y) ≡ None) n.1 q in
     let some = subst (λ (y : Option Parts). some_if o.compatible (near_text old y) ≡ Some t) n.1 s in
     compatible-row o r m xs old t n.0 far0 near far
-    (raise old n.0) all p refl n.2 first islatest none some isnear isfar
+    (upgrade_of old n.0) all p refl n.2 first islatest none some isnear isfar
 rows o false r m xs old near0 far0 near far true None None all iscomp islatest p q s isnear isfar =
     let n : near ≡ near0 = greatest-same (is_admitted old) xs near near0 isnear iscomp in
     let f : far ≡ far0 = greatest-same (is_offered old) xs far far0 isfar islatest in

@@ -18,10 +18,10 @@ use Rattle.edit_version.specs.RustVersions.{numbers_of}
 use Rattle.edit_upgrade.specs.Drafts.{ArePlanned, IsPathAmong, IsPlanned, lines_on, outputs_on, warnings_among}
 use Rattle.edit_metadata.specs.Inputs.{path_of}
 use Rattle.edit_upgrade.specs.Inputs.{below, output_path}
-use Rattle.edit_upgrade.specs.Lists.{Told}
+use Rattle.edit_upgrade.specs.Lists.{WarningView}
 use Rattle.edit_upgrade.specs.Looked.{Stays}
 use Rattle.edit_upgrade.specs.Looks.{CachedAnswers}
-use Rattle.edit_upgrade.specs.Records.{seen}
+use Rattle.edit_upgrade.specs.Records.{row_entries}
 use Rattle.edit_upgrade.specs.Rows.{Line}
 use Rattle.edit_upgrade.specs.declared.decision.options.Options.{Options}
 use Rattle.edit_upgrade.proofs.Bytes.{apart-false, same-refl}
@@ -31,13 +31,13 @@ use Rattle.edit_upgrade.proofs.WalkLemmas.{passed-stays, rows-stay}
 
 -- what is planned of an input stays, where more answers are kept
 planned-stays : (i : ℕ) (o : Options) (x : Input) (configs : List Config) (now next : CachedAnswers)
-    (ls : List Line) (os : List Output) (ts : List Told)
+    (ls : List Line) (os : List Output) (ts : List WarningView)
     → Stays now next → IsPlanned i o x configs now ls os ts → IsPlanned i o x configs next ls os ts
 planned-stays i o x configs now next ls os ts stays p = record {
   form = p.form;
   manifest = p.manifest;
-  passed = passed-stays configs now next (seen (view_at p.form)) stays p.passed;
-  decided = rows-stay i o (option_map numbers_of x.rust_version) configs now next (seen (view_at p.form))
+  passed = passed-stays configs now next (row_entries (view_at p.form)) stays p.passed;
+  decided = rows-stay i o (option_map numbers_of x.rust_version) configs now next (row_entries (view_at p.form))
       ls stays p.passed p.decided;
   writes = p.writes;
   warned = p.warned;
@@ -131,15 +131,15 @@ has_some os path = not (length (outputs_on path os) == 0)
 -- the rows, outputs and warnings of inputs with one more
 module _ (o : Options) (now next : CachedAnswers) (xs : List Input) (cs : List (Vec Config)) (ls lines : List Line)
     (os outputs : List Output)
-    (ts told : List Told) (x : Input) (own : Vec Config) (stays : Stays now next)
+    (ts told : List WarningView) (x : Input) (own : Vec Config) (stays : Stays now next)
     (p : ArePlanned o now xs cs ls os ts)
     (one : IsPlanned (length xs) o x own.items next lines outputs told) (long : length cs ≡ length xs)
     (new : (j : ℕ) (y : Input) → slice_get xs j ≡ Some y → path_of y ≢ path_of x) where
   rows-own : All (λ (l : Line). l.input ≡ length xs) lines
   rows-own = decided-inputs (length xs) o (option_map numbers_of x.rust_version) own.items next
-      (seen (view_at one.form)) lines one.decided
+      (row_entries (view_at one.form)) lines one.decided
 
-  told-own : All (λ (t : Told). t.input ≡ length xs) told
+  told-own : All (λ (t : WarningView). t.input ≡ length xs) told
   told-own = warned-inputs o (length xs) x.bytes.items told one.warned
 
   outputs-own : All (λ (q : Output). output_path q ≡ path_of x) outputs
@@ -155,13 +155,13 @@ module _ (o : Options) (now next : CachedAnswers) (xs : List Input) (cs : List (
       (owns (λ (l : Line). l.input) (length xs) lines rows-own)
 
   told-front : (i : ℕ) → i < length xs → warnings_among i (ts ++ told) ≡ warnings_among i ts
-  told-front i low = filter-front (λ (t : Told). t.input == i) ts told
-      (others (λ (t : Told). t.input) (length xs) i told low told-own)
+  told-front i low = filter-front (λ (t : WarningView). t.input == i) ts told
+      (others (λ (t : WarningView). t.input) (length xs) i told low told-own)
 
   told-last : warnings_among (length xs) (ts ++ told) ≡ told
-  told-last = filter-last (λ (t : Told). t.input == length xs) ts told
-      (lows (λ (t : Told). t.input) (length xs) ts p.told_below)
-      (owns (λ (t : Told). t.input) (length xs) told told-own)
+  told-last = filter-last (λ (t : WarningView). t.input == length xs) ts told
+      (lows (λ (t : WarningView). t.input) (length xs) ts p.told_below)
+      (owns (λ (t : WarningView). t.input) (length xs) told told-own)
 
   outputs-front : (path : List ℕ) → path ≢ path_of x → outputs_on path (os ++ outputs) ≡ outputs_on path os
   outputs-front path differs =
@@ -191,7 +191,7 @@ module _ (o : Options) (now next : CachedAnswers) (xs : List Input) (cs : List (
           (warnings_among i (ts ++ told))) (sym (lines-front i low))
           (subst (λ (q : List Output). IsPlanned i o y c.items next (lines_on i ls) q
           (warnings_among i (ts ++ told))) (sym (outputs-front (path_of y) (new i y a)))
-          (subst (λ (t : List Told). IsPlanned i o y c.items next (lines_on i ls)
+          (subst (λ (t : List WarningView). IsPlanned i o y c.items next (lines_on i ls)
           (outputs_on (path_of y) os) t) (sym (told-front i low)) before))
       by (inl a) (inr b) =
           let low : i < length xs = slice_get_within xs i y a in
@@ -212,7 +212,7 @@ module _ (o : Options) (now next : CachedAnswers) (xs : List Input) (cs : List (
           (outputs_on (path_of x) (os ++ outputs)) (warnings_among (length xs) (ts ++ told))) (sym lines-last)
           (subst (λ (q : List Output). IsPlanned (length xs) o x own.items next lines q
           (warnings_among (length xs) (ts ++ told))) (sym outputs-last)
-          (subst (λ (t : List Told). IsPlanned (length xs) o x own.items next lines outputs t)
+          (subst (λ (t : List WarningView). IsPlanned (length xs) o x own.items next lines outputs t)
           (sym told-last) one)))))
 
   rows-more : ls ++ lines ≡ flat_map (λ i. lines_on i (ls ++ lines)) (below (length (xs ++ x ∷ [])))
@@ -220,7 +220,7 @@ module _ (o : Options) (now next : CachedAnswers) (xs : List Input) (cs : List (
       (length-more xs x) p.rows_below rows-own p.rows_in_order
 
   told-more : ts ++ told ≡ flat_map (λ i. warnings_among i (ts ++ told)) (below (length (xs ++ x ∷ [])))
-  told-more = in-turn-more (λ (t : Told). t.input) (length xs) (length (xs ++ x ∷ [])) ts told
+  told-more = in-turn-more (λ (t : WarningView). t.input) (length xs) (length (xs ++ x ∷ [])) ts told
       (length-more xs x) p.told_below told-own p.told_in_order
 
   outputs-more : map output_path (os ++ outputs) ≡ filter (has_some (os ++ outputs))
@@ -249,7 +249,7 @@ module _ (o : Options) (now next : CachedAnswers) (xs : List Input) (cs : List (
     told_in_order = told-more;
     rows_below = more-below (λ (l : Line). l.input) (length xs) (length (xs ++ x ∷ [])) ls lines
         (length-more xs x) p.rows_below rows-own;
-    told_below = more-below (λ (t : Told). t.input) (length xs) (length (xs ++ x ∷ [])) ts told
+    told_below = more-below (λ (t : WarningView). t.input) (length xs) (length (xs ++ x ∷ [])) ts told
         (length-more xs x) p.told_below told-own;
     paths_among = All-append (λ q. IsPathAmong (xs ++ x ∷ []) (output_path q)) os outputs
         (All-weaker (λ q. IsPathAmong xs (output_path q)) (λ q. IsPathAmong (xs ++ x ∷ []) (output_path q))

@@ -19,7 +19,7 @@ use Rattle.edit_upgrade.specs.LookOrder.{AreInOrder}
 use Rattle.edit_upgrade.specs.Looks.{AreLookups}
 use Rattle.edit_upgrade.specs.Missing.{ListsMissing}
 use Rattle.edit_upgrade.specs.Plans.{HasLookups, IsPlan, AreLookupsInOrder}
-use Rattle.edit_upgrade.specs.Records.{seen}
+use Rattle.edit_upgrade.specs.Records.{row_entries}
 use Rattle.edit_upgrade.specs.Rows.{Line}
 use Rattle.edit_upgrade.specs.Upgraded.{HasItsOutputs, HasItsRows, HasItsWarnings, HasRows, IsNeeded}
 use Rattle.edit_upgrade.specs.declared.draft.Draft.{Draft}
@@ -74,7 +74,7 @@ module _ (o : Options) (inputs : List Input) (configs : List (Vec Config)) (old 
         form = q.form;
         manifest = q.manifest;
         decided = rows-told (IsNeeded inputs configs) i o (option_map numbers_of x.rust_version) own.items
-            old.gives old.kept new.kept plan.looks.items (seen (view_at q.form))
+            old.gives old.kept new.kept plan.looks.items (row_entries (view_at q.form))
             (lines_on i (map line_of plan.rows.items))
             (λ a n need. record {
               i = i;

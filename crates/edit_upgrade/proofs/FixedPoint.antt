@@ -10,7 +10,7 @@ use Rattle.semver.specs.OrderLaws.{same_text}
 use Rattle.semver.specs.Parse.{Parts, req_of}
 use Rattle.edit_tree.specs.Assertions.{Place}
 use Rattle.edit_version.specs.Laws.{holds_plus}
-use Rattle.edit_version.specs.Requirement.{Nothing, UpgradeResult, Text, Unread, Unsupported, cut, plain_text, raise}
+use Rattle.edit_version.specs.Requirement.{Nothing, UpgradeResult, Text, Unread, Unsupported, cut, plain_text, upgrade_of}
 use Rattle.edit_version.specs.Selection.{IsCompatible, IsLatest, is_admitted, is_offered}
 use Rattle.edit_version.proofs.NoPlus.{cut-none, plain-whole, raised-whole}
 use Rattle.edit_version.proofs.Orders.{greatest-has}
@@ -21,7 +21,7 @@ use Rattle.url.specs.Parts.{serialize}
 use Rattle.edit_upgrade.specs.Decision.{Case, Outcome, compatible_text, decision, first_row, given, is_too_low, kept, latest_text, left_out, may_jump, newer, row_change, row_of, row_text, text_or, to_compatible, to_latest, unless_old, unread, some_if}
 use Rattle.edit_upgrade.specs.Headline.{HasNoChange}
 use Rattle.edit_upgrade.specs.Inputs.{Setting}
-use Rattle.edit_upgrade.specs.Looks.{told}
+use Rattle.edit_upgrade.specs.Looks.{looked_up_versions}
 use Rattle.edit_upgrade.specs.Records.{RowEntry, at_registry}
 use Rattle.edit_sources.specs.Configured.{HasAddress}
 use Rattle.edit_sources.specs.declared.config.Config.{Config}
@@ -55,7 +55,7 @@ cut-whole xs = cut-none (cut xs) (cut-no_plus xs)
 
 -- a text that could be written is cut already
 whole-of : (old other : List ℕ) (v : Parts) (t : List ℕ) (r : UpgradeResult) → IsValid v → cut other ≡ other
-    → raise old v ≡ r → text_or other r ≡ Some t → cut t ≡ t
+    → upgrade_of old v ≡ r → text_or other r ≡ Some t → cut t ≡ t
 whole-of old other v t Unread valid e q h = cc h
 whole-of old other v t Nothing valid e q h = cc h
 whole-of old other v t (Unsupported d) valid e q h =
@@ -89,12 +89,12 @@ case-whole o x r m xs old near far all h ic il =
     let f = far-some old t far near u.1 in
     let valid = greatest-has IsValid (is_offered old) xs f.0 all
     (subst (λ (y : Option Parts). IsLatest old xs y) (newer-latest far near f.0 f.1) il) in
-    whole-of old (plain_text f.0) f.0 t (raise old f.0) valid (plain-whole f.0 valid) refl f.2)
+    whole-of old (plain_text f.0) f.0 t (upgrade_of old f.0) valid (plain-whole f.0 valid) refl f.2)
     (λ t q.
     let n = near-some o old t near q in
     let valid = greatest-has IsValid (is_admitted old) xs n.0 all
     (subst (λ (y : Option Parts). IsCompatible old xs y) n.1 ic) in
-    whole-of old old n.0 t (raise old n.0) valid h refl n.2)
+    whole-of old old n.0 t (upgrade_of old n.0) valid h refl n.2)
 
 -- the same of an entry, where words give it no requirement
 decided-whole : (o : Options) (xs : List Parts) (e : RowEntry) (old : List ℕ) (near far : Option Parts)
@@ -222,7 +222,7 @@ not-both e named p q = cc (sym (ap is_elsewhere p) ∙ q)
 same-versions : (s : Setting) (e : RowEntry) (xs ys : List Parts) → AreVersionsFor (basis_of s) e xs
     → AreVersionsFor (basis_of s) e ys → xs ≡ ys
 same-versions s e xs ys (told_there a needs are) (told_there b need is) =
-    are ∙ ap (λ (u : url.Parts). told s.rust s.looks (serialize u) e.name)
+    are ∙ ap (λ (u : url.Parts). looked_up_versions s.rust s.looks (serialize u) e.name)
     (one-address s.configs e a b e.name e.name needs need) ∙ sym is
 same-versions s e xs ys (told_there a needs are) (elsewhere other none) =
     absurd (not-both e needs.named needs.source other)

@@ -11,7 +11,7 @@ use Rattle.semver.specs.declared.Op.{Op}
 use Rattle.semver.specs.declared.Op.TheVariants as op
 use Rattle.edit_version.specs.Admits.{accepts}
 use Rattle.edit_version.specs.Laws.{precedence}
-use Rattle.edit_version.specs.Requirement.{is_inequality, raised}
+use Rattle.edit_version.specs.Requirement.{is_inequality, upgraded_comparator}
 use Rattle.edit_version.proofs.ComparatorReadings.{tidy}
 use Rattle.edit_version.proofs.FixedTexts.{none-first}
 use Rattle.edit_version.proofs.Forms.{least-all}
@@ -19,17 +19,17 @@ use Rattle.edit_version.proofs.Narrows.{left_of, named-pre, right_of}
 use Rattle.edit_version.proofs.Orders.{precedence_total}
 use Rattle.edit_version.proofs.Shapes.{IsShaped}
 use Rattle.edit_upgrade.proofs.LowerLemmas.{equal-self, ge-from, ge-not_lt, ge-self, ge-trans, le-same, le-zero, lt-is, not-less, trunc-first, trunc-second}
-use Rattle.edit_upgrade.specs.Floors.{IsFloor, begins_after, is_end, named, one_begins_after}
+use Rattle.edit_upgrade.specs.Floors.{IsFloor, begins_after, is_end, comparator_version, one_begins_after}
 
 -- ---- one comparator
 
 -- what a comparator that is raised to a version is read as names no earlier version
 abbrev pub Rises : Parts → Held → Type 0
-Rises v c = is_ge (precedence (named (tidy (raised v c))) (named c)) ≡ true
+Rises v c = is_ge (precedence (comparator_version (tidy (upgraded_comparator v c))) (comparator_version c)) ≡ true
 
 -- it does where the version is not below the one that the comparator names
 pub rises-from : (o : Op) (n : ℕ) (m p : Option ℕ) (pre : List ℕ) (v : Parts) → IsShaped (o, n, m, p, pre)
-    → is_ge (precedence v (named (o, n, m, p, pre))) ≡ true → Rises v (o, n, m, p, pre)
+    → is_ge (precedence v (comparator_version (o, n, m, p, pre))) ≡ true → Rises v (o, n, m, p, pre)
 rises-from o n None None pre v s h = rw (s.plain refl) (trunc-first (nat_cmp v.0 n) _ h)
 rises-from o n None (Some p) pre v s h = cc (s.nested refl)
 rises-from o n (Some m) None pre v s h = rw (s.plain refl) (trunc-second (nat_cmp v.0 n) (nat_cmp v.1 m) _ h)
@@ -40,7 +40,7 @@ rises-from o n (Some m) (Some p) pre v s h = rw
 accepted-three : (o : Op) (n m p : ℕ) (pre : List ℕ) (v : Parts) → IsShaped (o, n, Some m, Some p, pre)
     → is_inequality o ≡ false
     → accepts (o, n, Some m, Some p, pre) v ≡ true
-    → is_ge (precedence v (named (o, n, Some m, Some p, pre))) ≡ true
+    → is_ge (precedence v (comparator_version (o, n, Some m, Some p, pre))) ≡ true
 accepted-three o n m p pre v s i h =
     let own = named-pre o (Some p) pre pre p p s.starred (equal-self p) in
     let none : find (λ (d : Held). is_inequality d.0)
@@ -96,7 +96,7 @@ rises-accepted o n (Some m) (Some p) pre v s i h =
 -- a version without a pre-release is not below the one that a comparator names that accepts it
 pub plain-above : (o : Op) (n : ℕ) (m p : Option ℕ) (pre : List ℕ) (v : Parts) → IsShaped (o, n, m, p, pre)
     → is_inequality o ≡ false
-    → v.3 ≡ [] → accepts (o, n, m, p, pre) v ≡ true → is_ge (precedence v (named (o, n, m, p, pre))) ≡ true
+    → v.3 ≡ [] → accepts (o, n, m, p, pre) v ≡ true → is_ge (precedence v (comparator_version (o, n, m, p, pre))) ≡ true
 plain-above o n None None pre v s i e h =
     rw (s.plain refl, e) (not-less v.0 n _ (le-same v.0 n (accepted-one o n pre v i h))
     (not-less v.1 0 _ (le-zero v.1) (not-less v.2 0 _ (le-zero v.2) refl)))
@@ -122,12 +122,12 @@ begins-of op.LessEq h = cc h
 
 -- a comparator that begins, and not after the version, names one that is not later
 pub not-after : (v : Parts) (c : Held) → is_end c.0 ≡ false → begins_after v c ≡ false
-    → is_ge (precedence v (named c)) ≡ true
-not-after v c e h = ge-from (precedence v (named c)) (rw e at h)
+    → is_ge (precedence v (comparator_version c)) ≡ true
+not-after v c e h = ge-from (precedence v (comparator_version c)) (rw e at h)
 
 -- a comparator that names no later version does not begin after it
-after-not : (v : Parts) (c : Held) → is_ge (precedence v (named c)) ≡ true → begins_after v c ≡ false
-after-not v c h = rw (ge-not_lt (precedence v (named c)) h) (and-false (not (is_end c.0)))
+after-not : (v : Parts) (c : Held) → is_ge (precedence v (comparator_version c)) ≡ true → begins_after v c ≡ false
+after-not v c h = rw (ge-not_lt (precedence v (comparator_version c)) h) (and-false (not (is_end c.0)))
   where
     and-false : (b : Bool) → (b && false) ≡ false
     and-false true = refl
@@ -150,12 +150,12 @@ or-none x y h g = rw (h, g) refl
 -- what begins after no raised comparator's version begins after none of the old ones
 pub none-after : (v g : Parts) (cs : List Held) → find (λ (d : Held). is_inequality d.0) cs ≡ None
     → AllByRecursion (Rises v) cs
-    → one_begins_after (map tidy (map (raised v) cs)) g ≡ false → one_begins_after cs g ≡ false
+    → one_begins_after (map tidy (map (upgraded_comparator v) cs)) g ≡ false → one_begins_after cs g ≡ false
 none-after v g [] n r h = refl
 none-after v g (c ∷ cs) n r h =
     let i = none-first c cs n in
-    let first = not-after g (tidy (raised v c)) (begins-of c.0 i.0) (or-left _ _ h) in
-    or-none _ _ (after-not g c (ge-trans g (named (tidy (raised v c))) (named c) first r.0))
+    let first = not-after g (tidy (upgraded_comparator v c)) (begins-of c.0 i.0) (or-left _ _ h) in
+    or-none _ _ (after-not g c (ge-trans g (comparator_version (tidy (upgraded_comparator v c))) (comparator_version c) first r.0))
     (none-after v g cs i.1 r.1 (or-right _ _ h))
 
 -- comparators that begin after none of a version rise to it
@@ -200,7 +200,7 @@ later-not_after v w (c ∷ cs) g h = or-none _ _ (one (or-left _ _ h))
     one : begins_after v c ≡ false → begins_after w c ≡ false
     one h = elim (cases_Bool (is_end c.0)) [
       | inl end ↦ rw end refl
-      | inr begins ↦ after-not w c (ge-trans w v (named c) g (not-after v c begins h))
+      | inr begins ↦ after-not w c (ge-trans w v (comparator_version c) g (not-after v c begins h))
     ]
 
 -- ---- the floor
@@ -215,16 +215,16 @@ some-floor (c ∷ cs) h = elim (cases_Bool (is_end c.0)) [
       let rest = some-floor cs more in
       (rest.0, kept rest.0 (rw end refl) rest.1)
   | inr begins ↦ elim (cases_Bool (list_any (λ (d : Held). not (is_end d.0)) cs)) [
-    | inr none ↦ (named c, first begins (ends-not_after (named c) cs none))
+    | inr none ↦ (comparator_version c, first begins (ends-not_after (comparator_version c) cs none))
     | inl some ↦
         let rest = some-floor cs some in
         elim (cases_Bool (begins_after rest.0 c)) [
           | inr below ↦ (rest.0, kept rest.0 below rest.1)
           | inl above ↦
-              let less : is_lt (precedence rest.0 (named c)) ≡ true = rw begins at above in (
-                named c,
-                first begins (later-not_after rest.0 (named c) cs
-                    (swapped rest.0 (named c) less) rest.1.greatest),
+              let less : is_lt (precedence rest.0 (comparator_version c)) ≡ true = rw begins at above in (
+                comparator_version c,
+                first begins (later-not_after rest.0 (comparator_version c) cs
+                    (swapped rest.0 (comparator_version c) less) rest.1.greatest),
               )
         ]
   ]
@@ -239,13 +239,13 @@ some-floor (c ∷ cs) h = elim (cases_Bool (is_end c.0)) [
       greatest = or-none _ _ h f.greatest;
     }
 
-    first : is_end c.0 ≡ false → one_begins_after cs (named c) ≡ false → IsFloor (c ∷ cs) (named c)
+    first : is_end c.0 ≡ false → one_begins_after cs (comparator_version c) ≡ false → IsFloor (c ∷ cs) (comparator_version c)
     first e h = record {
       comparator = c;
       among = (0, omega arith, refl);
       begins = e;
       names = refl;
-      greatest = or-none _ _ (after-not (named c) c (ge-self (named c))) h;
+      greatest = or-none _ _ (after-not (comparator_version c) c (ge-self (comparator_version c))) h;
     }
 
     ends-not_after : (g : Parts) (ds : List Held) → list_any (λ (d : Held). not (is_end d.0)) ds ≡ false

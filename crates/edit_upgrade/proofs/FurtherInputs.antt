@@ -17,11 +17,11 @@ use Rattle.edit_upgrade.specs.Drafts.{AddsInput, AreGiven, ArePlanned, IsDraft, 
 use Rattle.edit_metadata.specs.Inputs.{HaveOwnPaths, path_of}
 use Rattle.edit_upgrade.specs.Inputs.{output_path}
 use Rattle.edit_upgrade.specs.Lines.{line_of}
-use Rattle.edit_upgrade.specs.Lists.{Told, warning_view}
+use Rattle.edit_upgrade.specs.Lists.{WarningView, warning_view}
 use Rattle.edit_upgrade.specs.Looked.{AreAllCached, Stays}
 use Rattle.edit_upgrade.specs.Looks.{CachedAnswers}
 use Rattle.edit_upgrade.specs.PairSets.{holds_pair}
-use Rattle.edit_upgrade.specs.Records.{seen}
+use Rattle.edit_upgrade.specs.Records.{row_entries}
 use Rattle.edit_upgrade.specs.Rows.{Line}
 use Rattle.edit_upgrade.specs.Upgraded.{IsNeeded, IsNeededBy}
 use Rattle.edit_upgrade.specs.declared.draft.Draft.{Draft}
@@ -50,7 +50,7 @@ planned-start o kept rows outputs warnings a b c =
       outputs_in_order = refl;
       told_in_order = refl;
       rows_below = All-nil (λ (l : Line). l.input < 0);
-      told_below = All-nil (λ (t : Told). t.input < 0);
+      told_below = All-nil (λ (t : WarningView). t.input < 0);
       paths_among = All-nil (λ (q : Output). IsPathAmong [] (output_path q));
     } in
     subst (λ (r : List Row). ArePlanned o kept [] [] (map line_of r) outputs (map warning_view warnings))
@@ -82,7 +82,7 @@ module _ (o : Options) (xs : List Input) (cs : List (Vec Config)) (x : Input) (o
     (adds : AddsInput (length xs) o x own.items last now next d e)
     (kept : AreAllCached (holds_pair e.books.pairs) next) (long : length cs ≡ length xs)
     (new : (j : ℕ) (y : Input) → slice_get xs j ≡ Some y → path_of y ≢ path_of x) where
-  needs-also : (a n : List ℕ) → Also (IsNeeded xs cs) own.items (seen (view_at adds.walked.form)) a n
+  needs-also : (a n : List ℕ) → Also (IsNeeded xs cs) own.items (row_entries (view_at adds.walked.form)) a n
       → IsNeeded (xs ++ x ∷ []) (cs ++ own ∷ []) a n
   needs-also a n (inl h) = record {
     i = h.i;
@@ -102,12 +102,12 @@ module _ (o : Options) (xs : List Input) (cs : List (Vec Config)) (x : Input) (o
   }
 
   also-needs : (a n : List ℕ) → IsNeeded (xs ++ x ∷ []) (cs ++ own ∷ []) a n
-      → Also (IsNeeded xs cs) own.items (seen (view_at adds.walked.form)) a n
+      → Also (IsNeeded xs cs) own.items (row_entries (view_at adds.walked.form)) a n
   also-needs a n h = by (get-cases xs x h.i h.input h.at) (get-cases cs own h.i h.own h.configured)
     where
       by : (slice_get xs h.i ≡ Some h.input) ⊎ ((h.i ≡ length xs) × (x ≡ h.input))
           → (slice_get cs h.i ≡ Some h.own) ⊎ ((h.i ≡ length cs) × (own ≡ h.own))
-          → Also (IsNeeded xs cs) own.items (seen (view_at adds.walked.form)) a n
+          → Also (IsNeeded xs cs) own.items (row_entries (view_at adds.walked.form)) a n
       by (inl b) (inl c) = inl (record {
         i = h.i;
         input = h.input;
@@ -123,14 +123,14 @@ module _ (o : Options) (xs : List Input) (cs : List (Vec Config)) (x : Input) (o
           let low : h.i < length cs = slice_get_within cs h.i h.own c in
           absurd (omega (arith, low, b.0, long))
       by (inr b) (inr c) =
-          inr (of-manifest own.items x.bytes.items (seen (view_at adds.walked.form))
+          inr (of-manifest own.items x.bytes.items (row_entries (view_at adds.walked.form))
           (record { form = adds.walked.form; manifest = adds.walked.manifest; are = refl }) a n
           (subst (λ (y : Input). IsNeededBy own.items y.bytes.items a n) (sym b.1)
           (subst (λ (w : Vec Config). IsNeededBy w.items h.input.bytes.items a n) (sym c.1) h.needed)))
 
   draft-more : IsDraft o (xs ++ x ∷ []) (cs ++ own ∷ []) first old next e
   draft-more =
-      let es = seen (view_at adds.walked.form) in
+      let es = row_entries (view_at adds.walked.form) in
       let d_looks = d.books.looks.items in
       let e_looks = e.books.looks.items in
       let d_pairs = holds_pair d.books.pairs in
@@ -160,7 +160,7 @@ module _ (o : Options) (xs : List Input) (cs : List (Vec Config)) (x : Input) (o
             (subst (λ (q : List Output). ArePlanned o next (xs ++ x ∷ []) (cs ++ own ∷ [])
             (map line_of d.rows.items ++ adds.lines) q (map warning_view e.warnings.items))
             (sym adds.outputs_are)
-            (subst (λ (t : List Told). ArePlanned o next (xs ++ x ∷ []) (cs ++ own ∷ [])
+            (subst (λ (t : List WarningView). ArePlanned o next (xs ++ x ∷ []) (cs ++ own ∷ [])
             (map line_of d.rows.items ++ adds.lines) (d.outputs.items ++ adds.outputs) t)
             (sym adds.told_are) more));
       }

@@ -23,7 +23,7 @@ use Rattle.edit_upgrade.specs.Decision.{decision, newer, or_else}
 use Rattle.edit_upgrade.specs.Headline.{IsTextOfVersion, KeepsFloor, LatestIsNotLess, Narrows, Reaches}
 use Rattle.edit_upgrade.specs.Inputs.{Setting}
 use Rattle.edit_upgrade.specs.Looks.{Answer, lookup_at, versions_in}
-use Rattle.edit_upgrade.specs.Records.{RowEntry, seen}
+use Rattle.edit_upgrade.specs.Records.{RowEntry, row_entries}
 use Rattle.edit_upgrade.specs.Rows.{AreVersionsFor, IsDecided, IsRowOver, Line, case_for, dashes, elsewhere, line_for, told_there}
 use Rattle.edit_upgrade.specs.Upgraded.{HasRows, IsRow, basis_of}
 use Rattle.edit_upgrade.specs.declared.decision.options.Options.{Options}
@@ -188,7 +188,7 @@ pub rows-narrow : (s : Setting) (bytes : List ℕ) (lines : List Line) → HasRo
 rows-narrow s bytes lines h =
     all-rows s Narrows (dashes-narrow s.input s.options)
     (λ xs e old line all d. line-narrows s.input s.options xs e old line all d)
-    (seen (view_at h.form)) lines h.decided
+    (row_entries (view_at h.form)) lines h.decided
 
 -- they reach their versions
 pub rows-reach : (s : Setting) (bytes : List ℕ) (lines : List Line) → HasRows s bytes lines
@@ -196,7 +196,7 @@ pub rows-reach : (s : Setting) (bytes : List ℕ) (lines : List Line) → HasRow
 rows-reach s bytes lines h =
     all-rows s Reaches (dashes-reach s.input s.options)
     (λ xs e old line all d. line-reaches s.input s.options xs e old line all d)
-    (seen (view_at h.form)) lines h.decided
+    (row_entries (view_at h.form)) lines h.decided
 
 -- their latest versions are not less
 pub rows-latest : (s : Setting) (bytes : List ℕ) (lines : List Line) → HasRows s bytes lines
@@ -204,7 +204,7 @@ pub rows-latest : (s : Setting) (bytes : List ℕ) (lines : List Line) → HasRo
 rows-latest s bytes lines h =
     all-rows s LatestIsNotLess (dashes-latest s.input s.options)
     (λ xs e old line all d. line-latest s.input s.options xs e old line all d)
-    (seen (view_at h.form)) lines h.decided
+    (row_entries (view_at h.form)) lines h.decided
 
 -- they keep their floors, where requirements are never to be lowered
 pub rows-floor : (s : Setting) (bytes : List ℕ) (lines : List Line) → s.options.never_lower ≡ true
@@ -212,7 +212,7 @@ pub rows-floor : (s : Setting) (bytes : List ℕ) (lines : List Line) → s.opti
 rows-floor s bytes lines on h =
     all-rows s KeepsFloor (dashes-floor s.input s.options)
     (λ xs e old line all d. line-floor s.input s.options xs e old line on all d)
-    (seen (view_at h.form)) lines h.decided
+    (row_entries (view_at h.form)) lines h.decided
 
 -- each is a row of its input
 pub rows-inputs : (s : Setting) (bytes : List ℕ) (lines : List Line) → HasRows s bytes lines
@@ -220,4 +220,4 @@ pub rows-inputs : (s : Setting) (bytes : List ℕ) (lines : List Line) → HasRo
 rows-inputs s bytes lines h =
     all-rows s (λ (line : Line). line.input ≡ s.input) (λ e. refl)
     (λ xs e old line all d. ap (λ (l : Line). l.input) d.is)
-    (seen (view_at h.form)) lines h.decided
+    (row_entries (view_at h.form)) lines h.decided

@@ -14,10 +14,10 @@ use Rattle.edit_version.specs.RustVersions.{Numbers}
 use Rattle.semver.specs.Parse.{Parts}
 use Rattle.edit_upgrade.specs.Drafts.{outputs_on}
 use Rattle.edit_upgrade.specs.Inputs.{output_path}
-use Rattle.edit_upgrade.specs.Lists.{IsWarningBy, IsWarningOn, Told, unparsed_requirement, unreadable_text, warned, warning_by}
+use Rattle.edit_upgrade.specs.Lists.{IsWarningBy, IsWarningOn, WarningView, unparsed_requirement, unreadable_text, warning_record, warning_by}
 use Rattle.edit_upgrade.specs.Looks.{CachedAnswers, cached_basis}
 use Rattle.edit_upgrade.specs.Outputs.{AreOutputs, HasOutputs, changed, unchanged}
-use Rattle.edit_upgrade.specs.Records.{RowEntry, Source, seen, source_of, version_of}
+use Rattle.edit_upgrade.specs.Records.{RowEntry, Source, row_entries, source_of, version_of}
 use Rattle.edit_upgrade.specs.Rows.{AreDecided, IsRowOver, Line, writes}
 use Rattle.edit_upgrade.specs.Upgraded.{HasWarnings}
 use Rattle.edit_upgrade.specs.declared.decision.options.Options.{Options}
@@ -51,7 +51,7 @@ paths-are path bytes edits _ (changed output some at r) =
 pub written-paths : (path bytes : List ℕ) (lines : List Line) (outputs : List Output)
     → HasOutputs path bytes lines outputs
     → All (λ (q : Output). output_path q ≡ path) outputs
-written-paths path bytes lines outputs h = paths-are path bytes (writes (seen (view_at h.form)) lines)
+written-paths path bytes lines outputs h = paths-are path bytes (writes (row_entries (view_at h.form)) lines)
     outputs h.are
 
 -- the path of an input is among those with outputs where it has one
@@ -72,56 +72,56 @@ pub one-path-order : (path bytes : List ℕ) (lines : List Line) (outputs : List
     → (all : List Output) → outputs_on path all ≡ outputs
     → map output_path outputs ≡ filter (λ q. not (length (outputs_on q all) == 0)) (path ∷ [])
 one-path-order path bytes lines outputs h all e = path-order path bytes
-    (writes (seen (view_at h.form)) lines) outputs all h.are e
+    (writes (row_entries (view_at h.form)) lines) outputs all h.are e
 
 -- ---- warnings
 
 -- each warning is on its input
-warned-input : (i : ℕ) (name : List ℕ) (o : Option (List ℕ)) (w : Told)
-    → option_map (λ old. warned i false (unreadable_text name old)) o ≡ Some w → w.input ≡ i
+warned-input : (i : ℕ) (name : List ℕ) (o : Option (List ℕ)) (w : WarningView)
+    → option_map (λ old. warning_record i false (unreadable_text name old)) o ≡ Some w → w.input ≡ i
 warned-input i name None w h = cc h
 warned-input i name (Some old) w h = sym (ap told-input h)
   where
-    told-input : Option Told → ℕ
+    told-input : Option WarningView → ℕ
     told-input None = i
     told-input (Some t) = t.input
 
-by-source : (o : Options) (i : ℕ) (name : List ℕ) (r : EntryRecord) (source : Option Source) (w : Told)
+by-source : (o : Options) (i : ℕ) (name : List ℕ) (r : EntryRecord) (source : Option Source) (w : WarningView)
     → warning_by o i name r source ≡ Some w → w.input ≡ i
 by-source o i name r None w h = sym (ap told-input h)
   where
-    told-input : Option Told → ℕ
+    told-input : Option WarningView → ℕ
     told-input None = i
     told-input (Some t) = t.input
 by-source o i name r (Some source) w h =
     warned-input i name (option_and_then (unparsed_requirement o r) (version_of r)) w h
 
-by-record : (o : Options) (i : ℕ) (name : List ℕ) (said : Option EntryRecord) (told : Option Told) (w : Told)
+by-record : (o : Options) (i : ℕ) (name : List ℕ) (said : Option EntryRecord) (told : Option WarningView) (w : WarningView)
     → IsWarningBy o i name said told → told ≡ Some w → w.input ≡ i
 by-record o i name None told w h q = sym (ap told-input (sym h.1 ∙ q))
   where
-    told-input : Option Told → ℕ
+    told-input : Option WarningView → ℕ
     told-input None = i
     told-input (Some t) = t.input
 by-record o i name (Some r) told w h q = by-source o i name r (source_of r) w (sym h ∙ q)
 
-cons-input : (i : ℕ) (told : Option Told) (ts : List Told) → ((w : Told) → told ≡ Some w → w.input ≡ i)
-    → All (λ (t : Told). t.input ≡ i) ts
-    → All (λ (t : Told). t.input ≡ i) (cons_option told ts)
+cons-input : (i : ℕ) (told : Option WarningView) (ts : List WarningView) → ((w : WarningView) → told ≡ Some w → w.input ≡ i)
+    → All (λ (t : WarningView). t.input ≡ i) ts
+    → All (λ (t : WarningView). t.input ≡ i) (cons_option told ts)
 cons-input i None ts h g = g
-cons-input i (Some w) ts h g = All-cons (λ (t : Told). t.input ≡ i) w ts (h w refl) g
+cons-input i (Some w) ts h g = All-cons (λ (t : WarningView). t.input ≡ i) w ts (h w refl) g
 
-warnings-input : (o : Options) (i : ℕ) (es : List found.Entry) (each : List (Option Told))
-    → AllZip (IsWarningOn o i) es each → All (λ (t : Told). t.input ≡ i) (filter_map (λ told. told) each)
-warnings-input o i [] [] h = All-nil (λ (t : Told). t.input ≡ i)
+warnings-input : (o : Options) (i : ℕ) (es : List found.Entry) (each : List (Option WarningView))
+    → AllZip (IsWarningOn o i) es each → All (λ (t : WarningView). t.input ≡ i) (filter_map (λ told. told) each)
+warnings-input o i [] [] h = All-nil (λ (t : WarningView). t.input ≡ i)
 warnings-input o i [] (t ∷ ts) h = absurd h
 warnings-input o i (e ∷ es) [] h = absurd h
 warnings-input o i (e ∷ es) (t ∷ ts) h =
     cons-input i t (filter_map (λ told. told) ts) (λ w q. by-record o i e.name e.said t w h.0 q)
     (warnings-input o i es ts h.1)
 
-pub warned-inputs : (o : Options) (i : ℕ) (bytes : List ℕ) (told : List Told) → HasWarnings o i bytes told
-    → All (λ (t : Told). t.input ≡ i) told
+pub warned-inputs : (o : Options) (i : ℕ) (bytes : List ℕ) (told : List WarningView) → HasWarnings o i bytes told
+    → All (λ (t : WarningView). t.input ≡ i) told
 warned-inputs o i bytes told h =
-    subst (λ (ts : List Told). All (λ (t : Told). t.input ≡ i) ts) (sym h.are.all)
+    subst (λ (ts : List WarningView). All (λ (t : WarningView). t.input ≡ i) ts) (sym h.are.all)
     (warnings-input o i (entries (view_at h.form) []) h.are.each h.are.on)

@@ -11,7 +11,7 @@ use Rattle.semver.specs.declared.error.Error.{Error}
 use Rattle.semver.specs.declared.Op.TheVariants as op
 use Rattle.edit_version.specs.Admits.{admits}
 use Rattle.edit_version.specs.Laws.{IsVersion, precedence}
-use Rattle.edit_version.specs.Requirement.{Nothing, UpgradeResult, Text, Unread, Unsupported, plain_text, raise, raised}
+use Rattle.edit_version.specs.Requirement.{Nothing, UpgradeResult, Text, Unread, Unsupported, plain_text, upgrade_of, upgraded_comparator}
 use Rattle.edit_version.specs.Selection.{IsCompatible, IsLatest, is_admitted, is_offered}
 use Rattle.edit_version.proofs.ComparatorReadings.{tidy}
 use Rattle.edit_version.proofs.Cuts.{plain_text-plain}
@@ -38,10 +38,10 @@ pub raised-keeps : (old t : List ℕ) (v : Parts) (c : Held) (cs : List Held) �
     → IsRaised old v t c cs
     → AllByRecursion (Rises v) (c ∷ cs) → KeepsFloors old t
 raised-keeps old t v c cs w r rise f has =
-    let ds = map tidy (map (raised v) (c ∷ cs)) in
+    let ds = map tidy (map (upgraded_comparator v) (c ∷ cs)) in
     let floor = subst (λ (x : List Held). IsFloor x f) (reads-same old has.0 (c ∷ cs) has.1 r.0) has.2 in
     let begins = begins-of c.0 (none-first c cs r.1).0 in
-    let rest = list_any (λ (d : Held). not (is_end d.0)) (map tidy (map (raised v) cs)) in
+    let rest = list_any (λ (d : Held). not (is_end d.0)) (map tidy (map (upgraded_comparator v) cs)) in
     let some : list_any (λ (d : Held). not (is_end d.0)) ds ≡ true =
     ap (λ (b : Bool). not b || rest) begins in
     let g = some-floor ds some in (
@@ -73,7 +73,7 @@ some-text s t h = cc h
 
 compatible-keeps : (xs : List Parts) (old t : List ℕ) (u : Parts) (r : UpgradeResult) → All IsValid xs
     → IsCompatible old xs (Some u)
-    → raise old u ≡ r → text_or old r ≡ Some t → pointwise nat_eq t old ≡ false → KeepsFloors old t
+    → upgrade_of old u ≡ r → text_or old r ≡ Some t → pointwise nat_eq t old ≡ false → KeepsFloors old t
 compatible-keeps xs old t u Unread all near e h other = no-text t h
 compatible-keeps xs old t u Nothing all near e h other = no-text t h
 compatible-keeps xs old t u (Unsupported d) all near e h other =
@@ -109,7 +109,7 @@ plain-keeps old v valid high f has =
     )
 
 latest-keeps : (old : List ℕ) (v : Parts) (t : List ℕ) (r : UpgradeResult) → IsValid v
-    → is_below old (Some v) ≡ false → raise old v ≡ r
+    → is_below old (Some v) ≡ false → upgrade_of old v ≡ r
     → text_or (plain_text v) r ≡ Some t → KeepsFloors old t
 latest-keeps old v t Unread valid high e h = no-text t h
 latest-keeps old v t Nothing valid high e h = no-text t h
@@ -147,7 +147,7 @@ compatible-kept o xs c all iscomp h =
     let n = near-some o c.old k.0 c.compatible k.1 in
     let near = subst (λ (x : Option Parts). IsCompatible c.old xs x) n.1 iscomp in
     subst (λ (x : List ℕ). KeepsFloors c.old x) (sym k.2)
-    (compatible-keeps xs c.old k.0 n.0 (raise c.old n.0) all near refl n.2 k.3)
+    (compatible-keeps xs c.old k.0 n.0 (upgrade_of c.old n.0) all near refl n.2 k.3)
 
 -- a change to the latest version, where requirements are never to be lowered
 pub latest-kept : (o : Options) (xs : List Parts) (c : Case) → All IsValid xs → IsLatest c.old xs c.latest
@@ -166,4 +166,4 @@ latest-kept o xs c all islatest on h =
     let valid = greatest-has IsValid (is_offered c.old) xs f.0 all far in
     let high = high-of c.never_lower c.old (newer c.latest c.compatible) f.0 on f.1 u.0 in
     subst (λ (x : List ℕ). KeepsFloors c.old x) (sym k.2)
-    (latest-keeps c.old f.0 k.0 (raise c.old f.0) valid high refl f.2)
+    (latest-keeps c.old f.0 k.0 (upgrade_of c.old f.0) valid high refl f.2)

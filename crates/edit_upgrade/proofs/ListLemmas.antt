@@ -15,7 +15,7 @@ use Rattle.edit_manifest.specs.Entries.{Entry}
 use Rattle.edit_upgrade.proofs.Bytes.{same-swap}
 use Rattle.edit_upgrade.proofs.Steps.{names-more}
 use Rattle.edit_upgrade.specs.Lines.{line_of}
-use Rattle.edit_upgrade.specs.Lists.{AreNames, AreWarnings, IsWarningOn, Told, changed_name, git_name, is_git}
+use Rattle.edit_upgrade.specs.Lists.{AreNames, AreWarnings, IsWarningOn, WarningView, changed_name, git_name, is_git}
 use Rattle.edit_upgrade.specs.Rows.{Line}
 use Rattle.edit_upgrade.specs.declared.decision.options.Options.{Options}
 use Rattle.edit_report.specs.declared.row.Change.{Change}
@@ -95,18 +95,18 @@ git-none row h = rw h refl
 -- ---- warnings
 
 -- the warnings on an entry more
-pub warned-more : (o : Options) (i : ℕ) (es : List Entry) (ts new : List Told) (e : Entry)
-    (told : Option Told)
+pub warned-more : (o : Options) (i : ℕ) (es : List Entry) (ts new : List WarningView) (e : Entry)
+    (told : Option WarningView)
     → AreWarnings o i es ts → IsWarningOn o i e told
     → new ≡ ts ++ cons_option told [] → AreWarnings o i (es ++ e ∷ []) new
 warned-more o i es ts new e told a w n = record {
   each = a.each ++ told ∷ [];
   on = all_zipped_more (IsWarningOn o i) es a.each e told a.on w;
-  all = n ∙ ap (λ (l : List Told). l ++ cons_option told []) a.all
-      ∙ sym (filter_map-append (λ (o : Option Told). o) a.each (told ∷ []));
+  all = n ∙ ap (λ (l : List WarningView). l ++ cons_option told []) a.all
+      ∙ sym (filter_map-append (λ (o : Option WarningView). o) a.each (told ∷ []));
 }
 
-pub warned-none : (o : Options) (i : ℕ) (ts : List Told) → ts ≡ [] → AreWarnings o i [] ts
+pub warned-none : (o : Options) (i : ℕ) (ts : List WarningView) → ts ≡ [] → AreWarnings o i [] ts
 warned-none o i ts h = record { each = []; on = tt; all = h }
 
 -- a text among texts, as a set of them tells it

@@ -24,7 +24,7 @@ use Rattle.edit_upgrade.specs.Inputs.{below}
 use Rattle.edit_upgrade.specs.LookOrder.{AreInOrder, AreInOrderSoFar, AreNeedsOf, HoldsPairs, NeedsPair, Pair, from_registries, is_pair, pair_of, pairs_once}
 use Rattle.edit_upgrade.specs.Looked.{AreSteps, IsEntryStep, IsLookupMade, IsStep, PairSet, further, start}
 use Rattle.edit_upgrade.specs.Looks.{CachedAnswers}
-use Rattle.edit_upgrade.specs.Records.{RowEntry, at_registry, seen}
+use Rattle.edit_upgrade.specs.Records.{RowEntry, at_registry, row_entries}
 use Rattle.edit_upgrade.specs.Rows.{is_elsewhere}
 use Rattle.edit_upgrade.specs.declared.upgrade.Look.{Look}
 use Rattle.edit_upgrade.proofs.Bytes.{same-swap}
@@ -279,10 +279,10 @@ pub order-more : (xs : List Input) (cs : List (Vec Config)) (x : Input) (own : V
     (gives : Outcomes) (old new : CachedAnswers) (looks more : List Look) (set now : PairSet)
     → length cs ≡ length xs → AreInOrderSoFar xs cs looks set → (form : Text)
     → IsDocument x.bytes.items form
-    → AreSteps own.items gives (seen (view_at form)) old new looks more set now
+    → AreSteps own.items gives (row_entries (view_at form)) old new looks more set now
     → AreInOrderSoFar (xs ++ x ∷ []) (cs ++ own ∷ []) more now
 order-more xs cs x own gives old new looks more set now long h form manifest steps =
-    let added = added-by own.items gives (seen (view_at form)) old new looks more set now steps in
+    let added = added-by own.items gives (row_entries (view_at form)) old new looks more set now steps in
     let before = flat_map h.looked.needs (below (length xs)) in
     in-order-more xs cs x own looks more set now long h added.needs
     (record { form = form; manifest = manifest; are = added.are })

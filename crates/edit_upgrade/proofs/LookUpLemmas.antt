@@ -7,7 +7,7 @@ use Rattle.std.proofs.lemmas.Bool.{cases_Bool, cases_lt}
 use Rattle.std.proofs.lemmas.List.Elements.{All-contains, All-contains_itself, All-head, Contains-append_right}
 use Rattle.edit_base.specs.declared.errors.Error.{Error}
 use Rattle.edit_sources.specs.Index.{Outcomes, SameOutcomes, answer_of, lookup_error}
-use Rattle.edit_store.specs.Store.{raised}
+use Rattle.edit_store.specs.Store.{IsRaisedCount}
 use Rattle.url.specs.Parts as url
 use Rattle.url.specs.Parts.{serialize}
 use Rattle.edit_upgrade.specs.Looked.{IsLookupMade, IsLookupError, IsWalkState, IsStep, Leaves, PairSet}
@@ -252,7 +252,7 @@ answered Needed first old now looks address n m need =
           (sym (same-eq (string_bytes f.0.name) n b.1)) ∙ kept,
     )
 
-later : (a b c d : ℕ) → a ≤ b → raised b c → raised a c
+later : (a b c d : ℕ) → a ≤ b → IsRaisedCount b c → IsRaisedCount a c
 later a b c d h (inl up) = inl (omega arith)
 later a b c d h (inr end) = elim (cases_lt a c) [ inl up ↦ inl up | inr down ↦ inr (omega arith, end.1) ]
 

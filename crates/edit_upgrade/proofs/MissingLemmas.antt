@@ -9,8 +9,8 @@ use Rattle.edit_manifest.specs.Entries.{Entry}
 use Rattle.edit_metadata.specs.declared.input.Input.{Input}
 use Rattle.edit_record.specs.EachOnce.{each_once}
 use Rattle.edit_version.specs.CrateSpecs.{spec_name}
-use Rattle.edit_upgrade.specs.Missing.{AddsNames, AreKnown, AreMissing, HasNames, is_among, name_of, names_in}
-use Rattle.edit_upgrade.specs.Words.{is_named, words_of}
+use Rattle.edit_upgrade.specs.Missing.{AddsNames, AreKnown, AreMissing, HasEntryNames, is_among, name_of, names_in}
+use Rattle.edit_upgrade.specs.Words.{is_named, package_args_of}
 use Rattle.edit_upgrade.specs.declared.decision.options.Options.{Options}
 use Rattle.edit_upgrade.proofs.EndLemmas.{filter-same}
 use Rattle.edit_upgrade.proofs.Steps.{taken-more}
@@ -30,7 +30,7 @@ pub known-start : (o : Options) (known : List ℕ → Bool) → ((name : List �
 known-start o known h = record {
   names = [];
   have = tt;
-  are = λ name. h name ∙ sym (none (is_named (words_of o) name));
+  are = λ name. h name ∙ sym (none (is_named (package_args_of o) name));
 }
   where
     none : (b : Bool) → (b && false) ≡ false
@@ -49,9 +49,9 @@ known-more : (o : Options) (xs : List Input) (x : Input) (old new : List ℕ →
     → AddsNames o x.bytes.items old new → AreKnown o (xs ++ x ∷ []) new
 known-more o xs x old new h a = record {
   names = h.names ++ a.names ∷ [];
-  have = zip-push (λ (input : Input) own. HasNames input.bytes.items own) xs h.names x a.names h.have a.have;
+  have = zip-push (λ (input : Input) own. HasEntryNames input.bytes.items own) xs h.names x a.names h.have a.have;
   are = λ name.
-      let s = is_named (words_of o) name in
+      let s = is_named (package_args_of o) name in
       let own = list_any (bytes_eq name) a.names in
       a.are name ∙ ap (λ b. b || (s && own)) (h.are name)
       ∙ joined s (is_among h.names name) own
@@ -68,7 +68,7 @@ known-next o inputs k x old new low is h a =
 
 -- what is not known of the words' names is missing
 pub missing-are : (o : Options) (inputs : List Input) (known : List ℕ → Bool) (names missing : List (List ℕ))
-    → AreKnown o inputs known → names ≡ each_once (map spec_name (words_of o))
+    → AreKnown o inputs known → names ≡ each_once (map spec_name (package_args_of o))
     → missing ≡ filter (λ name. not (known name)) names → AreMissing o inputs missing
 missing-are o inputs known names missing h n m = record {
   names = h.names;
@@ -76,11 +76,11 @@ missing-are o inputs known names missing h n m = record {
   are = m
       ∙ ap (λ (ns : List (List ℕ)). filter (λ name. not (known name)) ns) n
       ∙ filter-same (λ name. not (known name)) (λ name. not (is_among h.names name))
-      (each_once (map spec_name (words_of o)))
-      (All-weaker (λ name. is_named (words_of o) name ≡ true)
+      (each_once (map spec_name (package_args_of o)))
+      (All-weaker (λ name. is_named (package_args_of o) name ≡ true)
       (λ name. not (known name) ≡ not (is_among h.names name))
       (λ name e. ap not (h.are name ∙ ap (λ b. b && is_among h.names name) e))
-      (each_once (map spec_name (words_of o))) (once_named (words_of o)));
+      (each_once (map spec_name (package_args_of o))) (once_named (package_args_of o)));
 }
 
 -- ---- names of entries, one by one

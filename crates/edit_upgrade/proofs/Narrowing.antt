@@ -6,7 +6,7 @@ use Rattle.std.specs.Ordering.{is_le}
 use Rattle.semver.specs.Grammar.{IsValid}
 use Rattle.semver.specs.Parse.{Parts, req_of}
 use Rattle.edit_version.specs.Laws.{Admits, IsNarrower}
-use Rattle.edit_version.specs.Requirement.{Nothing, UpgradeResult, Text, Unread, Unsupported, plain_text, raise}
+use Rattle.edit_version.specs.Requirement.{Nothing, UpgradeResult, Text, Unread, Unsupported, plain_text, upgrade_of}
 use Rattle.edit_version.specs.Selection.{IsCompatible, IsLatest, is_admitted, is_offered}
 use Rattle.edit_version.specs.VersionOrder.{full_order}
 use Rattle.edit_version.proofs.Greatests.{wider, wider-found}
@@ -22,7 +22,7 @@ use Rattle.edit_upgrade.proofs.TakenVersions.{compatible-taken, far-some, far_te
 -- the requirement that the compatible version was written into narrows the old one
 narrow-of : (xs : List Parts) (old t : List ℕ) (u : Parts) (r : UpgradeResult) → All IsValid xs
     → IsCompatible old xs (Some u)
-    → raise old u ≡ r → text_or old r ≡ Some t → pointwise nat_eq t old ≡ false → IsNarrower old t u
+    → upgrade_of old u ≡ r → text_or old r ≡ Some t → pointwise nat_eq t old ≡ false → IsNarrower old t u
 narrow-of xs old t u Unread all near e h other = cc h
 narrow-of xs old t u Nothing all near e h other = cc h
 narrow-of xs old t u (Unsupported d) all near e h other =
@@ -49,13 +49,13 @@ narrowing o xs c all iscomp h =
       n.0,
       n.1,
       subst (λ (x : List ℕ). IsNarrower c.old x n.0) (sym k.2)
-          (narrow-of xs c.old k.0 n.0 (raise c.old n.0) all near refl n.2 k.3),
+          (narrow-of xs c.old k.0 n.0 (upgrade_of c.old n.0) all near refl n.2 k.3),
     )
 
 -- the text that a version of the offered ones is written into
 latest-read : (old : List ℕ) (v : Parts) (t : List ℕ) (r : UpgradeResult) → IsValid v
     → is_offered old v ≡ true
-    → raise old v ≡ r
+    → upgrade_of old v ≡ r
     → text_or (plain_text v) r ≡ Some t → Lands v t
 latest-read old v t Unread valid offered e h = cc h
 latest-read old v t Nothing valid offered e h = cc h
@@ -68,8 +68,8 @@ latest-read old v t (Text s) valid offered e h =
 
 -- the same, from what raising gives
 pub latest-lands : (old : List ℕ) (v : Parts) (t : List ℕ) → IsValid v → is_offered old v ≡ true
-    → text_or (plain_text v) (raise old v) ≡ Some t → Lands v t
-latest-lands old v t valid offered h = latest-read old v t (raise old v) valid offered refl h
+    → text_or (plain_text v) (upgrade_of old v) ≡ Some t → Lands v t
+latest-lands old v t valid offered h = latest-read old v t (upgrade_of old v) valid offered refl h
 
 -- a change to the latest version: the new text admits it, if it has no pre-release
 pub reach : (o : Options) (xs : List Parts) (c : Case) → All IsValid xs → IsLatest c.old xs c.latest

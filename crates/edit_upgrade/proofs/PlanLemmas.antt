@@ -3,14 +3,14 @@ use Rattle.std.proofs.Common.{◌≡◌, ◌∷◌, ◌++◌, [], List, ℕ, Opt
 use Rattle.std.specs.Prelude.{MatchOption, String, string_bytes}
 use Rattle.edit_tree.specs.Replaces.{Edits, Replaces}
 use Rattle.edit_tree.specs.DocumentViews.{DocumentViews}
-use Rattle.edit_upgrade.specs.Found.{seen_of}
+use Rattle.edit_upgrade.specs.Found.{row_entry_view}
 use Rattle.edit_upgrade.specs.Lines.{line_of}
 use Rattle.edit_upgrade.specs.Outputs.{AreOutputs, HasOutputs, IsOnlyOutput, IsRewritten, changed, unchanged}
 use Rattle.edit_upgrade.specs.PlannedView.{IsPlannedView}
 use Rattle.edit_upgrade.specs.Records.{RowEntry}
 use Rattle.edit_upgrade.specs.Rows.{writes}
 use Rattle.edit_upgrade.specs.declared.planned.Planned.{Planned}
-use Rattle.edit_upgrade.specs.declared.seen.Entry.{Entry}
+use Rattle.edit_upgrade.specs.declared.entries_with_rows.Entry.{Entry}
 use Rattle.edit_report.specs.declared.output.Output.{Output}
 use Rattle.edit_report.specs.declared.row.Row.{Row}
 
@@ -41,12 +41,12 @@ outputs-are path bytes d edits (Some s) outputs b w o =
 pub outputs-of : {Y : Type 0} (path here bytes : List ℕ) (d : DocumentViews) (p : Planned) (entries : List Entry)
     (rows : List Row) (text : Option (String Y)) (outputs : List Output)
     → here ≡ path → IsPlannedView bytes d p → entries ≡ p.entries.items → rows ≡ p.rows.items
-    → MatchOption text (writes (map seen_of entries) (map line_of rows) ≡ [])
-    (λ s. IsRewritten d (writes (map seen_of entries) (map line_of rows)) (string_bytes s))
+    → MatchOption text (writes (map row_entry_view entries) (map line_of rows) ≡ [])
+    (λ s. IsRewritten d (writes (map row_entry_view entries) (map line_of rows)) (string_bytes s))
     → MatchOption text (outputs ≡ []) (λ s. IsOnlyOutput here (string_bytes s) outputs)
     → HasOutputs path bytes (map line_of p.rows.items) outputs
 outputs-of path here bytes d p entries rows text outputs a h e r w o =
-    let edits = writes (map seen_of entries) (map line_of rows) in
+    let edits = writes (map row_entry_view entries) (map line_of rows) in
     let at = subst (λ (x : List ℕ). MatchOption text (outputs ≡ [])
     (λ s. IsOnlyOutput x (string_bytes s) outputs)) a o in
     let are = outputs-are path bytes d edits text outputs h.same w at in
@@ -54,7 +54,7 @@ outputs-of path here bytes d p entries rows text outputs a h e r w o =
       form = h.form;
       manifest = h.manifest;
       are = subst (λ (es : List RowEntry). AreOutputs path bytes (writes es (map line_of p.rows.items)) outputs)
-          (ap (map seen_of) e ∙ h.entries)
+          (ap (map row_entry_view) e ∙ h.entries)
           (subst (λ (rs : List Row). AreOutputs path bytes
-          (writes (map seen_of entries) (map line_of rs)) outputs) r are);
+          (writes (map row_entry_view entries) (map line_of rs)) outputs) r are);
     }

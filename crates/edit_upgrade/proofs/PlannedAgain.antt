@@ -5,7 +5,7 @@ use Rattle.std.specs.List.{AllByRecursion, AllZip}
 use Rattle.std.proofs.lemmas.List.Elements.{All-cons, All-contains, All-contains_itself, All-head, All-tail, All-weaker, Contains-append_right}
 use Rattle.edit_tree.specs.Assertions.{IsDocument, Place}
 use Rattle.edit_syntax.specs.Grammar.{Text}
-use Rattle.edit_tree.specs.Replaces.{Edits, replaced, written}
+use Rattle.edit_tree.specs.Replaces.{Edits, replaced, tree_with_strings}
 use Rattle.edit_tree.specs.Tree.{view_at}
 use Rattle.edit_tree.proofs.Shallow.{one_form}
 use Rattle.edit_tree.proofs.ReplacedStrings.{strings_view}
@@ -15,7 +15,7 @@ use Rattle.edit_manifest.specs.Tables.{Tree}
 use Rattle.edit_upgrade.specs.Headline.{HasNoChange, IsFixedPoint, NeedSame, bytes_after}
 use Rattle.edit_upgrade.specs.Inputs.{Setting}
 use Rattle.edit_upgrade.specs.Outputs.{AreOutputs, HasOutputs, changed, unchanged}
-use Rattle.edit_upgrade.specs.Records.{RowEntry, seen}
+use Rattle.edit_upgrade.specs.Records.{RowEntry, row_entries}
 use Rattle.edit_upgrade.specs.Rows.{Line, with_write, writes}
 use Rattle.edit_upgrade.specs.Upgraded.{HasRows, IsNeededFor, IsNeededIn, IsRow}
 use Rattle.edit_upgrade.specs.Words.{HasOnlyNames}
@@ -27,9 +27,9 @@ use Rattle.edit_upgrade.proofs.WordLemmas.{none_given}
 use Rattle.edit_upgrade.proofs.WrittenEntries.{renew, renewed, written-seen}
 
 -- the requirement of each seen entry is cut already
-seen-whole : (t : Tree) → AllByRecursion (λ e. (old : List ℕ) → e.old ≡ Some old → cut old ≡ old) (seen t)
+seen-whole : (t : Tree) → AllByRecursion (λ e. (old : List ℕ) → e.old ≡ Some old → cut old ≡ old) (row_entries t)
 seen-whole t =
-    mapped-all (Stands t) (λ e. (old : List ℕ) → e.old ≡ Some old → cut old ≡ old) (seen t)
+    mapped-all (Stands t) (λ e. (old : List ℕ) → e.old ≡ Some old → cut old ≡ old) (row_entries t)
     (λ e k old q. let c = k.there old q in ap cut c.2 ∙ cut-whole c.0 ∙ sym c.2) (seen-stands t)
 
 -- rows without a change write nothing
@@ -53,20 +53,20 @@ none-out path bytes edits _ e (changed output some at r) = absurd (some e)
 record IsReadBack (new : List ℕ) (form : Text) (lines : List Line) : Type 0 where
   after : Text
   manifest : IsDocument new after
-  tree : (q : Place) → view_at after q ≡ written (writes (seen (view_at form)) lines) (view_at form) q
+  tree : (q : Place) → view_at after q ≡ tree_with_strings (writes (row_entries (view_at form)) lines) (view_at form) q
 
 -- by whether there is an output
 read-by : (path bytes : List ℕ) (form : Text) (lines : List Line) (outputs : List Output)
     → IsDocument bytes form
-    → AreOutputs path bytes (writes (seen (view_at form)) lines) outputs
+    → AreOutputs path bytes (writes (row_entries (view_at form)) lines) outputs
     → IsReadBack (bytes_after bytes outputs) form lines
 read-by path bytes form lines _ m (unchanged none) = record {
   after = form;
   manifest = m;
-  tree = λ q. sym (ap (λ (ws : Edits). written ws (view_at form) q) none);
+  tree = λ q. sym (ap (λ (ws : Edits). tree_with_strings ws (view_at form) q) none);
 }
 read-by path bytes form lines _ m (changed output some at r) =
-    let edits = writes (seen (view_at form)) lines in
+    let edits = writes (row_entries (view_at form)) lines in
     record {
       after = replaced edits form;
       manifest = subst (λ (f : Text). IsDocument output.bytes.items (replaced edits f))
@@ -80,31 +80,31 @@ read-back : (path bytes : List ℕ) (form : Text) (lines : List Line) (outputs :
     → IsReadBack (bytes_after bytes outputs) form lines
 read-back path bytes form lines outputs m g =
     read-by path bytes form lines outputs m
-    (subst (λ (f : Text). AreOutputs path bytes (writes (seen (view_at f)) lines) outputs)
+    (subst (λ (f : Text). AreOutputs path bytes (writes (row_entries (view_at f)) lines) outputs)
     (one_form bytes g.form form g.manifest m) g.are)
 
 -- the entries that are seen then
 seen-back : (s : Setting) (new : List ℕ) (form : Text) (lines : List Line)
-    → AllZip (IsRow s) (seen (view_at form)) lines → (b : IsReadBack new form lines)
-    → seen (view_at b.after) ≡ renewed (seen (view_at form)) lines
+    → AllZip (IsRow s) (row_entries (view_at form)) lines → (b : IsReadBack new form lines)
+    → row_entries (view_at b.after) ≡ renewed (row_entries (view_at form)) lines
 seen-back s new form lines d b =
     written-seen (IsRow s) (view_at form) (view_at b.after) lines (seen-apart form) d b.tree
 
 -- whatever form the bytes are read to, these entries are seen
 seen-always : (new : List ℕ) (form : Text) (lines : List Line) (es : List RowEntry)
-    → (b : IsReadBack new form lines) → seen (view_at b.after) ≡ es
-    → (f : Text) → IsDocument new f → seen (view_at f) ≡ es
+    → (b : IsReadBack new form lines) → row_entries (view_at b.after) ≡ es
+    → (f : Text) → IsDocument new f → row_entries (view_at f) ≡ es
 seen-always new form lines es b same f m =
-    ap (λ (x : Text). seen (view_at x)) (one_form new f b.after m b.manifest) ∙ same
+    ap (λ (x : Text). row_entries (view_at x)) (one_form new f b.after m b.manifest) ∙ same
 
 -- ---- planned again
 
 -- what was read back stays
 pending_defined-on : (s : Setting) (new : List ℕ) (form : Text) (lines : List Line)
-    → AllZip (IsRow s) (seen (view_at form)) lines
+    → AllZip (IsRow s) (row_entries (view_at form)) lines
     → IsReadBack new form lines → HasOnlyNames s.options → IsFixedPoint s new
 pending_defined-on s new form lines d b select =
-    let es = seen (view_at form) in
+    let es = row_entries (view_at form) in
     let back = seen-back s new form lines d b in
     let same = seen-always new form lines (renewed es lines) b back in
     let rows = some-again s es lines d in
@@ -120,8 +120,8 @@ pending_defined-on s new form lines d b select =
       };
       unchanged = quiet;
       unwritten = λ path again outputs h g.
-          none-out path new (writes (seen (view_at g.form)) again) outputs
-          (quiet-writes (seen (view_at g.form)) again (quiet again h)) g.are;
+          none-out path new (writes (row_entries (view_at g.form)) again) outputs
+          (quiet-writes (row_entries (view_at g.form)) again (quiet again h)) g.are;
     }
 
 -- the bytes that stand after a plan
@@ -215,12 +215,12 @@ pub need-same : (s : Setting) (path bytes : List ℕ) (lines : List Line) (outpu
     → NeedSame s.configs bytes (bytes_after bytes outputs)
 need-same s path bytes lines outputs h g =
     let new = bytes_after bytes outputs in
-    let es = seen (view_at h.form) in
+    let es = row_entries (view_at h.form) in
     let b = read-back path bytes h.form lines outputs h.manifest g in
     let back = seen-back s new h.form lines h.decided b in
     let same = seen-always new h.form lines (renewed es lines) b back in
-    let first : (f : Text) → IsDocument bytes f → seen (view_at f) ≡ es = λ f m. ap
-    (λ (x : Text). seen (view_at x)) (one_form bytes f h.form m h.manifest) in
+    let first : (f : Text) → IsDocument bytes f → row_entries (view_at f) ≡ es = λ f m. ap
+    (λ (x : Text). row_entries (view_at x)) (one_form bytes f h.form m h.manifest) in
     λ address name. (
       λ need. record {
         form = h.form;

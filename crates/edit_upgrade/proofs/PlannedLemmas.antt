@@ -18,20 +18,20 @@ use Rattle.edit_manifest.specs.Entries.{entries}
 use Rattle.edit_sources.specs.Index.{Outcomes}
 use Rattle.edit_sources.specs.declared.config.Config.{Config}
 use Rattle.edit_upgrade.specs.Causes.{HasBadEntry, IsPassed, StopsFirst}
-use Rattle.edit_upgrade.specs.Found.{seen_of}
+use Rattle.edit_upgrade.specs.Found.{row_entry_view}
 use Rattle.edit_upgrade.specs.Lines.{line_of}
-use Rattle.edit_upgrade.specs.Lists.{AreWarnings, Told}
+use Rattle.edit_upgrade.specs.Lists.{AreWarnings, WarningView}
 use Rattle.edit_upgrade.specs.Looked.{AreSteps, Leaves}
 use Rattle.edit_upgrade.specs.Looks.{CachedAnswers, cached_basis}
 use Rattle.edit_upgrade.specs.Missing.{AddsNames, names_in}
 use Rattle.edit_upgrade.specs.PairSets.{holds_pair}
 use Rattle.edit_upgrade.specs.PlannedView.{AreRowEntries, IsPlannedView, IsWalked}
-use Rattle.edit_upgrade.specs.Records.{RowEntry, seen}
+use Rattle.edit_upgrade.specs.Records.{RowEntry, row_entries}
 use Rattle.edit_upgrade.specs.Rows.{AreDecided, Basis, IsRowBy, Line}
 use Rattle.edit_upgrade.specs.Upgraded.{HasWarnings, IsNeededBy, IsNeededIn}
-use Rattle.edit_upgrade.specs.Words.{is_named, words_of}
+use Rattle.edit_upgrade.specs.Words.{is_named, package_args_of}
 use Rattle.edit_upgrade.specs.declared.planned.Planned.{Planned}
-use Rattle.edit_upgrade.specs.declared.seen.Entry.{Entry}
+use Rattle.edit_upgrade.specs.declared.entries_with_rows.Entry.{Entry}
 use Rattle.edit_upgrade.specs.declared.decision.options.Options.{Options}
 use Rattle.edit_upgrade.specs.declared.walk.LookupLog.{LookupLog}
 use Rattle.edit_metadata.specs.declared.input.Input.{Input}
@@ -40,10 +40,10 @@ use Rattle.edit_report.specs.declared.row.Row.{Row}
 use Rattle.edit_upgrade.proofs.LookUpLemmas.{leaves-wider}
 
 -- the tree of a document is that of its form
-pub same-seen : (d : DocumentViews) (form : Text) → ShowsTree d form → seen (tree_of d) ≡ seen (view_at form)
+pub same-seen : (d : DocumentViews) (form : Text) → ShowsTree d form → row_entries (tree_of d) ≡ row_entries (view_at form)
 same-seen d form h =
     let same : tree_of d ≡ view_at form = λ i p. h p i in
-    ap seen same
+    ap row_entries same
 
 -- what is refused with an error of this cause has it
 pub refusal-has : {T : Type 0} (r : Result T Error) (e : Error) (P : Error → Type 0)
@@ -53,15 +53,15 @@ refusal-has (Err other) e P same h = subst P (sym same) h
 
 -- they are seen in whatever form
 seen-in : (bytes : List ℕ) (es : List RowEntry) → (a : AreRowEntries bytes es) → (f : Text) → IsDocument bytes f
-    → seen (view_at f) ≡ es
-seen-in bytes es a f m = ap (λ (x : Text). seen (view_at x)) (one_form bytes f a.form m a.manifest)
+    → row_entries (view_at f) ≡ es
+seen-in bytes es a f m = ap (λ (x : Text). row_entries (view_at x)) (one_form bytes f a.form m a.manifest)
     ∙ sym a.are
 
 -- the entries of a document that shows its forms
 pub document-seen : (bytes : List ℕ) (d : DocumentViews) (es : List RowEntry) → d.bytes ≡ bytes
     → (form : Text)
     × IsDocument d.bytes form
-    → ((form : Text) → IsDocument d.bytes form → ShowsTree d form) → es ≡ seen (tree_of d)
+    → ((form : Text) → IsDocument d.bytes form → ShowsTree d form) → es ≡ row_entries (tree_of d)
     → AreRowEntries bytes es
 document-seen bytes d es same f shows whole = record {
   form = f.0;
@@ -72,8 +72,8 @@ document-seen bytes d es same f shows whole = record {
 -- a document whose entries each have a row
 pub planned-shown : (bytes : List ℕ) (d : DocumentViews) (p : Planned) → d.bytes ≡ bytes → (form : Text)
     × IsDocument d.bytes form
-    → ((form : Text) → IsDocument d.bytes form → ShowsTree d form) → map seen_of p.entries.items
-    ≡ seen (tree_of d)
+    → ((form : Text) → IsDocument d.bytes form → ShowsTree d form) → map row_entry_view p.entries.items
+    ≡ row_entries (tree_of d)
     → length p.rows.items ≡ length p.entries.items → IsPlannedView bytes d p
 planned-shown bytes d p same f shows whole long = record {
   form = f.0;
@@ -107,10 +107,10 @@ planned-walked i o input configs gives old new before after es ls a steps passed
 
 -- each entry has a row
 pub rows-long : (b : Basis) (entries : List Entry) (rows : List Row)
-    → AreDecided b (map seen_of entries) (map line_of rows) → length rows ≡ length entries
+    → AreDecided b (map row_entry_view entries) (map line_of rows) → length rows ≡ length entries
 rows-long b entries rows d =
-    sym (length-map rows line_of) ∙ AllZip-long (IsRowBy b) (map seen_of entries) (map line_of rows) d
-    ∙ length-map entries seen_of
+    sym (length-map rows line_of) ∙ AllZip-long (IsRowBy b) (map row_entry_view entries) (map line_of rows) d
+    ∙ length-map entries row_entry_view
 
 -- what the manifest needs, and what its entries need
 pub of-manifest : (configs : List Config) (bytes : List ℕ) (es : List RowEntry) → AreRowEntries bytes es
@@ -152,7 +152,7 @@ planned-refused configs bytes first old now b c es e a (inr stops) = inr (record
 
 -- the warnings on the entries of a document are those of the manifest
 pub planned-warnings : (o : Options) (number : ℕ) (bytes : List ℕ) (d : DocumentViews) (es : List found.Entry)
-    (ts : List Told)
+    (ts : List WarningView)
     → d.bytes ≡ bytes → (form : Text) × IsDocument d.bytes form
     → ((form : Text) → IsDocument d.bytes form → ShowsTree d form) → es ≡ entries (tree_of d) []
     → AreWarnings o number es ts → HasWarnings o number bytes ts
@@ -170,7 +170,7 @@ pub planned-names : (o : Options) (bytes : List ℕ) (d : DocumentViews) (es : L
     (old new : List ℕ → Bool) → d.bytes ≡ bytes → (form : Text) × IsDocument d.bytes form
     → ((form : Text) → IsDocument d.bytes form → ShowsTree d form) → es ≡ entries (tree_of d) []
     → ((name : List ℕ) → new name
-    ≡ (old name || (is_named (words_of o) name && list_any (bytes_eq name) (names_in es))))
+    ≡ (old name || (is_named (package_args_of o) name && list_any (bytes_eq name) (names_in es))))
     → AddsNames o bytes old new
 planned-names o bytes d es old new same f shows whole adds =
     let tree : tree_of d ≡ view_at f.0 = λ i p. shows f.0 f.1 p i in

@@ -8,7 +8,7 @@ use Rattle.semver.specs.OrderLaws.{same_text}
 use Rattle.semver.specs.Parse.{Held, Parts, req_of}
 use Rattle.semver.specs.declared.error.Error as semver_error
 use Rattle.edit_version.specs.Greatest.{IsGreatestKept}
-use Rattle.edit_version.specs.Requirement.{Nothing, UpgradeResult, Text, Unread, Unsupported, plain_text, raise, upgrade_all, upgrade_parsed, unless_same}
+use Rattle.edit_version.specs.Requirement.{Nothing, UpgradeResult, Text, Unread, Unsupported, plain_text, upgrade_of, upgrade_all, upgrade_parsed, unless_same}
 use Rattle.edit_version.specs.Selection.{IsCompatible, IsLatest, is_admitted, is_offered}
 use Rattle.edit_version.specs.VersionOrder.{full_order}
 use Rattle.edit_version.proofs.Builds.{plain-same, raise-same}
@@ -36,7 +36,7 @@ settled-at : (xs : List Parts) (t : List ℕ) (v : Parts) (near : Option Parts) 
 settled-at xs t v None l far near = (rw l.fixed refl, refl)
 settled-at xs t v (Some u) l far near =
     let s = near-is xs t v u l far near in
-    let again : raise t u ≡ Nothing = raise-same t u v s ∙ l.fixed in
+    let again : upgrade_of t u ≡ Nothing = raise-same t u v s ∙ l.fixed in
     (rw (newer-none u v (sym (plain-same u v s))) refl, rw again refl)
 
 -- what was raised to the latest version stays
@@ -77,7 +77,7 @@ same-again xs old t u v far all l near h e isfar =
 -- a later version that raising leaves the text for has the compatible one's text
 nothing-same : (xs : List Parts) (old : List ℕ) (u v : Parts) → All IsValid xs
     → IsGreatestKept (is_admitted old) full_order xs u
-    → IsGreatestKept (is_offered old) full_order xs v → raise old v ≡ Nothing → plain_text v ≡ plain_text u
+    → IsGreatestKept (is_offered old) full_order xs v → upgrade_of old v ≡ Nothing → plain_text v ≡ plain_text u
 nothing-same xs old u v all near h none =
     let valid = greatest-has IsValid (is_offered old) xs v all h in
     let l = outcome-lands old v old valid h.kept (nothing-outcome old v none) in
@@ -98,7 +98,7 @@ text-none other (Text t) h n = cc h
 
 -- what was raised to the compatible version is not raised to a later one, if it was not before
 pub compatible-far : (xs : List Parts) (old t : List ℕ) (u : Parts) (latest far : Option Parts)
-    → All IsValid xs → raise old u ≡ Text t
+    → All IsValid xs → upgrade_of old u ≡ Text t
     → IsGreatestKept (is_admitted old) full_order xs u → IsLatest old xs latest
     → far_text old latest (Some u) ≡ None
     → IsLatest t xs far → far_text t far (Some u) ≡ None
@@ -111,10 +111,10 @@ compatible-far xs old t u (Some v) far all r near islatest none isfar =
     elim (cases_Bool (pointwise nat_eq (plain_text v) (plain_text u))) [
       | inl same ↦ same-again xs old t u v far all l near islatest (same_text _ _ same) isfar
       | inr other ↦
-          let first : text_or (plain_text v) (raise old v) ≡ None =
-          sym (ap (λ (x : Option Parts). option_and_then (λ w. text_or (plain_text w) (raise old w)) x)
+          let first : text_or (plain_text v) (upgrade_of old v) ≡ None =
+          sym (ap (λ (x : Option Parts). option_and_then (λ w. text_or (plain_text w) (upgrade_of old w)) x)
           (newer-other u v other)) ∙ none in
-          let nothing = text-none (plain_text v) (raise old v) first (λ q. unread-both old u v t r q) in
+          let nothing = text-none (plain_text v) (upgrade_of old v) first (λ q. unread-both old u v t r q) in
           same-again xs old t u v far all l near islatest
           (nothing-same xs old u v all near islatest nothing) isfar
     ]
@@ -136,12 +136,12 @@ compatible-far xs old t u (Some v) far all r near islatest none isfar =
         all-of old v cs (Some d) q = cc q
         all-of old v cs None q = unless-of old _ q
 
-    unread-both : (old : List ℕ) (u v : Parts) (t : List ℕ) → raise old u ≡ Text t → raise old v ≡ Unread → ⊥
+    unread-both : (old : List ℕ) (u v : Parts) (t : List ℕ) → upgrade_of old u ≡ Text t → upgrade_of old v ≡ Unread → ⊥
     unread-both old u v t h q = unread-of old u v t (req_of old) h q
 
 -- the compatible version is the same after the change, and raises nothing
 pub compatible-near : (xs : List Parts) (old t : List ℕ) (u : Parts) (near : Option Parts) → All IsValid xs
-    → raise old u ≡ Text t
+    → upgrade_of old u ≡ Text t
     → IsGreatestKept (is_admitted old) full_order xs u → IsCompatible t xs near
     → (near ≡ Some u) × (near_text t near ≡ None)
 compatible-near xs old t u near all r h isnear =

@@ -14,7 +14,7 @@ use Rattle.edit_manifest.specs.Entries.{Entry, entries, entry_at}
 use Rattle.edit_manifest.proofs.EntriesApart.{Differ, IsEntryOf, entries-apart, entries-of, entry-literal, same_literal}
 use Rattle.edit_manifest.proofs.EntryPlaces.{IsLiteral}
 use Rattle.edit_manifest.proofs.RecordVersions.{version-stands}
-use Rattle.edit_upgrade.specs.Records.{RowEntry, Source, seen, row_entry_at, row_entry_of, source_of, with_row}
+use Rattle.edit_upgrade.specs.Records.{RowEntry, Source, row_entries, row_entry_at, row_entry_of, source_of, with_row}
 use Rattle.edit_upgrade.specs.Rows.{Line, with_write, write_at, write_on, writes}
 use Rattle.edit_report.specs.declared.row.Change.{Change}
 
@@ -87,7 +87,7 @@ mapped-all P Q [] f h = tt
 mapped-all P Q (x ∷ xs) f h = (f x h.0, mapped-all P Q xs f h.1)
 
 -- the literals of all entries that get a row
-pub seen-stands : (t : Tree) → AllByRecursion (Stands t) (seen t)
+pub seen-stands : (t : Tree) → AllByRecursion (Stands t) (row_entries t)
 seen-stands t = kept-all (IsEntryOf t []) (Stands t) with_row (entries t []) (entries-of t [])
     (λ e s k h. stands t e s k h)
 
@@ -115,7 +115,7 @@ rows-apart : (es : List Entry) → Differ same_literal es → AreApart (filter_m
 rows-apart [] h = tt
 rows-apart (e ∷ es) h = cons-apart e es (with_row e) refl h.0 (rows-apart es h.1)
 
-pub seen-apart : (form : Text) → AreApart (seen (view_at form))
+pub seen-apart : (form : Text) → AreApart (row_entries (view_at form))
 seen-apart form = rows-apart (entries (view_at form) []) (entries-apart form [])
 
 -- ---- what rows write
@@ -165,17 +165,17 @@ writes-all P (e ∷ es) [] h = tt
 writes-all P (e ∷ es) (l ∷ ls) h = write-all P e l (writes es ls) h.0 (writes-all P es ls h.1)
 
 -- at each place that is written to, a string stands
-pub writes-strings : (t : Tree) (ls : List Line) → AreStrings (writes (seen t) ls) t
+pub writes-strings : (t : Tree) (ls : List Line) → AreStrings (writes (row_entries t) ls) t
 writes-strings t ls =
-    writes-all (λ (p : Place). is_string (t p) ≡ true) (seen t) ls
-    (mapped-all (Stands t) (λ e. (old : List ℕ) → e.old ≡ Some old → is_string (t e.literal) ≡ true) (seen t)
+    writes-all (λ (p : Place). is_string (t p) ≡ true) (row_entries t) ls
+    (mapped-all (Stands t) (λ e. (old : List ℕ) → e.old ≡ Some old → is_string (t e.literal) ≡ true) (row_entries t)
     (λ e k old q. ap is_string (k.there old q).1) (seen-stands t))
 
 -- each place that is written to is an entry's literal
-pub writes-literals : (t : Tree) (ls : List Line) → AllByRecursion (λ w. IsLiteral w.0) (writes (seen t) ls)
+pub writes-literals : (t : Tree) (ls : List Line) → AllByRecursion (λ w. IsLiteral w.0) (writes (row_entries t) ls)
 writes-literals t ls =
-    writes-all IsLiteral (seen t) ls
-    (mapped-all (Stands t) (λ e. (old : List ℕ) → e.old ≡ Some old → IsLiteral e.literal) (seen t)
+    writes-all IsLiteral (row_entries t) ls
+    (mapped-all (Stands t) (λ e. (old : List ℕ) → e.old ≡ Some old → IsLiteral e.literal) (row_entries t)
     (λ e k old q. k.literal) (seen-stands t))
 
 write-distinct : (e : RowEntry) (line : Line) (ws : List (Place × List ℕ))
@@ -201,7 +201,7 @@ writes-distinct (e ∷ es) (l ∷ ls) h =
 
 -- what rows write, over the entries that a document shows
 pub shown-strings : (d : DocumentViews) (form : Text) (es : List RowEntry) (ls : List Line) (ws : List (Place × List ℕ))
-    → ShowsTree d form → es ≡ seen (view_at form)
+    → ShowsTree d form → es ≡ row_entries (view_at form)
     → ws ≡ writes es ls → AreStrings ws (tree_of d)
 shown-strings d form es ls ws h e w =
     let same : tree_of d ≡ view_at form = λ i p. h p i in
@@ -210,7 +210,7 @@ shown-strings d form es ls ws h e w =
     (sym (w ∙ ap (λ (x : List RowEntry). writes x ls) e)) (writes-strings (view_at form) ls))
 
 pub shown-distinct : (form : Text) (es : List RowEntry) (ls : List Line) (ws : List (Place × List ℕ))
-    → es ≡ seen (view_at form)
+    → es ≡ row_entries (view_at form)
     → ws ≡ writes es ls → AreDistinct ws
 shown-distinct form es ls ws e w =
     subst (λ (xs : List (Place × List ℕ)). AreDistinct xs) (sym w)

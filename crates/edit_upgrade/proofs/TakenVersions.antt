@@ -4,7 +4,7 @@ use Rattle.std.specs.Prelude.{nat_eq, option_and_then}
 use Rattle.std.specs.Cmp.Lexicographic.{pointwise}
 use Rattle.std.proofs.lemmas.Bool.{cases_Bool}
 use Rattle.semver.specs.Parse.{Parts}
-use Rattle.edit_version.specs.Requirement.{plain_text, raise}
+use Rattle.edit_version.specs.Requirement.{plain_text, upgrade_of}
 use Rattle.edit_upgrade.specs.Decision.{first_row, newer, row_change, row_text, text_or, unless, unless_old, some_if}
 use Rattle.edit_report.specs.declared.row.Change.{Change}
 use Rattle.edit_report.specs.declared.row.Change.TheVariants as change
@@ -12,11 +12,11 @@ use Rattle.edit_upgrade.specs.declared.decision.options.Options.{Options}
 
 -- the texts that could be written, for a requirement and its two versions
 abbrev pub far_text : List ℕ → Option Parts → Option Parts → Option (List ℕ)
-far_text t far near = option_and_then (λ v. text_or (plain_text v) (raise t v)) (newer far near)
+far_text t far near = option_and_then (λ v. text_or (plain_text v) (upgrade_of t v)) (newer far near)
 
 -- the same for the compatible version
 abbrev pub near_text : List ℕ → Option Parts → Option (List ℕ)
-near_text t near = option_and_then (λ v. text_or t (raise t v)) near
+near_text t near = option_and_then (λ v. text_or t (upgrade_of t v)) near
 
 -- a text that may be written is there
 pub some_if-some : (b : Bool) (a : Option (List ℕ)) (t : List ℕ) → some_if b a ≡ Some t → a ≡ Some t
@@ -40,20 +40,20 @@ newer-latest (Some f) (Some u) v h = elim (cases_Bool (pointwise nat_eq (plain_t
 
 -- the version that a text is for
 newer-some : (old t : List ℕ) (o : Option Parts)
-    → option_and_then (λ v. text_or (plain_text v) (raise old v)) o ≡ Some t
-    → (v : Parts) × (o ≡ Some v) × (text_or (plain_text v) (raise old v) ≡ Some t)
+    → option_and_then (λ v. text_or (plain_text v) (upgrade_of old v)) o ≡ Some t
+    → (v : Parts) × (o ≡ Some v) × (text_or (plain_text v) (upgrade_of old v) ≡ Some t)
 newer-some old t None h = cc h
 newer-some old t (Some v) h = (v, refl, h)
 
 -- the version that a text for the latest one is for
 pub far-some : (old t : List ℕ) (far near : Option Parts) → far_text old far near ≡ Some t
-    → (v : Parts) × (newer far near ≡ Some v) × (text_or (plain_text v) (raise old v) ≡ Some t)
+    → (v : Parts) × (newer far near ≡ Some v) × (text_or (plain_text v) (upgrade_of old v) ≡ Some t)
 far-some old t far near h = newer-some old t (newer far near) h
 
 -- the version that a text for the compatible one is for
 pub near-some : (o : Options) (old t : List ℕ) (near : Option Parts)
     → some_if o.compatible (near_text old near) ≡ Some t
-    → (u : Parts) × (near ≡ Some u) × (text_or old (raise old u) ≡ Some t)
+    → (u : Parts) × (near ≡ Some u) × (text_or old (upgrade_of old u) ≡ Some t)
 near-some o old t None h = cc (some_if-some o.compatible None t h)
 near-some o old t (Some u) h = (u, refl, some_if-some o.compatible (near_text old (Some u)) t h)
 

@@ -16,7 +16,7 @@ use Rattle.url.specs.Parts.{serialize}
 use Rattle.edit_upgrade.specs.Causes.{IsPassed, StopsAt, StopsFirst}
 use Rattle.edit_upgrade.specs.Causes.StopsAt.{no_address, no_answer}
 use Rattle.edit_upgrade.specs.Looked.{IsAt, IsEntryStep, IsLookupError, IsStep, Leaves, PairSet, Stays}
-use Rattle.edit_upgrade.specs.Looks.{Answer, AreLookups, CachedAnswers, cached_basis, told, versions_in}
+use Rattle.edit_upgrade.specs.Looks.{Answer, AreLookups, CachedAnswers, cached_basis, looked_up_versions, versions_in}
 use Rattle.edit_upgrade.specs.Records.{RowEntry, at_registry}
 use Rattle.edit_upgrade.specs.Rows.{AreDecided, AreVersionsFor, Basis, IsRowBy, IsRowOver, Line, Needs, elsewhere, is_elsewhere, told_there}
 use Rattle.edit_upgrade.specs.Upgraded.{IsNeededFor, IsNeededIn}
@@ -114,11 +114,11 @@ pub rows-told : (Needed : List ℕ → List ℕ → Type 0) (i : ℕ) (o : Optio
     (old now : CachedAnswers) (looks : List Look) (es : List RowEntry) (ls : List Line)
     → ((a n : List ℕ) → IsNeededIn configs es a n → Needed a n) → AreLookups Needed first old now looks
     → AreDecided (cached_basis i o rust configs now) es ls → AreDecided
-    (basis_over i o configs (told rust looks)) es ls
+    (basis_over i o configs (looked_up_versions rust looks)) es ls
 rows-told Needed i o rust configs first old now looks es ls wider m d =
     let v : List ℕ → List ℕ → List Parts = λ a n. versions_in rust (now a n) in
-    rows-over i o configs v (told rust looks) es ls
-    (All-weaker (Contains es) (Agree configs v (told rust looks))
+    rows-over i o configs v (looked_up_versions rust looks) es ls
+    (All-weaker (Contains es) (Agree configs v (looked_up_versions rust looks))
     (λ x c address needs.
     let f = answered Needed first old now looks (serialize address) x.name m
     (wider (serialize address) x.name (of-entry configs es x address x.name c needs)) in

@@ -19,8 +19,8 @@ use Rattle.edit_document.proofs.EntryPartViews.{same_texts}
 use Rattle.edit_record.specs.EachOnce.{each_once}
 use Rattle.edit_version.specs.CrateSpecs.{IsReadOrAbsent, invalid_chars, spec_name, spec_requirement}
 use Rattle.edit_upgrade.specs.PackageSelection.{AddsPackageArg, ArePackageArgs, has_name, last_requirement}
-use Rattle.edit_upgrade.specs.Words.{IsPackageArg, HasOnlyNames, is_named, is_arg_named, requirement_for, requirement_in, words_of}
-use Rattle.edit_upgrade.specs.declared.picks.Words.{Words}
+use Rattle.edit_upgrade.specs.Words.{IsPackageArg, HasOnlyNames, is_named, is_arg_named, requirement_for, requirement_in, package_args_of}
+use Rattle.edit_upgrade.specs.declared.package_selection.PackageArgs.{PackageArgs}
 use Rattle.edit_upgrade.specs.declared.decision.options.Options.{Options}
 
 -- ---- tests
@@ -97,7 +97,7 @@ requirement_more words w name =
     ∙ requirement_first w name (reverse words) (is_arg_named name w) refl
 
 -- what was read of words, with one more
-pub words_more : (words : List (List ℕ)) (w : List ℕ) (old new : Words) → ArePackageArgs words old
+pub words_more : (words : List (List ℕ)) (w : List ℕ) (old new : PackageArgs) → ArePackageArgs words old
     → AddsPackageArg w old new → ArePackageArgs (words ++ w ∷ []) new
 words_more words w old new h a = record {
   each = All-push IsPackageArg words w h.each a.is_word;
@@ -142,8 +142,8 @@ reversed P (w ∷ ws) h =
 -- then no name gets one
 pub none_given : (o : Options) → HasOnlyNames o → (name : List ℕ) → requirement_for o name ≡ None
 none_given o h name =
-    find_plain (reverse (words_of o)) name
-    (reversed (λ word. spec_requirement word ≡ None) (words_of o) h)
+    find_plain (reverse (package_args_of o)) name
+    (reversed (λ word. spec_requirement word ≡ None) (package_args_of o) h)
 
 -- ---- the names of words
 
@@ -179,7 +179,7 @@ once_named words = once_all (λ name. is_named words name ≡ true) (map spec_na
 -- ---- as the program keeps them
 
 -- nothing was read of no words
-pub no_words : (w : Words) → w.names.items ≡ [] → IsEmpty w.requirements → ArePackageArgs [] w
+pub no_words : (w : PackageArgs) → w.names.items ≡ [] → IsEmpty w.requirements → ArePackageArgs [] w
 no_words w names empty = record {
   each = All-nil IsPackageArg;
   names = ap (map string_bytes) names;
@@ -217,7 +217,7 @@ kept_text true req o = refl
 kept_text false req o = refl
 
 -- one word more
-pub word_added : (word : List ℕ) (old mid : Words)
+pub word_added : (word : List ℕ) (old mid : PackageArgs)
     (kept : BTreeMap (String Global) (Option (String Global)) Global) (name : String Global)
     (req : Option (String Global)) (text : List ℕ)
     → string_bytes name ≡ spec_name word → invalid_chars (spec_name word) ≡ []

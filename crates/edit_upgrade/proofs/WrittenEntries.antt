@@ -4,7 +4,7 @@ use Rattle.std.specs.Prelude.{option_and_then, option_map}
 use Rattle.std.specs.List.{AllByRecursion, AllZip, cons_option, filter_map}
 use Rattle.std.proofs.lemmas.Bool.{cases_Bool}
 use Rattle.edit_tree.specs.Assertions.{Place, same_place}
-use Rattle.edit_tree.specs.Replaces.{Edits, new_text, written}
+use Rattle.edit_tree.specs.Replaces.{Edits, new_text, tree_with_strings}
 use Rattle.edit_tree.proofs.SamePlace.{same_place_is, same_place_self}
 use Rattle.edit_version.specs.Requirement.{cut}
 use Rattle.edit_record.specs.EntryRecords.{EntryRecord, Origin, from_git, from_path, from_registry, from_workspace}
@@ -12,7 +12,7 @@ use Rattle.edit_manifest.specs.Tables.{Tree}
 use Rattle.edit_manifest.specs.Entries.{Entry, entries}
 use Rattle.edit_manifest.proofs.EntriesAfter.{entries-after, entry_after, said_after}
 use Rattle.edit_manifest.proofs.RecordVersions.{versioned}
-use Rattle.edit_upgrade.specs.Records.{RowEntry, Source, seen, row_entry_at, row_entry_of, source_of, with_row}
+use Rattle.edit_upgrade.specs.Records.{RowEntry, Source, row_entries, row_entry_at, row_entry_of, source_of, with_row}
 use Rattle.edit_upgrade.specs.Rows.{Line, with_write, write_on, writes}
 use Rattle.edit_upgrade.proofs.SeenFacts.{AreApart, IsWrite, on-cases, writes-literals, writes-strings}
 
@@ -165,13 +165,13 @@ all-after R (e ∷ es) (l ∷ ls) a h =
     (rest-after e l (writes es ls) es a.0 ∙ all-after R es ls a.1 h.1)
 
 -- the seen entries of the tree in which the rows were written
-pub written-seen : (R : RowEntry → Line → Type 0) (t u : Tree) (ls : List Line) → AreApart (seen t)
-    → AllZip R (seen t) ls
-    → ((q : Place) → u q ≡ written (writes (seen t) ls) t q) → seen u ≡ renewed (seen t) ls
+pub written-seen : (R : RowEntry → Line → Type 0) (t u : Tree) (ls : List Line) → AreApart (row_entries t)
+    → AllZip R (row_entries t) ls
+    → ((q : Place) → u q ≡ tree_with_strings (writes (row_entries t) ls) t q) → row_entries u ≡ renewed (row_entries t) ls
 written-seen R t u ls apart zip h =
-    let ws = writes (seen t) ls in
-    let whole : u ≡ written ws t = λ i q. h q i in
-    ap seen whole
+    let ws = writes (row_entries t) ls in
+    let whole : u ≡ tree_with_strings ws t = λ i q. h q i in
+    ap row_entries whole
     ∙ ap (filter_map with_row) (entries-after ws t [] (writes-strings t ls) (writes-literals t ls))
     ∙ kept-after ws (entries t [])
-    ∙ all-after R (seen t) ls apart zip
+    ∙ all-after R (row_entries t) ls apart zip

@@ -31,8 +31,8 @@ AreCaches lists caches =
     → AreAddresses own.items a
 
 -- the two names are equal, or both absent (own)
-abbrev pub is_named : Option (List ℕ) → Option (List ℕ) → Bool
-is_named None None = true
-is_named None (Some b) = false
-is_named (Some a) None = false
-is_named (Some a) (Some b) = bytes_eq a b
+abbrev pub is_same_registry : Option (List ℕ) → Option (List ℕ) → Bool
+is_same_registry None None = true
+is_same_registry None (Some b) = false
+is_same_registry (Some a) None = false
+is_same_registry (Some a) (Some b) = bytes_eq a b

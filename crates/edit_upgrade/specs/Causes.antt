@@ -14,7 +14,7 @@ use Rattle.url.specs.Parts as url
 use Rattle.url.specs.Parts.{serialize}
 use Rattle.edit_upgrade.specs.Looked.{IsLookupError}
 use Rattle.edit_upgrade.specs.Looks.{CachedAnswers}
-use Rattle.edit_upgrade.specs.Records.{RowEntry, at_registry, seen}
+use Rattle.edit_upgrade.specs.Records.{RowEntry, at_registry, row_entries}
 use Rattle.edit_upgrade.specs.Rows.{Needs}
 use Rattle.edit_metadata.specs.declared.input.Input.{Input}
 
@@ -50,13 +50,13 @@ pub record HasBadEntry (configs : List Config) (gives : Outcomes) (old new : Cac
     (bytes : List ℕ) (error : Error) : Type 0 where
   pub form : Text
   pub manifest : IsDocument bytes form
-  pub stops : StopsFirst configs gives old new before now (seen (view_at form)) error
+  pub stops : StopsFirst configs gives old new before now (row_entries (view_at form)) error
 
 -- an input that causes no error: it is a manifest, and the lookups of all its entries are cached
 pub record InputPasses (configs : List Config) (new : CachedAnswers) (input : Input) : Type 0 where
   pub form : Text
   pub manifest : IsDocument input.bytes.items form
-  pub passed : All (IsPassed configs new) (seen (view_at form))
+  pub passed : All (IsPassed configs new) (row_entries (view_at form))
 
 -- the first of the inputs that causes an error, for this reason
 pub record FirstInput (inputs : List Input) (configs : List (Vec Config)) (new : CachedAnswers)

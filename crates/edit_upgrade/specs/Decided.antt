@@ -4,7 +4,7 @@ use Rattle.edit_upgrade.specs.Decision.{Case, Choice, Outcome, first_reason, fir
 use Rattle.edit_upgrade.specs.declared.decision.options.Options.{Options}
 use Rattle.edit_report.specs.declared.row.Reason.{Reason}
 use Rattle.edit_report.specs.declared.row.Reason.TheVariants as reason
-use Rattle.edit_upgrade.specs.Offers.{offered}
+use Rattle.edit_upgrade.specs.Offers.{offered_version}
 use Rattle.edit_upgrade.specs.declared.decision.decide.Decided.{Decided}
 use Rattle.edit_upgrade.specs.declared.decision.decide.EntryCase.{EntryCase}
 
@@ -16,15 +16,15 @@ case_view case never_lower old = record {
   never_lower = never_lower;
   selected = option_copied case.selected;
   old = old;
-  compatible = offered (option_copied case.compatible);
-  latest = offered (option_copied case.latest);
+  compatible = offered_version (option_copied case.compatible);
+  latest = offered_version (option_copied case.latest);
 }
 
 -- the choice of a decision, by its text (own)
 abbrev pub choice_view : Decided → Choice
 choice_view d = record { new = string_bytes d.new; change = d.change; reason = d.reason }
 
--- `held_back`, from the candidate text for the latest version (own)
+-- `withheld_reason`, from the candidate text for the latest version (own)
 abbrev pub withheld_reason_by : Bool → Bool → Option (List ℕ) → Option Reason
 withheld_reason_by jumps pinned far =
     some_if (is_some far && not jumps) (Some (if pinned then reason.Pinned else reason.Incompatible))

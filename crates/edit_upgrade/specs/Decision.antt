@@ -7,7 +7,7 @@ use Rattle.semver.specs.Parse.{Held, Parts, req_of}
 use Rattle.semver.specs.declared.error.Error.{Error}
 use Rattle.semver.specs.declared.Op.{Op}
 use Rattle.semver.specs.declared.Op.TheVariants as op
-use Rattle.edit_version.specs.Requirement.{UpgradeResult, Unread, Nothing, Unsupported, Text, raise}
+use Rattle.edit_version.specs.Requirement.{UpgradeResult, Unread, Nothing, Unsupported, Text, upgrade_of}
 use Rattle.edit_version.specs.Requirement.{plain_text}
 use Rattle.edit_report.specs.declared.row.Change.{Change}
 use Rattle.edit_report.specs.declared.row.Change.TheVariants as change
@@ -82,12 +82,12 @@ is_too_low never old far = never && is_below old far
 -- raised; none where that would lower the floor
 abbrev pub latest_text : Case → Option (List ℕ)
 latest_text c = unless (is_too_low c.never_lower c.old (newer c.latest c.compatible))
-    (option_and_then (λ v. text_or (plain_text v) (raise c.old v)) (newer c.latest c.compatible))
+    (option_and_then (λ v. text_or (plain_text v) (upgrade_of c.old v)) (newer c.latest c.compatible))
 
 -- the candidate for the compatible version: the raised text, or the old text where a comparator cannot be
 -- raised
 abbrev pub compatible_text : Case → Option (List ℕ)
-compatible_text c = option_and_then (λ v. text_or c.old (raise c.old v)) c.compatible
+compatible_text c = option_and_then (λ v. text_or c.old (upgrade_of c.old v)) c.compatible
 
 -- ---- the decision
 
@@ -151,8 +151,8 @@ abbrev pub is_latest_withheld : Options → Case → Bool
 is_latest_withheld o c = is_some (latest_text c) && not (may_jump o c)
 
 -- why the latest version is not taken: the entry is pinned, or its requirement does not admit it (own)
-abbrev pub held_back : Options → Case → Option Reason
-held_back o c = some_if (is_latest_withheld o c) (Some (if is_pinned c then reason.Pinned else reason.Incompatible))
+abbrev pub withheld_reason : Options → Case → Option Reason
+withheld_reason o c = some_if (is_latest_withheld o c) (Some (if is_pinned c then reason.Pinned else reason.Incompatible))
 
 -- the first value, or the second where there is no first
 abbrev pub or_else : {A : Type 0} → Option A → Option A → Option A
@@ -165,8 +165,8 @@ row_reason o c left_out = Some reason.Excluded
 row_reason o c (given text) = None
 row_reason o c unread = None
 row_reason o c (to_latest text) = None
-row_reason o c (to_compatible text) = held_back o c
-row_reason o c kept = or_else (held_back o c) (some_if (is_some (compatible_text c)) (Some reason.Compatible))
+row_reason o c (to_compatible text) = withheld_reason o c
+row_reason o c kept = or_else (withheld_reason o c) (some_if (is_some (compatible_text c)) (Some reason.Compatible))
 
 -- the decision: the new requirement, the kind of change, and why the requirement was not raised further
 -- (own)

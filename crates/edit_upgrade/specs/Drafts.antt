@@ -16,14 +16,14 @@ use Rattle.edit_upgrade.specs.Causes.{IsPassed}
 use Rattle.edit_metadata.specs.Inputs.{path_of}
 use Rattle.edit_upgrade.specs.Inputs.{below, output_path}
 use Rattle.edit_upgrade.specs.Lines.{line_of}
-use Rattle.edit_upgrade.specs.Lists.{Told, warning_view}
+use Rattle.edit_upgrade.specs.Lists.{WarningView, warning_view}
 use Rattle.edit_upgrade.specs.LookOrder.{AreInOrderSoFar}
 use Rattle.edit_upgrade.specs.Looked.{AreAllCached, IsWalkState}
 use Rattle.edit_upgrade.specs.Looks.{CachedAnswers, cached_basis}
 use Rattle.edit_upgrade.specs.Outputs.{HasOutputs}
 use Rattle.edit_upgrade.specs.PairSets.{holds_pair}
 use Rattle.edit_upgrade.specs.PlannedView.{IsWalked}
-use Rattle.edit_upgrade.specs.Records.{seen}
+use Rattle.edit_upgrade.specs.Records.{row_entries}
 use Rattle.edit_upgrade.specs.Rows.{AreDecided, Line}
 use Rattle.edit_upgrade.specs.Upgraded.{HasWarnings, IsNeeded}
 use Rattle.edit_upgrade.specs.declared.draft.Draft.{Draft}
@@ -34,7 +34,7 @@ abbrev pub lines_on : ℕ → List Line → List Line
 lines_on i lines = filter (λ line. line.input == i) lines
 
 -- those of these warnings that belong to an input
-abbrev pub warnings_among : ℕ → List Told → List Told
+abbrev pub warnings_among : ℕ → List WarningView → List WarningView
 warnings_among i told = filter (λ t. t.input == i) told
 
 -- those of these outputs that are at a path
@@ -44,12 +44,12 @@ outputs_on path outputs = filter (λ output. bytes_eq (output_path output) path)
 -- the plan of one input over the cached answers: the answer that each of its entries needs is cached, and
 -- these are its rows, outputs and warnings (own)
 pub record IsPlanned (i : ℕ) (o : Options) (input : Input) (configs : List Config) (kept : CachedAnswers)
-    (lines : List Line) (outputs : List Output) (told : List Told) : Type 0 where
+    (lines : List Line) (outputs : List Output) (told : List WarningView) : Type 0 where
   pub form : Text
   pub manifest : IsDocument input.bytes.items form
-  pub passed : All (IsPassed configs kept) (seen (view_at form))
+  pub passed : All (IsPassed configs kept) (row_entries (view_at form))
   pub decided : AreDecided (cached_basis i o (option_map numbers_of input.rust_version) configs kept)
-      (seen (view_at form)) lines
+      (row_entries (view_at form)) lines
   pub writes : HasOutputs (path_of input) input.bytes.items lines outputs
   pub warned : HasWarnings o i input.bytes.items told
 
@@ -63,7 +63,7 @@ pub record IsPathAmong (inputs : List Input) (path : List ℕ) : Type 0 where
 -- the plan of these inputs over the cached answers: the rows, outputs and warnings of each input, in the
 -- order of the inputs, and no others (own)
 pub record ArePlanned (o : Options) (kept : CachedAnswers) (inputs : List Input) (configs : List (Vec Config))
-    (lines : List Line) (outputs : List Output) (told : List Told) : Type 0 where
+    (lines : List Line) (outputs : List Output) (told : List WarningView) : Type 0 where
   pub each : (i : ℕ) (input : Input) (own : Vec Config) → slice_get inputs i ≡ Some input
       → slice_get configs i ≡ Some own
       → IsPlanned i o input own.items kept (lines_on i lines) (outputs_on (path_of input) outputs)
@@ -92,7 +92,7 @@ pub record AddsInput (i : ℕ) (o : Options) (input : Input) (configs : List Con
     (old new : CachedAnswers) (before after : Draft) : Type 0 where
   pub lines : List Line
   pub outputs : List Output
-  pub told : List Told
+  pub told : List WarningView
   pub walked : IsWalked i o input configs gives old new before.books after.books lines
   pub writes : HasOutputs (path_of input) input.bytes.items lines outputs
   pub warned : HasWarnings o i input.bytes.items told

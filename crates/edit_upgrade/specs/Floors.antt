@@ -16,12 +16,12 @@ is_end op.LessEq = true
 is_end o = false
 
 -- the version that a comparator names: missing numbers are 0, the pre-release is its own
-abbrev pub named : Held → Parts
-named c = (c.1, unwrap_or c.2 0, unwrap_or c.3 0, c.4, [])
+abbrev pub comparator_version : Held → Parts
+comparator_version c = (c.1, unwrap_or c.2 0, unwrap_or c.3 0, c.4, [])
 
 -- a comparator other than `<` and `<=` names a later version than this one
 abbrev pub begins_after : Parts → Held → Bool
-begins_after v c = not (is_end c.0) && is_lt (precedence v (named c))
+begins_after v c = not (is_end c.0) && is_lt (precedence v (comparator_version c))
 
 -- one of the comparators, other than `<` and `<=`, names a later version than this one
 abbrev pub one_begins_after : List Held → Parts → Bool
@@ -32,7 +32,7 @@ pub record IsFloor (cs : List Held) (f : Parts) : Type 0 where
   pub comparator : Held
   pub among : Contains cs comparator
   pub begins : is_end comparator.0 ≡ false
-  pub names : f ≡ named comparator
+  pub names : f ≡ comparator_version comparator
   pub greatest : one_begins_after cs f ≡ false
 
 -- the text is a requirement with this floor

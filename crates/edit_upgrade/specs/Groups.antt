@@ -11,13 +11,13 @@ use Rattle.std.specs.declared.alloc.Global.{Global}
 use Rattle.edit_metadata.specs.declared.workspace.Package.{Package}
 
 -- the borrowed packages as values
-abbrev pub nows : List (Bor Package) → List Package
-nows packages = map (λ p. p.now) packages
+abbrev pub package_values : List (Bor Package) → List Package
+package_values packages = map (λ p. p.now) packages
 
 -- the packages of a name, in order
 abbrev pub group : BTreeMap (Bor (List ℕ)) (Vec (Bor Package) Global) → List ℕ → List Package
 group groups name =
-    option_map_or (λ g. nows g.items) (get_by (λ k. slice_cmp nat_cmp name k.now) groups) []
+    option_map_or (λ g. package_values g.items) (get_by (λ k. slice_cmp nat_cmp name k.now) groups) []
 
 -- each name has exactly its packages, in order
 abbrev pub AreGroups : BTreeMap (Bor (List ℕ)) (Vec (Bor Package) Global) → List Package → Type 0

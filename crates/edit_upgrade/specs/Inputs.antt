@@ -6,7 +6,7 @@ use Rattle.std.specs.Str.{bytes_eq}
 use Rattle.edit_version.specs.RustVersions.{Numbers, numbers_of}
 use Rattle.edit_sources.specs.declared.config.Config.{Config}
 use Rattle.edit_upgrade.specs.Lines.{line_of}
-use Rattle.edit_upgrade.specs.Lists.{Told, warning_view}
+use Rattle.edit_upgrade.specs.Lists.{WarningView, warning_view}
 use Rattle.edit_upgrade.specs.Rows.{Line}
 use Rattle.edit_metadata.specs.Inputs.{path_of}
 use Rattle.edit_metadata.specs.declared.input.Input.{Input}
@@ -55,7 +55,7 @@ abbrev pub RowsInOrder : List Input → UpgradePlan → Type 0
 RowsInOrder inputs p = map line_of p.rows.items ≡ flat_map (λ i. rows_of i p) (below (length inputs))
 
 -- the warnings about the input at an index
-abbrev pub warnings_of : ℕ → UpgradePlan → List Told
+abbrev pub warnings_of : ℕ → UpgradePlan → List WarningView
 warnings_of i p = filter (λ told. told.input == i) (map warning_view p.warnings.items)
 
 -- the warnings are those about the inputs, in the order of the inputs (own)

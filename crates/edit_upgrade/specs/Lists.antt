@@ -36,18 +36,18 @@ abbrev pub changed_names : List Line → List (List ℕ)
 changed_names lines = filter_map changed_name lines
 
 -- a warning: the index of its input, whether only `--verbose` shows it, and its text
-pub record Told : Type 0 where
+pub record WarningView : Type 0 where
   pub input : ℕ
   pub verbose : Bool
   pub text : List ℕ
 
 -- a warning of the program, by its text
-abbrev pub warning_view : Warning → Told
+abbrev pub warning_view : Warning → WarningView
 warning_view w = record { input = w.input; verbose = w.verbose; text = string_bytes w.text }
 
 -- a warning on an input
-abbrev pub warned : ℕ → Bool → List ℕ → Told
-warned i verbose text = record { input = i; verbose = verbose; text = text }
+abbrev pub warning_record : ℕ → Bool → List ℕ → WarningView
+warning_record i verbose text = record { input = i; verbose = verbose; text = text }
 
 -- the warning about an entry that is ignored, with the message of its error
 abbrev pub ignored_text : List ℕ → List ℕ → List ℕ
@@ -86,24 +86,24 @@ unparsed_requirement o r old = some_if (is_unparsed (row_of o (case_without_vers
 
 -- the warning about an entry: that it inherits its source from its workspace, shown with `--verbose` only,
 -- or that its requirement cannot be parsed and is left unchanged
-abbrev pub warning_by : Options → ℕ → List ℕ → EntryRecord → Option Source → Option Told
-warning_by o i key r None = Some (warned i true (workspace_text key))
+abbrev pub warning_by : Options → ℕ → List ℕ → EntryRecord → Option Source → Option WarningView
+warning_by o i key r None = Some (warning_record i true (workspace_text key))
 warning_by o i key r (Some source) =
-    option_map (λ old. warned i false (unreadable_text key old))
+    option_map (λ old. warning_record i false (unreadable_text key old))
     (option_and_then (unparsed_requirement o r) (version_of r))
 
 -- the warning about an entry: where it could not be read, one with the reason
-abbrev pub IsWarningBy : Options → ℕ → List ℕ → Option EntryRecord → Option Told → Type 0
-IsWarningBy o i key None told = (text : List ℕ) × (told ≡ Some (warned i false (ignored_text key text)))
+abbrev pub IsWarningBy : Options → ℕ → List ℕ → Option EntryRecord → Option WarningView → Type 0
+IsWarningBy o i key None told = (text : List ℕ) × (told ≡ Some (warning_record i false (ignored_text key text)))
 IsWarningBy o i key (Some r) told = told ≡ warning_by o i key r (source_of r)
 
 -- the warning about an entry of a dependency table
-abbrev pub IsWarningOn : Options → ℕ → Entry → Option Told → Type 0
+abbrev pub IsWarningOn : Options → ℕ → Entry → Option WarningView → Type 0
 IsWarningOn o i e told = IsWarningBy o i e.name e.said told
 
 -- the warnings about entries, at most one for each, in order
-pub record AreWarnings (o : Options) (i : ℕ) (es : List Entry) (ts : List Told) : Type 0 where
-  pub each : List (Option Told)
+pub record AreWarnings (o : Options) (i : ℕ) (es : List Entry) (ts : List WarningView) : Type 0 where
+  pub each : List (Option WarningView)
   pub on : AllZip (IsWarningOn o i) es each
   pub all : ts ≡ filter_map (λ told. told) each
 

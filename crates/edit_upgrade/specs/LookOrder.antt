@@ -11,7 +11,7 @@ use Rattle.edit_sources.specs.declared.config.Config.{Config}
 use Rattle.url.specs.Parts.{serialize}
 use Rattle.edit_upgrade.specs.Inputs.{below}
 use Rattle.edit_upgrade.specs.Looked.{PairSet}
-use Rattle.edit_upgrade.specs.Records.{RowEntry, seen}
+use Rattle.edit_upgrade.specs.Records.{RowEntry, row_entries}
 use Rattle.edit_upgrade.specs.Rows.{is_elsewhere}
 use Rattle.edit_upgrade.specs.Upgraded.{IsNeededFor}
 use Rattle.edit_upgrade.specs.declared.upgrade.Look.{Look}
@@ -45,7 +45,7 @@ NeedsPair configs e pair = IsNeededFor configs e pair.0 pair.1
 pub record AreNeedsOf (configs : List Config) (bytes : List ℕ) (pairs : List Pair) : Type 0 where
   pub form : Text
   pub manifest : IsDocument bytes form
-  pub are : AllZip (NeedsPair configs) (from_registries (seen (view_at form))) pairs
+  pub are : AllZip (NeedsPair configs) (from_registries (row_entries (view_at form))) pairs
 
 -- the lookups are in the order of the inputs and their entries, each at the first entry that needs it (own)
 pub record AreInOrder (inputs : List Input) (configs : List (Vec Config)) (looks : List Look)

@@ -4,8 +4,8 @@ use Rattle.std.specs.Str.{bytes_eq}
 use Rattle.edit_base.specs.Errors.{number_of}
 use Rattle.edit_base.specs.declared.errors.Error.{Error}
 use Rattle.edit_sources.specs.Configured.{HasAddress}
-use Rattle.edit_sources.specs.Index.{IsGivenRefusal, Outcomes, SameOutcomes, answer_of}
-use Rattle.edit_store.specs.Store.{raised}
+use Rattle.edit_sources.specs.Index.{IsOutcomeError, Outcomes, SameOutcomes, answer_of}
+use Rattle.edit_store.specs.Store.{IsRaisedCount}
 use Rattle.edit_sources.specs.declared.config.Config.{Config}
 use Rattle.url.specs.Parts as url
 use Rattle.url.specs.Parts.{serialize}
@@ -32,8 +32,8 @@ pub record IsLookupMade (address name : List ℕ) (gives : Outcomes) (old new : 
 -- the error of a lookup: one that the index gives, or a device fault, which raises the count of faults
 abbrev pub IsLookupError : Outcomes → url.Parts → List ℕ → ℕ → ℕ → Error → Type 0
 IsLookupError gives address name before now e =
-    IsGivenRefusal gives address name e
-    ⊎ ((number_of e ≡ 3) × raised before now)
+    IsOutcomeError gives address name e
+    ⊎ ((number_of e ≡ 3) × IsRaisedCount before now)
 
 -- a lookup at this address for this name
 abbrev pub IsAt : List ℕ → List ℕ → List ℕ → List ℕ → Type 0

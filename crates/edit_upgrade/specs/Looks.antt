@@ -42,8 +42,8 @@ versions_in rust (Some (Some entries)) = admissible_in rust entries
 versions_in rust other = []
 
 -- the admitted versions in the lookups of a name at an address
-abbrev pub told : Option Numbers → List Look → List ℕ → List ℕ → List Parts
-told rust looks address name =
+abbrev pub looked_up_versions : Option Numbers → List Look → List ℕ → List ℕ → List Parts
+looked_up_versions rust looks address name =
     versions_in rust (option_map (λ look. answer_of look.answer) (lookup_at looks address name))
 
 -- no two lookups have the same address and name

@@ -9,7 +9,7 @@ use Rattle.edit_manifest.specs.Entries.{Entry, entries}
 use Rattle.edit_metadata.specs.declared.input.Input.{Input}
 use Rattle.edit_record.specs.EachOnce.{each_once}
 use Rattle.edit_version.specs.CrateSpecs.{spec_name}
-use Rattle.edit_upgrade.specs.Words.{is_named, words_of}
+use Rattle.edit_upgrade.specs.Words.{is_named, package_args_of}
 use Rattle.edit_upgrade.specs.declared.decision.options.Options.{Options}
 use Rattle.edit_upgrade.specs.declared.upgrade.UpgradePlan.{UpgradePlan}
 
@@ -22,7 +22,7 @@ abbrev pub names_in : List Entry → List (List ℕ)
 names_in es = filter_map name_of es
 
 -- the bytes are a manifest, and these are the names of its entries
-pub record HasNames (bytes : List ℕ) (names : List (List ℕ)) : Type 0 where
+pub record HasEntryNames (bytes : List ℕ) (names : List (List ℕ)) : Type 0 where
   pub form : Text
   pub manifest : IsDocument bytes form
   pub are : names ≡ names_in (entries (view_at form) [])
@@ -34,8 +34,8 @@ is_among names name = list_any (list_any (bytes_eq name)) names
 -- the missing names: those of the words, each once in their order, that no entry of an input has
 pub record AreMissing (o : Options) (inputs : List Input) (missing : List (List ℕ)) : Type 0 where
   pub names : List (List (List ℕ))
-  pub have : AllZip (λ input own. HasNames input.bytes.items own) inputs names
-  pub are : missing ≡ filter (λ name. not (is_among names name)) (each_once (map spec_name (words_of o)))
+  pub have : AllZip (λ input own. HasEntryNames input.bytes.items own) inputs names
+  pub are : missing ≡ filter (λ name. not (is_among names name)) (each_once (map spec_name (package_args_of o)))
 
 -- the plan tells the missing names
 abbrev pub ListsMissing : Options → List Input → UpgradePlan → Type 0
@@ -44,12 +44,12 @@ ListsMissing o inputs p = AreMissing o inputs (map string_bytes p.missing.items)
 -- the names that are known of these inputs: those that words select, of their entries (own)
 pub record AreKnown (o : Options) (inputs : List Input) (known : List ℕ → Bool) : Type 0 where
   pub names : List (List (List ℕ))
-  pub have : AllZip (λ input own. HasNames input.bytes.items own) inputs names
-  pub are : (name : List ℕ) → known name ≡ (is_named (words_of o) name && is_among names name)
+  pub have : AllZip (λ input own. HasEntryNames input.bytes.items own) inputs names
+  pub are : (name : List ℕ) → known name ≡ (is_named (package_args_of o) name && is_among names name)
 
 -- the names that are known then, with those of one manifest more (own)
 pub record AddsNames (o : Options) (bytes : List ℕ) (old new : List ℕ → Bool) : Type 0 where
   pub names : List (List ℕ)
-  pub have : HasNames bytes names
+  pub have : HasEntryNames bytes names
   pub are : (name : List ℕ) → new name
-      ≡ (old name || (is_named (words_of o) name && list_any (bytes_eq name) names))
+      ≡ (old name || (is_named (package_args_of o) name && list_any (bytes_eq name) names))

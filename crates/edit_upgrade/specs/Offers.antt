@@ -5,5 +5,5 @@ use Rattle.semver.specs.Parse.{Parts}
 use Rattle.edit_upgrade.specs.declared.decision.offers.Offer.{Offer}
 
 -- the version that is offered, where one is (own)
-abbrev pub offered : Option Offer → Option Parts
-offered o = option_map (λ f. parts_of f.version.now) o
+abbrev pub offered_version : Option Offer → Option Parts
+offered_version o = option_map (λ f. parts_of f.version.now) o

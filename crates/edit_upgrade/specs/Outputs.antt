@@ -2,10 +2,10 @@
 use Rattle.std.specs.Prelude.{◌≡◌, ◌≢◌, ℕ, List, [], ◌∷◌, string_bytes}
 use Rattle.edit_tree.specs.Assertions.{IsDocument, Place}
 use Rattle.edit_syntax.specs.Grammar.{Text}
-use Rattle.edit_tree.specs.Replaces.{Edits, Replaces, written}
+use Rattle.edit_tree.specs.Replaces.{Edits, Replaces, tree_with_strings}
 use Rattle.edit_tree.specs.DocumentViews.{DocumentViews, tree_of}
 use Rattle.edit_tree.specs.Tree.{view_at}
-use Rattle.edit_upgrade.specs.Records.{seen}
+use Rattle.edit_upgrade.specs.Records.{row_entries}
 use Rattle.edit_upgrade.specs.Rows.{Line, writes}
 use Rattle.edit_report.specs.declared.output.Output.{Output}
 
@@ -15,7 +15,7 @@ pub record IsRewritten (d : DocumentViews) (edits : Edits) (new : List ℕ) : Ty
   pub some : edits ≢ []
   pub replaced : Replaces edits d.bytes new
   pub read_back : (form : Text) → IsDocument new form → (place : Place) → view_at form place
-      ≡ written edits (tree_of d) place
+      ≡ tree_with_strings edits (tree_of d) place
 
 -- an input of which nothing is written has no output; else its one output has its path and the new bytes
 -- (own)
@@ -29,7 +29,7 @@ pub data AreOutputs (path bytes : List ℕ) (edits : Edits) : List Output → Ty
 pub record HasOutputs (path bytes : List ℕ) (lines : List Line) (outputs : List Output) : Type 0 where
   pub form : Text
   pub manifest : IsDocument bytes form
-  pub are : AreOutputs path bytes (writes (seen (view_at form)) lines) outputs
+  pub are : AreOutputs path bytes (writes (row_entries (view_at form)) lines) outputs
 
 -- the one output, with this path and these bytes (own)
 abbrev pub IsOnlyOutput : List ℕ → List ℕ → List Output → Type 0

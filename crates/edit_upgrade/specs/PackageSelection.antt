@@ -6,29 +6,29 @@ use Rattle.std.specs.List.{list_any}
 use Rattle.std.specs.Str.{bytes_eq}
 use Rattle.edit_record.specs.EachOnce.{each_once}
 use Rattle.edit_version.specs.CrateSpecs.{spec_name, spec_requirement}
-use Rattle.edit_upgrade.specs.Words.{IsPackageArg, excluded_of, is_named, requirement_in, words_of}
-use Rattle.edit_upgrade.specs.declared.picks.PackageSelection.{PackageSelection}
-use Rattle.edit_upgrade.specs.declared.picks.Words.{Words}
+use Rattle.edit_upgrade.specs.Words.{IsPackageArg, excluded_of, is_named, requirement_in, package_args_of}
+use Rattle.edit_upgrade.specs.declared.package_selection.PackageSelection.{PackageSelection}
+use Rattle.edit_upgrade.specs.declared.package_selection.PackageArgs.{PackageArgs}
 use Rattle.edit_upgrade.specs.declared.decision.options.Options.{Options}
 
 -- a word of this name was read (own)
-abbrev pub has_name : Words → List ℕ → Bool
+abbrev pub has_name : PackageArgs → List ℕ → Bool
 has_name w name = is_some (get_by_text w.requirements name)
 
 -- the requirement that is kept for this name (own)
-abbrev pub last_requirement : Words → List ℕ → Option (List ℕ)
+abbrev pub last_requirement : PackageArgs → List ℕ → Option (List ℕ)
 last_requirement w name =
     option_and_then (λ req. option_map string_bytes req) (get_by_text w.requirements name)
 
 -- what these words say was read: their names, each once, and the last requirement of each (own)
-pub record ArePackageArgs (words : List (List ℕ)) (w : Words) : Type 0 where
+pub record ArePackageArgs (words : List (List ℕ)) (w : PackageArgs) : Type 0 where
   pub each : All IsPackageArg words
   pub names : map string_bytes w.names.items ≡ each_once (map spec_name words)
   pub named : (name : List ℕ) → has_name w name ≡ is_named words name
   pub requirements : (name : List ℕ) → last_requirement w name ≡ requirement_in words name
 
 -- what one word more adds to what was read (own)
-pub record AddsPackageArg (word : List ℕ) (old new : Words) : Type 0 where
+pub record AddsPackageArg (word : List ℕ) (old new : PackageArgs) : Type 0 where
   pub is_word : IsPackageArg word
   pub names : map string_bytes new.names.items
       ≡ map string_bytes old.names.items
@@ -40,5 +40,5 @@ pub record AddsPackageArg (word : List ℕ) (old new : Words) : Type 0 where
 
 -- what the options ask for was read (own)
 pub record IsPackageSelection (o : Options) (p : PackageSelection) : Type 0 where
-  pub words : ArePackageArgs (words_of o) p.words
+  pub words : ArePackageArgs (package_args_of o) p.words
   pub excluded : (name : List ℕ) → contains_text p.excluded name ≡ list_any (bytes_eq name) (excluded_of o)

@@ -9,11 +9,11 @@ use Rattle.edit_sources.specs.Index.{Outcomes}
 use Rattle.edit_sources.specs.declared.config.Config.{Config}
 use Rattle.edit_version.specs.RustVersions.{numbers_of}
 use Rattle.edit_upgrade.specs.Causes.{IsPassed}
-use Rattle.edit_upgrade.specs.Found.{seen_of}
+use Rattle.edit_upgrade.specs.Found.{row_entry_view}
 use Rattle.edit_upgrade.specs.Looked.{AreSteps}
 use Rattle.edit_upgrade.specs.Looks.{CachedAnswers, cached_basis}
 use Rattle.edit_upgrade.specs.PairSets.{holds_pair}
-use Rattle.edit_upgrade.specs.Records.{RowEntry, seen}
+use Rattle.edit_upgrade.specs.Records.{RowEntry, row_entries}
 use Rattle.edit_upgrade.specs.Rows.{AreDecided, Line}
 use Rattle.edit_upgrade.specs.declared.decision.options.Options.{Options}
 use Rattle.edit_upgrade.specs.declared.walk.LookupLog.{LookupLog}
@@ -26,14 +26,14 @@ pub record IsPlannedView (bytes : List ℕ) (d : DocumentViews) (p : Planned) : 
   pub manifest : IsDocument bytes form
   pub tree : ShowsTree d form
   pub same : d.bytes ≡ bytes
-  pub entries : map seen_of p.entries.items ≡ seen (view_at form)
+  pub entries : map row_entry_view p.entries.items ≡ row_entries (view_at form)
   pub long : length p.rows.items ≡ length p.entries.items
 
 -- the bytes are a manifest, and these are its seen entries (own)
 pub record AreRowEntries (bytes : List ℕ) (es : List RowEntry) : Type 0 where
   pub form : Text
   pub manifest : IsDocument bytes form
-  pub are : es ≡ seen (view_at form)
+  pub are : es ≡ row_entries (view_at form)
 
 -- the bytes are a manifest; a step was made for each of its seen entries, which leaves it an answer that is
 -- kept; these are their rows over the answers that are kept (own)
@@ -41,8 +41,8 @@ pub record IsWalked (i : ℕ) (o : Options) (input : Input) (configs : List Conf
     (old new : CachedAnswers) (before after : LookupLog) (lines : List Line) : Type 0 where
   pub form : Text
   pub manifest : IsDocument input.bytes.items form
-  pub steps : AreSteps configs gives (seen (view_at form)) old new before.looks.items after.looks.items
+  pub steps : AreSteps configs gives (row_entries (view_at form)) old new before.looks.items after.looks.items
       (holds_pair before.pairs) (holds_pair after.pairs)
-  pub passed : All (IsPassed configs new) (seen (view_at form))
+  pub passed : All (IsPassed configs new) (row_entries (view_at form))
   pub decided : AreDecided (cached_basis i o (option_map numbers_of input.rust_version) configs new)
-      (seen (view_at form)) lines
+      (row_entries (view_at form)) lines

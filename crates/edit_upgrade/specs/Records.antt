@@ -61,5 +61,5 @@ abbrev pub with_row : Entry → Option RowEntry
 with_row e = option_and_then (row_entry_of e) e.said
 
 -- the entries that get a row, in order; from which folder their paths are meant plays no part in it
-abbrev pub seen : Tree → List RowEntry
-seen t = filter_map with_row (entries t [])
+abbrev pub row_entries : Tree → List RowEntry
+row_entries t = filter_map with_row (entries t [])

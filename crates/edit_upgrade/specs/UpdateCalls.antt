@@ -34,8 +34,8 @@ precise_call manifest pin p =
     call manifest (codes "--precise" ∷ parts_text pin.version ∷ package_args p)
 
 -- the packages of a name
-abbrev pub named : List ℕ → List PackageModel → List PackageModel
-named name packages = filter (λ p. bytes_eq name p.name) packages
+abbrev pub packages_named : List ℕ → List PackageModel → List PackageModel
+packages_named name packages = filter (λ p. bytes_eq name p.name) packages
 
 -- a call for each of these packages whose version the pin's requirement admits
 abbrev pub admitted_calls : List ℕ → Pin → List PackageModel → List Call
@@ -49,7 +49,7 @@ entry_calls manifest packages pin = option_map_or (λ q. admitted_calls manifest
 -- the calls for names, in order, each for the packages of that name
 abbrev pub precise_calls : List ℕ → List PackageModel → List (List ℕ × Option Pin) → List Call
 precise_calls manifest packages pins =
-    flat_map (λ e. entry_calls manifest (named e.0 packages) e.1) pins
+    flat_map (λ e. entry_calls manifest (packages_named e.0 packages) e.1) pins
 
 -- the name is one of these
 abbrev pub is_among : List (List ℕ) → List ℕ → Bool
@@ -74,15 +74,15 @@ aggressive_calls manifest [] = []
 aggressive_calls manifest (p ∷ ps) = call manifest (codes "--aggressive" ∷ packages_args (p ∷ ps)) ∷ []
 
 -- the packages of modified names for which no precise version is given
-abbrev pub unpinned : List (List ℕ × Option Pin) → List (List ℕ) → List PackageModel → List PackageModel
-unpinned pins modified packages =
+abbrev pub unpinned_packages : List (List ℕ × Option Pin) → List (List ℕ) → List PackageModel → List PackageModel
+unpinned_packages pins modified packages =
     filter (λ p. is_among modified p.name && is_none (pin_at pins p.name)) packages
 
 -- the `--aggressive` call for the modified packages without a precise version, where dependencies are
 -- updated as well
 abbrev pub recursive_calls : List ℕ → ParsedOptions → List PackageModel → List Call
 recursive_calls manifest a packages = if is_recursive a
-    then aggressive_calls manifest (unpinned (pins_of a.words) a.modified packages) else []
+    then aggressive_calls manifest (unpinned_packages (pins_of a.words) a.modified packages) else []
 
 -- the calls for a manifest: with precise versions, for git dependencies, and for the other modified names
 abbrev pub calls_for : List ℕ → ParsedOptions → List PackageModel → List Call

@@ -11,10 +11,10 @@ use Rattle.url.specs.Parts as url
 use Rattle.url.specs.Parts.{serialize}
 use Rattle.edit_metadata.specs.Inputs.{path_of}
 use Rattle.edit_upgrade.specs.Inputs.{Setting, outputs_at, rows_of, warnings_of}
-use Rattle.edit_upgrade.specs.Lists.{AreWarnings, Told}
-use Rattle.edit_upgrade.specs.Looks.{told}
+use Rattle.edit_upgrade.specs.Lists.{AreWarnings, WarningView}
+use Rattle.edit_upgrade.specs.Looks.{looked_up_versions}
 use Rattle.edit_upgrade.specs.Outputs.{HasOutputs}
-use Rattle.edit_upgrade.specs.Records.{RowEntry, seen}
+use Rattle.edit_upgrade.specs.Records.{RowEntry, row_entries}
 use Rattle.edit_upgrade.specs.Rows.{Basis, IsRowBy, Line, Needs}
 use Rattle.edit_metadata.specs.declared.input.Input.{Input}
 use Rattle.edit_upgrade.specs.declared.decision.options.Options.{Options}
@@ -26,7 +26,7 @@ basis_of s = record {
   input = s.input;
   options = s.options;
   configs = s.configs;
-  versions = told s.rust s.looks;
+  versions = looked_up_versions s.rust s.looks;
 }
 
 -- the row of an entry, over the versions in the lookups made
@@ -37,7 +37,7 @@ IsRow s e line = IsRowBy (basis_of s) e line
 pub record HasRows (s : Setting) (bytes : List ℕ) (lines : List Line) : Type 0 where
   pub form : Text
   pub manifest : IsDocument bytes form
-  pub decided : AllZip (IsRow s) (seen (view_at form)) lines
+  pub decided : AllZip (IsRow s) (row_entries (view_at form)) lines
 
 -- the entry needs this lookup
 pub record IsNeededFor (configs : List Config) (e : RowEntry) (address name : List ℕ) : Type 0 where
@@ -55,7 +55,7 @@ pub record IsNeededIn (configs : List Config) (es : List RowEntry) (address name
 pub record IsNeededBy (configs : List Config) (bytes address name : List ℕ) : Type 0 where
   pub form : Text
   pub manifest : IsDocument bytes form
-  pub needed : IsNeededIn configs (seen (view_at form)) address name
+  pub needed : IsNeededIn configs (row_entries (view_at form)) address name
 
 -- one of the inputs needs this lookup
 pub record IsNeeded (inputs : List Input) (configs : List (Vec Config))
@@ -77,7 +77,7 @@ HasItsOutputs s input p =
     HasOutputs (path_of input) input.bytes.items (rows_of s.input p) (outputs_at (path_of input) p)
 
 -- the bytes are a manifest, and these are the warnings about its entries
-pub record HasWarnings (o : Options) (input : ℕ) (bytes : List ℕ) (told : List Told) : Type 0 where
+pub record HasWarnings (o : Options) (input : ℕ) (bytes : List ℕ) (told : List WarningView) : Type 0 where
   pub form : Text
   pub manifest : IsDocument bytes form
   pub are : AreWarnings o input (entries (view_at form) []) told

@@ -3,7 +3,7 @@ use Rattle.std.specs.Prelude.{◌≡◌, ◌≢◌, ◌⊎◌, ◌++◌, [], ◌
 use Rattle.edit_base.specs.Errors.{IsMemory}
 use Rattle.edit_base.specs.declared.errors.Error.{Error}
 use Rattle.edit_version.specs.CrateSpecs.{IsInvalidSpec}
-use Rattle.edit_upgrade.specs.Words.{IsPackageArg, words_of}
+use Rattle.edit_upgrade.specs.Words.{IsPackageArg, package_args_of}
 use Rattle.edit_upgrade.specs.declared.decision.options.Options.{Options}
 
 -- the first `--package` argument with an error: it has no valid name, its requirement cannot be parsed, or
@@ -19,9 +19,9 @@ pub record FailsAtPackageArg (words : List (List ℕ)) (e : Error) : Type 0 wher
 -- the error of options: that of a `--package` argument, or out of memory while the excluded names are
 -- collected
 abbrev pub IsOptionCause : Options → Error → Type 0
-IsOptionCause o e = FailsAtPackageArg (words_of o) e ⊎ (IsMemory e × (o.exclude.items ≢ []))
+IsOptionCause o e = FailsAtPackageArg (package_args_of o) e ⊎ (IsMemory e × (o.exclude.items ≢ []))
 
 -- the error of a plan: that of its options, or, where all `--package` arguments are valid, one with this
 -- cause
 abbrev pub IsPlanError : Options → (Error → Type 0) → Error → Type 0
-IsPlanError o Cause e = IsOptionCause o e ⊎ (All IsPackageArg (words_of o) × Cause e)
+IsPlanError o Cause e = IsOptionCause o e ⊎ (All IsPackageArg (package_args_of o) × Cause e)

@@ -7,8 +7,8 @@ use Rattle.edit_version.specs.CrateSpecs.{IsReadOrAbsent, invalid_chars, spec_na
 use Rattle.edit_upgrade.specs.declared.decision.options.Options.{Options}
 
 -- the `--package` arguments, as `serde` and `serde@1.0`
-abbrev pub words_of : Options → List (List ℕ)
-words_of o = map string_bytes o.package.items
+abbrev pub package_args_of : Options → List (List ℕ)
+package_args_of o = map string_bytes o.package.items
 
 -- the excluded names
 abbrev pub excluded_of : Options → List (List ℕ)
@@ -26,7 +26,7 @@ is_named words name = list_any (is_arg_named name) words
 -- excluded
 abbrev pub is_excluded : Options → List ℕ → Bool
 is_excluded o name =
-    (not (length o.package.items == 0) && not (is_named (words_of o) name))
+    (not (length o.package.items == 0) && not (is_named (package_args_of o) name))
     || list_any (bytes_eq name) (excluded_of o)
 
 -- the requirement of the last of these arguments that has this name
@@ -35,11 +35,11 @@ requirement_in words name = option_and_then spec_requirement (find (is_arg_named
 
 -- the requirement that `--package` gives for this name
 abbrev pub requirement_for : Options → List ℕ → Option (List ℕ)
-requirement_for o name = requirement_in (words_of o) name
+requirement_for o name = requirement_in (package_args_of o) name
 
 -- no argument contains an `@`: the arguments select entries and give no requirement
 abbrev pub HasOnlyNames : Options → Type 0
-HasOnlyNames o = All (λ word. spec_requirement word ≡ None) (words_of o)
+HasOnlyNames o = All (λ word. spec_requirement word ≡ None) (package_args_of o)
 
 -- a valid argument: a crate name, with no requirement or one that can be parsed
 abbrev pub IsPackageArg : List ℕ → Type 0

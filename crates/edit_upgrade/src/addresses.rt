@@ -4,7 +4,7 @@ ghost use Rattle.edit_base.specs.Errors.{IsMemory};
 ghost use Rattle.edit_sources.specs.Configured.{HasNoUrl, given};
 ghost use Rattle.edit_sources.specs.Definitions.{Defines};
 ghost use Rattle.edit_sources.specs.declared.config.Config.{Config};
-ghost use Rattle.edit_upgrade.specs.Addresses.{AreAddresses, is_named, url_at};
+ghost use Rattle.edit_upgrade.specs.Addresses.{AreAddresses, is_same_registry, url_at};
 
 use edit_base::CargoResult;
 use edit_sources::Config;
@@ -48,9 +48,9 @@ impl<'a> Addresses<'a> {
     }
 
     /// Stores the resolved address of a registry.
-    fn keep(&mut self, alloc: Global, registry: Option<&str>, url: Url) -> Result<(), AllocError>
+    fn store_url(&mut self, alloc: Global, registry: Option<&str>, url: Url) -> Result<(), AllocError>
         ensures preserved { OnOk result ((named : Option (List ℕ)) → url_at self.new named
-            ≡ (if is_named (given registry.entry) named then Some url else url_at self.old named)) }
+            ≡ (if is_same_registry (given registry.entry) named then Some url else url_at self.old named)) }
         ensures configs { self.new.configs ≡ self.old.configs }
         ensures definitions { self.new.definitions ≡ self.old.definitions }
     {
@@ -83,7 +83,7 @@ impl<'a> Addresses<'a> {
     }
 
     /// Resolves the address of a registry, unless it is resolved already.
-    pub(crate) fn see(&mut self, alloc: Global, registry: Option<&str>) -> CargoResult<()>
+    pub(crate) fn ensure_resolved(&mut self, alloc: Global, registry: Option<&str>) -> CargoResult<()>
         ensures there { OnOk result (IsSome (url_at self.new (given registry.entry))) }
         ensures are { OnOk result
             ((configs : List Config) → AreAddresses configs self.old → AreAddresses configs self.new) }
@@ -96,7 +96,7 @@ impl<'a> Addresses<'a> {
         let mut definitions = self.take_definitions(alloc)?;
         let url = definitions.resolve(alloc, registry)?;
         self.definitions = Some(definitions);
-        self.keep(alloc, registry, url)?;
+        self.store_url(alloc, registry, url)?;
         Ok(())
     }
 }

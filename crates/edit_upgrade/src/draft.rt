@@ -20,13 +20,13 @@ ghost use Rattle.edit_upgrade.specs.Upgraded.{IsNeededBy};
 
 use crate::addresses::Addresses;
 use crate::lists::{git_crates, has_incompatible, has_pinned, modified_names};
-use crate::looks::PairSet;
+use crate::lookup_log::PairSet;
 use crate::names::Names;
 use crate::planned::{Planned, plan_input};
 use crate::rows::Job;
 use crate::upgrade::{UpgradePlan, Warning};
 use crate::walk::LookupLog;
-use crate::writes::written;
+use crate::writes::edited_text;
 use edit_base::CargoResult;
 use edit_cache::IndexCache;
 use edit_document::Document;
@@ -120,7 +120,7 @@ fn add_planned(
         own) }
     ensures error { IfErr result IsMemory }
 {
-    let text = written(alloc, document, &planned.entries, &planned.rows)?;
+    let text = edited_text(alloc, document, &planned.entries, &planned.rows)?;
     let outputs = outputs_of(alloc, input.path.as_str(), text)?;
     push_all(&mut draft.outputs, outputs)?;
     push_all(&mut draft.rows, planned.rows)?;

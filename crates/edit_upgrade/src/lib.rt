@@ -3,19 +3,19 @@
 
 mod address_caches;
 mod addresses;
-mod asked;
+mod parsed_options;
 mod config_lists;
 pub mod decision;
 mod draft;
 mod lists;
-mod looks;
+mod lookup_log;
 mod missing;
 mod names;
-mod picks;
+mod package_selection;
 mod plan;
 mod planned;
 mod rows;
-mod seen;
+mod entries_with_rows;
 pub mod update;
 pub mod upgrade;
 mod walk;

@@ -8,16 +8,16 @@ ghost use Rattle.edit_record.specs.RecordViews.{record_view};
 ghost use Rattle.edit_manifest.specs.EntryViews.{entry_view};
 ghost use Rattle.edit_upgrade.specs.Decision.{first_row, unless, some_if};
 ghost use Rattle.edit_upgrade.specs.Lines.{line_of};
-ghost use Rattle.edit_upgrade.specs.Lists.{AreNames, AreWarnings, IsWarningOn, changed_names, git_names, ignored_text, is_git, is_held_incompatible, is_held_pinned, is_unparsed, unparsed_requirement, unreadable_text, warned, warning_by, warning_view, workspace_text};
+ghost use Rattle.edit_upgrade.specs.Lists.{AreNames, AreWarnings, IsWarningOn, changed_names, git_names, ignored_text, is_git, is_held_incompatible, is_held_pinned, is_unparsed, unparsed_requirement, unreadable_text, warning_record, warning_by, warning_view, workspace_text};
 ghost use Rattle.edit_upgrade.specs.Records.{source_of};
 
-use crate::asked::{ParsedOptions, is_excluded, requirement_for};
+use crate::parsed_options::{ParsedOptions, is_excluded, requirement_for};
 use crate::decision::options::Options;
-use crate::decision::requirement::{Pin, read_pin};
+use crate::decision::requirement::{PinStatus, read_pin};
 use crate::names::{Names, add_name};
 use crate::upgrade::Warning;
 use edit_base::{CargoResult, Error};
-use edit_manifest::entries::{Entry, Said};
+use edit_manifest::entries::{Entry, ReadEntry};
 use edit_record::{Dependency, Source};
 use edit_report::{Reason, Row};
 use std::alloc::{AllocError, Global};
@@ -133,7 +133,7 @@ fn unreadable_text(alloc: Global, key: &str, old: &str) -> Result<String, AllocE
 
 /// Whether an entry is left unchanged because its requirement cannot be parsed: it is not excluded, and no
 /// `--package` argument replaces the requirement.
-fn is_left_unparsed(options: &Options, excluded: bool, selected: Option<&str>, pin: Pin) -> bool
+fn is_left_unparsed(options: &Options, excluded: bool, selected: Option<&str>, pin: PinStatus) -> bool
     ensures { (far near : Option (List ℕ)) → result ≡ is_unparsed (first_row excluded
         (unless (is_some (option_copied selected.entry) && pin.pinned && not options.now.pinned)
         (option_copied selected.entry)) pin.readable far near) }
@@ -175,7 +175,7 @@ fn requirement_warning(
     version: Option<&str>,
 ) -> CargoResult<Option<Warning>>
     ensures ok { IfOk result (λ o. option_map warning_view o
-        ≡ option_map (λ old. warned input false (unreadable_text key.now old))
+        ≡ option_map (λ old. warning_record input false (unreadable_text key.now old))
         (option_and_then (unparsed_requirement asked.entry.options.now (record_view dependency.now))
         (option_map (λ s. s.now) version.entry))) }
     ensures error { IfErr result IsMemory }
@@ -244,8 +244,8 @@ fn entry_warning(
 {
     let key = entry.key.as_str();
     match &entry.said {
-        Said::Read(dependency) => record_warning(alloc, asked, input, key, dependency),
-        Said::Unsupported(error) => Ok(Some(Warning {
+        ReadEntry::Read(dependency) => record_warning(alloc, asked, input, key, dependency),
+        ReadEntry::Unsupported(error) => Ok(Some(Warning {
             input,
             verbose: false,
             text: ignored_text(alloc, key, error)?,

@@ -6,12 +6,12 @@ ghost use Rattle.std.specs.Str.{bytes_eq};
 ghost use Rattle.edit_base.specs.declared.errors.Error.TheVariants as error;
 ghost use Rattle.edit_manifest.specs.EntryViews.{entry_view};
 ghost use Rattle.edit_upgrade.specs.Missing.{names_in};
-ghost use Rattle.edit_upgrade.specs.Words.{is_named, words_of};
+ghost use Rattle.edit_upgrade.specs.Words.{is_named, package_args_of};
 
-use crate::asked::{ParsedOptions, is_named};
+use crate::parsed_options::{ParsedOptions, is_named};
 use crate::names::{Names, add_name};
 use edit_base::CargoResult;
-use edit_manifest::entries::{Entry, Said};
+use edit_manifest::entries::{Entry, ReadEntry};
 use std::alloc::{AllocError, Global};
 
 /// Adds the name of an entry to the set of known names, where a `--package` argument selects it.
@@ -22,10 +22,10 @@ fn add_entry(
     known: &mut Names,
 ) -> Result<(), AllocError>
     ensures ok { OnOk result ((name : List ℕ) → contains_text known.new name
-        ≡ (contains_text known.old name || (is_named (words_of asked.entry.options.now) name
+        ≡ (contains_text known.old name || (is_named (package_args_of asked.entry.options.now) name
         && list_any (bytes_eq name) (names_in (entry_view entry.now ∷ []))))) }
 {
-    let Said::Read(dependency) = &entry.said else {
+    let ReadEntry::Read(dependency) = &entry.said else {
         return Ok(());
     };
     let name = dependency.name.as_str();
@@ -43,7 +43,7 @@ pub(crate) fn add_names(
     known: &mut Names,
 ) -> Result<(), AllocError>
     ensures ok { OnOk result ((name : List ℕ) → contains_text known.new name
-        ≡ (contains_text known.old name || (is_named (words_of asked.entry.options.now) name
+        ≡ (contains_text known.old name || (is_named (package_args_of asked.entry.options.now) name
         && list_any (bytes_eq name) (names_in (map entry_view found.now))))) }
 {
     'found: for entry in found {
@@ -71,7 +71,7 @@ fn push_unknown(
 }
 
 /// The names of this list that are not known, in the order of the list.
-pub(crate) fn unknown(alloc: Global, names: &[String], known: &Names) -> CargoResult<Vec<String>>
+pub(crate) fn unknown_names(alloc: Global, names: &[String], known: &Names) -> CargoResult<Vec<String>>
     ensures ok { IfOk result (λ v. map string_bytes v.items
         ≡ filter (λ name. not (contains_text known.now name)) (map string_bytes names.now)) }
     ensures error { IfErr result (λ e. (e ≡ error.Memory) × (names.now ≢ [])) }

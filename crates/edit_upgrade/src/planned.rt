@@ -19,7 +19,7 @@ use crate::lists::warnings_on;
 use crate::missing::add_names;
 use crate::names::Names;
 use crate::rows::Job;
-use crate::seen::{Entry, with_rows};
+use crate::entries_with_rows::{Entry, with_rows};
 use crate::upgrade::Warning;
 use crate::walk::{LookupLog, walk};
 use edit_base::CargoResult;

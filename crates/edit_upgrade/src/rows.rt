@@ -8,21 +8,21 @@ ghost use Rattle.edit_version.specs.Selection.{IsCompatible, IsLatest};
 ghost use Rattle.edit_cache.specs.IndexCache.{index_of};
 ghost use Rattle.url.specs.Parts.{serialize};
 ghost use Rattle.edit_upgrade.specs.Decision.{decision, newer, or_else};
-ghost use Rattle.edit_upgrade.specs.Found.{seen_of, source_view};
+ghost use Rattle.edit_upgrade.specs.Found.{row_entry_view, source_view};
 ghost use Rattle.edit_upgrade.specs.Lines.{line_of};
 ghost use Rattle.edit_upgrade.specs.Looks.{Answer, cached_by, versions_in};
-ghost use Rattle.edit_upgrade.specs.Offers.{offered};
+ghost use Rattle.edit_upgrade.specs.Offers.{offered_version};
 ghost use Rattle.edit_upgrade.specs.Rankings.{IsRankingOf};
 ghost use Rattle.edit_upgrade.specs.Rows.{IsDecided, IsRowOver, case_for, dash_reason, dashes, line_for};
 
-use crate::asked::{ParsedOptions, is_excluded, requirement_for};
+use crate::parsed_options::{ParsedOptions, is_excluded, requirement_for};
 use crate::decision::decide::{EntryCase, decide};
 use crate::decision::offers::{Offer, offer_of};
-use crate::seen::{Entry, Source};
+use crate::entries_with_rows::{Entry, Source};
 use edit_base::CargoResult;
 use edit_cache::cache::IndexCache;
 use edit_cache::ranking::{Ranked, VersionPair};
-use edit_document::copied_place;
+use edit_document::clone_place;
 use edit_metadata::Input;
 use edit_record::Requirement;
 use edit_report::{Reason, Row};
@@ -65,7 +65,7 @@ fn version_pair<'a>(
 
 /// The text of an offered version.
 fn offered_text(offer: Option<Offer<'_>>) -> Option<String>
-    ensures { option_map string_bytes result ≡ option_map plain_text (offered offer.entry) }
+    ensures { option_map string_bytes result ≡ option_map plain_text (offered_version offer.entry) }
 {
     match offer {
         Some(offer) => Some(offer.text),
@@ -80,8 +80,8 @@ fn latest_text(
     latest: Option<Offer<'_>>,
 ) -> Result<Option<String>, AllocError>
     ensures ok { IfOk result (λ o. option_map string_bytes o ≡ option_map plain_text (or_else
-        (newer (offered latest.entry) (offered (option_copied compatible.entry)))
-        (offered (option_copied compatible.entry)))) }
+        (newer (offered_version latest.entry) (offered_version (option_copied compatible.entry)))
+        (offered_version (option_copied compatible.entry)))) }
 {
     match (latest, compatible) {
         (Some(latest), _) => Ok(Some(latest.text)),
@@ -110,11 +110,11 @@ fn row_over(
     compatible: Option<&Version>,
     latest: Option<&Version>,
 ) -> CargoResult<Row>
-    ensures ok { IfOk result (λ r. line_of r ≡ line_for job.entry.number (seen_of entry.now)
+    ensures ok { IfOk result (λ r. line_of r ≡ line_for job.entry.number (row_entry_view entry.now)
         (text_in old.now)
         (parts_in compatible.entry) (parts_in latest.entry)
         (decision job.entry.asked.options.now (case_for job.entry.asked.options.now
-        (seen_of entry.now) (text_in old.now) (parts_in compatible.entry) (parts_in latest.entry)))) }
+        (row_entry_view entry.now) (text_in old.now) (parts_in compatible.entry) (parts_in latest.entry)))) }
     ensures error { IfErr result IsMemory }
 {
     let near = offer_of(alloc, compatible)?;
@@ -134,7 +134,7 @@ fn row_over(
     Ok(Row {
         input: job.number,
         name: String::from_str(alloc, entry.name.as_str())?,
-        place: copied_place(alloc, &entry.place)?,
+        place: clone_place(alloc, &entry.place)?,
         rename: copied_rename(alloc, entry.rename.as_ref())?,
         old: Some(String::from_str(alloc, old.text())?),
         compatible: offered_text(near),
@@ -156,7 +156,7 @@ fn row_with(
     ensures ok { IfOk result (λ r. (answer : Option Answer) → IsRankingOf answer (option_copied ranked.entry)
         → IsDecided job.entry.number job.entry.asked.options.now
         (versions_in (numbers_in job.entry.input.now.rust_version) answer)
-        (seen_of entry.now) (text_in old.now) (line_of r)) }
+        (row_entry_view entry.now) (text_in old.now) (line_of r)) }
     ensures error { IfErr result IsMemory }
 {
     let pair = version_pair(ranked, old, job.input.rust_version);
@@ -180,14 +180,14 @@ fn dash_reason(excluded: bool, source: &Source) -> Reason
 /// The row of an entry without a requirement.
 fn dash_row(alloc: Global, job: Job<'_>, entry: &Entry) -> CargoResult<Row>
     ensures ok { IfOk result (λ r. line_of r
-        ≡ dashes job.entry.number job.entry.asked.options.now (seen_of entry.now)) }
+        ≡ dashes job.entry.number job.entry.asked.options.now (row_entry_view entry.now)) }
     ensures error { IfErr result IsMemory }
 {
     let excluded = is_excluded(job.asked, entry.name.as_str());
     Ok(Row {
         input: job.number,
         name: String::from_str(alloc, entry.name.as_str())?,
-        place: copied_place(alloc, &entry.place)?,
+        place: clone_place(alloc, &entry.place)?,
         rename: copied_rename(alloc, entry.rename.as_ref())?,
         old: None,
         compatible: None,
@@ -208,7 +208,7 @@ pub(crate) fn row_for(
     ensures ok { IfOk result (λ r. (answer : Option Answer) → IsRankingOf answer (option_copied ranked.entry)
         → IsRowOver job.entry.number job.entry.asked.options.now
         (versions_in (numbers_in job.entry.input.now.rust_version) answer)
-        (seen_of entry.now) (seen_of entry.now).old (line_of r)) }
+        (row_entry_view entry.now) (row_entry_view entry.now).old (line_of r)) }
     ensures error { IfErr result IsMemory }
 {
     match &entry.old {
@@ -232,8 +232,8 @@ fn cached_requirement_row<I: Index>(
 ) -> CargoResult<Row>
     ensures ok { IfOk result (λ r. IsDecided job.entry.number job.entry.asked.options.now
         (versions_in (numbers_in job.entry.input.now.rust_version)
-        (cached_by index.new (serialize registry.now) (seen_of entry.now).name))
-        (seen_of entry.now) old.now (line_of r)) }
+        (cached_by index.new (serialize registry.now) (row_entry_view entry.now).name))
+        (row_entry_view entry.now) old.now (line_of r)) }
     ensures index { index_of index.new ≡ index_of index.old }
     ensures preserved { cached_by index.new ≡ cached_by index.old }
     ensures error { IfErr result IsMemory }
@@ -255,8 +255,8 @@ pub(crate) fn cached_row<I: Index>(
 ) -> CargoResult<Row>
     ensures ok { IfOk result (λ r. IsRowOver job.entry.number job.entry.asked.options.now
         (versions_in (numbers_in job.entry.input.now.rust_version)
-        (cached_by index.new (serialize registry.now) (seen_of entry.now).name))
-        (seen_of entry.now) (seen_of entry.now).old (line_of r)) }
+        (cached_by index.new (serialize registry.now) (row_entry_view entry.now).name))
+        (row_entry_view entry.now) (row_entry_view entry.now).old (line_of r)) }
     ensures index { index_of index.new ≡ index_of index.old }
     ensures preserved { cached_by index.new ≡ cached_by index.old }
     ensures error { IfErr result IsMemory }

@@ -8,7 +8,7 @@ ghost use Rattle.url.specs.Parts.{serialize};
 ghost use Rattle.edit_upgrade.specs.Addresses.{AreAddresses};
 ghost use Rattle.edit_upgrade.specs.Caches.{LeavesCache, cache_view};
 ghost use Rattle.edit_upgrade.specs.Causes.{IsPassed, StopsAt, StopsFirst};
-ghost use Rattle.edit_upgrade.specs.Found.{seen_of};
+ghost use Rattle.edit_upgrade.specs.Found.{row_entry_view};
 ghost use Rattle.edit_upgrade.specs.Lines.{line_of};
 ghost use Rattle.edit_upgrade.specs.Looked.{AreAllCached, AreSteps, IsEntryStep};
 ghost use Rattle.edit_upgrade.specs.Looks.{cached_basis, cached_by};
@@ -18,9 +18,9 @@ ghost use Rattle.edit_upgrade.specs.Rows.{AreDecided, IsRowBy};
 ghost use Rattle.edit_upgrade.specs.Upgraded.{IsNeededFor, IsNeededIn};
 
 use crate::addresses::Addresses;
-use crate::looks::{PairSet, lookup_once};
+use crate::lookup_log::{PairSet, lookup_once};
 use crate::rows::{Job, cached_row, row_for};
-use crate::seen::{Entry, Source};
+use crate::entries_with_rows::{Entry, Source};
 use crate::upgrade::Look;
 use edit_base::CargoResult;
 use edit_cache::cache::IndexCache;
@@ -45,23 +45,23 @@ fn registry_row<I: Index>(
     books: &mut LookupLog,
     index: &mut IndexCache<I>,
 ) -> CargoResult<Row>
-    requires source { (seen_of entry.now).source ≡ at_registry (given registry) }
+    requires source { (row_entry_view entry.now).source ≡ at_registry (given registry) }
     requires addresses { AreAddresses addresses.old.configs.now addresses.old }
     ensures addresses { OnOk result (AreAddresses addresses.old.configs.now addresses.new) }
-    ensures step { OnOk result (IsEntryStep addresses.old.configs.now (seen_of entry.now)
+    ensures step { OnOk result (IsEntryStep addresses.old.configs.now (row_entry_view entry.now)
         (I.view (index_of index.old)).gives (cached_by index.old) (cached_by index.new)
         books.old.looks.items books.new.looks.items
         (holds_pair books.old.pairs) (holds_pair books.new.pairs)) }
     ensures row { IfOk result (λ r. IsRowBy (cached_basis job.entry.number job.entry.asked.options.now
         (numbers_in job.entry.input.now.rust_version) addresses.old.configs.now (cached_by index.new))
-        (seen_of entry.now) (line_of r)) }
-    ensures left { LeavesCache (IsNeededFor addresses.old.configs.now (seen_of entry.now))
+        (row_entry_view entry.now) (line_of r)) }
+    ensures left { LeavesCache (IsNeededFor addresses.old.configs.now (row_entry_view entry.now))
         (cache_view I.view index.old) (cache_view I.view index.new) }
     ensures error { IfErr result (λ e. IsMemory e
         ⊎ StopsAt addresses.old.configs.now (I.view (index_of index.old)).gives (cached_by index.old)
-        (I.view (index_of index.old)).faults (I.view (index_of index.new)).faults (seen_of entry.now) e) }
+        (I.view (index_of index.old)).faults (I.view (index_of index.new)).faults (row_entry_view entry.now) e) }
 {
-    addresses.see(alloc, registry)?;
+    addresses.ensure_resolved(alloc, registry)?;
     let Some(url) = addresses.url(registry) else {
         unreachable!()
     };
@@ -82,18 +82,18 @@ fn entry_row<I: Index>(
 ) -> CargoResult<Row>
     requires addresses { AreAddresses addresses.old.configs.now addresses.old }
     ensures addresses { OnOk result (AreAddresses addresses.old.configs.now addresses.new) }
-    ensures step { OnOk result (IsEntryStep addresses.old.configs.now (seen_of entry.now)
+    ensures step { OnOk result (IsEntryStep addresses.old.configs.now (row_entry_view entry.now)
         (I.view (index_of index.old)).gives (cached_by index.old) (cached_by index.new)
         books.old.looks.items books.new.looks.items
         (holds_pair books.old.pairs) (holds_pair books.new.pairs)) }
     ensures row { IfOk result (λ r. IsRowBy (cached_basis job.entry.number job.entry.asked.options.now
         (numbers_in job.entry.input.now.rust_version) addresses.old.configs.now (cached_by index.new))
-        (seen_of entry.now) (line_of r)) }
-    ensures left { LeavesCache (IsNeededFor addresses.old.configs.now (seen_of entry.now))
+        (row_entry_view entry.now) (line_of r)) }
+    ensures left { LeavesCache (IsNeededFor addresses.old.configs.now (row_entry_view entry.now))
         (cache_view I.view index.old) (cache_view I.view index.new) }
     ensures error { IfErr result (λ e. IsMemory e
         ⊎ StopsAt addresses.old.configs.now (I.view (index_of index.old)).gives (cached_by index.old)
-        (I.view (index_of index.old)).faults (I.view (index_of index.new)).faults (seen_of entry.now) e) }
+        (I.view (index_of index.old)).faults (I.view (index_of index.new)).faults (row_entry_view entry.now) e) }
 {
     match &entry.source {
         Source::Registry(Some(named)) => {
@@ -130,21 +130,21 @@ pub(crate) fn walk<I: Index>(
     ensures addresses { OnOk result (AreAddresses addresses.old.configs.now addresses.new) }
     ensures preserved { OnOk result (AreAllCached (holds_pair books.new.pairs) (cached_by index.new)) }
     ensures steps { OnOk result (AreSteps addresses.old.configs.now (I.view (index_of index.old)).gives
-        (map seen_of entries.now) (cached_by index.old) (cached_by index.new)
+        (map row_entry_view entries.now) (cached_by index.old) (cached_by index.new)
         books.old.looks.items books.new.looks.items
         (holds_pair books.old.pairs) (holds_pair books.new.pairs)) }
     ensures passed { OnOk result
-        (All (IsPassed addresses.old.configs.now (cached_by index.new)) (map seen_of entries.now)) }
+        (All (IsPassed addresses.old.configs.now (cached_by index.new)) (map row_entry_view entries.now)) }
     ensures rows { IfOk result (λ v. AreDecided (cached_basis job.entry.number job.entry.asked.options.now
         (numbers_in job.entry.input.now.rust_version) addresses.old.configs.now (cached_by index.new))
-        (map seen_of entries.now) (map line_of v.items)) }
-    ensures left { LeavesCache (IsNeededIn addresses.old.configs.now (map seen_of entries.now))
+        (map row_entry_view entries.now) (map line_of v.items)) }
+    ensures left { LeavesCache (IsNeededIn addresses.old.configs.now (map row_entry_view entries.now))
         (cache_view I.view index.old) (cache_view I.view index.new) }
     ensures error { IfErr result (λ e. IsMemory e
         ⊎ StopsFirst addresses.old.configs.now (I.view (index_of index.old)).gives
         (cached_by index.old) (cached_by index.new)
         (I.view (index_of index.old)).faults (I.view (index_of index.new)).faults
-        (map seen_of entries.now) e) }
+        (map row_entry_view entries.now) e) }
 {
     let mut rows = Vec::with_capacity(alloc, entries.len())?;
     'entries: for entry in entries {

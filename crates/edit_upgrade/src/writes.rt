@@ -6,12 +6,12 @@ ghost use Rattle.edit_document.specs.Ranges.{edit_views};
 ghost use Rattle.edit_tree.specs.DocumentViews.{ShowsTree};
 ghost use Rattle.edit_upgrade.specs.Outputs.{IsRewritten};
 ghost use Rattle.edit_tree.specs.Tree.{view_at};
-ghost use Rattle.edit_upgrade.specs.Found.{seen_of};
+ghost use Rattle.edit_upgrade.specs.Found.{row_entry_view};
 ghost use Rattle.edit_upgrade.specs.Lines.{line_of};
-ghost use Rattle.edit_upgrade.specs.Records.{seen};
+ghost use Rattle.edit_upgrade.specs.Records.{row_entries};
 ghost use Rattle.edit_upgrade.specs.Rows.{with_write, write_on, writes};
 
-use crate::seen::{Entry, literal_of};
+use crate::entries_with_rows::{Entry, literal_of};
 use edit_base::CargoResult;
 use edit_document::{Document, Place};
 use edit_report::Row;
@@ -20,7 +20,7 @@ use std::alloc::Global;
 /// The edit of the version literal of an entry, where its row has a change.
 fn edit_for(alloc: Global, entry: &Entry, row: &Row) -> CargoResult<Option<(Place, String)>>
     ensures ok { IfOk result (λ o. edit_views (option_to_list o)
-        ≡ with_write (write_on (seen_of entry.now) (line_of row.now)) []) }
+        ≡ with_write (write_on (row_entry_view entry.now) (line_of row.now)) []) }
     ensures error { IfErr result IsMemory }
 {
     if entry.old.is_none() || row.change.is_none() {
@@ -45,7 +45,7 @@ fn push_edit(
 ) -> CargoResult<()>
     ensures ok { OnOk result (edit_views edits.new.items
         ≡ edit_views edits.old.items
-        ++ with_write (write_on (seen_of entry.now) (line_of row.now)) []) }
+        ++ with_write (write_on (row_entry_view entry.now) (line_of row.now)) []) }
     ensures error { IfErr result IsMemory }
 {
     let edit = edit_for(alloc, entry, row)?;
@@ -66,7 +66,7 @@ pub(crate) fn edits_of(
 ) -> CargoResult<Vec<(Place, String)>>
     requires { length rows.now ≡ length entries.now }
     ensures ok { IfOk result
-        (λ es. edit_views es.items ≡ writes (map seen_of entries.now) (map line_of rows.now)) }
+        (λ es. edit_views es.items ≡ writes (map row_entry_view entries.now) (map line_of rows.now)) }
     ensures error { IfErr result IsMemory }
 {
     let mut edits = Vec::new(alloc);
@@ -77,18 +77,18 @@ pub(crate) fn edits_of(
 }
 
 /// The new text of a manifest, or `None` where no row has a change.
-pub(crate) fn written(
+pub(crate) fn edited_text(
     alloc: Global,
     document: &Document,
     entries: &[Entry],
     rows: &[Row],
 ) -> CargoResult<Option<String>>
     requires shown { (form : Text) × ShowsTree document.now form
-        × (map seen_of entries.now ≡ seen (view_at form)) }
+        × (map row_entry_view entries.now ≡ row_entries (view_at form)) }
     requires long { length rows.now ≡ length entries.now }
     ensures ok { IfOk result
-        (λ o. MatchOption o (writes (map seen_of entries.now) (map line_of rows.now) ≡ [])
-        (λ s. IsRewritten document.now (writes (map seen_of entries.now) (map line_of rows.now))
+        (λ o. MatchOption o (writes (map row_entry_view entries.now) (map line_of rows.now) ≡ [])
+        (λ s. IsRewritten document.now (writes (map row_entry_view entries.now) (map line_of rows.now))
         (string_bytes s))) }
     ensures error { IfErr result IsMemory }
 {

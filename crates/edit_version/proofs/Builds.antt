@@ -13,7 +13,7 @@ use Rattle.semver.specs.Parse.{Held, Parts, req_of, version_parts}
 use Rattle.semver.specs.declared.error.Error as semver_error
 use Rattle.semver.proofs.Grammar.{version_parts-complete, version_parts-sound}
 use Rattle.edit_version.specs.Admits.{accepts, accepts_by, admits, agrees, caret_after, is_given, is_greater, is_less, is_same, minor_beyond, names_pre, tilde_patch}
-use Rattle.edit_version.specs.Requirement.{cut, match_caret, plain_text, raise, upgrade_all, upgrade_parsed, raised, requirement_text, unless_same}
+use Rattle.edit_version.specs.Requirement.{cut, match_caret, plain_text, upgrade_of, upgrade_all, upgrade_parsed, upgraded_comparator, requirement_text, unless_same}
 use Rattle.edit_version.proofs.Cuts.{cut-before, plain_text-build, plain_text-no_plus}
 use Rattle.edit_version.proofs.Orders.{SameVersion}
 
@@ -21,7 +21,7 @@ use Rattle.edit_version.proofs.Orders.{SameVersion}
 abbrev pub without_build : Parts → Parts
 without_build v = (v.0, v.1, v.2, v.3, [])
 
-raised-same : (u v : Parts) → SameVersion u v → (c : Held) → raised u c ≡ raised v c
+raised-same : (u v : Parts) → SameVersion u v → (c : Held) → upgraded_comparator u c ≡ upgraded_comparator v c
 raised-same u v s c = rw (s.0, s.1, s.2, s.3) refl
 
 all-same : (text : List ℕ) (u v : Parts) → SameVersion u v → (cs : List Held) (o : Option Held)
@@ -38,10 +38,10 @@ read-same text u v s (Ok []) = refl
 read-same text u v s (Ok (c ∷ cs)) = all-same text u v s (c ∷ cs) _
 
 -- raising does not look at build metadata
-pub raise-same : (text : List ℕ) (u v : Parts) → SameVersion u v → raise text u ≡ raise text v
+pub raise-same : (text : List ℕ) (u v : Parts) → SameVersion u v → upgrade_of text u ≡ upgrade_of text v
 raise-same text u v s = read-same text u v s (req_of text)
 
-pub raise-without_build : (text : List ℕ) (v : Parts) → raise text (without_build v) ≡ raise text v
+pub raise-without_build : (text : List ℕ) (v : Parts) → upgrade_of text (without_build v) ≡ upgrade_of text v
 raise-without_build text v = raise-same text (without_build v) v (refl, refl, refl, refl)
 
 tilde-same : (p : Option ℕ) (pre : List ℕ) (u v : Parts) → SameVersion u v

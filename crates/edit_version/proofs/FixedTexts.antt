@@ -12,7 +12,7 @@ use Rattle.semver.specs.declared.error.Error.{Error}
 use Rattle.semver.specs.declared.Op.{Op}
 use Rattle.semver.specs.declared.Op.TheVariants as op
 use Rattle.edit_version.specs.Laws.{IsVersion}
-use Rattle.edit_version.specs.Requirement.{Nothing, Text, after_patch, comparator_text, dotted, is_inequality, match_caret, more_text, raise, upgrade_all, upgrade_parsed, raised, raised_pre, renumbered, requirement_text, sign, star, starts_with_caret, unless_same, without_caret}
+use Rattle.edit_version.specs.Requirement.{Nothing, Text, after_patch, comparator_text, dotted, is_inequality, match_caret, more_text, upgrade_of, upgrade_all, upgrade_parsed, upgraded_comparator, raised_pre, renumbered, requirement_text, sign, star, starts_with_caret, unless_same, without_caret}
 use Rattle.edit_version.proofs.ComparatorReadings.{IsSmall, IsWritable, caret-number, read_pre, reads-all, reads-unsigned-all, tidy}
 use Rattle.edit_version.proofs.Shapes.{IsShaped, req-shape}
 
@@ -42,7 +42,7 @@ valid-raised op.Wildcard None own pre n k h valid e = cc e
 valid-raised op.Wildcard (Some p) own pre n k h valid e = cc (h refl)
 
 raised-writable : (v : Parts) (c : Held) → IsVersion v → IsShaped c → is_inequality c.0 ≡ false
-    → IsWritable (raised v c)
+    → IsWritable (upgraded_comparator v c)
 raised-writable v c w s e = record {
   major = w.major;
   minor = small-renumbered c.2 v.1 w.minor;
@@ -63,7 +63,7 @@ none-first c cs h = elim (cases_Bool (is_inequality c.0)) [
 
 all-writable : (v : Parts) (cs : List Held) → IsVersion v → AllByRecursion IsShaped cs
     → find (λ d. is_inequality d.0) cs ≡ None
-    → AllByRecursion IsWritable (map (raised v) cs)
+    → AllByRecursion IsWritable (map (upgraded_comparator v) cs)
 all-writable v [] w all h = tt
 all-writable v (c ∷ cs) w all h =
     let n = none-first c cs h in
@@ -80,8 +80,8 @@ own-again None pre = refl
 own-again (Some p) pre = refl
 
 text-again : (v : Parts) (o : Op) (n : ℕ) (m p : Option ℕ) (pre : List ℕ)
-    → comparator_text (raised v (tidy (raised v (o, n, m, p, pre))))
-    ≡ comparator_text (raised v (o, n, m, p, pre))
+    → comparator_text (upgraded_comparator v (tidy (upgraded_comparator v (o, n, m, p, pre))))
+    ≡ comparator_text (upgraded_comparator v (o, n, m, p, pre))
 text-again v op.Exact n m p pre = rw (renumbered-again m v.1, renumbered-again p v.2) refl
 text-again v op.Greater n m p pre = rw (renumbered-again m v.1, renumbered-again p v.2) refl
 text-again v op.GreaterEq n m p pre = rw (renumbered-again m v.1, renumbered-again p v.2) refl
@@ -92,14 +92,14 @@ text-again v op.Caret n m p pre = rw (renumbered-again m v.1, renumbered-again p
 text-again v op.Wildcard n m p pre =
     rw (renumbered-again m v.1, renumbered-again p v.2, own-again (renumbered p v.2) pre) refl
 
-more-again : (v : Parts) (cs : List Held) → more_text (map (raised v) (map tidy (map (raised v) cs)))
-    ≡ more_text (map (raised v) cs)
+more-again : (v : Parts) (cs : List Held) → more_text (map (upgraded_comparator v) (map tidy (map (upgraded_comparator v) cs)))
+    ≡ more_text (map (upgraded_comparator v) cs)
 more-again v [] = refl
 more-again v (c ∷ cs) = rw (text-again v c.0 c.1 c.2 c.3 c.4, more-again v cs) refl
 
 req-again : (v : Parts) (c : Held) (cs : List Held)
-    → requirement_text (map (raised v) (map tidy (map (raised v) (c ∷ cs))))
-    ≡ requirement_text (map (raised v) (c ∷ cs))
+    → requirement_text (map (upgraded_comparator v) (map tidy (map (upgraded_comparator v) (c ∷ cs))))
+    ≡ requirement_text (map (upgraded_comparator v) (c ∷ cs))
 req-again v c cs = rw (text-again v c.0 c.1 c.2 c.3 c.4, more-again v cs) refl
 
 none-again : (cs : List Held) → AllByRecursion IsWritable cs
@@ -176,7 +176,7 @@ led-reads old c cs w all le =
 -- a text that was raised has comparators, none of which is an inequality
 abbrev pub IsRaised : List ℕ → Parts → List ℕ → Held → List Held → Type 0
 IsRaised text v t c cs = (req_of text ≡ Ok (c ∷ cs)) × (find (λ d. is_inequality d.0) (c ∷ cs) ≡ None)
-    × (t ≡ match_caret text (requirement_text (map (raised v) (c ∷ cs))))
+    × (t ≡ match_caret text (requirement_text (map (upgraded_comparator v) (c ∷ cs))))
 
 unless-read : (text new t : List ℕ) → unless_same text new ≡ Text t → t ≡ new
 unless-read text new t h = elim (cases_Bool (pointwise nat_eq new text)) [
@@ -186,7 +186,7 @@ unless-read text new t h = elim (cases_Bool (pointwise nat_eq new text)) [
 
 all-read : (text : List ℕ) (v : Parts) (t : List ℕ) (cs : List Held) (o : Option Held)
     → upgrade_all text v cs o ≡ Text t
-    → (o ≡ None) × (t ≡ match_caret text (requirement_text (map (raised v) cs)))
+    → (o ≡ None) × (t ≡ match_caret text (requirement_text (map (upgraded_comparator v) cs)))
 all-read text v t cs None h = (refl, unless-read text _ t h)
 all-read text v t cs (Some d) h = cc h
 
@@ -199,30 +199,30 @@ read-raised text v t (Ok (c ∷ cs)) same h =
     let a = all-read text v t (c ∷ cs) (find (λ d. is_inequality d.0) (c ∷ cs)) h in
     (c, cs, (same, a.0, a.1))
 
-pub raised-read : (text : List ℕ) (v : Parts) (t : List ℕ) → raise text v ≡ Text t → (c : Held)
+pub raised-read : (text : List ℕ) (v : Parts) (t : List ℕ) → upgrade_of text v ≡ Text t → (c : Held)
     × (cs : List Held) × IsRaised text v t c cs
 raised-read text v t h = read-raised text v t (req_of text) refl h
 
 -- what a raised text is read as
 pub raised-reads : (text : List ℕ) (v : Parts) (t : List ℕ) (c : Held) (cs : List Held) → IsVersion v
     → IsRaised text v t c cs
-    → (req_of t ≡ Ok (map tidy (map (raised v) (c ∷ cs))))
-    × AllByRecursion IsWritable (map (raised v) (c ∷ cs))
+    → (req_of t ≡ Ok (map tidy (map (upgraded_comparator v) (c ∷ cs))))
+    × AllByRecursion IsWritable (map (upgraded_comparator v) (c ∷ cs))
 raised-reads text v t c cs w h =
     let shape = req-shape text (c ∷ cs) h.0 in
     let all = all-writable v (c ∷ cs) w shape.0 h.1 in
-    let few : length (map (raised v) cs) ≤ 31 = rw length-map (omega (arith, shape.1)) in
-    (ap (λ (x : List ℕ). req_of x) h.2 ∙ led-reads text (raised v c) (map (raised v) cs) all.0 all.1 few, all)
+    let few : length (map (upgraded_comparator v) cs) ≤ 31 = rw length-map (omega (arith, shape.1)) in
+    (ap (λ (x : List ℕ). req_of x) h.2 ∙ led-reads text (upgraded_comparator v c) (map (upgraded_comparator v) cs) all.0 all.1 few, all)
 
 -- raising a raised text gives no other
 pub raised-fixed : (text : List ℕ) (v : Parts) (t : List ℕ) (c : Held) (cs : List Held) → IsVersion v
     → IsRaised text v t c cs
-    → raise t v ≡ Nothing
+    → upgrade_of t v ≡ Nothing
 raised-fixed text v t c cs w h =
     let r = raised-reads text v t c cs w h in
-    let none = none-again (map (raised v) (c ∷ cs)) r.1 in
-    let same : match_caret t (requirement_text (map (raised v) (c ∷ cs))) ≡ t =
-    subst (λ (x : List ℕ). match_caret x (requirement_text (map (raised v) (c ∷ cs))) ≡ x) (sym h.2)
-    (led-again text (raised v c) (map (raised v) cs) r.1.0.major) in
+    let none = none-again (map (upgraded_comparator v) (c ∷ cs)) r.1 in
+    let same : match_caret t (requirement_text (map (upgraded_comparator v) (c ∷ cs))) ≡ t =
+    subst (λ (x : List ℕ). match_caret x (requirement_text (map (upgraded_comparator v) (c ∷ cs))) ≡ x) (sym h.2)
+    (led-again text (upgraded_comparator v c) (map (upgraded_comparator v) cs) r.1.0.major) in
     let self : pointwise nat_eq t t ≡ true = nat_list_eq_equiv.refl t in
     rw (r.0, none, req-again v c cs, same, self) refl

@@ -14,7 +14,7 @@ use Rattle.semver.specs.declared.Op.{Op}
 use Rattle.semver.specs.declared.Op.TheVariants as op
 use Rattle.edit_version.specs.Admits.{accepts, pre_reaches}
 use Rattle.edit_version.specs.Laws.{holds_dash, precedence}
-use Rattle.edit_version.specs.Requirement.{after_patch, comparator_text, dotted, is_inequality, match_caret, more_text, raised, raised_pre, renumbered, requirement_text, sign, star, starts_with_caret, unsigned_text, without_caret}
+use Rattle.edit_version.specs.Requirement.{after_patch, comparator_text, dotted, is_inequality, match_caret, more_text, upgraded_comparator, raised_pre, renumbered, requirement_text, sign, star, starts_with_caret, unsigned_text, without_caret}
 use Rattle.edit_version.proofs.Dashes.{dash-append, decimal-no_dash}
 use Rattle.edit_version.proofs.FixedTexts.{none-first}
 use Rattle.edit_version.proofs.Narrows.{left_of, pre-self, right_of}
@@ -23,7 +23,7 @@ use Rattle.edit_version.proofs.Shapes.{IsShaped}
 
 -- ---- operators
 
-pub operators-same : (v : Parts) (cs : List Held) → map (λ c. c.0) (map tidy (map (raised v) cs))
+pub operators-same : (v : Parts) (cs : List Held) → map (λ c. c.0) (map tidy (map (upgraded_comparator v) cs))
     ≡ map (λ c. c.0) cs
 operators-same v [] = refl
 operators-same v (c ∷ cs) = ap (λ l. c.0 ∷ l) (operators-same v cs)
@@ -95,9 +95,9 @@ raised-dash op.Tilde (Some p) own pre n h = refl
 raised-dash op.Caret (Some p) own pre n h = refl
 raised-dash op.Wildcard (Some p) own pre n h = cc (h refl)
 
-one-dash : (v : Parts) (c : Held) → IsShaped c → IsWritable (raised v c)
-    → holds_dash (comparator_text (raised v c)) ≡ (is_some c.3 && not (length v.3 == 0))
-one-dash v c s w = comparator_text-dash (raised v c) w.major w.minor w.patch ∙
+one-dash : (v : Parts) (c : Held) → IsShaped c → IsWritable (upgraded_comparator v c)
+    → holds_dash (comparator_text (upgraded_comparator v c)) ≡ (is_some c.3 && not (length v.3 == 0))
+one-dash v c s w = comparator_text-dash (upgraded_comparator v c) w.major w.minor w.patch ∙
     raised-dash c.0 c.3 c.4 v.3 v.2 s.starred
 
 spread : (x y d : Bool) → ((x && d) || (y && d)) ≡ ((x || y) && d)
@@ -111,12 +111,12 @@ comma-dash : (xs : List ℕ) → holds_dash (44 ∷ 32 ∷ xs) ≡ holds_dash xs
 comma-dash xs = refl
 
 more-dash : (v : Parts) (cs : List Held) → AllByRecursion IsShaped cs
-    → AllByRecursion IsWritable (map (raised v) cs)
-    → holds_dash (more_text (map (raised v) cs)) ≡ (list_any (λ d. is_some d.3) cs && not (length v.3 == 0))
+    → AllByRecursion IsWritable (map (upgraded_comparator v) cs)
+    → holds_dash (more_text (map (upgraded_comparator v) cs)) ≡ (list_any (λ d. is_some d.3) cs && not (length v.3 == 0))
 more-dash v [] s w = refl
 more-dash v (c ∷ cs) s w =
-    comma-dash (comparator_text (raised v c) ++ more_text (map (raised v) cs))
-    ∙ dash-append (comparator_text (raised v c)) (more_text (map (raised v) cs))
+    comma-dash (comparator_text (upgraded_comparator v c) ++ more_text (map (upgraded_comparator v) cs))
+    ∙ dash-append (comparator_text (upgraded_comparator v c)) (more_text (map (upgraded_comparator v) cs))
     ∙ rw (one-dash v c s.0 w.0, more-dash v cs s.1 w.1) (spread (is_some c.3) _ _)
 
 without-dash : (xs : List ℕ) → holds_dash (without_caret xs) ≡ holds_dash xs
@@ -137,12 +137,12 @@ led-dash old new = elim (cases_Bool (starts_with_caret old)) [
 -- a raised text has a dash where a comparator has a patch number and the version a pre-release
 pub upgraded_text-dash : (old : List ℕ) (v : Parts) (c : Held) (cs : List Held)
     → AllByRecursion IsShaped (c ∷ cs)
-    → AllByRecursion IsWritable (map (raised v) (c ∷ cs))
-    → holds_dash (match_caret old (requirement_text (map (raised v) (c ∷ cs))))
+    → AllByRecursion IsWritable (map (upgraded_comparator v) (c ∷ cs))
+    → holds_dash (match_caret old (requirement_text (map (upgraded_comparator v) (c ∷ cs))))
     ≡ (list_any (λ d. is_some d.3) (c ∷ cs) && not (length v.3 == 0))
 upgraded_text-dash old v c cs s w =
-    led-dash old (requirement_text (map (raised v) (c ∷ cs)))
-    ∙ dash-append (comparator_text (raised v c)) (more_text (map (raised v) cs))
+    led-dash old (requirement_text (map (upgraded_comparator v) (c ∷ cs)))
+    ∙ dash-append (comparator_text (upgraded_comparator v c)) (more_text (map (upgraded_comparator v) cs))
     ∙ rw (one-dash v c s.0 w.0, more-dash v cs s.1 w.1) (spread (is_some c.3) _ _)
 
 -- ---- the least version
@@ -175,7 +175,7 @@ then-lex a b x r h f = elim (or-cases (nat_lt b a) ((a == b) && x) h) [
 ]
 
 least-of : (o : Op) (n m p : ℕ) (pre : List ℕ) (v w : Parts) → (o ≡ op.Wildcard → ⊥) → is_inequality o ≡ false
-    → accepts (tidy (raised v (o, n, Some m, Some p, pre))) w ≡ true → is_ge (precedence w v) ≡ true
+    → accepts (tidy (upgraded_comparator v (o, n, Some m, Some p, pre))) w ≡ true → is_ge (precedence w v) ≡ true
 least-of op.Exact n m p pre v w u i h =
     let h1 = left_of _ _ h in
     let h2 = left_of _ _ h1 in
@@ -202,7 +202,7 @@ wild-none o p k h e x = cc (sym (h x) ∙ e)
 
 least-one : (o : Op) (n : ℕ) (m p : Option ℕ) (pre : List ℕ) (v w : Parts) → IsShaped (o, n, m, p, pre)
     → is_inequality o ≡ false
-    → is_some p ≡ true → accepts (tidy (raised v (o, n, m, p, pre))) w ≡ true → is_ge (precedence w v) ≡ true
+    → is_some p ≡ true → accepts (tidy (upgraded_comparator v (o, n, m, p, pre))) w ≡ true → is_ge (precedence w v) ≡ true
 least-one o n m None pre v w s i e h = cc e
 least-one o n None (Some p) pre v w s i e h = cc (s.nested refl)
 least-one o n (Some m) (Some p) pre v w s i e h = least-of o n m p pre v w
@@ -211,7 +211,7 @@ least-one o n (Some m) (Some p) pre v w s i e h = least-of o n m p pre v w
 -- where a comparator has a patch number, no version below the one that it was raised to is admitted
 pub least-all : (v w : Parts) (cs : List Held) → AllByRecursion IsShaped cs
     → find (λ d. is_inequality d.0) cs ≡ None
-    → list_any (λ d. is_some d.3) cs ≡ true → list_all (λ c. accepts c w) (map tidy (map (raised v) cs))
+    → list_any (λ d. is_some d.3) cs ≡ true → list_all (λ c. accepts c w) (map tidy (map (upgraded_comparator v) cs))
     ≡ true
     → is_ge (precedence w v) ≡ true
 least-all v w [] s n e h = cc e

@@ -7,7 +7,7 @@ use Rattle.std.specs.Ordering.{is_le}
 use Rattle.std.specs.declared.cmp.Ordering.TheVariants.{Less}
 use Rattle.std.proofs.lemmas.Bool.{cases_Bool}
 use Rattle.semver.specs.Parse.{Parts}
-use Rattle.edit_version.specs.Admissible.{admissible, admissible_in, entry_order, if_passes, is_kept, version_in}
+use Rattle.edit_version.specs.Admissible.{admissible, admissible_in, entry_order, if_passes, is_qualifying, version_in}
 use Rattle.edit_version.specs.Greatest.{IsGreatest, IsGreatestKept}
 use Rattle.edit_version.specs.IndexEntry.{IndexEntry}
 use Rattle.edit_version.specs.RustVersions.{Numbers}
@@ -34,7 +34,7 @@ weaker-passes test wide more (Some v) h = elim (cases_Bool (test v)) [
 -- what a test keeps, a weaker test keeps
 pub kept-weaker : (rust : Option Numbers) (test wide : Parts → Bool)
     → ((v : Parts) → test v ≡ true → wide v ≡ true) → (e : IndexEntry)
-    → is_kept rust test e ≡ true → is_kept rust wide e ≡ true
+    → is_qualifying rust test e ≡ true → is_qualifying rust wide e ≡ true
 kept-weaker rust test wide more e h = weaker-passes test wide more (admissible rust e) h
 
 one-more : {X Y : Type 0} (P : X → Type 0) (Q : Y → Type 0) (f : X → Option Y)
@@ -75,11 +75,11 @@ at-read : (rust : Option Numbers) (x e : IndexEntry) (u v : Parts) → admissibl
 at-read rust x e u v h g = rw (admissible-version rust x u h, admissible-version rust e v g) refl
 
 kept-true : (rust : Option Numbers) (test : Parts → Bool) (e : IndexEntry) (v : Parts)
-    → admissible rust e ≡ Some v → test v ≡ true → is_kept rust test e ≡ true
+    → admissible rust e ≡ Some v → test v ≡ true → is_qualifying rust test e ≡ true
 kept-true rust test e v h t = rw (h, t) refl
 
 kept-false : (rust : Option Numbers) (test : Parts → Bool) (e : IndexEntry) (v : Parts)
-    → admissible rust e ≡ Some v → is_kept rust test e ≡ false → test v ≡ false
+    → admissible rust e ≡ Some v → is_qualifying rust test e ≡ false → test v ≡ false
 kept-false rust test e v h f = elim (cases_Bool (test v)) [
   | inl holds ↦ cc (sym (kept-true rust test e v h holds) ∙ f)
   | inr fails ↦ fails
@@ -94,22 +94,22 @@ kept-some test (Some v) h = elim (cases_Bool (test v)) [
 ]
 
 -- the version of a kept entry
-pub kept-has : (rust : Option Numbers) (test : Parts → Bool) (e : IndexEntry) → is_kept rust test e ≡ true
+pub kept-has : (rust : Option Numbers) (test : Parts → Bool) (e : IndexEntry) → is_qualifying rust test e ≡ true
     → (v : Parts) × (admissible rust e ≡ Some v) × (test v ≡ true)
 kept-has rust test e h = kept-some test (admissible rust e) h
 
 -- where no entry is kept, none of the versions passes the test
 pub none-versions : (rust : Option Numbers) (test : Parts → Bool) (entries : List IndexEntry)
-    → IsGreatest (is_kept rust test) entry_order entries None
+    → IsGreatest (is_qualifying rust test) entry_order entries None
     → IsGreatest test full_order (admissible_in rust entries) None
 none-versions rust test entries h =
-    All-filter_map (λ e. is_kept rust test e ≡ false) (λ v. test v ≡ false) (admissible rust)
+    All-filter_map (λ e. is_qualifying rust test e ≡ false) (λ v. test v ≡ false) (admissible rust)
     (λ e v a f. kept-false rust test e v a f) entries h
 
 -- the version of the greatest entry is the greatest of the versions
 pub greatest-versions : (rust : Option Numbers) (test : Parts → Bool) (entries : List IndexEntry)
     (e : IndexEntry)
-    → IsGreatestKept (is_kept rust test) entry_order entries e
+    → IsGreatestKept (is_qualifying rust test) entry_order entries e
     → (v : Parts) × (admissible rust e ≡ Some v)
     × IsGreatestKept test full_order (admissible_in rust entries) v
 greatest-versions rust test entries e h =
@@ -125,11 +125,11 @@ greatest-versions rust test entries e h =
         rest = admissible_in rust h.rest;
         split = whole ∙ ap (λ (l : List Parts). admissible_in rust h.front ++ l) head;
         kept = k.2;
-        before = All-filter_map (λ x. is_kept rust test x ≡ true → is_le (entry_order x e) ≡ true)
+        before = All-filter_map (λ x. is_qualifying rust test x ≡ true → is_le (entry_order x e) ≡ true)
             (λ u. test u ≡ true → is_le (full_order u k.0) ≡ true)
             (admissible rust) (λ x u a p t. ap is_le (sym (at-read rust x e u k.0 a k.1))
             ∙ p (kept-true rust test x u a t)) h.front h.before;
-        after = All-filter_map (λ x. is_kept rust test x ≡ true → entry_order x e ≡ Less) (λ u. test u ≡ true
+        after = All-filter_map (λ x. is_qualifying rust test x ≡ true → entry_order x e ≡ Less) (λ u. test u ≡ true
             → full_order u k.0 ≡ Less)
             (admissible rust) (λ x u a p t. sym (at-read rust x e u k.0 a k.1)
             ∙ p (kept-true rust test x u a t)) h.rest h.after;

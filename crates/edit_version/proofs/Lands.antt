@@ -9,7 +9,7 @@ use Rattle.semver.specs.declared.error.Error as semver_error
 use Rattle.semver.specs.declared.Op.TheVariants as op
 use Rattle.edit_version.specs.Greatest.{IsGreatestKept}
 use Rattle.edit_version.specs.Laws.{Admits, HasThreeNumbers, IsNarrower, holds_dash, precedence}
-use Rattle.edit_version.specs.Requirement.{Nothing, plain_text, raise}
+use Rattle.edit_version.specs.Requirement.{Nothing, plain_text, upgrade_of}
 use Rattle.edit_version.specs.Selection.{is_admitted, is_offered}
 use Rattle.edit_version.specs.VersionOrder.{full_order}
 use Rattle.edit_version.proofs.Cuts.{plain_text-plain}
@@ -23,7 +23,7 @@ use Rattle.edit_version.proofs.PreReleases.{admits-dash}
 
 -- what holds of such a text (own)
 pub record Lands (v : Parts) (t : List ℕ) : Type 0 where
-  pub fixed : raise t v ≡ Nothing
+  pub fixed : upgrade_of t v ≡ Nothing
   pub plain : length v.3 ≡ 0 → holds_dash t ≡ false
   pub marked : 0 < length v.3 → holds_dash t ≡ true
   pub reached : length v.3 ≡ 0 → Admits t v

@@ -15,7 +15,7 @@ use Rattle.semver.specs.Parse.{Held, Parts}
 use Rattle.semver.specs.declared.Op.{Op}
 use Rattle.semver.specs.declared.Op.TheVariants as op
 use Rattle.edit_version.specs.Admits.{accepts, admits, agrees, caret_after, caret_minor, is_given, names_pre, pre_reaches, tilde_patch}
-use Rattle.edit_version.specs.Requirement.{is_inequality, raised, raised_pre, renumbered}
+use Rattle.edit_version.specs.Requirement.{is_inequality, upgraded_comparator, raised_pre, renumbered}
 use Rattle.edit_version.proofs.FixedTexts.{none-first}
 use Rattle.edit_version.proofs.ComparatorReadings.{read_pre, tidy}
 use Rattle.edit_version.proofs.Shapes.{IsShaped}
@@ -159,7 +159,7 @@ caret-trans n (Some m) (Some p) pre v w nested e f h g = caret-full n m p pre v 
 
 narrows-of : (o : Op) (n : ℕ) (m p : Option ℕ) (pre : List ℕ) (v w : Parts) → IsShaped (o, n, m, p, pre)
     → is_inequality o ≡ false
-    → accepts (o, n, m, p, pre) v ≡ true → accepts (tidy (raised v (o, n, m, p, pre))) w ≡ true
+    → accepts (o, n, m, p, pre) v ≡ true → accepts (tidy (upgraded_comparator v (o, n, m, p, pre))) w ≡ true
     → accepts (o, n, m, p, pre) w ≡ true
 narrows-of op.Exact n m p pre v w s i h g =
     let h1 = left_of _ _ h in
@@ -199,7 +199,7 @@ narrows-of op.LessEq n m p pre v w s i h g = cc i
 
 narrows-all : (v w : Parts) (cs : List Held) → AllByRecursion IsShaped cs
     → find (λ d. is_inequality d.0) cs ≡ None
-    → list_all (λ c. accepts c v) cs ≡ true → list_all (λ c. accepts c w) (map tidy (map (raised v) cs))
+    → list_all (λ c. accepts c v) cs ≡ true → list_all (λ c. accepts c w) (map tidy (map (upgraded_comparator v) cs))
     ≡ true
     → list_all (λ c. accepts c w) cs ≡ true
 narrows-all v w [] s n h g = refl
@@ -239,7 +239,7 @@ not-false : (b : Bool) → not b ≡ true → b ≡ false
 not-false true h = cc h
 not-false false h = refl
 
-names-one : (v w : Parts) (c : Held) → IsShaped c → names_pre (tidy (raised v c)) w ≡ true → HasNumbersOf v w
+names-one : (v w : Parts) (c : Held) → IsShaped c → names_pre (tidy (upgraded_comparator v c)) w ≡ true → HasNumbersOf v w
 names-one v w c s h =
     let h1 = left_of _ _ h in
     let h2 = left_of _ _ h1 in
@@ -259,10 +259,10 @@ or-cases true y h = inl refl
 or-cases false y h = inr h
 
 names-any : (v w : Parts) (cs : List Held) → AllByRecursion IsShaped cs
-    → list_any (λ c. names_pre c w) (map tidy (map (raised v) cs)) ≡ true
+    → list_any (λ c. names_pre c w) (map tidy (map (upgraded_comparator v) cs)) ≡ true
     → HasNumbersOf v w
 names-any v w [] s h = cc h
-names-any v w (c ∷ cs) s h = elim (or-cases (names_pre (tidy (raised v c)) w) _ h) [
+names-any v w (c ∷ cs) s h = elim (or-cases (names_pre (tidy (upgraded_comparator v c)) w) _ h) [
   | inl here ↦ names-one v w c s.0 here
   | inr later ↦ names-any v w cs s.1 later
 ]
@@ -278,7 +278,7 @@ abbrev pub is_allowed : List Held → Parts → Bool
 is_allowed cs w = length w.3 == 0 || list_any (λ c. names_pre c w) cs
 
 narrows-pre : (v w : Parts) (cs : List Held) → AllByRecursion IsShaped cs → is_allowed cs v ≡ true
-    → is_allowed (map tidy (map (raised v) cs)) w ≡ true → is_allowed cs w ≡ true
+    → is_allowed (map tidy (map (upgraded_comparator v) cs)) w ≡ true → is_allowed cs w ≡ true
 narrows-pre v w cs s h g = elim (cases_Bool (length w.3 == 0)) [
   | inl plain ↦ rw plain refl
   | inr filled ↦
@@ -290,7 +290,7 @@ narrows-pre v w cs s h g = elim (cases_Bool (length w.3 == 0)) [
 -- what a raised requirement admits, the old one does, where that admits the version
 pub narrows : (v w : Parts) (cs : List Held) → AllByRecursion IsShaped cs
     → find (λ d. is_inequality d.0) cs ≡ None
-    → admits cs v ≡ true → admits (map tidy (map (raised v) cs)) w ≡ true → admits cs w ≡ true
+    → admits cs v ≡ true → admits (map tidy (map (upgraded_comparator v) cs)) w ≡ true → admits cs w ≡ true
 narrows v w cs s n h g =
     both _ _ (narrows-all v w cs s n (left_of _ _ h) (left_of _ _ g))
     (narrows-pre v w cs s (right_of _ _ h) (right_of _ _ g))

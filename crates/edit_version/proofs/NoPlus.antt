@@ -8,7 +8,7 @@ use Rattle.semver.specs.Grammar.{IsValid, is_pre_release}
 use Rattle.semver.specs.Parse.{Held, Parts}
 use Rattle.semver.specs.declared.Op.{Op}
 use Rattle.semver.specs.declared.Op.TheVariants as op
-use Rattle.edit_version.specs.Requirement.{Text, after_patch, comparator_text, cut, dotted, match_caret, more_text, raise, raised, requirement_text, sign, star, starts_with_caret, plain_text, unsigned_text, without_caret}
+use Rattle.edit_version.specs.Requirement.{Text, after_patch, comparator_text, cut, dotted, match_caret, more_text, upgrade_of, upgraded_comparator, requirement_text, sign, star, starts_with_caret, plain_text, unsigned_text, without_caret}
 use Rattle.edit_version.proofs.Cuts.{cut-before, decimal-no_plus, plain_text-no_plus, plus-append, pre-no_plus}
 use Rattle.edit_version.proofs.FixedTexts.{raised-read, raised-reads}
 use Rattle.edit_version.proofs.ComparatorReadings.{IsSmall, IsWritable}
@@ -85,17 +85,17 @@ pub cut-none : (xs : List ℕ) → holds_plus xs ≡ false → cut xs ≡ xs
 cut-none xs h = ap (λ (l : List ℕ). cut l) (sym (append-nil xs)) ∙ cut-before xs [] h
 
 -- a text that raising writes has no `+`
-pub raised-no_plus : (old : List ℕ) (v : Parts) (t : List ℕ) → IsVersion v → raise old v ≡ Text t
+pub raised-no_plus : (old : List ℕ) (v : Parts) (t : List ℕ) → IsVersion v → upgrade_of old v ≡ Text t
     → holds_plus t ≡ false
 raised-no_plus old v t w h =
     let r = raised-read old v t h in
     let all = (raised-reads old v t r.0 r.1 w r.2).1 in
-    ap holds_plus r.2.2 ∙ led-none old (requirement_text (map (raised v) (r.0 ∷ r.1)))
-    (none-append (comparator_text (raised v r.0)) (more_text (map (raised v) r.1))
-    (comparator-none (raised v r.0) all.0) (more-none (map (raised v) r.1) all.1))
+    ap holds_plus r.2.2 ∙ led-none old (requirement_text (map (upgraded_comparator v) (r.0 ∷ r.1)))
+    (none-append (comparator_text (upgraded_comparator v r.0)) (more_text (map (upgraded_comparator v) r.1))
+    (comparator-none (upgraded_comparator v r.0) all.0) (more-none (map (upgraded_comparator v) r.1) all.1))
 
 -- so cutting leaves it as it is
-pub raised-whole : (old : List ℕ) (v : Parts) (t : List ℕ) → IsVersion v → raise old v ≡ Text t → cut t ≡ t
+pub raised-whole : (old : List ℕ) (v : Parts) (t : List ℕ) → IsVersion v → upgrade_of old v ≡ Text t → cut t ≡ t
 raised-whole old v t w h = cut-none t (raised-no_plus old v t w h)
 
 -- and the text of a version without its build metadata

@@ -13,7 +13,7 @@ use Rattle.semver.proofs.Grammar.{version_parts-sound}
 use Rattle.semver.proofs.Numerals.{ok-value}
 use Rattle.edit_version.specs.Admits.{admits}
 use Rattle.edit_version.specs.Laws.{Admits, AdmitsNoLower, CanReach, HasThreeNumbers, IsNarrower, IsReadable, IsRelease, IsSettled, IsVersion, KeepsForm, holds_dash}
-use Rattle.edit_version.specs.Requirement.{Nothing, Text, is_inequality, match_caret, raise, upgrade_all, upgrade_parsed, raised, requirement_text, unless_same}
+use Rattle.edit_version.specs.Requirement.{Nothing, Text, is_inequality, match_caret, upgrade_of, upgrade_all, upgrade_parsed, upgraded_comparator, requirement_text, unless_same}
 use Rattle.edit_version.specs.Selection.{admits_read, is_admitted}
 use Rattle.edit_version.proofs.Dashes.{req-dash}
 use Rattle.edit_version.proofs.Forms.{least-all, operators-same, upgraded_text-dash}
@@ -65,7 +65,7 @@ unless-same-read text new h = elim (cases_Bool (pointwise nat_eq new text)) [
 
 all-nothing : (text : List ℕ) (v : Parts) (cs : List Held) (o : Option Held)
     → upgrade_all text v cs o ≡ Nothing
-    → (o ≡ None) × (text ≡ match_caret text (requirement_text (map (raised v) cs)))
+    → (o ≡ None) × (text ≡ match_caret text (requirement_text (map (upgraded_comparator v) cs)))
 all-nothing text v cs None h = (refl, unless-same-read text _ h)
 all-nothing text v cs (Some d) h = cc h
 
@@ -84,11 +84,11 @@ read-nothing text v (Ok (c ∷ cs)) same h =
     inr (c, cs, (same, a.0, a.1))
 
 -- the text that raising gives
-pub text-outcome : (old : List ℕ) (v : Parts) (t : List ℕ) → raise old v ≡ Text t → IsOutcome old v t
+pub text-outcome : (old : List ℕ) (v : Parts) (t : List ℕ) → upgrade_of old v ≡ Text t → IsOutcome old v t
 text-outcome old v t h = inr (raised-read old v t h)
 
 -- the text that raising leaves
-pub nothing-outcome : (old : List ℕ) (v : Parts) → raise old v ≡ Nothing → IsOutcome old v old
+pub nothing-outcome : (old : List ℕ) (v : Parts) → upgrade_of old v ≡ Nothing → IsOutcome old v old
 nothing-outcome old v h = read-nothing old v (req_of old) refl h
 
 -- ---- the laws at an outcome
@@ -142,7 +142,7 @@ narrower-of text v t w (inr r) a =
     let old = subst (λ (x : List Held). admits x v ≡ true) e a.2 in (
       (_, read, keeps v (r.0 ∷ r.1) shape.0 r.2.1 old),
       λ u b.
-          let f = reads-same t b.0 (map tidy (map (raised v) (r.0 ∷ r.1))) b.1 read in
+          let f = reads-same t b.0 (map tidy (map (upgraded_comparator v) (r.0 ∷ r.1))) b.1 read in
           let new = subst (λ (x : List Held). admits x u ≡ true) f b.2 in
           (_, r.2.0, narrows v u (r.0 ∷ r.1) shape.0 r.2.1 old new),
     )
@@ -179,7 +179,7 @@ no_lower-of text v t w (inl none) d pre u a = cc (req-dash text [] none.0 d)
 no_lower-of text v t w (inr r) d pre u a =
     let shape = req-shape text (r.0 ∷ r.1) r.2.0 in
     let read = (raised-reads text v t r.0 r.1 w r.2).0 in
-    let e = reads-same t a.0 (map tidy (map (raised v) (r.0 ∷ r.1))) a.1 read in
+    let e = reads-same t a.0 (map tidy (map (upgraded_comparator v) (r.0 ∷ r.1))) a.1 read in
     let new = subst (λ (x : List Held). admits x u ≡ true) e a.2 in
     least-all v u (r.0 ∷ r.1) shape.0 r.2.1 (req-dash text (r.0 ∷ r.1) r.2.0 d) (left_of _ _ new)
 

@@ -15,7 +15,7 @@ use Rattle.semver.specs.Parse.{Held, Parts}
 use Rattle.semver.specs.declared.Op.{Op}
 use Rattle.semver.specs.declared.Op.TheVariants as op
 use Rattle.edit_version.specs.Admits.{accepts, admits, agrees, caret_after, is_given, names_pre, pre_reaches, tilde_patch}
-use Rattle.edit_version.specs.Requirement.{is_inequality, raised, raised_pre, renumbered}
+use Rattle.edit_version.specs.Requirement.{is_inequality, upgraded_comparator, raised_pre, renumbered}
 use Rattle.edit_version.proofs.FixedTexts.{none-first}
 use Rattle.edit_version.proofs.ComparatorReadings.{read_pre, tidy}
 use Rattle.edit_version.proofs.Shapes.{IsShaped}
@@ -74,7 +74,7 @@ wild-self (Some p) a own x e h = cc e
 
 accepts-self : (o : Op) (n : ℕ) (m p : Option ℕ) (pre : List ℕ) (v : Parts) → IsShaped (o, n, m, p, pre)
     → is_inequality o ≡ false
-    → Reaches v (o, n, m, p, pre) → accepts (tidy (raised v (o, n, m, p, pre))) v ≡ true
+    → Reaches v (o, n, m, p, pre) → accepts (tidy (upgraded_comparator v (o, n, m, p, pre))) v ≡ true
 accepts-self op.Exact n m p pre v s i h =
     both _ _ (both _ _ (both _ _ (equal-self v.0) (agrees-self m v.1)) (agrees-self p v.2))
     (exact-self p v.2 v.3 (plain-of op.Exact p v.3 (λ e. cc e) h))
@@ -92,7 +92,7 @@ accepts-self op.LessEq n m p pre v s i h = cc i
 
 reaches-all : (v : Parts) (cs : List Held) → AllByRecursion IsShaped cs
     → find (λ d. is_inequality d.0) cs ≡ None
-    → AllByRecursion (Reaches v) cs → list_all (λ c. accepts c v) (map tidy (map (raised v) cs)) ≡ true
+    → AllByRecursion (Reaches v) cs → list_all (λ c. accepts c v) (map tidy (map (upgraded_comparator v) cs)) ≡ true
 reaches-all v [] s n h = refl
 reaches-all v (c ∷ cs) s n h =
     let i = none-first c cs n in
@@ -112,7 +112,7 @@ not-true : (b : Bool) → b ≡ false → not b ≡ true
 not-true b h = rw h refl
 
 named-self : (v : Parts) (c : Held) → IsShaped c → IsSome c.2 → IsSome c.3 → (length v.3 == 0) ≡ false
-    → names_pre (tidy (raised v c)) v ≡ true
+    → names_pre (tidy (upgraded_comparator v c)) v ≡ true
 named-self v c s m p filled =
     let patch = given-self c.3 v.2 p in
     let e : read_pre (renumbered c.3 v.2) (raised_pre c.0 c.4 v.3) ≡ v.3 =
@@ -123,7 +123,7 @@ named-self v c s m p filled =
 
 keeps-any : (v : Parts) (cs : List Held) → AllByRecursion IsShaped cs → (length v.3 == 0) ≡ false
     → list_any (λ c. names_pre c v) cs ≡ true
-    → list_any (λ c. names_pre c v) (map tidy (map (raised v) cs)) ≡ true
+    → list_any (λ c. names_pre c v) (map tidy (map (upgraded_comparator v) cs)) ≡ true
 keeps-any v [] s filled h = cc h
 keeps-any v (c ∷ cs) s filled h = elim (or-cases (names_pre c v) _ h) [
   | inl here ↦
@@ -134,7 +134,7 @@ keeps-any v (c ∷ cs) s filled h = elim (or-cases (names_pre c v) _ h) [
 ]
 
 keeps-allowed : (v : Parts) (cs : List Held) → AllByRecursion IsShaped cs → is_allowed cs v ≡ true
-    → is_allowed (map tidy (map (raised v) cs)) v ≡ true
+    → is_allowed (map tidy (map (upgraded_comparator v) cs)) v ≡ true
 keeps-allowed v cs s h = elim (cases_Bool (length v.3 == 0)) [
   | inl plain ↦ rw plain refl
   | inr filled ↦ rw filled (keeps-any v cs s filled (rw filled at h))
@@ -178,7 +178,7 @@ accepted-reaches-all v (c ∷ cs) s n h =
 -- a raised requirement admits a version that the old one admits
 pub keeps : (v : Parts) (cs : List Held) → AllByRecursion IsShaped cs
     → find (λ d. is_inequality d.0) cs ≡ None
-    → admits cs v ≡ true → admits (map tidy (map (raised v) cs)) v ≡ true
+    → admits cs v ≡ true → admits (map tidy (map (upgraded_comparator v) cs)) v ≡ true
 keeps v cs s n h =
     both _ _ (reaches-all v cs s n (accepted-reaches-all v cs s n (left_of _ _ h)))
     (keeps-allowed v cs s (right_of _ _ h))
@@ -190,7 +190,7 @@ plain-reaches v (c ∷ cs) h = (λ e. inr h, plain-reaches v cs h)
 -- and one with no pre-release
 pub reaches-plain : (v : Parts) (cs : List Held) → AllByRecursion IsShaped cs
     → find (λ d. is_inequality d.0) cs ≡ None
-    → v.3 ≡ [] → admits (map tidy (map (raised v) cs)) v ≡ true
+    → v.3 ≡ [] → admits (map tidy (map (upgraded_comparator v) cs)) v ≡ true
 reaches-plain v cs s n h =
     let plain : (length v.3 == 0) ≡ true = rw h refl in
     both _ _ (reaches-all v cs s n (plain-reaches v cs h)) (or_left _ _ plain)
@@ -206,7 +206,7 @@ three-reaches v (c ∷ cs) h =
 -- and any, where its comparators have three numbers
 pub reaches-three : (v : Parts) (c : Held) (cs : List Held) → AllByRecursion IsShaped (c ∷ cs)
     → find (λ d. is_inequality d.0) (c ∷ cs) ≡ None
-    → All HasThreeNumbers (c ∷ cs) → admits (map tidy (map (raised v) (c ∷ cs))) v ≡ true
+    → All HasThreeNumbers (c ∷ cs) → admits (map tidy (map (upgraded_comparator v) (c ∷ cs))) v ≡ true
 reaches-three v c cs s n h =
     let first = All-head HasThreeNumbers c cs h in
     both _ _ (reaches-all v (c ∷ cs) s n (three-reaches v (c ∷ cs) h))

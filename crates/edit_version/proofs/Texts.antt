@@ -6,7 +6,7 @@ use Rattle.std.proofs.lemmas.List.{map-append, take_more}
 use Rattle.semver.specs.Identifiers.{comparator_view}
 use Rattle.semver.specs.Parse.{Held, Parts}
 use Rattle.semver.specs.declared.Comparator.{Comparator}
-use Rattle.edit_version.specs.Requirement.{comparator_text, more_text, raised, without_caret}
+use Rattle.edit_version.specs.Requirement.{comparator_text, more_text, upgraded_comparator, without_caret}
 
 pub more_text-append : (cs ds : List Held) → more_text (cs ++ ds) ≡ more_text cs ++ more_text ds
 more_text-append [] ds = refl
@@ -16,15 +16,15 @@ more_text-append (c ∷ cs) ds =
 -- the text with one comparator more
 pub grown : (v : Parts) (xs : List Comparator) (i : ℕ) (x : Comparator) (start now mid next : List ℕ)
     → i < length xs → x ≡ get_or xs i x
-    → now ≡ start ++ more_text (map (raised v) (map comparator_view (take i xs)))
-    → mid ≡ now ++ codes ", " → next ≡ mid ++ comparator_text (raised v (comparator_view x))
-    → next ≡ start ++ more_text (map (raised v) (map comparator_view (take (i + 1) xs)))
+    → now ≡ start ++ more_text (map (upgraded_comparator v) (map comparator_view (take i xs)))
+    → mid ≡ now ++ codes ", " → next ≡ mid ++ comparator_text (upgraded_comparator v (comparator_view x))
+    → next ≡ start ++ more_text (map (upgraded_comparator v) (map comparator_view (take (i + 1) xs)))
 grown v xs i x start now mid next lt at h m n =
     let one : take (i + 1) xs ≡ take i xs ++ x ∷ [] = take_more xs i x lt ∙
     ap (λ y. take i xs ++ y ∷ []) (sym at) in
-    let cs = map (raised v) (map comparator_view (take i xs)) in
-    let d = raised v (comparator_view x) in
-    let two : map (raised v) (map comparator_view (take (i + 1) xs)) ≡ cs ++ d ∷ [] =
+    let cs = map (upgraded_comparator v) (map comparator_view (take i xs)) in
+    let d = upgraded_comparator v (comparator_view x) in
+    let two : map (upgraded_comparator v) (map comparator_view (take (i + 1) xs)) ≡ cs ++ d ∷ [] =
     rw (one, map-append, map-append) refl in
     let three : more_text (cs ++ d ∷ []) ≡ more_text cs ++ (codes ", " ++ comparator_text d) =
     more_text-append cs (d ∷ []) ∙ ap (λ t. more_text cs ++ (codes ", " ++ t))

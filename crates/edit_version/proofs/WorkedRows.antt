@@ -6,7 +6,7 @@ use Rattle.semver.specs.Parse.{Parts}
 use Rattle.semver.specs.declared.Op.TheVariants as op
 use Rattle.semver.proofs.OnLiterals.{semver_on_literals}
 use Rattle.edit_version.specs.declared.version.Phase.TheVariants as phase
-use Rattle.edit_version.specs.Requirement.{raise, Unsupported, Text}
+use Rattle.edit_version.specs.Requirement.{upgrade_of, Unsupported, Text}
 use Rattle.edit_version.specs.Increments.{Major, Minor, Patch, Pre, Behind, Scheme, AtEnd, Metadata, Refused, To, step, with_build}
 
 -- 2.0.0
@@ -20,32 +20,32 @@ two_rc = (2, 0, 0, codes "rc.1", [])
 -- ---- raising
 
 -- an inequality is refused, and told as it was read
-pub above_refused : raise (codes ">=1.2") two ≡ Unsupported (op.GreaterEq, 1, Some 2, None, [])
+pub above_refused : upgrade_of (codes ">=1.2") two ≡ Unsupported (op.GreaterEq, 1, Some 2, None, [])
 unfolding semver_on_literals digits
 above_refused = refl
 
 -- the first inequality is told, also behind another comparator
-pub below_refused : raise (codes "1, <2, >0") two ≡ Unsupported (op.Less, 2, None, None, [])
+pub below_refused : upgrade_of (codes "1, <2, >0") two ≡ Unsupported (op.Less, 2, None, None, [])
 unfolding semver_on_literals digits
 below_refused = refl
 
 -- the version's pre-release is taken
-pub pre_release_taken : raise (codes "1.0.0") two_rc ≡ Text (codes "2.0.0-rc.1")
+pub pre_release_taken : upgrade_of (codes "1.0.0") two_rc ≡ Text (codes "2.0.0-rc.1")
 unfolding semver_on_literals digits
 pre_release_taken = refl
 
 -- the requirement's own pre-release goes
-pub pre_release_dropped : raise (codes "1.0.0-beta.2") two ≡ Text (codes "2.0.0")
+pub pre_release_dropped : upgrade_of (codes "1.0.0-beta.2") two ≡ Text (codes "2.0.0")
 unfolding semver_on_literals digits
 pre_release_dropped = refl
 
 -- a caret that leads the text is kept
-pub caret_kept : raise (codes "^1.2") two ≡ Text (codes "^2.0")
+pub caret_kept : upgrade_of (codes "^1.2") two ≡ Text (codes "^2.0")
 unfolding semver_on_literals digits
 caret_kept = refl
 
 -- none is added
-pub caret_not_added : raise (codes "1.2") two ≡ Text (codes "2.0")
+pub caret_not_added : upgrade_of (codes "1.2") two ≡ Text (codes "2.0")
 unfolding semver_on_literals digits
 caret_not_added = refl
 

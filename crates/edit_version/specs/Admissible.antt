@@ -52,8 +52,8 @@ abbrev pub qualifying_in : Option Numbers → (Parts → Bool) → IndexEntry �
 qualifying_in rust test e = if_passes test (admissible rust e)
 
 -- whether an entry is so
-abbrev pub is_kept : Option Numbers → (Parts → Bool) → IndexEntry → Bool
-is_kept rust test e = is_some (qualifying_in rust test e)
+abbrev pub is_qualifying : Option Numbers → (Parts → Bool) → IndexEntry → Bool
+is_qualifying rust test e = is_some (qualifying_in rust test e)
 
 -- the order of entries by their versions, an unreadable one standing as 0.0.0 (own)
 abbrev pub entry_order : IndexEntry → IndexEntry → Ordering
@@ -64,6 +64,6 @@ entry_order a b = full_order (version_or_zero a) (version_or_zero b)
 
 -- the versions that are wanted: those that comparators admit where there are some, else those without
 -- pre-release or all (own)
-abbrev pub is_wanted : Bool → Option (List Held) → Parts → Bool
-is_wanted pre None v = is_allowed pre v
-is_wanted pre (Some comparators) v = admits comparators v
+abbrev pub is_selectable : Bool → Option (List Held) → Parts → Bool
+is_selectable pre None v = is_allowed pre v
+is_selectable pre (Some comparators) v = admits comparators v

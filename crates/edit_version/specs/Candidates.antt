@@ -5,7 +5,7 @@ use Rattle.semver.specs.Identifiers.{parts_of}
 use Rattle.semver.specs.Parse.{Parts}
 use Rattle.semver.specs.declared.Version.{Version}
 use Rattle.semver.specs.declared.VersionReq.{VersionReq}
-use Rattle.edit_version.specs.Admissible.{is_wanted}
+use Rattle.edit_version.specs.Admissible.{is_selectable}
 use Rattle.edit_version.specs.Requirement.{comparators_of}
 use Rattle.edit_version.specs.RustVersions.{Numbers, numbers_of}
 use Rattle.edit_version.specs.declared.rust_version.RustVersion.{RustVersion}
@@ -14,7 +14,7 @@ use Rattle.edit_version.specs.declared.candidates.Candidate.{Candidate}
 -- the versions that are wanted, by what a call is given: a requirement admits them, or without one they may
 -- have their pre-release (own)
 abbrev pub wants : Bool → Option (Bor VersionReq) → Parts → Bool
-wants pre req = is_wanted pre (option_map comparators_of (option_copied req))
+wants pre req = is_selectable pre (option_map comparators_of (option_copied req))
 
 -- the numbers of a Rust version, where one is given (own)
 abbrev pub numbers_in : Option RustVersion → Option Numbers

@@ -34,9 +34,9 @@ after_comma [] = []
 after_comma (c ∷ cs) = codes ", " ++ (encode_utf8 c ++ after_comma cs)
 
 -- characters as a text, joined by a comma and a space (own)
-abbrev pub listed : List ℕ → List ℕ
-listed [] = []
-listed (c ∷ cs) = encode_utf8 c ++ after_comma cs
+abbrev pub joined_chars : List ℕ → List ℕ
+joined_chars [] = []
+joined_chars (c ∷ cs) = encode_utf8 c ++ after_comma cs
 
 -- the requirement in a word is there and is read, or there is none (own)
 abbrev pub IsReadOrAbsent : Option (List ℕ) → Type 0
@@ -52,7 +52,7 @@ pub record IsNamedBy (word : List ℕ) (spec : CrateSpec) : Type 0 where
 -- why a name is refused, with its unfit characters (own)
 abbrev pub IsInvalidName : List ℕ → Error → Type 0
 IsInvalidName text (error.InvalidName name characters) =
-    (0 < length (invalid_chars text)) × (string_bytes name ≡ text) × (string_bytes characters ≡ listed (invalid_chars text))
+    (0 < length (invalid_chars text)) × (string_bytes name ≡ text) × (string_bytes characters ≡ joined_chars (invalid_chars text))
 IsInvalidName text error.Memory = Unit {0}
 IsInvalidName text _ = ⊥
 
@@ -67,7 +67,7 @@ IsInvalidSpecRequirement req _ = ⊥
 abbrev pub IsInvalidSpec : List ℕ → Error → Type 0
 IsInvalidSpec word (error.InvalidName name characters) =
     (0 < length (invalid_chars (spec_name word))) × (string_bytes name ≡ spec_name word)
-    × (string_bytes characters ≡ listed (invalid_chars (spec_name word)))
+    × (string_bytes characters ≡ joined_chars (invalid_chars (spec_name word)))
 IsInvalidSpec word (error.InvalidRequirement text) =
     (invalid_chars (spec_name word) ≡ []) × (spec_requirement word ≡ Some (string_bytes text))
     × IsErr (req_of (string_bytes text))

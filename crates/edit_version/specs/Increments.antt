@@ -18,19 +18,19 @@ pub data Level : Type 0 where
   Pre : Phase → Level
 
 -- why a version is not changed (own)
-pub data Refusal : Type 0 where
+pub data ChangeError : Type 0 where
   -- its pre-release is of a later phase
-  Behind : Phase → Refusal
+  Behind : Phase → ChangeError
   -- its pre-release is no word, and no word and a number
-  Scheme : Refusal
+  Scheme : ChangeError
   -- a number stands at its end
-  AtEnd : Refusal
+  AtEnd : ChangeError
   -- the build metadata is outside its grammar
-  Metadata : List ℕ → Refusal
+  Metadata : List ℕ → ChangeError
 
 -- what a change of a version gives (own)
 pub data Change : Type 0 where
-  Refused : Refusal → Change
+  Refused : ChangeError → Change
   To : Parts → Change
 
 -- a version with a number that rose, where 64 bits hold it (own)
@@ -68,8 +68,8 @@ is_later_phase phase.Beta w = is_text w (codes "rc")
 is_later_phase phase.Rc w = false
 
 -- a pre-release of a phase, as `alpha.1` (SemVer 2.0.0, item 9)
-abbrev pub numbered : Phase → ℕ → List ℕ
-numbered p n = word p ++ (46 ∷ decimal n)
+abbrev pub phase_prerelease : Phase → ℕ → List ℕ
+phase_prerelease p n = word p ++ (46 ∷ decimal n)
 
 -- the decimal number of 64 bits that a text is (own)
 abbrev pub number_of : List ℕ → Option ℕ
@@ -92,14 +92,14 @@ abbrev pub next_of : Phase → Parts → List ℕ → Option ℕ → Change
 next_of p v w None = Refused Scheme
 next_of p v w (Some n) =
     if is_later_phase p w then Refused (Behind p)
-    else (if is_text w (word p) then if_fits (n + 1) (v.0, v.1, v.2, numbered p (n + 1), v.4)
-    else To (v.0, v.1, v.2, numbered p 1, v.4))
+    else (if is_text w (word p) then if_fits (n + 1) (v.0, v.1, v.2, phase_prerelease p (n + 1), v.4)
+    else To (v.0, v.1, v.2, phase_prerelease p 1, v.4))
 
 -- the next version of a phase: the first of the next patch version, or
 -- of a pre-release the next number, or the first of a later phase (own)
 abbrev pub next_phase : Phase → Parts → Change
 next_phase p v =
-    if length v.3 == 0 then if_fits (v.2 + 1) (v.0, v.1, v.2 + 1, numbered p 1, [])
+    if length v.3 == 0 then if_fits (v.2 + 1) (v.0, v.1, v.2 + 1, phase_prerelease p 1, [])
     else next_of p v (word_of v.3) (number_after v.3)
 
 -- what incrementing gives (own)

@@ -10,7 +10,7 @@ use Rattle.semver.specs.Order.{pre_cmp}
 use Rattle.semver.specs.Parse.{Held, Parts, req_of}
 use Rattle.semver.specs.declared.Op.TheVariants as op
 use Rattle.edit_version.specs.Admits.{admits}
-use Rattle.edit_version.specs.Requirement.{Nothing, raise}
+use Rattle.edit_version.specs.Requirement.{Nothing, upgrade_of}
 
 -- a version that can be read: numbers of 64 bits, and no
 -- pre-release or one of its grammar (SemVer 2.0.0, items 2 and 9)
@@ -45,7 +45,7 @@ CanReach text v =
 
 -- `semver` reads the text, and raising it gives no other
 abbrev pub IsSettled : List ℕ → Parts → Type 0
-IsSettled t v = IsOk (req_of t) × (raise t v ≡ Nothing)
+IsSettled t v = IsOk (req_of t) × (upgrade_of t v ≡ Nothing)
 
 -- the new requirement admits the version, and nothing that the old one does not
 abbrev pub IsNarrower : List ℕ → List ℕ → Parts → Type 0
@@ -87,4 +87,4 @@ AdmitsNoLower old new v =
 -- has no comparator but one caret, and that stays as it is when it is raised to the version
 abbrev pub IsPlainRequirement : List ℕ → Parts → Type 0
 IsPlainRequirement t v =
-    (req_of t ≡ Ok ((op.Caret, v.0, Some v.1, Some v.2, v.3) ∷ [])) × (raise t v ≡ Nothing)
+    (req_of t ≡ Ok ((op.Caret, v.0, Some v.1, Some v.2, v.3) ∷ [])) × (upgrade_of t v ≡ Nothing)

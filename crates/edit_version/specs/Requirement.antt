@@ -77,8 +77,8 @@ raised_pre o own pre = pre
 
 -- the comparator upgraded to a version: the version's numbers where it has numbers, and the version's
 -- pre-release unless it is a wildcard
-abbrev pub raised : Parts → Held → Held
-raised v c = (c.0, v.0, renumbered c.2 v.1, renumbered c.3 v.2, raised_pre c.0 c.4 v.3)
+abbrev pub upgraded_comparator : Parts → Held → Held
+upgraded_comparator v c = (c.0, v.0, renumbered c.2 v.1, renumbered c.3 v.2, raised_pre c.0 c.4 v.3)
 
 -- whether an operator is `>`, `>=`, `<` or `<=`
 abbrev pub is_inequality : Op → Bool
@@ -120,7 +120,7 @@ unless_same old new = if pointwise nat_eq new old then Nothing else Text new
 -- the first comparator that cannot be raised, or the text of all raised
 abbrev pub upgrade_all : List ℕ → Parts → List Held → Option Held → UpgradeResult
 upgrade_all text v cs (Some c) = Unsupported c
-upgrade_all text v cs None = unless_same text (match_caret text (requirement_text (map (raised v) cs)))
+upgrade_all text v cs None = unless_same text (match_caret text (requirement_text (map (upgraded_comparator v) cs)))
 
 -- raising what was read of a text
 abbrev pub upgrade_parsed : List ℕ → Parts → Result (List Held) Error → UpgradeResult
@@ -129,8 +129,8 @@ upgrade_parsed text v (Ok []) = Nothing
 upgrade_parsed text v (Ok (c ∷ cs)) = upgrade_all text v (c ∷ cs) (find (λ d. is_inequality d.0) (c ∷ cs))
 
 -- a requirement raised to a version
-abbrev pub raise : List ℕ → Parts → UpgradeResult
-raise text v = upgrade_parsed text v (req_of text)
+abbrev pub upgrade_of : List ℕ → Parts → UpgradeResult
+upgrade_of text v = upgrade_parsed text v (req_of text)
 
 -- the text of a version without its build metadata (SemVer 2.0.0, items 2 and 9)
 abbrev pub plain_text : Parts → List ℕ

@@ -1,7 +1,7 @@
 //! What is read of an index's entries, and the greatest of them.
 ghost use Rattle.std.specs.Prelude.{◌≡◌, None, Some, Ok, not, IfOk, IfErr, map, option_map};
 ghost use Rattle.edit_base.specs.Errors.{IsMemory};
-ghost use Rattle.edit_version.specs.Admissible.{minimum_rust, candidate_in, entry_order, is_kept, is_too_new, qualifying_in, version_in};
+ghost use Rattle.edit_version.specs.Admissible.{minimum_rust, candidate_in, entry_order, is_qualifying, is_too_new, qualifying_in, version_in};
 ghost use Rattle.edit_version.specs.Candidates.{candidate_view, numbers_in, wants};
 ghost use Rattle.edit_version.specs.Greatest.{IsGreatest, advance, pick};
 ghost use Rattle.edit_version.specs.IndexEntry.{entry_of};
@@ -75,7 +75,7 @@ pub fn read_candidate(alloc: Global, told: &IndexVersion) -> CargoResult<Option<
 }
 
 /// Whether a version is wanted: a requirement admits it, or without one, it may have its pre-release.
-pub fn is_wanted(version: &Version, allow_prerelease: bool, req: Option<&VersionReq>) -> bool
+pub fn is_selectable(version: &Version, allow_prerelease: bool, req: Option<&VersionReq>) -> bool
     ensures { result ≡ wants allow_prerelease req.entry (parts_of version.now) }
 {
     match req {
@@ -99,7 +99,7 @@ fn qualifying_version(
     let Some(candidate) = read_candidate(alloc, told)? else {
         return Ok(None);
     };
-    if !candidate.is_for(rust_version) || !is_wanted(&candidate.version, allow_prerelease, req) {
+    if !candidate.is_for(rust_version) || !is_selectable(&candidate.version, allow_prerelease, req) {
         return Ok(None);
     }
     Ok(Some(candidate.version))
@@ -114,14 +114,14 @@ pub fn greatest_entry<'a>(
     rust_version: Option<RustVersion>,
 ) -> CargoResult<Option<&'a IndexVersion>>
     ensures ok { IfOk result (λ o. IsGreatest
-        (is_kept (numbers_in rust_version)
+        (is_qualifying (numbers_in rust_version)
         (wants allow_prerelease req.entry))
         entry_order (map entry_of versions.now) (option_map (λ t. entry_of t.now) o)) }
     ensures error { IfErr result IsMemory }
 {
     let mut best: Option<Found> = None;
     'entries: for told in versions {
-        best = advanced(alloc, best, told, allow_prerelease, req, rust_version)?;
+        best = with_next_entry(alloc, best, told, allow_prerelease, req, rust_version)?;
     }
     match best {
         Some(found) => Ok(Some(found.told)),
@@ -145,7 +145,7 @@ fn is_below(version: &Version, other: &Version) -> bool
 }
 
 /// The later of two entries that is not below the other.
-fn later<'a>(best: Option<Found<'a>>, found: Found<'a>) -> Found<'a>
+fn later_entry<'a>(best: Option<Found<'a>>, found: Found<'a>) -> Found<'a>
     ensures { entry_of result.told.now
         ≡ pick entry_order (option_map (λ f. entry_of f.told.now) best.entry)
         (entry_of found.entry.told.now) }
@@ -163,7 +163,7 @@ fn later<'a>(best: Option<Found<'a>>, found: Found<'a>) -> Found<'a>
 }
 
 /// The greatest entry so far, after one more.
-fn advanced<'a>(
+fn with_next_entry<'a>(
     alloc: Global,
     best: Option<Found<'a>>,
     told: &'a IndexVersion,
@@ -172,14 +172,14 @@ fn advanced<'a>(
     rust_version: Option<RustVersion>,
 ) -> CargoResult<Option<Found<'a>>>
     ensures ok { IfOk result (λ o. option_map (λ f. entry_of f.told.now) o ≡ advance
-        (is_kept (numbers_in rust_version)
+        (is_qualifying (numbers_in rust_version)
         (wants allow_prerelease req.entry))
         entry_order (option_map (λ f. entry_of f.told.now) best.entry) (entry_of told.now)) }
     ensures error { IfErr result IsMemory }
 {
     let kept = qualifying_version(alloc, told, allow_prerelease, req, rust_version)?;
     match kept {
-        Some(version) => Ok(Some(later(best, Found { told, version }))),
+        Some(version) => Ok(Some(later_entry(best, Found { told, version }))),
         None => Ok(best),
     }
 }

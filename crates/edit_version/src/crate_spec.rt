@@ -3,10 +3,10 @@ ghost use Rattle.std.specs.Prelude.{◌≡◌, [], IfErr, IfOk, OnOk, None, Some
 ghost use Rattle.std.specs.List.{after_first, before_first, filter};
 ghost use Rattle.std.specs.Str.{chars};
 ghost use Rattle.edit_base.specs.Errors.{IsMemory};
-ghost use Rattle.edit_version.specs.CrateSpecs.{IsNamedBy, IsReadOrAbsent, IsInvalidName, IsInvalidSpecRequirement, IsInvalidSpec, is_name_char, listed, invalid_chars, spec_name, spec_requirement};
+ghost use Rattle.edit_version.specs.CrateSpecs.{IsNamedBy, IsReadOrAbsent, IsInvalidName, IsInvalidSpecRequirement, IsInvalidSpec, is_name_char, joined_chars, invalid_chars, spec_name, spec_requirement};
 ghost use Rattle.edit_version.specs.RequirementErrors.{IsInvalidRequirement};
 
-use crate::requirement::required;
+use crate::requirement::parse_requirement;
 use edit_base::errors::{CargoResult, Error};
 use std::alloc::{AllocError, Global};
 use unicode::properties::{GeneralCategory, GeneralCategoryGroup, is_alphabetic};
@@ -35,8 +35,8 @@ fn invalid_chars(alloc: Global, name: &str) -> Result<Vec<char>, AllocError>
 }
 
 /// Characters joined by a comma and a space.
-fn listed(alloc: Global, characters: &[char]) -> Result<String, AllocError>
-    ensures { IfOk result (λ s. string_bytes s ≡ listed characters.now) }
+fn joined_chars(alloc: Global, characters: &[char]) -> Result<String, AllocError>
+    ensures { IfOk result (λ s. string_bytes s ≡ joined_chars characters.now) }
 {
     let mut out = String::new(alloc);
     let [first, rest @ ..] = characters else {
@@ -61,7 +61,7 @@ fn check_name(alloc: Global, name: &str) -> CargoResult<()>
     }
     Err(Error::InvalidName {
         name: String::from_str(alloc, name)?,
-        characters: listed(alloc, &characters)?,
+        characters: joined_chars(alloc, &characters)?,
     })
 }
 
@@ -74,7 +74,7 @@ fn check_requirement(alloc: Global, req: Option<&str>) -> CargoResult<Option<Str
     let Some(req) = req else {
         return Ok(None);
     };
-    let _read = required(alloc, req)?;
+    let _read = parse_requirement(alloc, req)?;
     Ok(Some(String::from_str(alloc, req)?))
 }
 

@@ -10,7 +10,7 @@ mod requirement_text;
 pub mod rust_version;
 pub mod version;
 
-pub use candidates::{Candidate, greatest_entry, is_for, is_wanted, read_candidate};
+pub use candidates::{Candidate, greatest_entry, is_for, is_selectable, read_candidate};
 pub use crate_spec::CrateSpec;
 pub use fetch::IndexVersion;
 pub use requirement::{

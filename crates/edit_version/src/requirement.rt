@@ -4,7 +4,7 @@ ghost use Rattle.edit_version.specs.Admits.{admits};
 ghost use Rattle.edit_version.specs.Laws.{Admits, AdmitsNoLower, CanReach, IsNarrower, IsPlainRequirement, IsReadable, IsRelease, IsSettled, KeepsForm, holds_dash, holds_plus, text_after};
 ghost use Rattle.edit_base.specs.Errors.{IsMemory};
 ghost use Rattle.edit_version.specs.RequirementErrors.{IsAnswer, IsInvalidRequirement};
-ghost use Rattle.edit_version.specs.Requirement.{comparators_of, cut, raise, requirement_read};
+ghost use Rattle.edit_version.specs.Requirement.{comparators_of, cut, upgrade_of, requirement_read};
 ghost use Rattle.semver.specs.Identifiers.{parts_of};
 ghost use Rattle.semver.specs.Parse.{Parts, req_of, version_parts};
 
@@ -30,7 +30,7 @@ pub fn read_requirement(alloc: Global, text: &str) -> CargoResult<Option<Version
 }
 
 /// That a text is no requirement.
-fn unread(alloc: Global, text: &str) -> Error
+fn invalid_requirement(alloc: Global, text: &str) -> Error
     requires { requirement_read text.now ≡ None }
     ensures { IsInvalidRequirement text.now result }
 {
@@ -41,13 +41,13 @@ fn unread(alloc: Global, text: &str) -> Error
 }
 
 /// The requirement that a text is, refused with 14 where it is none.
-pub(crate) fn required(alloc: Global, text: &str) -> CargoResult<VersionReq>
+pub(crate) fn parse_requirement(alloc: Global, text: &str) -> CargoResult<VersionReq>
     ensures ok { IfOk result (λ r. req_of text.now ≡ Ok (comparators_of r)) }
     ensures error { IfErr result (λ e. IsInvalidRequirement text.now e) }
 {
     match read_requirement(alloc, text)? {
         Some(req) => Ok(req),
-        None => Err(unread(alloc, text)),
+        None => Err(invalid_requirement(alloc, text)),
     }
 }
 
@@ -86,12 +86,12 @@ impl<'a> Requirement<'a> {
     }
 
     /// The text raised to a version, as `upgrade_requirement` gives it.
-    pub fn raised(&self, alloc: Global, version: &Version) -> CargoResult<Option<String>>
-        ensures { IsAnswer (raise (text_in self.now) (parts_of version.now)) (text_in self.now) result }
+    pub fn upgrade_to(&self, alloc: Global, version: &Version) -> CargoResult<Option<String>>
+        ensures { IsAnswer (upgrade_of (text_in self.now) (parts_of version.now)) (text_in self.now) result }
     {
         match &self.read {
             Some(read) => upgraded_from(alloc, self.text, read, version),
-            None => Err(unread(alloc, self.text)),
+            None => Err(invalid_requirement(alloc, self.text)),
         }
     }
 }
@@ -104,7 +104,7 @@ fn upgraded_from(
     version: &Version,
 ) -> CargoResult<Option<String>>
     requires { req_of req.now ≡ Ok (comparators_of parsed.now) }
-    ensures { IsAnswer (raise req.now (parts_of version.now)) req.now result }
+    ensures { IsAnswer (upgrade_of req.now (parts_of version.now)) req.now result }
 {
     if parsed.comparators.is_empty() {
         return Ok(None);
@@ -124,14 +124,14 @@ fn upgraded_from(
 
 /// The requirement `req` raised to `version`, where that is another text.
 fn upgraded_requirement(alloc: Global, req: &str, version: &Version) -> CargoResult<Option<String>>
-    ensures { IsAnswer (raise req.now (parts_of version.now)) req.now result }
+    ensures { IsAnswer (upgrade_of req.now (parts_of version.now)) req.now result }
 {
     let read = Requirement::read(alloc, req)?;
-    read.raised(alloc, version)
+    read.upgrade_to(alloc, version)
 }
 
 /// A number of 64 bits, for proofs over the numbers of a version.
-fn bounded(number: u64)
+fn lemma_u64(number: u64)
     ensures { number < 2 ^ 64 }
 {}
 
@@ -145,7 +145,7 @@ pub fn upgrade_requirement(
     req: &str,
     version: &Version,
 ) -> CargoResult<Option<String>>
-    ensures answer { IsAnswer (raise req.now (parts_of version.now)) req.now result }
+    ensures answer { IsAnswer (upgrade_of req.now (parts_of version.now)) req.now result }
 
     // The clauses below are about the requirement after the call (the new text, or `req` where the call
     // returns `None`), for a version with no pre-release or a valid one. Upgrading again changes nothing.
@@ -172,9 +172,9 @@ pub fn upgrade_requirement(
     ensures no_plus { IsReadable (parts_of version.now)
         → IfOk result (λ o. IfSome o (λ s. holds_plus (string_bytes s) ≡ false)) }
 {
-    bounded(version.major);
-    bounded(version.minor);
-    bounded(version.patch);
+    lemma_u64(version.major);
+    lemma_u64(version.minor);
+    lemma_u64(version.patch);
     upgraded_requirement(alloc, req, version)
 }
 

@@ -1,6 +1,6 @@
 //! The text of a requirement, raised to a version.
 ghost use Rattle.std.specs.Prelude.{◌≡◌, ◌++◌, IfOk, OnOk, find, map, option_copied, string_bytes};
-ghost use Rattle.edit_version.specs.Requirement.{comparator_text, dotted, is_inequality, match_caret, raised, requirement_text, sign, starts_with_caret, without_caret};
+ghost use Rattle.edit_version.specs.Requirement.{comparator_text, dotted, is_inequality, match_caret, upgraded_comparator, requirement_text, sign, starts_with_caret, without_caret};
 ghost use Rattle.semver.specs.Identifiers.{comparator_view, parts_of};
 
 use semver::{Comparator, Op, Version};
@@ -64,7 +64,7 @@ fn push_upgraded(
     version: &Version,
 ) -> Result<(), AllocError>
     ensures { OnOk result (string_bytes out.new ≡ string_bytes out.old
-        ++ comparator_text (raised (parts_of version.now) (comparator_view comparator.now))) }
+        ++ comparator_text (upgraded_comparator (parts_of version.now) (comparator_view comparator.now))) }
 {
     let pre = match comparator.op {
         Op::Wildcard => comparator.pre.as_str(),
@@ -82,7 +82,7 @@ pub(crate) fn upgraded_text(
     version: &Version,
 ) -> Result<String, AllocError>
     ensures { IfOk result (λ s. string_bytes s
-        ≡ requirement_text (map (raised (parts_of version.now)) (map comparator_view comparators.now))) }
+        ≡ requirement_text (map (upgraded_comparator (parts_of version.now)) (map comparator_view comparators.now))) }
 {
     let mut out = String::new(alloc);
     let [first, rest @ ..] = comparators else {

@@ -6,7 +6,7 @@ ghost use Rattle.edit_version.specs.Requirement.{comparators_of};
 ghost use Rattle.edit_version.specs.RustVersions.{numbers_of, rust_numbers, rust_of};
 ghost use Rattle.semver.specs.Identifiers.{comparator_view};
 
-use crate::requirement::{read_requirement, required};
+use crate::requirement::{read_requirement, parse_requirement};
 use edit_base::errors::{CargoResult, Error};
 use semver::{Comparator, Op, Version, VersionReq};
 use std::alloc::Global;
@@ -40,7 +40,7 @@ impl RustVersion {
         ensures ok { IfOk result (λ v. rust_of text.now ≡ Some (numbers_of v)) }
         ensures error { IfErr result (λ e. IsNoRustVersion text.now e) }
     {
-        let req = required(alloc, text)?;
+        let req = parse_requirement(alloc, text)?;
         match rust_version_of(&req.comparators) {
             Some(version) => Ok(version),
             None => Err(Error::BadRustVersion),

@@ -2,7 +2,7 @@
 
 ghost use Rattle.std.specs.Prelude.{◌≡◌, ◌<◌, ◌+◌, ◌↔◌, IfErr, IfOk, IsTrue, MatchOption, None, OnOk, Some, length, option_map};
 ghost use Rattle.edit_version.specs.Changed.{IsCause, IsChanged, IsRaisedOrAtEnd, IsInvalidBuild};
-ghost use Rattle.edit_version.specs.Increments.{Major, Minor, Patch, Pre, To, is_later_phase, next_phase, number_after, number_of, numbered, step, with_build, word, word_of};
+ghost use Rattle.edit_version.specs.Increments.{Major, Minor, Patch, Pre, To, is_later_phase, next_phase, number_after, number_of, phase_prerelease, step, with_build, word, word_of};
 ghost use Rattle.edit_base.specs.declared.errors.Error.TheVariants as error;
 ghost use Rattle.edit_version.specs.declared.version.Phase.TheVariants as phase;
 ghost use Rattle.edit_base.specs.Errors.{IsMemory};
@@ -197,8 +197,8 @@ fn read_build(alloc: Global, text: &str) -> CargoResult<BuildMetadata>
 }
 
 /// A pre-release of a phase.
-fn numbered(alloc: Global, phase: Phase, number: u64) -> CargoResult<Prerelease>
-    ensures ok { IfOk result (λ p. (pre_text p ≡ numbered phase number)
+fn phase_prerelease(alloc: Global, phase: Phase, number: u64) -> CargoResult<Prerelease>
+    ensures ok { IfOk result (λ p. (pre_text p ≡ phase_prerelease phase number)
         × IsTrue (is_pre_release (pre_text p))) }
     ensures err { IfErr result (λ e. e ≡ error.Memory) }
 {
@@ -249,7 +249,7 @@ fn next_number(alloc: Global, version: &Version, phase: Phase) -> CargoResult<u6
           version.now.major,
           version.now.minor,
           version.now.patch,
-          numbered phase n,
+          phase_prerelease phase n,
           build_text version.now.build,
         )) }
     ensures err { IfErr result (λ e. IsCause (next_phase phase (parts_of version.now))
@@ -282,13 +282,13 @@ fn increment_phase(alloc: Global, version: &mut Version, phase: Phase) -> CargoR
         let Some(patch) = version.patch.checked_add(1) else {
             return Err(at_end(version));
         };
-        let pre = numbered(alloc, phase, 1)?;
+        let pre = phase_prerelease(alloc, phase, 1)?;
         version.patch = patch;
         version.pre = pre;
         version.build = BuildMetadata::empty();
         return Ok(());
     }
     let number = next_number(alloc, version, phase)?;
-    version.pre = numbered(alloc, phase, number)?;
+    version.pre = phase_prerelease(alloc, phase, number)?;
     Ok(())
 }

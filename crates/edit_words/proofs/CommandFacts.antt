@@ -4,7 +4,7 @@ use Rattle.clap.specs.Words.{fault_of}
 use Rattle.clap.specs.declared.error.kind.ErrorKind.TheVariants as kind
 use Rattle.clap.proofs.OnLiterals.{clap_on_literals}
 use Rattle.edit_words.specs.CommandLine.{edit_app}
-use Rattle.edit_words.specs.Filled.{filled}
+use Rattle.edit_words.specs.Filled.{insert_defaults}
 
 taken : fault_of edit_app (codes "upgrade" ∷ codes "--manifest-path" ∷ codes "m" ∷ codes
     "--index-file" ∷ codes "i" ∷ []) ≡ []
@@ -51,11 +51,11 @@ options : fault_of edit_app (codes "upgrade" ∷ codes "--manifest-path" ∷ cod
 unfolding clap_on_literals edit_app
 options = refl
 
-filled_in : filled (codes "upgrade" ∷ codes "-i" ∷ codes "--pinned" ∷ codes "false" ∷ codes "--recursive"
+filled_in : insert_defaults (codes "upgrade" ∷ codes "-i" ∷ codes "--pinned" ∷ codes "false" ∷ codes "--recursive"
     ∷ codes "--" ∷ codes "-i" ∷ [])
     ≡ codes "upgrade" ∷ codes "-i" ∷ codes "allow" ∷ codes "--pinned" ∷ codes "false" ∷ codes "--recursive"
     ∷ codes "true" ∷ codes "--" ∷ codes "-i" ∷ []
-unfolding filled
+unfolding insert_defaults
 filled_in = refl
 
 looks : fault_of edit_app (codes "looks" ∷ codes "--index-dir" ∷ codes "d" ∷ codes "--update-calls=f"

@@ -7,24 +7,24 @@ use Rattle.std.specs.List.{HoldsAt, slice_index_or}
 use Rattle.std.specs.Option.{option_map_or}
 use Rattle.std.specs.Str.{bytes_eq}
 use Rattle.clap.specs.Words.{Text}
-use Rattle.edit_words.specs.Filled.{inserted_values, filled, is_one, missing_value}
+use Rattle.edit_words.specs.Filled.{inserted_values, insert_defaults, is_one, missing_value}
 
 -- what words become behind a word `--`, where there was one, or else
 abbrev pub rest_of : Bool → List Text → List Text
 rest_of true words = words
-rest_of false words = filled words
+rest_of false words = insert_defaults words
 
 -- one more word
 pub turn : (ended : Bool) (word : Text) (rest : List Text)
     → rest_of ended (word ∷ rest)
     ≡ (word ∷ inserted_values (ended || bytes_eq word (codes "--")) word (slice_get rest 0))
     ++ rest_of (ended || bytes_eq word (codes "--")) rest
-unfolding filled
+unfolding insert_defaults
 turn true word rest = refl
 turn false word rest = go (bytes_eq word (codes "--"))
   where
     go : (b : Bool)
-        → word ∷ (inserted_values b word (slice_get rest 0) ++ (if b then rest else filled rest))
+        → word ∷ (inserted_values b word (slice_get rest 0) ++ (if b then rest else insert_defaults rest))
         ≡ (word ∷ inserted_values b word (slice_get rest 0)) ++ rest_of b rest
     go true = refl
     go false = refl
@@ -63,7 +63,7 @@ pushed ended now_ended words n word other old new all next lt at is_next is_ende
     ∙ before
 
 rest_of_none : (ended : Bool) → rest_of ended [] ≡ []
-unfolding filled
+unfolding insert_defaults
 rest_of_none true = refl
 rest_of_none false = refl
 

@@ -39,8 +39,8 @@ inserted_values ended word next =
     if ended then [] else option_list (missing_value (values_behind word) next)
 
 -- the words, with a value behind each option that stands without one, before a word `--`
-unfoldable pub filled : List Text → List Text
-filled [] = []
-filled (word ∷ rest) =
+unfoldable pub insert_defaults : List Text → List Text
+insert_defaults [] = []
+insert_defaults (word ∷ rest) =
     let ended = bytes_eq word (codes "--") in
-    word ∷ inserted_values ended word (slice_get rest 0) ++ (if ended then rest else filled rest)
+    word ∷ inserted_values ended word (slice_get rest 0) ++ (if ended then rest else insert_defaults rest)

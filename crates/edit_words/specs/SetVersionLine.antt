@@ -35,8 +35,8 @@ members =
     ∷ []
 
 -- the flags that change nothing
-abbrev pub ignored : List Rule
-ignored =
+abbrev pub ignored_flags : List Rule
+ignored_flags =
     flag_rule (codes "offline")
     ∷ flag_rule (codes "locked")
     ∷ count_rule (codes "verbose") 118
@@ -47,4 +47,4 @@ ignored =
 abbrev pub set_version_app : App
 set_version_app =
     with_rules (with_rules (with_rules (with_rules (with_rules (with_rules (new_app (codes "set-version"))
-    targets) sources) selections) members) reports) ignored
+    targets) sources) selections) members) reports) ignored_flags

@@ -2,10 +2,10 @@
 #![tactic(auto)]
 
 mod arguments;
-mod filled;
+mod option_defaults;
 mod reports;
 mod rules;
 mod set_version_line;
 
 pub use arguments::command;
-pub use filled::filled_words;
+pub use option_defaults::insert_defaults;

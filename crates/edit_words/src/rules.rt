@@ -103,7 +103,7 @@ fn path<'a>(arg: Arg<'a>, value: &'a str) -> Arg<'a>
 }
 
 /// The argument that a word becomes, without its letter and its default.
-fn formed<'a>(alloc: Global, word: ArgSpec<'a>) -> Arg<'a>
+fn arg_of_form<'a>(alloc: Global, word: ArgSpec<'a>) -> Arg<'a>
     ensures rule { rule_of result ≡ form_rule word.entry.form word.entry.id.now }
     ensures local { result.global ≡ false }
 {
@@ -127,11 +127,11 @@ fn formed<'a>(alloc: Global, word: ArgSpec<'a>) -> Arg<'a>
 }
 
 /// The argument that a word becomes.
-fn made<'a>(alloc: Global, word: ArgSpec<'a>) -> Arg<'a>
+fn to_clap_arg<'a>(alloc: Global, word: ArgSpec<'a>) -> Arg<'a>
     ensures rule { rule_of result ≡ arg_rule word.entry }
     ensures local { result.global ≡ false }
 {
-    let arg = formed(alloc, word);
+    let arg = arg_of_form(alloc, word);
     match (word.letter, word.default) {
         (None, None) => arg,
         (Some(letter), None) => arg.short(letter),
@@ -152,7 +152,7 @@ pub(crate) fn with_args<'a>(
 {
     let mut command = command?;
     for word in words {
-        command = command.arg(made(alloc, *word))?;
+        command = command.arg(to_clap_arg(alloc, *word))?;
     }
     Ok(command)
 }

@@ -1,7 +1,7 @@
 //! The subcommand `set-version` of the command line.
 ghost use Rattle.std.specs.Prelude.{◌≡◌, ◌++◌, IfOk, map};
 ghost use Rattle.edit_words.specs.Rules.{selections};
-ghost use Rattle.edit_words.specs.SetVersionLine.{ignored, members, set_version_app, sources, targets};
+ghost use Rattle.edit_words.specs.SetVersionLine.{ignored_flags, members, set_version_app, sources, targets};
 ghost use Rattle.edit_words.specs.Tables.{IsLocal, arg_rule};
 
 use crate::reports::reports;
@@ -71,8 +71,8 @@ fn members<'a>() -> [ArgSpec<'a>; 5]
 }
 
 /// The flags that change nothing.
-fn ignored<'a>() -> [ArgSpec<'a>; 4]
-    ensures { map arg_rule result ≡ ignored }
+fn ignored_flags<'a>() -> [ArgSpec<'a>; 4]
+    ensures { map arg_rule result ≡ ignored_flags }
 {
     let about = "Accepted, and changes nothing";
     [
@@ -97,5 +97,5 @@ pub(crate) fn set_version_command<'a>(alloc: Global) -> Result<Command<'a>, Allo
         command,
         &reports("human|json", "How the report is printed"),
     );
-    with_args(alloc, command, &ignored())
+    with_args(alloc, command, &ignored_flags())
 }

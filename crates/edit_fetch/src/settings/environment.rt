@@ -44,7 +44,7 @@ fn count_of(text: Option<&str>) -> Option<u32>
 }
 
 /// Returns an owned copy of a string, if there is one.
-fn copied(alloc: Global, text: Option<&str>) -> Result<Option<String>, AllocError>
+fn clone_setting(alloc: Global, text: Option<&str>) -> Result<Option<String>, AllocError>
     ensures { IfOk result (λ t. option_map string_bytes t ≡ option_map (λ s. s.now) text.entry) }
 {
     match text {
@@ -64,8 +64,8 @@ impl Environment<'_> {
             offline: self.offline.and_then(flag_of),
             retry: count_of(self.retry),
             timeout: count_of(self.timeout),
-            proxy: copied(alloc, self.proxy)?,
-            cainfo: copied(alloc, self.cainfo)?,
+            proxy: clone_setting(alloc, self.proxy)?,
+            cainfo: clone_setting(alloc, self.cainfo)?,
         })
     }
 }

@@ -61,7 +61,7 @@ fn text_in<'a>(document: &'a Table, table: &str, key: &str) -> Option<&'a str>
 }
 
 /// Returns an owned copy of a string, if there is one.
-fn copied(alloc: Global, text: Option<&str>) -> Result<Option<String>, AllocError>
+fn clone_setting(alloc: Global, text: Option<&str>) -> Result<Option<String>, AllocError>
     ensures { IfOk result (λ t. option_map string_bytes t ≡ option_map (λ s. s.now) text.entry) }
 {
     match text {
@@ -91,7 +91,7 @@ fn values_in(alloc: Global, base: &str, document: &Table) -> CargoResult<NetValu
         offline: flag_in(document, "net", "offline"),
         retry: count_in(document, "net", "retry"),
         timeout: count_in(document, "http", "timeout"),
-        proxy: copied(alloc, text_in(document, "http", "proxy"))?,
+        proxy: clone_setting(alloc, text_in(document, "http", "proxy"))?,
         cainfo: path_below(alloc, base, text_in(document, "http", "cainfo"))?,
     })
 }

@@ -18,7 +18,7 @@ use std::alloc::{AllocError, Global};
 
 /// An entry of a dependency table, read if it is supported.
 #[derive(Debug, Drop)]
-pub enum Said {
+pub enum ReadEntry {
     Read(Dependency),
     /// The error of an entry that is not supported.
     Unsupported(Error),
@@ -32,11 +32,11 @@ pub struct Entry {
     /// Whether the entry is a string, so that it is its own version literal; otherwise that is at its key
     /// `version`.
     pub bare: bool,
-    pub said: Said,
+    pub said: ReadEntry,
 }
 
 /// Reads an item under its key. Lack of memory is an error; any other error makes the entry unsupported.
-fn read_item(alloc: Global, root: &str, key: &str, item: Item<'_>) -> CargoResult<Said>
+fn read_item(alloc: Global, root: &str, key: &str, item: Item<'_>) -> CargoResult<ReadEntry>
     ensures ok { IfOk result (λ s. read_entry_view s ≡ result_ok (record_of (tree_of (document_of item.entry))
         (place_of item.entry) root.now key.now)) }
     ensures reason { IfOk result (IsReason (record_of (tree_of (document_of item.entry))
@@ -44,22 +44,22 @@ fn read_item(alloc: Global, root: &str, key: &str, item: Item<'_>) -> CargoResul
     ensures error { IfErr result IsMemory }
 {
     match Dependency::from_toml(alloc, root, key, item) {
-        Ok(dependency) => Ok(Said::Read(dependency)),
+        Ok(dependency) => Ok(ReadEntry::Read(dependency)),
         Err(error) => {
             if error.number() == 46 {
                 return Err(error);
             }
-            Ok(Said::Unsupported(error))
+            Ok(ReadEntry::Unsupported(error))
         }
     }
 }
 
 /// Returns the unsupported entry for a key without an item.
-fn unsupported_entry(alloc: Global, key: &str) -> Result<Said, AllocError>
+fn unsupported_entry(alloc: Global, key: &str) -> Result<ReadEntry, AllocError>
     ensures ok { IfOk result (λ s. read_entry_view s ≡ None) }
     ensures reason { IfOk result (IsReason (Err (unknown_entry key.now))) }
 {
-    Ok(Said::Unsupported(Error::UnknownEntry {
+    Ok(ReadEntry::Unsupported(Error::UnknownEntry {
         key: String::from_str(alloc, key)?,
     }))
 }

@@ -5,7 +5,7 @@ ghost use Rattle.edit_document.specs.Items.{place_view};
 ghost use Rattle.edit_manifest.specs.EntryViews.{literal_by};
 
 use edit_base::CargoResult;
-use edit_document::{Place, Step, copied_place, member_place};
+use edit_document::{Place, Step, clone_place, member_place};
 use std::alloc::Global;
 
 /// The place of the version literal of an entry: with `bare`, where the entry is a string, the entry itself,
@@ -15,7 +15,7 @@ pub fn literal_place(alloc: Global, steps: &[Step], bare: bool) -> CargoResult<P
     ensures error { IfErr result IsMemory }
 {
     if bare {
-        return copied_place(alloc, steps);
+        return clone_place(alloc, steps);
     }
     member_place(alloc, steps, "version")
 }

@@ -41,7 +41,7 @@ fn push_lookup(alloc: Global, text: &mut String, look: &Look) -> CargoResult<()>
 
 /// A line for each lookup: the address, the name, and the path of the name's file in an index, separated by
 /// tabs. Fails with `Error::BadCrateName` for a name that is not valid in an index.
-pub fn looks_text(alloc: Global, looks: &[Look]) -> CargoResult<String>
+pub fn lookup_lines_text(alloc: Global, looks: &[Look]) -> CargoResult<String>
     ensures text { IfOk result (λ s. string_bytes s ≡ flat_map look_as_line looks.now) }
     ensures error { IfErr result (λ e. IsMemory e ⊎ HasBadLookup looks.now (number_of e)) }
 {

@@ -4,11 +4,11 @@ ghost use Rattle.std.specs.Io.KnownBytes.{Appends};
 ghost use Rattle.edit_steps.specs.Faults.{CountsFault};
 ghost use Rattle.edit_store.specs.Store.{SameFiles};
 ghost use Rattle.edit_program.specs.SetVersionCauses.{IsSetVersionCause};
-ghost use Rattle.edit_program.specs.SetVersions.{AreVersionsSet, IsCutShort};
+ghost use Rattle.edit_program.specs.SetVersions.{AreVersionsSet, IsSettingInterrupted};
 
-use crate::set_version_run::plan::{has_some, plan_for, written};
-use crate::set_version_run::printed::{print_plan, warn_if};
-use crate::set_version_run::words::SetVersionWords;
+use crate::set_version_run::plan::{has_some, plan_for, outputs_to_write};
+use crate::set_version_run::set_version_output::{print_plan, warn_if};
+use crate::set_version_run::set_version_args::SetVersionArgs;
 use edit_steps::{RunResult, read_workspace, write_outputs};
 use edit_store::Store;
 use std::alloc::Global;
@@ -23,7 +23,7 @@ const DRY_RUN: &str = "aborting set-version due to dry run";
 /// run, not.
 pub fn set_version<S: Store, O: io::Write, E: io::Write>(
     alloc: Global,
-    words: &SetVersionWords<'_>,
+    words: &SetVersionArgs<'_>,
     current: &str,
     files: &mut S,
     out: &mut O,
@@ -36,7 +36,7 @@ pub fn set_version<S: Store, O: io::Write, E: io::Write>(
     // an error before the first write leaves each file as it was
     ensures error { OnErr result ((S.view files.old).tells ≡ true
         → SameFiles (S.view files.old).file_at (S.view files.new).file_at
-        ⊎ IsCutShort (Appends (O.contents out.old) (O.contents out.new))
+        ⊎ IsSettingInterrupted (Appends (O.contents out.old) (O.contents out.new))
         (Appends (E.contents err.old) (E.contents err.new)) words.now current.now
         (S.view files.old) (S.view files.new)) }
     // and each error has its cause
@@ -67,6 +67,6 @@ pub fn set_version<S: Store, O: io::Write, E: io::Write>(
         err,
     )?;
     warn_if(words.dry_run, DRY_RUN, err)?;
-    write_outputs(alloc, written(words, &plan), files)?;
+    write_outputs(alloc, outputs_to_write(words, &plan), files)?;
     Ok(has_some(&plan))
 }

@@ -9,9 +9,9 @@ ghost use Rattle.edit_set_version.specs.Selections.{selection_view};
 ghost use Rattle.edit_version.specs.Laws.{IsReadable};
 ghost use Rattle.semver.specs.Identifiers.{parts_of};
 ghost use Rattle.edit_program.specs.Plans.{IsVersionPlan};
-ghost use Rattle.edit_program.specs.SetVersions.{has_some, no_rust, written};
+ghost use Rattle.edit_program.specs.SetVersions.{has_some, no_rust, outputs_to_write};
 
-use crate::set_version_run::words::SetVersionWords;
+use crate::set_version_run::set_version_args::SetVersionArgs;
 use edit_diagnostics::explain_set_version;
 use edit_report::Output;
 use edit_set_version::{SetVersionPlan, plan_set_version};
@@ -21,7 +21,7 @@ use std::alloc::Global;
 /// The plan for the workspace, as the arguments request it.
 pub(crate) fn plan_for(
     alloc: Global,
-    words: &SetVersionWords<'_>,
+    words: &SetVersionArgs<'_>,
     read: &ReadWorkspace,
 ) -> RunResult<SetVersionPlan>
     requires inputs { AreInputs no_rust (workspace_view read.now.workspace) read.now.inputs.items }
@@ -57,8 +57,8 @@ pub(crate) fn plan_for(
 }
 
 /// The outputs to write: none with a dry run.
-pub(crate) fn written<'a>(words: &SetVersionWords<'_>, plan: &'a SetVersionPlan) -> &'a [Output]
-    ensures { result.now ≡ written words.now plan.entry.now.outputs.items }
+pub(crate) fn outputs_to_write<'a>(words: &SetVersionArgs<'_>, plan: &'a SetVersionPlan) -> &'a [Output]
+    ensures { result.now ≡ outputs_to_write words.now plan.entry.now.outputs.items }
 {
     if words.dry_run {
         &[]

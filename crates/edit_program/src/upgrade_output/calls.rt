@@ -10,10 +10,10 @@ ghost use Rattle.edit_upgrade.specs.ParsedOptions.{call_options, is_due};
 ghost use Rattle.edit_upgrade.specs.WordCauses.{FailsAtPackageArg};
 ghost use Rattle.edit_upgrade.specs.Views.{calls_view, args_view};
 ghost use Rattle.edit_program.specs.Delivery.{calls_against, calls_of};
-ghost use Rattle.edit_program.specs.Said.{run, call_statuses};
+ghost use Rattle.edit_program.specs.StderrText.{call_status, call_statuses};
 
 use edit_base::CargoResult;
-use edit_lock::{Lock, standing_calls};
+use edit_lock::{Lock, adapt_calls};
 use edit_metadata::Workspace;
 use edit_report::shell_status;
 use edit_upgrade::update::update_calls;
@@ -50,7 +50,7 @@ pub(crate) fn calls_against(
         (option_map (λ l. lock_view l.now) lock.entry) offline (calls_view calls.items)) }
 {
     match lock {
-        Some(lock) => standing_calls(alloc, &calls, lock, lock, offline),
+        Some(lock) => adapt_calls(alloc, &calls, lock, lock, offline),
         None => Ok(calls),
     }
 }
@@ -66,7 +66,7 @@ fn join_args(alloc: Global, words: &[String]) -> Result<String, AllocError>
 /// Prints a call.
 fn print_call<E: io::Write>(alloc: Global, call: &[String], err: &mut E) -> CargoResult<()>
     ensures text { OnOk result (Appends (E.contents err.old) (E.contents err.new)
-        (run (args_view call.now))) }
+        (call_status (args_view call.now))) }
     ensures error { IfErr result (λ e. IsMemory e ⊎ (e ≡ Output)) }
 {
     let words = join_args(alloc, call)?;

@@ -4,16 +4,16 @@ ghost use Rattle.std.specs.Io.KnownBytes.{Appends};
 ghost use Rattle.edit_report.specs.Applied.{HaveDistinctPaths};
 ghost use Rattle.edit_store.specs.Store.{SameFiles};
 ghost use Rattle.edit_program.specs.TellingCauses.{IsDeliveryCause};
-ghost use Rattle.edit_program.specs.Delivered.{IsCutShort, IsDelivered};
+ghost use Rattle.edit_program.specs.Delivered.{IsDeliveryInterrupted, IsDelivered};
 ghost use Rattle.edit_program.specs.Delivery.{delivery_of};
-ghost use Rattle.edit_program.specs.Said.{AreWarningsInOrder, said};
+ghost use Rattle.edit_program.specs.StderrText.{AreWarningsInOrder, upgrade_stderr_text};
 ghost use Rattle.edit_program.specs.Tables.{AreInOrder};
 
 use crate::upgrade_output::calls::{calls_against, calls_of};
 use crate::upgrade_output::calls_file::calls_outputs;
-use crate::upgrade_output::carried::{carry_out, conclude};
-use crate::upgrade_output::held::{check_lock, written};
-use crate::upgrade_output::shown::print_plan;
+use crate::upgrade_output::plan_execution::{carry_out, conclude};
+use crate::upgrade_output::plan_checks::{check_lock, upgrade_outputs_to_write};
+use crate::upgrade_output::plan_output::print_plan;
 use crate::upgrade_output::task::DeliveryTask;
 use edit_steps::RunResult;
 use edit_store::Store;
@@ -41,10 +41,10 @@ pub fn deliver<S: Store, O: io::Write, E: io::Write>(
     ensures done { OnOk result (IsDelivered (Appends (O.contents out.old) (O.contents out.new))
         (delivery_of task.now) (S.view files.old) (S.view files.new)) }
     ensures content { OnOk result (Appends (E.contents err.old) (E.contents err.new)
-        (said (delivery_of task.now))) }
+        (upgrade_stderr_text (delivery_of task.now))) }
     // an error before the first write leaves each file as it was
     ensures stopped { OnErr result (SameFiles (S.view files.old).file_at (S.view files.new).file_at
-        ⊎ IsCutShort (Appends (O.contents out.old) (O.contents out.new)) (delivery_of task.now)
+        ⊎ IsDeliveryInterrupted (Appends (O.contents out.old) (O.contents out.new)) (delivery_of task.now)
         (S.view files.old) (S.view files.new)) }
     // each error has its cause; missing names are an error only after everything was written
     ensures cause { IfErr result (λ r. IsDeliveryCause (Appends (O.contents out.old) (O.contents out.new))
@@ -59,7 +59,7 @@ pub fn deliver<S: Store, O: io::Write, E: io::Write>(
     check_lock(task.options, task.plan)?;
     carry_out(
         alloc,
-        written(task.options, task.plan),
+        upgrade_outputs_to_write(task.options, task.plan),
         calls,
         file,
         files,

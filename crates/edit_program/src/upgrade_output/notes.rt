@@ -3,10 +3,10 @@ ghost use Rattle.std.specs.Prelude.{◌≡◌, ◌⊎◌, IfErr, OnOk};
 ghost use Rattle.std.specs.Io.KnownBytes.{Appends};
 ghost use Rattle.edit_base.specs.Errors.{IsMemory};
 ghost use Rattle.edit_base.specs.declared.errors.Error.TheVariants.{Output};
-ghost use Rattle.edit_program.specs.Said.{hidden, hidden_note, note, notes, warning, message_if};
+ghost use Rattle.edit_program.specs.StderrText.{hidden_rows, hidden_note, note, notes, warning, message_if};
 
-use crate::upgrade_output::absent::print_absent;
-use crate::upgrade_output::hidden::{hidden_rows, hidden_text};
+use crate::upgrade_output::absent_crates::print_absent;
+use crate::upgrade_output::hidden_rows_note::{hidden_rows, hidden_text};
 use edit_base::CargoResult;
 use edit_report::{Row, shell_note, shell_warn};
 use edit_upgrade::{Options, UpgradePlan};
@@ -54,7 +54,7 @@ fn print_hidden<E: io::Write>(
     err: &mut E,
 ) -> CargoResult<()>
     ensures text { OnOk result (Appends (E.contents err.old) (E.contents err.new)
-        (hidden_note verbosity (hidden verbosity rows.now))) }
+        (hidden_note verbosity (hidden_rows verbosity rows.now))) }
     ensures error { IfErr result (λ e. IsMemory e ⊎ (e ≡ Output)) }
 {
     let hidden = hidden_rows(alloc, rows, verbosity)?;

@@ -6,7 +6,7 @@ ghost use Rattle.edit_base.specs.Errors.{IsMemory};
 ghost use Rattle.edit_base.specs.declared.errors.Error.TheVariants.{Output};
 ghost use Rattle.edit_report.specs.Messages.{message_text};
 ghost use Rattle.edit_report.specs.Table.{report_text};
-ghost use Rattle.edit_program.specs.Said.{AreWarningsInOrder, input_report, checks, is_warning_shown, warning_on};
+ghost use Rattle.edit_program.specs.StderrText.{AreWarningsInOrder, input_report, input_reports, is_warning_shown, warning_on};
 ghost use Rattle.edit_program.specs.Tables.{AreInOrder, rows_at, table, tables};
 
 use crate::upgrade_output::rows::rows_at;
@@ -141,7 +141,7 @@ pub(crate) fn print_reports<O: io::Write, E: io::Write>(
     ensures tables { OnOk result (Appends (O.contents out.old) (O.contents out.new)
         (tables format verbosity plan.now.rows.items (length inputs.now))) }
     ensures checks { OnOk result (Appends (E.contents err.old) (E.contents err.new)
-        (checks verbosity plan.now.warnings.items inputs.now (length inputs.now))) }
+        (input_reports verbosity plan.now.warnings.items inputs.now (length inputs.now))) }
     ensures error { IfErr result (λ e. IsMemory e ⊎ (e ≡ Output)) }
 {
     let UpgradePlan { rows, warnings, .. } = plan;

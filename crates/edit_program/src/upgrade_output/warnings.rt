@@ -1,6 +1,6 @@
 //! The warnings about one input among those of a plan.
 ghost use Rattle.std.specs.Prelude.{◌≡◌, leb, ltb};
-ghost use Rattle.edit_program.specs.Said.{AreWarningsInOrder, warnings_at};
+ghost use Rattle.edit_program.specs.StderrText.{AreWarningsInOrder, warnings_at};
 
 use edit_upgrade::Warning;
 

@@ -8,11 +8,11 @@ ghost use Rattle.edit_program.specs.Delivery.{delivery_of};
 ghost use Rattle.edit_program.specs.Upgrading.{IsPathOf, delivery_by, diff_root, has_outputs};
 
 use crate::upgrade_output::DeliveryTask;
-use crate::upgrade_run::words::UpgradeWords;
+use crate::upgrade_run::upgrade_args::UpgradeArgs;
 use edit_base::CargoResult;
 use edit_lock::Lock;
 use edit_metadata::Workspace;
-use edit_steps::absolute;
+use edit_steps::absolute_path;
 use edit_steps::upgrade_read::Target;
 use edit_upgrade::UpgradePlan;
 use std::alloc::Global;
@@ -30,7 +30,7 @@ pub(crate) fn path_of(
     let Some(named) = named else {
         return Ok(None);
     };
-    let path = absolute(alloc, current, named)?;
+    let path = absolute_path(alloc, current, named)?;
     Ok(Some(path))
 }
 
@@ -48,7 +48,7 @@ fn diff_root<'a>(workspace: Option<&'a Workspace>, current: &'a str) -> &'a str
 /// How the plan for these manifests is printed and written, from the arguments. `update_calls` is the path
 /// of the file for the calls, which are adapted to the lock file where there is one.
 pub(crate) fn delivery_task<'a>(
-    words: &'a UpgradeWords<'_>,
+    words: &'a UpgradeArgs<'_>,
     current: &'a str,
     target: &'a Target,
     plan: &'a UpgradePlan,

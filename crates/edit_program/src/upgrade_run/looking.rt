@@ -13,9 +13,9 @@ ghost use Rattle.edit_program.specs.UpgradeCauses.{IsLookupsCause};
 ghost use Rattle.edit_program.specs.Looking.{AreLinesOf, AreLookupsPrinted};
 ghost use Rattle.edit_program.specs.Planned.{IsPlanCause};
 
-use crate::looks::{NoIndex, looks_text};
+use crate::looks::{NoIndex, lookup_lines_text};
 use crate::upgrade_run::plan::plan_over;
-use crate::upgrade_run::words::UpgradeWords;
+use crate::upgrade_run::upgrade_args::UpgradeArgs;
 use edit_base::CargoResult;
 use edit_diagnostics::explain_upgrade;
 use edit_report::shell_write_stdout;
@@ -44,15 +44,15 @@ fn lines_for(
     ensures counted { IfErr result (λ e. number_of e ≢ 3) }
 {
     let plan = plan_over(alloc, options, target, configs, NoIndex {})?;
-    looks_text(alloc, &plan.looks)
+    lookup_lines_text(alloc, &plan.looks)
 }
 
 /// Prints a line for each lookup that an upgrade with these arguments needs, in the order of its plan: the
 /// address, the name, and the name's path in an index, separated by tabs. No index is read, even where one
 /// is given, and nothing is written.
-pub fn looks<S: Store, O: io::Write>(
+pub fn print_lookups<S: Store, O: io::Write>(
     alloc: Global,
-    words: &UpgradeWords<'_>,
+    words: &UpgradeArgs<'_>,
     current: &str,
     cargo_home: Option<&str>,
     files: &mut S,

@@ -11,10 +11,10 @@ ghost use Rattle.edit_program.specs.LockRead.{HasNoLock, IsLockAt, IsLockRead};
 ghost use Rattle.edit_program.specs.Planned.{to_request};
 ghost use Rattle.edit_program.specs.Upgrading.{IsRead};
 
-use crate::upgrade_run::words::UpgradeWords;
+use crate::upgrade_run::upgrade_args::UpgradeArgs;
 use edit_lock::Lock;
 use edit_steps::upgrade_read::{Sources, read_sources};
-use edit_steps::{RunResult, absolute, at_file, at_path};
+use edit_steps::{RunResult, absolute_path, at_file, at_path};
 use edit_store::Store;
 use std::alloc::Global;
 
@@ -39,7 +39,7 @@ fn read_lock_at<S: Store>(
         → HasNoLock (S.view files.old).file_at current.now (Some named.now) r.error)) }
     ensures counted { IfErr result (λ r. CountsFault (S.view files.old) (S.view files.new) r.error) }
 {
-    let path = absolute(alloc, current, named)?;
+    let path = absolute_path(alloc, current, named)?;
     let bytes = match files.read(alloc, path.as_str()) {
         Ok(Some(bytes)) => bytes,
         Ok(None) => return Ok(Lock::empty(alloc)),
@@ -78,7 +78,7 @@ fn read_lock<S: Store>(
 /// Reads the given lock file, and then the files that the upgrade depends on. No file changes.
 pub(crate) fn read<S: Store>(
     alloc: Global,
-    words: &UpgradeWords<'_>,
+    words: &UpgradeArgs<'_>,
     current: &str,
     cargo_home: Option<&str>,
     files: &mut S,
@@ -97,6 +97,6 @@ pub(crate) fn read<S: Store>(
     ensures counted { IfErr result (λ r. CountsFault (S.view files.old) (S.view files.new) r.error) }
 {
     let lock = read_lock(alloc, words.lock_file, current, files)?;
-    let sources = read_sources(alloc, &words.asked(), current, cargo_home, files)?;
+    let sources = read_sources(alloc, &words.to_request(), current, cargo_home, files)?;
     Ok(Readings { sources, lock })
 }

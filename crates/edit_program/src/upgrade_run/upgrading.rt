@@ -8,12 +8,12 @@ ghost use Rattle.edit_program.specs.Run.{run_at};
 ghost use Rattle.edit_program.specs.UpgradeCauses.{IsUpgradeCause};
 ghost use Rattle.edit_program.specs.Upgrading.{IsBroken, IsUpgraded};
 
-use crate::place::Place;
+use crate::run_folders::RunFolders;
 use crate::upgrade_output::deliver;
 use crate::upgrade_run::delivering::{delivery_task, has_outputs, path_of};
 use crate::upgrade_run::plan::plan_for;
 use crate::upgrade_run::reading::{Readings, read};
-use crate::upgrade_run::words::UpgradeWords;
+use crate::upgrade_run::upgrade_args::UpgradeArgs;
 use edit_diagnostics::{explain_delivery, explain_upgrade};
 use edit_steps::RunResult;
 use edit_steps::upgrade_read::Sources;
@@ -25,8 +25,8 @@ use std::io;
 /// Returns whether the plan changes a manifest. No file changes before the plan is made and printed.
 pub fn upgrade<S: Store, T: Store + Drop, O: io::Write, E: io::Write>(
     alloc: Global,
-    words: &UpgradeWords<'_>,
-    place: &Place<'_>,
+    words: &UpgradeArgs<'_>,
+    place: &RunFolders<'_>,
     files: &mut S,
     index_files: T,
     out: &mut O,
@@ -66,7 +66,7 @@ pub fn upgrade<S: Store, T: Store + Drop, O: io::Write, E: io::Write>(
     let plan = match plan_for(alloc, options, &target, &configs, index, index_files) {
         Ok(plan) => plan,
         Err(error) => {
-            let asked = words.asked();
+            let asked = words.to_request();
             let inputs = &target.inputs;
             return Err(explain_upgrade(alloc, error, &asked, current, inputs, &configs, files));
         }

@@ -5,7 +5,7 @@ ghost use Rattle.edit_record.specs.RecordViews.{texts_view};
 use std::alloc::{AllocError, Global};
 
 /// Returns a copy of a string, if there is one.
-pub(crate) fn copied(text: Option<&String>) -> Result<Option<String>, AllocError>
+pub(crate) fn clone_text(text: Option<&String>) -> Result<Option<String>, AllocError>
     ensures { IfOk result (λ o. option_map string_bytes o
         ≡ option_map string_bytes (option_copied text.entry)) }
 {
@@ -16,7 +16,7 @@ pub(crate) fn copied(text: Option<&String>) -> Result<Option<String>, AllocError
 }
 
 /// Returns an owned copy of a borrowed string, if there is one.
-pub(crate) fn owned(alloc: Global, text: Option<&str>) -> Result<Option<String>, AllocError>
+pub(crate) fn to_owned_text(alloc: Global, text: Option<&str>) -> Result<Option<String>, AllocError>
     ensures { IfOk result (λ o. option_map string_bytes o ≡ option_map (λ s. s.now) text.entry) }
 {
     match text {
@@ -46,7 +46,7 @@ pub(crate) fn copied_pair(
     ensures other { IfOk result (λ p. option_map string_bytes p.1
         ≡ option_map string_bytes (option_copied other.entry)) }
 {
-    Ok((copied(one)?, copied(other)?))
+    Ok((clone_text(one)?, clone_text(other)?))
 }
 
 /// Returns deep copies of two lists of strings, of each if it is there.
@@ -63,7 +63,7 @@ pub(crate) fn copied_lists(
 }
 
 /// Appends `new` to `old`, if there is one.
-pub fn joined(old: Option<Vec<String>>, mut new: Vec<String>) -> Result<Vec<String>, AllocError>
+pub fn append_texts(old: Option<Vec<String>>, mut new: Vec<String>) -> Result<Vec<String>, AllocError>
     ensures { IfOk result (λ v. texts_view v
         ≡ unwrap_or (option_map texts_view old) [] ++ texts_view new) }
 {

@@ -4,7 +4,7 @@ ghost use Rattle.edit_base.specs.Errors.{IsMemory};
 ghost use Rattle.edit_document.specs.ItemViews.{view_of};
 ghost use Rattle.edit_document.specs.Items.{count_in, type_name_of};
 ghost use Rattle.edit_record.specs.EntryRecords.{wrong_type};
-ghost use Rattle.edit_record.specs.ReadEntries.{feature_texts, features_at, first_texts, member_in, old_spelling, text_at, text_of, truth_at, version_at};
+ghost use Rattle.edit_record.specs.ReadEntries.{feature_texts, features_at, first_texts, member_in, old_spelling, text_at, text_of, bool_at, version_at};
 ghost use Rattle.edit_record.specs.RecordViews.{IsErrorOfResult, IsErrorOf, item_tree, texts_view};
 ghost use Rattle.edit_version.specs.Requirement.{cut};
 
@@ -87,8 +87,8 @@ pub(crate) fn version_at(alloc: Global, dep: &str, table: Item<'_>) -> CargoResu
 }
 
 /// The boolean of a key; `None` where the key is absent or holds no boolean.
-pub(crate) fn truth_at(table: Item<'_>, name: &str) -> Option<bool>
-    ensures { result ≡ truth_at (item_tree table.entry) name.now }
+pub(crate) fn bool_at(table: Item<'_>, name: &str) -> Option<bool>
+    ensures { result ≡ bool_at (item_tree table.entry) name.now }
 {
     match table.get(name) {
         Some(item) => item.as_bool(),

@@ -9,9 +9,9 @@ ghost use Rattle.edit_record.specs.ReadEntries.{git_origin, member_in, names_by,
 ghost use Rattle.edit_record.specs.RecordViews.{IsErrorOfResult, path_view, record_view, repository_view, item_tree, source_view, texts_view};
 
 use super::Dependency;
-use super::copies::owned;
+use super::copies::to_owned_text;
 use super::members::{
-    check_spelling, features_at, text_at, text_of, truth_at, version_at, wrong_type,
+    check_spelling, features_at, text_at, text_of, bool_at, version_at, wrong_type,
 };
 use super::sources::{GitSource, PathSource, RegistrySource, Source, WorkspaceSource};
 use edit_base::errors::{CargoResult, Error};
@@ -39,9 +39,9 @@ fn repository(
     let tag = if rev.is_none() { tag } else { None };
     Ok(GitSource {
         git: String::from_str(alloc, git)?,
-        branch: owned(alloc, branch)?,
-        tag: owned(alloc, tag)?,
-        rev: owned(alloc, rev)?,
+        branch: to_owned_text(alloc, branch)?,
+        tag: to_owned_text(alloc, tag)?,
+        rev: to_owned_text(alloc, rev)?,
         version: None,
     })
 }
@@ -138,7 +138,7 @@ fn source_of(alloc: Global, root: &str, dep: &str, table: Item<'_>) -> CargoResu
 }
 
 /// The crate's name and the key if it differs: `package` and `dep`, or `dep` alone.
-fn names(
+fn name_and_rename(
     alloc: Global,
     dep: &str,
     crate_name: Option<&str>,
@@ -167,7 +167,7 @@ fn options_at(
     let registry = text_at(alloc, dep, table, "registry")?;
     check_spelling(alloc, dep, table)?;
     let features = features_at(alloc, dep, table)?;
-    Ok((owned(alloc, registry)?, features))
+    Ok((to_owned_text(alloc, registry)?, features))
 }
 
 /// Reads an entry that is a table or an inline table.
@@ -178,14 +178,14 @@ fn table_record(alloc: Global, root: &str, dep: &str, table: Item<'_>) -> CargoR
     ensures error { IfErr result (IsErrorOfResult (table_record (item_tree table.entry) root.now dep.now)) }
 {
     let crate_name = text_at(alloc, dep, table, "package")?;
-    let (name, rename) = names(alloc, dep, crate_name)?;
+    let (name, rename) = name_and_rename(alloc, dep, crate_name)?;
     let source = source_of(alloc, root, dep, table)?;
     let (registry, features) = options_at(alloc, dep, table)?;
     Ok(Dependency {
         name,
-        optional: truth_at(table, "optional"),
+        optional: bool_at(table, "optional"),
         features,
-        default_features: truth_at(table, "default-features"),
+        default_features: bool_at(table, "default-features"),
         inherited_features: None,
         source: Some(source),
         registry,
@@ -215,7 +215,7 @@ impl Dependency {
         ensures error { IfErr result (IsErrorOfResult (record_of (tree_of (document_of item.entry))
             (place_of item.entry) crate_root.now key.now)) }
     {
-        item.stands();
+        item.lemma_exists();
         match item.as_str() {
             Some(version) => {
                 let source = RegistrySource::new(alloc, version)?;

@@ -7,7 +7,7 @@ ghost use Rattle.edit_record.specs.RecordViews.{git_in, path_in, path_view, regi
 ghost use Rattle.edit_record.specs.Records.{source_version};
 ghost use Rattle.edit_version.specs.Requirement.{cut};
 
-use super::copies::copied;
+use super::copies::clone_text;
 use edit_base::errors::CargoResult;
 use edit_version::requirement::before_plus;
 use std::alloc::Global;
@@ -80,7 +80,7 @@ impl PathSource {
     {
         Ok(PathSource {
             path: self.path.clone()?,
-            version: copied(self.version.as_ref())?,
+            version: clone_text(self.version.as_ref())?,
         })
     }
 }
@@ -176,10 +176,10 @@ impl GitSource {
     {
         Ok(GitSource {
             git: self.git.clone()?,
-            branch: copied(self.branch.as_ref())?,
-            tag: copied(self.tag.as_ref())?,
-            rev: copied(self.rev.as_ref())?,
-            version: copied(self.version.as_ref())?,
+            branch: clone_text(self.branch.as_ref())?,
+            tag: clone_text(self.tag.as_ref())?,
+            rev: clone_text(self.rev.as_ref())?,
+            version: clone_text(self.version.as_ref())?,
         })
     }
 }
@@ -281,7 +281,7 @@ impl Source {
 }
 
 /// Returns a deep copy of a source, if there is one.
-pub(crate) fn copied_source(alloc: Global, source: Option<&Source>) -> CargoResult<Option<Source>>
+pub(crate) fn clone_source(alloc: Global, source: Option<&Source>) -> CargoResult<Option<Source>>
     ensures ok { IfOk result (λ o. option_map source_view o
         ≡ option_map source_view (option_copied source.entry)) }
     ensures error { IfErr result IsMemory }

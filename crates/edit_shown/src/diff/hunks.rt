@@ -4,8 +4,8 @@ ghost use Rattle.edit_shown.specs.Hunks as spec;
 ghost use Rattle.edit_shown.specs.Hunks.{AreCounted};
 ghost use Rattle.edit_shown.specs.ShownLines.{is_new, is_old};
 
-use crate::diff::marks::LineKind;
-use crate::diff::shown::{count_new, count_old, is_shown, part_length};
+use crate::diff::line_diff::LineKind;
+use crate::diff::context_lines::{count_new, count_old, is_shown, part_length};
 use std::alloc::{AllocError, Global};
 
 /// Whether a line ends with a line feed.
@@ -95,7 +95,7 @@ struct LineCounts {
 
 impl LineCounts {
     /// The counts after a line with this mark.
-    fn past(self, mark: LineKind) -> LineCounts
+    fn counts_after(self, mark: LineKind) -> LineCounts
         requires old { self.old + 1 < 2 ^ 64 }
         requires new { self.new + 1 < 2 ^ 64 }
         ensures old { result.old ≡ self.old + (if is_old mark then 1 else 0) }
@@ -202,7 +202,7 @@ pub(crate) fn push_parts(
     let mut before = LineCounts { old: 0, new: 0 };
     for i in 0..marks.len() {
         push_at(alloc, text, marks, lines, before, i)?;
-        before = before.past(marks[i]);
+        before = before.counts_after(marks[i]);
     }
     Ok(())
 }

@@ -4,12 +4,12 @@ ghost use Rattle.std.specs.Io.KnownBytes.{Appends};
 ghost use Rattle.edit_base.specs.Errors.{IsMemory};
 ghost use Rattle.edit_base.specs.declared.errors.Error.TheVariants.{Output};
 ghost use Rattle.edit_shown.specs.Lines.{lines_of};
-ghost use Rattle.edit_shown.specs.LineKinds.{marked};
+ghost use Rattle.edit_shown.specs.LineKinds.{compare_lines};
 ghost use Rattle.edit_shown.specs.Unified as spec;
 
 use crate::diff::hunks::push_parts;
 use crate::diff::lines::lines_of;
-use crate::diff::marks::marked;
+use crate::diff::line_diff::compare_lines;
 use crate::diff::names::push_name;
 use edit_base::{CargoResult, Error};
 use std::alloc::{AllocError, Global};
@@ -29,11 +29,11 @@ fn push_names(text: &mut Vec<u8>, path: &str) -> Result<(), AllocError>
 /// Appends the hunks of the diff of two texts.
 fn push_changes(alloc: Global, text: &mut Vec<u8>, old: &[u8], new: &[u8]) -> Result<(), AllocError>
     ensures ok { OnOk result (text.new.items ≡ text.old.items
-        ++ spec.parts_of (marked (lines_of old.now) (lines_of new.now))) }
+        ++ spec.parts_of (compare_lines (lines_of old.now) (lines_of new.now))) }
 {
     let olds = lines_of(alloc, old)?;
     let news = lines_of(alloc, new)?;
-    let marked = marked(alloc, &olds, &news)?;
+    let marked = compare_lines(alloc, &olds, &news)?;
     push_parts(alloc, text, &marked.marks, &marked.lines)
 }
 

@@ -5,7 +5,7 @@ ghost use Rattle.edit_shown.specs.Markdown.{line_of, line_view, shown_lines};
 
 use crate::markdown::cells::row_cells;
 use edit_base::CargoResult;
-use edit_report::{Row, shown};
+use edit_report::{Row, is_row_shown};
 use std::alloc::{AllocError, Global};
 
 /// A row of a report: its cells up to that of the members, and the index of its input.
@@ -36,7 +36,7 @@ pub(crate) fn shown_lines(
 {
     let mut lines = Vec::new(alloc);
     for row in rows {
-        if shown(alloc, row, verbosity)? {
+        if is_row_shown(alloc, row, verbosity)? {
             lines.push(line_of(alloc, row)?)?;
         }
     }

@@ -32,7 +32,7 @@ impl ConfigCache {
     }
 
     /// Stores the configuration that was found in a folder.
-    fn keep(&mut self, alloc: Global, place: &str, found: Option<Config>) -> Result<(), AllocError>
+    fn insert_config(&mut self, alloc: Global, place: &str, found: Option<Config>) -> Result<(), AllocError>
         ensures cached { (seen : StoreView) → AreCached seen self.old
             → (seen.tells ≡ true → IsReadOf (file_in seen.file_at place.now) found)
             → AreCached seen self.new }
@@ -67,7 +67,7 @@ impl ConfigCache {
             Ok(found) => found,
             Err(error) => return Err(error),
         };
-        self.keep(alloc, place, found)?;
+        self.insert_config(alloc, place, found)?;
         Ok(())
     }
 

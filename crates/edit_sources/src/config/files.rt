@@ -4,7 +4,7 @@ ghost use Rattle.std.specs.Option.{option_to_list};
 ghost use Rattle.edit_base.specs.Errors.{IsMemory};
 ghost use Rattle.edit_base.specs.Paths.{texts};
 ghost use Rattle.edit_sources.specs.Configured.{given};
-ghost use Rattle.edit_sources.specs.ConfigurationFiles.{IsUpwards, IsSearched, IsReadOf, HasFailed, FileFails, IsConfigPath, standing, file_in};
+ghost use Rattle.edit_sources.specs.ConfigurationFiles.{IsUpwards, IsSearched, IsReadOf, HasFailed, FileFails, IsConfigPath, existing_file, file_in};
 ghost use Rattle.edit_store.specs.Store.{OnlyReads};
 
 use super::Config;
@@ -53,11 +53,11 @@ pub(super) fn places(
 fn read_file<S: Store>(alloc: Global, store: &mut S, path: &str) -> CargoResult<Option<Config>>
     ensures store { OnlyReads (S.view store.old) (S.view store.new) }
     ensures read { IfOk result (λ found. (S.view store.old).tells ≡ true
-        → IsReadOf (standing (S.view store.old).file_at path.now) found) }
+        → IsReadOf (existing_file (S.view store.old).file_at path.now) found) }
     ensures error { IfErr result (λ e. IsMemory e
         ⊎ (HasFailed (S.view store.old).faults (S.view store.new).faults e
         ⊎ FileFails (S.view store.old).tells (λ at. at ≡ path.now)
-        (standing (S.view store.old).file_at path.now) e)) }
+        (existing_file (S.view store.old).file_at path.now) e)) }
 {
     let bytes = match store.read(alloc, path) {
         Ok(Some(bytes)) => bytes,

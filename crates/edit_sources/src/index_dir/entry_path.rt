@@ -26,11 +26,11 @@ pub(crate) fn entry_path(
 {
     let layout = layout_path(alloc, name)?;
     let registry = registry_folder(alloc, registry)?;
-    Ok(joined(alloc, folder, registry.as_str(), layout.as_str())?)
+    Ok(join_parts(alloc, folder, registry.as_str(), layout.as_str())?)
 }
 
 /// Joins a folder, a subfolder of it, and a path below that.
-fn joined(alloc: Global, folder: &str, inner: &str, rest: &str) -> Result<String, AllocError>
+fn join_parts(alloc: Global, folder: &str, inner: &str, rest: &str) -> Result<String, AllocError>
     ensures { IfOk result (λ p. string_bytes p ≡ below folder.now (inner.now ++ 47 ∷ rest.now)) }
 {
     let mut path = String::from_str(alloc, folder)?;

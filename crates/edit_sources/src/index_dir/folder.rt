@@ -12,7 +12,7 @@ use url::Url;
 pub const ESCAPED: AsciiSet = ascii_set!(AsciiSet::EMPTY.add(b'%').add(b'/'));
 
 /// Escapes each `%` and `/` of an address.
-fn escaped(alloc: Global, address: &str) -> Result<String, AllocError>
+fn escape_address(alloc: Global, address: &str) -> Result<String, AllocError>
     ensures folder { IfOk result (λ f. string_bytes f ≡ registry_folder address.now) }
     ensures back { IfOk result (λ f. percent_decode (string_bytes f) ≡ address.now) }
 {
@@ -27,5 +27,5 @@ pub fn registry_folder(alloc: Global, registry: &Url) -> Result<String, AllocErr
     // the address can be decoded again, so no two addresses share a folder
     ensures back { IfOk result (λ f. percent_decode (string_bytes f) ≡ serialize registry.now) }
 {
-    escaped(alloc, registry.as_str())
+    escape_address(alloc, registry.as_str())
 }

@@ -22,11 +22,11 @@ pub fn layout_path(alloc: Global, name: &str) -> CargoResult<String>
             name: String::from_str(alloc, name)?,
         });
     }
-    Ok(laid_out(alloc, name)?)
+    Ok(lower_layout(alloc, name)?)
 }
 
 /// The folders of a crate's file and its name, in lower case.
-fn laid_out(alloc: Global, name: &str) -> Result<String, AllocError>
+fn lower_layout(alloc: Global, name: &str) -> Result<String, AllocError>
     requires { is_crate_name name.now ≡ true }
     ensures { IfOk result (λ p. string_bytes p ≡ layout name.now) }
 {

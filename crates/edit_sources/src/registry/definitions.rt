@@ -14,7 +14,7 @@ ghost use Rattle.edit_sources.specs.Sources.{source_texts};
 ghost use Rattle.edit_sources.specs.declared.config.Config.{Config};
 
 use super::chain::{
-    Source, first_definitions, head, head_key, registry_not_found, source_not_found, with_address,
+    Source, first_definitions, chain_start_source, head_key, registry_not_found, source_not_found, with_address,
 };
 use crate::config::Config;
 use edit_base::{CargoResult, Error};
@@ -66,7 +66,7 @@ impl<'a> Definitions<'a> {
 
     /// Removes and returns the source of a key, so that no key is used twice. The first key of the chain
     /// counts as used, and its source stays.
-    fn take_out(&mut self, alloc: Global, beginning: &str, key: &'a str) -> CargoResult<Source<'a>>
+    fn remove_source(&mut self, alloc: Global, beginning: &str, key: &'a str) -> CargoResult<Source<'a>>
         ensures takes { IfOk result
             (λ s. RemovesSource beginning.now key.entry.now self.old self.new (source_texts s)) }
         ensures shorter { OnOk result (btree_map_len self.new.left < btree_map_len self.old.left) }
@@ -84,7 +84,7 @@ impl<'a> Definitions<'a> {
     }
 
     /// Stores the URL that these keys lead to.
-    fn keep(&mut self, keys: &[&'a str], address: &'a str) -> Result<(), AllocError>
+    fn insert_ends(&mut self, keys: &[&'a str], address: &'a str) -> Result<(), AllocError>
         ensures left { self.new.left ≡ self.old.left }
         ensures ends { OnOk result ((q : List ℕ) → end_at self.new q
             ≡ cond (is_used (texts keys.now) q) (Some address.entry.now) (end_at self.old q)) }
@@ -107,22 +107,22 @@ impl<'a> Definitions<'a> {
             → Defines configs self.old → HasNoUrl configs (given registry.entry) e)) }
     {
         let first = head_key(registry);
-        let Some(mut source) = head(self.left.get(first).copied(), registry) else {
+        let Some(mut source) = chain_start_source(self.left.get(first).copied(), registry) else {
             return Err(registry_not_found(alloc, first));
         };
         let mut passed = Vec::new(alloc);
         while let Some(key) = source.replace_with {
             if let Some(address) = self.end_of(key) {
-                self.keep(&passed, address)?;
+                self.insert_ends(&passed, address)?;
                 return Ok(address);
             }
-            source = self.take_out(alloc, first, key)?;
+            source = self.remove_source(alloc, first, key)?;
             passed.push(key)?;
         }
         let Some(address) = source.registry else {
             return Err(Error::MissingRegistry);
         };
-        self.keep(&passed, address)?;
+        self.insert_ends(&passed, address)?;
         Ok(address)
     }
 

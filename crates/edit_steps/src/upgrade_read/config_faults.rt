@@ -2,7 +2,7 @@
 ghost use Rattle.std.specs.Prelude.{◌≡◌, ◌<◌, ◌^◌};
 ghost use Rattle.edit_store.specs.Store.{OnlyReads};
 
-use crate::refusal::{Refusal, shown_position};
+use crate::run_error::{RunError, shown_position};
 use crate::reread::at_first;
 use crate::toml_fault::toml_fault;
 use edit_base::paths::{folder, join};
@@ -85,7 +85,7 @@ pub(crate) fn at_config<S: Store>(
     inputs: &[Input],
     cargo_home: Option<&str>,
     files: &mut S,
-) -> Refusal
+) -> RunError
     ensures same { result.error ≡ error }
     ensures reads { OnlyReads (S.view files.old) (S.view files.new) }
     ensures counted { (S.view files.new).faults < 2 ^ 64 }
@@ -93,7 +93,7 @@ pub(crate) fn at_config<S: Store>(
     if let Error::Config { path } = &error {
         let (place, cause) = place_and_cause(alloc, path.as_str(), files);
         let _faults = files.faults();
-        return Refusal {
+        return RunError {
             error,
             place,
             cause,

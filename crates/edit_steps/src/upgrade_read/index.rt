@@ -8,7 +8,7 @@ ghost use Rattle.edit_steps.specs.Errors.{IsIndexError};
 ghost use Rattle.edit_steps.specs.Faults.{CountsFault};
 ghost use Rattle.edit_steps.specs.Sources.{IsIndexAt, IsIndexOf};
 
-use crate::{RunResult, absolute, at_file, at_path};
+use crate::{RunResult, absolute_path, at_file, at_path};
 use edit_base::Error;
 use edit_sources::FileIndex;
 use edit_store::Store;
@@ -43,7 +43,7 @@ fn read_file<S: Store>(
     ensures only { IfErr result (λ r. IsCallError call.Read (S.view files.old) (S.view files.new) r.error
         ⊎ IsIndexError (Some named.now) r.error) }
 {
-    let path = absolute(alloc, current, named)?;
+    let path = absolute_path(alloc, current, named)?;
     let lines = match files.read_stream(alloc, path.as_str()) {
         Ok(Some(lines)) => lines,
         Ok(None) => return Err(at_path(alloc, Error::NoPath, path.as_str())),
@@ -82,6 +82,6 @@ pub(crate) fn read_index<S: Store>(
     let Some(named) = dir else {
         return Ok(IndexSource::Files);
     };
-    let path = absolute(alloc, current, named)?;
+    let path = absolute_path(alloc, current, named)?;
     Ok(IndexSource::Folder(path))
 }

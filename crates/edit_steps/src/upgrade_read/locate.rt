@@ -6,7 +6,7 @@ ghost use Rattle.edit_manifest.specs.Located.{HasNoManifest, IsManifestPath, Nam
 ghost use Rattle.edit_sources.specs.Configured.{given};
 ghost use Rattle.edit_steps.specs.Faults.{CountsFault};
 
-use crate::{Refusal, RunResult, absolute, at_file};
+use crate::{RunError, RunResult, absolute_path, at_file};
 use edit_base::Error;
 use edit_base::paths::folder;
 use edit_manifest::find;
@@ -20,12 +20,12 @@ fn at_named(
     current: &str,
     named: &str,
     reason: Option<String>,
-) -> Refusal
+) -> RunError
     ensures { result.error ≡ error }
 {
-    match absolute(alloc, current, named) {
+    match absolute_path(alloc, current, named) {
         Ok(path) => at_file(alloc, error, path.as_str(), reason),
-        Err(_) => Refusal::from(error),
+        Err(_) => RunError::from(error),
     }
 }
 

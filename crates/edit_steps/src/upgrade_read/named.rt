@@ -9,10 +9,10 @@ ghost use Rattle.edit_steps.specs.Causes.{LacksNamed};
 ghost use Rattle.edit_steps.specs.Errors.{IsNamedError, IsPairError};
 ghost use Rattle.edit_steps.specs.Faults.{CountsFault};
 ghost use Rattle.edit_steps.specs.Named as paths;
-ghost use Rattle.edit_steps.specs.Named.{ArePairRead, AreConfigsIn, HasNoFile, IsNamedRead, IsUnreadFile, pair_of, path_and_bytes, seen};
+ghost use Rattle.edit_steps.specs.Named.{ArePairRead, AreConfigsIn, HasNoFile, IsNamedRead, IsUnreadFile, pair_of, path_and_bytes, given_file_view};
 
-use crate::upgrade_read::asked::Asked;
-use crate::{RunResult, absolute, at_file, at_path};
+use crate::upgrade_read::source_request::SourceRequest;
+use crate::{RunResult, absolute_path, at_file, at_path};
 use edit_base::{CargoResult, Error};
 use edit_sources::Config;
 use edit_store::Store;
@@ -54,7 +54,7 @@ fn read_file<S: Store>(
     let Some(named) = named else {
         return Ok(None);
     };
-    let path = absolute(alloc, current, named)?;
+    let path = absolute_path(alloc, current, named)?;
     match files.read_stream(alloc, path.as_str()) {
         Ok(Some(bytes)) => Ok(Some(NamedFile { path, bytes })),
         Ok(None) => Err(at_path(alloc, Error::NoPath, path.as_str())),
@@ -65,7 +65,7 @@ fn read_file<S: Store>(
 /// Reads the given configuration files.
 pub(crate) fn read_named<S: Store>(
     alloc: Global,
-    asked: &Asked<'_>,
+    asked: &SourceRequest<'_>,
     current: &str,
     files: &mut S,
 ) -> RunResult<NamedFiles>
@@ -87,8 +87,8 @@ pub(crate) fn read_named<S: Store>(
 
 /// Parses the configuration of a file, where there is one. A file that is no configuration is an error.
 pub(crate) fn configs_in(alloc: Global, file: Option<&NamedFile>) -> CargoResult<Vec<Config>>
-    ensures content { IfOk result (λ v. AreConfigsIn (seen file.entry) v.items) }
-    ensures error { IfErr result (λ e. IsMemory e ⊎ IsUnreadFile (seen file.entry) e) }
+    ensures content { IfOk result (λ v. AreConfigsIn (given_file_view file.entry) v.items) }
+    ensures error { IfErr result (λ e. IsMemory e ⊎ IsUnreadFile (given_file_view file.entry) e) }
 {
     let mut configs = Vec::new(alloc);
     if let Some(file) = file {
@@ -102,7 +102,7 @@ pub(crate) fn configs_in(alloc: Global, file: Option<&NamedFile>) -> CargoResult
 
 /// The path of a file, where there is one.
 fn path_in(alloc: Global, file: Option<&NamedFile>) -> Result<Vec<String>, AllocError>
-    ensures { IfOk result (λ v. map string_bytes v.items ≡ paths.path_in (seen file.entry)) }
+    ensures { IfOk result (λ v. map string_bytes v.items ≡ paths.path_in (given_file_view file.entry)) }
 {
     let mut paths = Vec::new(alloc);
     if let Some(file) = file {

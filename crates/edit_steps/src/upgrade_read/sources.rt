@@ -9,7 +9,7 @@ ghost use Rattle.edit_steps.specs.Faults.{CountsFault};
 ghost use Rattle.edit_steps.specs.Sources.{AreRead, MayBePlanned};
 
 use crate::RunResult;
-use crate::upgrade_read::asked::Asked;
+use crate::upgrade_read::source_request::SourceRequest;
 use crate::upgrade_read::configs::read_configurations;
 use crate::upgrade_read::index::{IndexSource, read_index};
 use crate::upgrade_read::named::read_named;
@@ -33,7 +33,7 @@ pub struct Sources {
 /// index file. Nothing is read from an index folder, and no file changes.
 pub fn read_sources<S: Store>(
     alloc: Global,
-    asked: &Asked<'_>,
+    asked: &SourceRequest<'_>,
     current: &str,
     cargo_home: Option<&str>,
     files: &mut S,

@@ -8,7 +8,7 @@ ghost use Rattle.edit_steps.specs.Errors.{IsTargetError};
 ghost use Rattle.edit_steps.specs.Faults.{CountsFault};
 ghost use Rattle.edit_steps.specs.Sources.{AreDocuments, IsTargetRead};
 
-use crate::upgrade_read::asked::Asked;
+use crate::upgrade_read::source_request::SourceRequest;
 use crate::upgrade_read::found::{ReadManifest, read_manifest};
 use crate::{ReadWorkspace, RunResult, read_workspace};
 use edit_document::Document;
@@ -28,7 +28,7 @@ pub struct Target {
 }
 
 /// The target of a single manifest without metadata.
-fn alone(alloc: Global, manifest: ReadManifest) -> Result<Target, AllocError>
+fn target_of_manifest(alloc: Global, manifest: ReadManifest) -> Result<Target, AllocError>
     requires document { manifest.document.bytes ≡ manifest.input.bytes.items }
     ensures workspace { IfOk result (λ t. t.workspace ≡ None) }
     ensures inputs { IfOk result (λ t. t.inputs.items ≡ manifest.input ∷ []) }
@@ -47,7 +47,7 @@ fn alone(alloc: Global, manifest: ReadManifest) -> Result<Target, AllocError>
 /// Reads the workspace of the given metadata, else the nearest manifest.
 pub(crate) fn read_target<S: Store>(
     alloc: Global,
-    asked: &Asked<'_>,
+    asked: &SourceRequest<'_>,
     current: &str,
     files: &mut S,
 ) -> RunResult<Target>
@@ -68,9 +68,9 @@ pub(crate) fn read_target<S: Store>(
     let (rust, writes) = (asked.rust, asked.writes);
     let Some(named) = asked.metadata_json else {
         let manifest = read_manifest(alloc, asked.manifest_path, current, rust, writes, files)?;
-        return Ok(alone(alloc, manifest)?);
+        return Ok(target_of_manifest(alloc, manifest)?);
     };
-    let (given, ignored) = (rust.given(), rust.is_ignored());
+    let (given, ignored) = (rust.given_version(), rust.is_ignored());
     let read = read_workspace(alloc, named, current, given, ignored, writes, files)?;
     let ReadWorkspace { workspace, inputs } = read;
     Ok(Target {

@@ -4,7 +4,7 @@ ghost use Rattle.edit_syntax.specs.ReadingNumbers as reading;
 ghost use Rattle.edit_syntax.specs.AppendedTokens.{Skips, token_view, parsed_token, value_kind};
 
 use super::bytes::{Class, first, is_in, past, past_run, run_len, skip};
-use super::marks::MarkKind;
+use super::syntax_tokens::TokenKind;
 
 /// The input behind `n` digits.
 #[tactic(auto, unfolding(crate::specs::ReadingNumbers::count_at))]
@@ -79,8 +79,8 @@ fn past_offset(s: &[u8]) -> Option<&[u8]>
 }
 
 /// Whether the input behind a date begins with `T`, `t`, or a space and a digit, so that a time follows.
-fn joins(s: &[u8]) -> bool
-    ensures { result ≡ reading.joins s.now }
+fn is_time_next(s: &[u8]) -> bool
+    ensures { result ≡ reading.is_time_next s.now }
 {
     first(s) == b'T'
         || first(s) == b't'
@@ -89,23 +89,23 @@ fn joins(s: &[u8]) -> bool
 
 /// The input behind a date and the time that may follow it.
 #[tactic(auto, unfolding(crate::specs::ReadingNumbers::date_time_at))]
-pub(crate) fn past_date_time(s: &[u8]) -> Option<(MarkKind, &[u8])>
+pub(crate) fn past_date_time(s: &[u8]) -> Option<(TokenKind, &[u8])>
     ensures { token_view result ≡ parsed_token value_kind (reading.date_time_at s.now) }
 {
     let behind = past_date(s)?;
-    if !joins(behind) {
-        return Some((MarkKind::DateTime, behind));
+    if !is_time_next(behind) {
+        return Some((TokenKind::DateTime, behind));
     }
     let offset = past_time(skip(behind, 1))?;
     let rest = past_offset(offset)?;
-    Some((MarkKind::DateTime, rest))
+    Some((TokenKind::DateTime, rest))
 }
 
 /// The kind of the token of a local time, and the input behind it.
 #[tactic(auto, unfolding(crate::specs::ReadingNumbers::local_time_at))]
-pub(crate) fn past_local_time(s: &[u8]) -> Option<(MarkKind, &[u8])>
+pub(crate) fn past_local_time(s: &[u8]) -> Option<(TokenKind, &[u8])>
     ensures { token_view result ≡ parsed_token value_kind (reading.local_time_at s.now) }
 {
     let rest = past_time(s)?;
-    Some((MarkKind::DateTime, rest))
+    Some((TokenKind::DateTime, rest))
 }

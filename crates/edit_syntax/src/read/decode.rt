@@ -12,26 +12,26 @@ ghost use Rattle.edit_syntax.specs.Decoding as decoding;
 ghost use Rattle.edit_syntax.specs.Decoding.{delimiter, delimited, IsEscape, BeginsWithBackslash, IsOneLine, IsFoldEnd, HasLineValue, HasDecodedValue};
 
 use super::bytes::{Class, byte_at, first, is_in, run_len, skip};
-use super::marks::{Mark, MarkKind};
+use super::syntax_tokens::{SyntaxToken, TokenKind};
 use super::tokens::scalar;
 use crate::span::Span;
 use edit_base::errors::CargoResult;
 use std::alloc::Global;
 
 /// The length of the delimiter of a token of this kind, in bytes.
-fn delimiter_len(kind: MarkKind) -> u32
+fn delimiter_len(kind: TokenKind) -> u32
     ensures { result ≡ length (delimiter kind) }
 {
     match kind {
-        MarkKind::BasicPart | MarkKind::LiteralPart => 1,
-        MarkKind::BasicString | MarkKind::LiteralString => 1,
-        MarkKind::MultiBasicString | MarkKind::MultiLiteralString => 3,
+        TokenKind::BasicPart | TokenKind::LiteralPart => 1,
+        TokenKind::BasicString | TokenKind::LiteralString => 1,
+        TokenKind::MultiBasicString | TokenKind::MultiLiteralString => 3,
         _ => 0,
     }
 }
 
 /// The text between the delimiters of a token, with its escapes as written.
-pub fn content(text: &str, mark: Mark) -> &str
+pub fn content(text: &str, mark: SyntaxToken) -> &str
     // Holds for any way to split the text around the token.
     ensures { (before content rest said : List ℕ) → text.now ≡ before ++ delimited mark.kind content rest →
         mark.from ≡ length (delimited mark.kind content rest) → mark.to ≡ length rest →
@@ -47,7 +47,7 @@ pub fn content(text: &str, mark: Mark) -> &str
 }
 
 /// The position of the text between the delimiters of a token.
-pub fn content_span(mark: Mark) -> Span
+pub fn content_span(mark: SyntaxToken) -> Span
     // Holds for any way to split the text around the token.
     ensures { (text before content rest said : List ℕ) → IsUtf8 text → text ≡ before
         ++ delimited mark.kind content rest →
@@ -62,23 +62,23 @@ pub fn content_span(mark: Mark) -> Span
 }
 
 /// Whether the content of a token is its own decoded value, so that it needs no decoding.
-pub fn is_plain(kind: MarkKind, content: &str) -> bool
+pub fn is_plain(kind: TokenKind, content: &str) -> bool
     ensures written { (said : List ℕ) → HasDecodedValue kind content.now said → IsTrue result → content.now ≡ said }
     // A content on one line that says itself is found to do so.
     ensures found { IsOneLine kind → HasDecodedValue kind content.now content.now → IsTrue result }
 {
     match kind {
-        MarkKind::BasicPart | MarkKind::BasicString => {
+        TokenKind::BasicPart | TokenKind::BasicString => {
             run_len(content.as_bytes(), Class::Unescaped) >= content.len()
         }
-        MarkKind::MultiBasicString | MarkKind::MultiLiteralString => false,
+        TokenKind::MultiBasicString | TokenKind::MultiLiteralString => false,
         _ => true,
     }
 }
 
 /// The character that an escape letter stands for (TOML 1.0.0, "String").
-fn escaped(letter: u8) -> char
-    ensures { result ≡ strings.escaped letter }
+fn letter_value(letter: u8) -> char
+    ensures { result ≡ strings.letter_value letter }
 {
     match letter {
         b'b' => '\u{8}',
@@ -91,7 +91,7 @@ fn escaped(letter: u8) -> char
 }
 
 /// The character whose code point the first `n` hexadecimal digits give.
-fn coded(bytes: &[u8], n: usize) -> char
+fn char_from_hex(bytes: &[u8], n: usize) -> char
     requires { n ≤ 8 }
     ensures { (digits rest : List ℕ) → bytes.now ≡ digits ++ rest → IsScalarCode n digits →
         result ≡ digits_value 16 digits }
@@ -107,16 +107,16 @@ fn escape(bytes: &[u8]) -> (char, usize)
     ensures some { 2 ≤ result.1 }
     ensures names { (p : Piece) (rest : List ℕ) → IsEscape p → IsBasicPiece p → bytes.now
         ≡ piece quote p rest →
-        (encode_utf8 result.0 ≡ strings.said quote p) × (result.1 ≡ length (piece quote p [])) }
+        (encode_utf8 result.0 ≡ strings.decoded_piece quote p) × (result.1 ≡ length (piece quote p [])) }
 {
     let letter = byte_at(bytes, 1);
     if letter == b'u' {
-        return (coded(skip(bytes, 2), 4), 6);
+        return (char_from_hex(skip(bytes, 2), 4), 6);
     }
     if letter == b'U' {
-        return (coded(skip(bytes, 2), 8), 10);
+        return (char_from_hex(skip(bytes, 2), 8), 10);
     }
-    (escaped(letter), 2)
+    (letter_value(letter), 2)
 }
 
 /// The first `n` bytes of a text; empty where `n` is not a character boundary.
@@ -144,7 +144,7 @@ fn behind(s: &str, n: usize) -> &str
 fn push_piece(out: &mut String, bytes: &[u8]) -> CargoResult<usize>
     ensures says { (p : Piece) (rest : List ℕ) → BeginsWithBackslash p → IsMultiPiece p
         → IsFoldEnd p (reading.first rest) → bytes.now ≡ piece quote p rest →
-        IfOk result (λ n. (string_bytes out.new ≡ string_bytes out.old ++ strings.said quote p)
+        IfOk result (λ n. (string_bytes out.new ≡ string_bytes out.old ++ strings.decoded_piece quote p)
         × (n ≡ length (piece quote p []))) }
     ensures some { IfOk result (λ n. 1 ≤ n) }
     ensures error { IfErr result IsMemory }
@@ -158,7 +158,7 @@ fn push_piece(out: &mut String, bytes: &[u8]) -> CargoResult<usize>
 }
 
 /// Decodes the content of a basic string; a newline right behind the opening delimiter is not skipped here.
-fn decoded(alloc: Global, content: &str) -> CargoResult<String>
+fn decode_escapes(alloc: Global, content: &str) -> CargoResult<String>
     ensures text { (said : List ℕ) → HasLineValue content.now said → IfOk result (λ s. string_bytes s ≡ said) }
     ensures error { IfErr result IsMemory }
 {
@@ -192,14 +192,14 @@ fn past_break(content: &str) -> &str
 }
 
 /// The decoded value of a token with this content (TOML 1.0.0, "String" and "Keys").
-pub fn said(alloc: Global, kind: MarkKind, content: &str) -> CargoResult<String>
+pub fn decoded_text(alloc: Global, kind: TokenKind, content: &str) -> CargoResult<String>
     ensures text { (said : List ℕ) → HasDecodedValue kind content.now said → IfOk result (λ s. string_bytes s ≡ said) }
     ensures error { IfErr result IsMemory }
 {
     match kind {
-        MarkKind::BasicPart | MarkKind::BasicString => decoded(alloc, content),
-        MarkKind::MultiBasicString => decoded(alloc, past_break(content)),
-        MarkKind::MultiLiteralString => Ok(String::from_str(alloc, past_break(content))?),
+        TokenKind::BasicPart | TokenKind::BasicString => decode_escapes(alloc, content),
+        TokenKind::MultiBasicString => decode_escapes(alloc, past_break(content)),
+        TokenKind::MultiLiteralString => Ok(String::from_str(alloc, past_break(content))?),
         _ => Ok(String::from_str(alloc, content)?),
     }
 }

@@ -8,12 +8,12 @@ ghost use Rattle.edit_syntax.specs.FirstLine.{after_first, tokens_of_first_line}
 
 use super::gaps::past_line_end;
 use super::lines::line;
-use super::marks::{Mark, ReadError};
+use super::syntax_tokens::{SyntaxToken, ReadError};
 use edit_base::errors::{CargoResult, Error};
 
 /// Appends the tokens of the first line, with arrays and inline tables nested at most 80 deep, and returns
 /// the rest: empty, or the line's newline and the other lines.
-pub fn first_line<'a>(out: &mut Vec<Mark>, text: &'a [u8]) -> CargoResult<&'a [u8]>
+pub fn first_line<'a>(out: &mut Vec<SyntaxToken>, text: &'a [u8]) -> CargoResult<&'a [u8]>
     // The first line of any lines in the grammar is read, unless memory runs out.
     ensures only { (form : Lines) → text.now ≡ lines_text form → AreLines form → lines_depth form ≤ 80 →
         MatchResult result

@@ -1,6 +1,6 @@
 //! Tokenizes lines: pairs, headers and comments.
 ghost use Rattle.std.specs.Prelude.{◌≡◌, ◌<◌, ◌≤◌, slice_index, IfOk, MatchResult};
-ghost use Rattle.edit_syntax.specs.declared.read.marks.ReadError.TheVariants.{Memory};
+ghost use Rattle.edit_syntax.specs.declared.read.syntax_tokens.ReadError.TheVariants.{Memory};
 ghost use Rattle.edit_syntax.specs.Characters.{left_bracket};
 ghost use Rattle.edit_syntax.specs.Grammar.{Lines, AreLines, lines};
 ghost use Rattle.edit_syntax.specs.Depth.{lines_depth};
@@ -10,13 +10,13 @@ ghost use Rattle.edit_syntax.specs.AppendedTokens.{AppendsTokens};
 
 use super::bytes::{Class, byte_at, first, past, past_run, skip};
 use super::gaps::past_line_end;
-use super::marks::{Mark, MarkKind, ReadError};
-use super::values::{key, note, pair};
+use super::syntax_tokens::{SyntaxToken, TokenKind, ReadError};
+use super::values::{key, append_token, pair};
 use std::alloc::Global;
 
 /// Reads the header of a table, `[key]`.
 #[tactic(auto, unfolding(crate::specs::Reading::header_at))]
-fn header<'a>(out: &mut Vec<Mark>, s: &'a [u8]) -> Result<&'a [u8], ReadError>
+fn header<'a>(out: &mut Vec<SyntaxToken>, s: &'a [u8]) -> Result<&'a [u8], ReadError>
     requires { reading.first s.now ≡ left_bracket }
     ensures { AppendsTokens tokens_of_statement out.old out.new result (reading.header_at s.now) }
 {
@@ -25,13 +25,13 @@ fn header<'a>(out: &mut Vec<Mark>, s: &'a [u8]) -> Result<&'a [u8], ReadError>
     let Some(rest) = past(end, b']') else {
         return Err(ReadError::NotToml { left: end.len() });
     };
-    note(out, MarkKind::Header, s, rest)?;
+    append_token(out, TokenKind::Header, s, rest)?;
     Ok(rest)
 }
 
 /// Reads the header of an element of an array of tables, `[[key]]`.
 #[tactic(auto, unfolding(crate::specs::Reading::element_header_at))]
-fn element_header<'a>(out: &mut Vec<Mark>, s: &'a [u8]) -> Result<&'a [u8], ReadError>
+fn element_header<'a>(out: &mut Vec<SyntaxToken>, s: &'a [u8]) -> Result<&'a [u8], ReadError>
     requires first { reading.first s.now ≡ left_bracket }
     requires second { slice_index s.now 1 ≡ left_bracket }
     ensures { AppendsTokens tokens_of_statement out.old out.new result (reading.element_header_at s.now) }
@@ -44,13 +44,13 @@ fn element_header<'a>(out: &mut Vec<Mark>, s: &'a [u8]) -> Result<&'a [u8], Read
     let Some(rest) = past(inner, b']') else {
         return Err(ReadError::NotToml { left: inner.len() });
     };
-    note(out, MarkKind::ElementHeader, s, rest)?;
+    append_token(out, TokenKind::ElementHeader, s, rest)?;
     Ok(rest)
 }
 
 /// Reads a statement: a key/value pair, a `[key]` header or a `[[key]]` header.
 #[tactic(auto, unfolding(crate::specs::Reading::statement_at))]
-fn statement<'a>(out: &mut Vec<Mark>, s: &'a [u8], depth: usize) -> Result<&'a [u8], ReadError>
+fn statement<'a>(out: &mut Vec<SyntaxToken>, s: &'a [u8], depth: usize) -> Result<&'a [u8], ReadError>
     requires { depth < 1000 }
     ensures { AppendsTokens tokens_of_statement out.old out.new result (reading.statement_at depth s.now) }
 {
@@ -84,7 +84,7 @@ fn is_line_over(b: u8) -> bool
 
 /// Reads a line up to its newline.
 pub(crate) fn line<'a>(
-    out: &mut Vec<Mark>,
+    out: &mut Vec<SyntaxToken>,
     s: &'a [u8],
     depth: usize,
 ) -> Result<&'a [u8], ReadError>
@@ -100,7 +100,7 @@ pub(crate) fn line<'a>(
 }
 
 /// The tokens of all lines of a text, with arrays and inline tables nested at most 80 deep.
-pub(crate) fn lines(alloc: Global, text: &[u8]) -> Result<Vec<Mark>, ReadError>
+pub(crate) fn lines(alloc: Global, text: &[u8]) -> Result<Vec<SyntaxToken>, ReadError>
     ensures found { IfOk result (λ v. (form : Lines) × (text.now ≡ lines form) × AreLines form
         × (lines_depth form ≤ 80) × (v.items ≡ tokens_of_lines form)) }
     ensures only { (form : Lines) → text.now ≡ lines form → AreLines form → lines_depth form ≤ 80

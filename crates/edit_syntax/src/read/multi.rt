@@ -115,8 +115,8 @@ fn past_line_piece(s: &[u8], mark: u8) -> Option<&[u8]>
 }
 
 /// Whether the input begins with exactly three delimiters, which close the string.
-fn closes(s: &[u8], mark: u8) -> bool
-    ensures { result ≡ reading.closes mark s.now }
+fn is_closing_delimiter(s: &[u8], mark: u8) -> bool
+    ensures { result ≡ reading.is_closing_delimiter mark s.now }
 {
     first(s) == mark && byte_at(s, 1) == mark && byte_at(s, 2) == mark && byte_at(s, 3) != mark
 }
@@ -128,7 +128,7 @@ pub(crate) fn past_multi(s: &[u8], mark: u8) -> Option<&[u8]>
     let mut rest = s;
     let mut few: usize = 2;
     'pieces: for _piece in 0..s.len() {
-        if closes(rest, mark) {
+        if is_closing_delimiter(rest, mark) {
             return Some(skip(rest, 3));
         }
         if first(rest) != mark {

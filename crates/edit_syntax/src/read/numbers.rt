@@ -9,7 +9,7 @@ ghost use Rattle.edit_syntax.specs.AppendedTokens.{Skips, token_view, parsed_tok
 
 use super::bytes::{Class, byte_at, first, is_in, past_run, skip};
 use super::dates::{past_date_time, past_local_time};
-use super::marks::MarkKind;
+use super::syntax_tokens::TokenKind;
 
 /// Whether the bytes are digits of the class with single underscores between them.
 fn are_digits(s: &[u8], class: Class) -> bool
@@ -29,8 +29,8 @@ fn are_digits(s: &[u8], class: Class) -> bool
 }
 
 /// Whether the bytes are the digits of a decimal integer.
-fn is_whole(s: &[u8]) -> bool
-    ensures { result ≡ numbers.is_whole s.now }
+fn is_decimal_integer(s: &[u8]) -> bool
+    ensures { result ≡ numbers.is_decimal_integer s.now }
 {
     match s {
         [] => false,
@@ -68,7 +68,7 @@ fn past_whole(s: &[u8]) -> Option<&[u8]>
     ensures { Skips result (reading.whole_at s.now) }
 {
     let len = digits_len(s, Class::Decimal);
-    if is_whole(&s[..len]) {
+    if is_decimal_integer(&s[..len]) {
         Some(skip(s, len))
     } else {
         None
@@ -103,20 +103,20 @@ fn past_exponent(s: &[u8]) -> Option<&[u8]>
 
 /// The kind of a float and the input behind it; `s` begins behind the fraction.
 #[tactic(auto, unfolding(crate::specs::ReadingNumbers::fraction_read))]
-fn behind_fraction(s: &[u8]) -> Option<(MarkKind, &[u8])>
+fn behind_fraction(s: &[u8]) -> Option<(TokenKind, &[u8])>
     ensures { (sign : Sign) (whole fraction : List ℕ)
         → token_view result ≡ parsed_token value_kind (reading.fraction_read sign whole fraction s.now) }
 {
     if is_exponent_letter(first(s)) {
         let rest = past_exponent(s)?;
-        return Some((MarkKind::Float, rest));
+        return Some((TokenKind::Float, rest));
     }
-    Some((MarkKind::Float, s))
+    Some((TokenKind::Float, s))
 }
 
 /// The kind of a number and the input behind it; `s` begins behind the integer part.
 #[tactic(auto, unfolding(crate::specs::ReadingNumbers::whole_read))]
-fn behind_whole(s: &[u8]) -> Option<(MarkKind, &[u8])>
+fn behind_whole(s: &[u8]) -> Option<(TokenKind, &[u8])>
     ensures { (sign : Sign) (whole : List ℕ)
         → token_view result ≡ parsed_token value_kind (reading.whole_read sign whole s.now) }
 {
@@ -126,9 +126,9 @@ fn behind_whole(s: &[u8]) -> Option<(MarkKind, &[u8])>
     }
     if is_exponent_letter(first(s)) {
         let rest = past_exponent(s)?;
-        return Some((MarkKind::Float, rest));
+        return Some((TokenKind::Float, rest));
     }
-    Some((MarkKind::Integer, s))
+    Some((TokenKind::Integer, s))
 }
 
 /// Whether the input begins with these three bytes.
@@ -140,14 +140,14 @@ pub(crate) fn begins(s: &[u8], word: [u8; 3]) -> bool
 
 /// The kind of a decimal number and the input behind it; `s` begins behind the sign.
 #[tactic(auto, unfolding(crate::specs::ReadingNumbers::decimal_at))]
-fn past_decimal(s: &[u8]) -> Option<(MarkKind, &[u8])>
+fn past_decimal(s: &[u8]) -> Option<(TokenKind, &[u8])>
     ensures { (sign : Sign) → token_view result ≡ parsed_token value_kind (reading.decimal_at sign s.now) }
 {
     if begins(s, *b"inf") {
-        return Some((MarkKind::Float, skip(s, 3)));
+        return Some((TokenKind::Float, skip(s, 3)));
     }
     if begins(s, *b"nan") {
-        return Some((MarkKind::Float, skip(s, 3)));
+        return Some((TokenKind::Float, skip(s, 3)));
     }
     let behind = past_whole(s)?;
     behind_whole(behind)
@@ -155,12 +155,12 @@ fn past_decimal(s: &[u8]) -> Option<(MarkKind, &[u8])>
 
 /// The kind of an integer with a base prefix and the input behind it; `s` begins behind the prefix.
 #[tactic(auto, unfolding(crate::specs::ReadingNumbers::based_at))]
-fn past_based(s: &[u8], class: Class) -> Option<(MarkKind, &[u8])>
+fn past_based(s: &[u8], class: Class) -> Option<(TokenKind, &[u8])>
     ensures { (base : Base) → class_test class ≡ numbers.base_digit base
         → token_view result ≡ parsed_token value_kind (reading.based_at base s.now) }
 {
     let rest = past_digits(s, class)?;
-    Some((MarkKind::Integer, rest))
+    Some((TokenKind::Integer, rest))
 }
 
 /// Whether the input begins with the base prefix `0` and this letter.
@@ -172,7 +172,7 @@ fn has_prefix(s: &[u8], letter: u8) -> bool
 
 /// The kind of a number without a sign and the input behind it.
 #[tactic(auto, unfolding(crate::specs::ReadingNumbers::unsigned_at))]
-fn past_unsigned(s: &[u8]) -> Option<(MarkKind, &[u8])>
+fn past_unsigned(s: &[u8]) -> Option<(TokenKind, &[u8])>
     ensures { token_view result ≡ parsed_token value_kind (reading.unsigned_at s.now) }
 {
     let behind = first(past_run(s, Class::Decimal));
@@ -196,7 +196,7 @@ fn past_unsigned(s: &[u8]) -> Option<(MarkKind, &[u8])>
 
 /// The kind of a number, a date or a time, and the input behind it.
 #[tactic(auto, unfolding(crate::specs::ReadingNumbers::number_at))]
-pub(crate) fn past_number(s: &[u8]) -> Option<(MarkKind, &[u8])>
+pub(crate) fn past_number(s: &[u8]) -> Option<(TokenKind, &[u8])>
     ensures { token_view result ≡ parsed_token value_kind (reading.number_at s.now) }
 {
     if first(s) == b'+' || first(s) == b'-' {

@@ -1,7 +1,7 @@
 //! Finds where a value or a key of an array or an inline table ends, for edits of these.
 ghost use Rattle.std.specs.Prelude.{◌≡◌, ℕ, List, ◌∷◌, ◌++◌, MatchResult};
 ghost use Rattle.edit_base.specs.Errors.{IsMemory};
-ghost use Rattle.edit_syntax.specs.declared.read.marks.ReadError.TheVariants.{Memory};
+ghost use Rattle.edit_syntax.specs.declared.read.syntax_tokens.ReadError.TheVariants.{Memory};
 ghost use Rattle.edit_syntax.specs.Characters.{equals};
 ghost use Rattle.edit_syntax.specs.Strings.{◌·◌, Key, key as key_text};
 ghost use Rattle.edit_syntax.specs.Grammar.{Between, gap, Value, value as value_text};
@@ -10,13 +10,13 @@ ghost use Rattle.edit_syntax.specs.Reading as reading;
 ghost use Rattle.edit_syntax.specs.Steps.{IsItem, IsKeyAndSign};
 
 use super::bytes::{Class, past, past_run};
-use super::marks::{Mark, ReadError};
+use super::syntax_tokens::{SyntaxToken, ReadError};
 use super::values::{key, value};
 use edit_base::errors::{CargoResult, Error};
 use std::alloc::Global;
 
 /// The error of this crate for a tokenizer error in a text of `len` bytes.
-fn refusal(error: ReadError, len: usize) -> Error
+fn to_error(error: ReadError, len: usize) -> Error
     ensures { error ≡ Memory → IsMemory result }
 {
     match error {
@@ -42,13 +42,13 @@ pub fn past_value(alloc: Global, s: &[u8]) -> CargoResult<&[u8]>
     let mut marks = Vec::new(alloc);
     match value(&mut marks, s, 80) {
         Ok(rest) => Ok(rest),
-        Err(error) => Err(refusal(error, s.len())),
+        Err(error) => Err(to_error(error, s.len())),
     }
 }
 
 /// The input behind the key at the front, its equals sign and the white space around it; the tokens of the
 /// key's parts are appended to `out` (TOML 1.0.0, "Keys").
-pub fn past_name<'a>(out: &mut Vec<Mark>, s: &'a [u8]) -> CargoResult<&'a [u8]>
+pub fn past_name<'a>(out: &mut Vec<SyntaxToken>, s: &'a [u8]) -> CargoResult<&'a [u8]>
     ensures { (k : Key) (a b more : List ℕ) → IsKeyAndSign k a b more
         → s.now ≡ key_text k (a · equals ∷ (b · more))
         → MatchResult result (λ r. (r.now ≡ more)
@@ -56,11 +56,11 @@ pub fn past_name<'a>(out: &mut Vec<Mark>, s: &'a [u8]) -> CargoResult<&'a [u8]>
 {
     let after_key = match key(out, s) {
         Ok(rest) => rest,
-        Err(error) => return Err(refusal(error, s.len())),
+        Err(error) => return Err(to_error(error, s.len())),
     };
     let sign = past_blanks(after_key);
     let Some(rest) = past(sign, b'=') else {
-        return Err(refusal(ReadError::NotToml { left: sign.len() }, s.len()));
+        return Err(to_error(ReadError::NotToml { left: sign.len() }, s.len()));
     };
     Ok(past_blanks(rest))
 }

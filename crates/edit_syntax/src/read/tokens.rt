@@ -6,7 +6,7 @@ ghost use Rattle.edit_syntax.specs.AppendedTokens.{Skips, token_view, parsed_tok
 ghost use Rattle.edit_syntax.specs.SyntaxTokens.{part_kind};
 
 use super::bytes::{Class, byte_at, first, is_bare, is_basic_ch, past, past_run, skip};
-use super::marks::MarkKind;
+use super::syntax_tokens::TokenKind;
 use super::multi::past_multi;
 use super::numbers::{begins, past_number};
 
@@ -87,20 +87,20 @@ fn past_literal(s: &[u8]) -> Option<&[u8]>
 
 /// The kind of a part of a key, and the input behind it.
 #[tactic(auto, unfolding(crate::specs::Reading::part_at))]
-pub(crate) fn past_part(s: &[u8]) -> Option<(MarkKind, &[u8])>
+pub(crate) fn past_part(s: &[u8]) -> Option<(TokenKind, &[u8])>
     ensures { token_view result ≡ parsed_token part_kind (reading.part_at s.now) }
 {
     let b = first(s);
     if b == b'"' {
         let rest = past_basic(skip(s, 1))?;
-        return Some((MarkKind::BasicPart, rest));
+        return Some((TokenKind::BasicPart, rest));
     }
     if b == b'\'' {
         let rest = past_literal(skip(s, 1))?;
-        return Some((MarkKind::LiteralPart, rest));
+        return Some((TokenKind::LiteralPart, rest));
     }
     if is_bare(b) {
-        return Some((MarkKind::BarePart, past_run(s, Class::Bare)));
+        return Some((TokenKind::BarePart, past_run(s, Class::Bare)));
     }
     None
 }
@@ -118,30 +118,30 @@ fn starts(s: &[u8], word: [u8; 4]) -> bool
 
 /// The kind of a value of a single token, and the input behind it.
 #[tactic(auto, unfolding(crate::specs::Reading::scalar_at))]
-pub(crate) fn past_scalar(s: &[u8]) -> Option<(MarkKind, &[u8])>
+pub(crate) fn past_scalar(s: &[u8]) -> Option<(TokenKind, &[u8])>
     ensures { token_view result ≡ parsed_token value_kind (reading.scalar_at s.now) }
 {
     if begins(s, *b"\"\"\"") {
         let rest = past_multi(skip(s, 3), b'"')?;
-        return Some((MarkKind::MultiBasicString, rest));
+        return Some((TokenKind::MultiBasicString, rest));
     }
     if begins(s, *b"'''") {
         let rest = past_multi(skip(s, 3), b'\'')?;
-        return Some((MarkKind::MultiLiteralString, rest));
+        return Some((TokenKind::MultiLiteralString, rest));
     }
     if first(s) == b'"' {
         let rest = past_basic(skip(s, 1))?;
-        return Some((MarkKind::BasicString, rest));
+        return Some((TokenKind::BasicString, rest));
     }
     if first(s) == b'\'' {
         let rest = past_literal(skip(s, 1))?;
-        return Some((MarkKind::LiteralString, rest));
+        return Some((TokenKind::LiteralString, rest));
     }
     if starts(s, *b"true") {
-        return Some((MarkKind::True, skip(s, 4)));
+        return Some((TokenKind::True, skip(s, 4)));
     }
     if starts(s, *b"fals") && byte_at(s, 4) == b'e' {
-        return Some((MarkKind::False, skip(s, 5)));
+        return Some((TokenKind::False, skip(s, 5)));
     }
     past_number(s)
 }

@@ -1,54 +1,54 @@
 //! Tokenizes keys, values and pairs; each function appends to `out` and returns the rest of the input.
 ghost use Rattle.std.specs.Prelude.{◌≡◌, ◌+◌, ◌<◌, MatchResult, drop, length};
-ghost use Rattle.edit_syntax.specs.declared.read.marks.ReadError.TheVariants.{Memory};
+ghost use Rattle.edit_syntax.specs.declared.read.syntax_tokens.ReadError.TheVariants.{Memory};
 ghost use Rattle.edit_syntax.specs.Characters.{left_brace, left_bracket};
 ghost use Rattle.edit_syntax.specs.Reading as reading;
-ghost use Rattle.edit_syntax.specs.SyntaxTokens.{mark, tokens_of_key, tokens_of_value};
+ghost use Rattle.edit_syntax.specs.SyntaxTokens.{token_between, tokens_of_key, tokens_of_value};
 ghost use Rattle.edit_syntax.specs.AppendedTokens.{AppendsTokens, AppendsToken, tokens_of_part, tokens_of_array, tokens_of_pair, tokens_of_inline_table};
 
 use super::bytes::{Class, first, past, past_run, skip};
 use super::gaps::past_gap;
-use super::marks::{Mark, MarkKind, ReadError};
+use super::syntax_tokens::{SyntaxToken, TokenKind, ReadError};
 use super::tokens::{past_part, past_scalar};
 
 /// The number of bytes left, as a token stores it. `ReadError::Memory` where it exceeds 32 bits.
-fn left(s: &[u8]) -> Result<u32, ReadError>
+fn remaining_len(s: &[u8]) -> Result<u32, ReadError>
     ensures { MatchResult result (λ n. n ≡ length s.now) (λ e. e ≡ Memory) }
 {
     u32::try_from(s.len()).map_err(|_| ReadError::Memory)
 }
 
 /// Appends the token that begins at `from` and ends where `to` begins.
-pub(crate) fn note(
-    out: &mut Vec<Mark>,
-    kind: MarkKind,
+pub(crate) fn append_token(
+    out: &mut Vec<SyntaxToken>,
+    kind: TokenKind,
     from: &[u8],
     to: &[u8],
 ) -> Result<(), ReadError>
-    ensures { AppendsToken out.old out.new result (mark kind from.now to.now) }
+    ensures { AppendsToken out.old out.new result (token_between kind from.now to.now) }
 {
-    let mark = Mark {
+    let mark = SyntaxToken {
         kind,
-        from: left(from)?,
-        to: left(to)?,
+        from: remaining_len(from)?,
+        to: remaining_len(to)?,
     };
     out.push(mark)?;
     Ok(())
 }
 
 /// Reads a part of a key.
-fn part<'a>(out: &mut Vec<Mark>, s: &'a [u8]) -> Result<&'a [u8], ReadError>
+fn part<'a>(out: &mut Vec<SyntaxToken>, s: &'a [u8]) -> Result<&'a [u8], ReadError>
     ensures { AppendsTokens tokens_of_part out.old out.new result (reading.part_at s.now) }
 {
     let Some((kind, rest)) = past_part(s) else {
         return Err(ReadError::NotToml { left: s.len() });
     };
-    note(out, kind, s, rest)?;
+    append_token(out, kind, s, rest)?;
     Ok(rest)
 }
 
 /// Reads a key: one part or several joined by dots.
-pub(crate) fn key<'a>(out: &mut Vec<Mark>, s: &'a [u8]) -> Result<&'a [u8], ReadError>
+pub(crate) fn key<'a>(out: &mut Vec<SyntaxToken>, s: &'a [u8]) -> Result<&'a [u8], ReadError>
     ensures { AppendsTokens tokens_of_key out.old out.new result (reading.key_at s.now) }
 {
     let mut rest = part(out, s)?;
@@ -63,13 +63,13 @@ pub(crate) fn key<'a>(out: &mut Vec<Mark>, s: &'a [u8]) -> Result<&'a [u8], Read
 }
 
 /// Reads a value of a single token.
-fn scalar<'a>(out: &mut Vec<Mark>, s: &'a [u8]) -> Result<&'a [u8], ReadError>
+fn scalar<'a>(out: &mut Vec<SyntaxToken>, s: &'a [u8]) -> Result<&'a [u8], ReadError>
     ensures { AppendsTokens tokens_of_value out.old out.new result (reading.scalar_at s.now) }
 {
     let Some((kind, rest)) = past_scalar(s) else {
         return Err(ReadError::NotToml { left: s.len() });
     };
-    note(out, kind, s, rest)?;
+    append_token(out, kind, s, rest)?;
     Ok(rest)
 }
 
@@ -77,7 +77,7 @@ fn scalar<'a>(out: &mut Vec<Mark>, s: &'a [u8]) -> Result<&'a [u8], ReadError>
 #[cycle(values)]
 #[tactic(auto, unfolding(crate::specs::Reading::pair_at))]
 pub(crate) fn pair<'a>(
-    out: &mut Vec<Mark>,
+    out: &mut Vec<SyntaxToken>,
     s: &'a [u8],
     depth: usize,
 ) -> Result<&'a [u8], ReadError>
@@ -102,7 +102,7 @@ fn past_comma(s: &[u8]) -> &[u8]
 /// Reads the pairs of an inline table and its closing brace.
 #[cycle(values)]
 fn members<'a>(
-    out: &mut Vec<Mark>,
+    out: &mut Vec<SyntaxToken>,
     s: &'a [u8],
     depth: usize,
     count: usize,
@@ -115,7 +115,7 @@ fn members<'a>(
     'members: for _member in 0..count {
         if first(rest) == b'}' {
             let after = skip(rest, 1);
-            note(out, MarkKind::CloseTable, rest, after)?;
+            append_token(out, TokenKind::CloseTable, rest, after)?;
             return Ok(after);
         }
         let after_value = pair(out, rest, depth)?;
@@ -124,7 +124,7 @@ fn members<'a>(
             let Some(after) = past(end, b'}') else {
                 return Err(ReadError::NotToml { left: end.len() });
             };
-            note(out, MarkKind::CloseTable, end, after)?;
+            append_token(out, TokenKind::CloseTable, end, after)?;
             return Ok(after);
         }
         rest = past_comma(end);
@@ -135,7 +135,7 @@ fn members<'a>(
 /// Reads the elements of an array and its closing bracket.
 #[cycle(values)]
 fn elements<'a>(
-    out: &mut Vec<Mark>,
+    out: &mut Vec<SyntaxToken>,
     s: &'a [u8],
     depth: usize,
     count: usize,
@@ -148,7 +148,7 @@ fn elements<'a>(
     'elements: for _element in 0..count {
         if first(rest) == b']' {
             let after = skip(rest, 1);
-            note(out, MarkKind::CloseArray, rest, after)?;
+            append_token(out, TokenKind::CloseArray, rest, after)?;
             return Ok(after);
         }
         let after_value = value(out, rest, depth)?;
@@ -157,7 +157,7 @@ fn elements<'a>(
             let Some(after) = past(end, b']') else {
                 return Err(ReadError::NotToml { left: end.len() });
             };
-            note(out, MarkKind::CloseArray, end, after)?;
+            append_token(out, TokenKind::CloseArray, end, after)?;
             return Ok(after);
         }
         rest = past_comma(end);
@@ -167,25 +167,25 @@ fn elements<'a>(
 
 /// Reads an array whose elements nest at most `depth` deep.
 #[cycle(values)]
-fn array<'a>(out: &mut Vec<Mark>, s: &'a [u8], depth: usize) -> Result<&'a [u8], ReadError>
+fn array<'a>(out: &mut Vec<SyntaxToken>, s: &'a [u8], depth: usize) -> Result<&'a [u8], ReadError>
     requires shallow { depth < 1000 }
     requires opened { reading.first s.now ≡ left_bracket }
     ensures { AppendsTokens tokens_of_value out.old out.new result (reading.value_at (depth + 1) s.now) }
 {
     let behind = skip(s, 1);
-    note(out, MarkKind::OpenArray, s, behind)?;
+    append_token(out, TokenKind::OpenArray, s, behind)?;
     elements(out, past_gap(behind), depth, s.len())
 }
 
 /// Reads an inline table whose values nest at most `depth` deep.
 #[cycle(values)]
-fn inline_table<'a>(out: &mut Vec<Mark>, s: &'a [u8], depth: usize) -> Result<&'a [u8], ReadError>
+fn inline_table<'a>(out: &mut Vec<SyntaxToken>, s: &'a [u8], depth: usize) -> Result<&'a [u8], ReadError>
     requires shallow { depth < 1000 }
     requires opened { reading.first s.now ≡ left_brace }
     ensures { AppendsTokens tokens_of_value out.old out.new result (reading.value_at (depth + 1) s.now) }
 {
     let behind = skip(s, 1);
-    note(out, MarkKind::OpenTable, s, behind)?;
+    append_token(out, TokenKind::OpenTable, s, behind)?;
     members(out, past_gap(behind), depth, s.len())
 }
 
@@ -193,7 +193,7 @@ fn inline_table<'a>(out: &mut Vec<Mark>, s: &'a [u8], depth: usize) -> Result<&'
 #[cycle(values)]
 #[tactic(auto, unfolding(crate::specs::Reading::value_at))]
 pub(crate) fn value<'a>(
-    out: &mut Vec<Mark>,
+    out: &mut Vec<SyntaxToken>,
     s: &'a [u8],
     depth: usize,
 ) -> Result<&'a [u8], ReadError>

@@ -1,5 +1,5 @@
 //! Tests of finding, reading and writing manifests.
-use crate::assertion_helpers::{check_result, kept, made, told, unwrap_ok};
+use crate::assertion_helpers::{check_result, unwrap_alloc, text_or_error, error_number_and_text, unwrap_ok};
 use crate::rows::field;
 use edit_base::CargoResult;
 use edit_manifest::{LocalManifest, find};
@@ -33,19 +33,19 @@ fn store_of(rt: &impl Abort, alloc: Global, at: u64) -> FaultStore {
 }
 
 /// The text of a manifest, after its path where it is loaded; or the error.
-fn shown(rt: &impl Abort, alloc: Global, call: &str, local: CargoResult<LocalManifest>) -> String {
+fn manifest_or_error(rt: &impl Abort, alloc: Global, call: &str, local: CargoResult<LocalManifest>) -> String {
     match local {
         Ok(local) if call == "load" => {
-            kept(rt, format!(in alloc; "{} {}", local.path, local.manifest))
+            unwrap_alloc(rt, format!(in alloc; "{} {}", local.path, local.manifest))
         }
-        Ok(local) => kept(rt, format!(in alloc; "{}", local.manifest)),
-        Err(error) => told(rt, alloc, error),
+        Ok(local) => unwrap_alloc(rt, format!(in alloc; "{}", local.manifest)),
+        Err(error) => error_number_and_text(rt, alloc, error),
     }
 }
 
 /// The text of the manifest that is found, with another version of its package, written and read again; or
 /// the error of writing it.
-fn written(
+fn rewritten_manifest(
     rt: &impl Abort,
     alloc: Global,
     store: &mut FaultStore,
@@ -57,9 +57,9 @@ fn written(
     match local.write(alloc, store) {
         Ok(()) => {
             let path = local.path.as_str();
-            shown(rt, alloc, "", LocalManifest::try_new(alloc, store, path))
+            manifest_or_error(rt, alloc, "", LocalManifest::try_new(alloc, store, path))
         }
-        Err(error) => told(rt, alloc, error),
+        Err(error) => error_number_and_text(rt, alloc, error),
     }
 }
 
@@ -68,10 +68,10 @@ fn answer(rt: &impl Abort, alloc: Global, store: &mut FaultStore, row: &str) -> 
     let (call, path, current) = (field(row, 1), field(row, 2), field(row, 3));
     let named = (path != "-").then_some(path);
     match call {
-        "find" => made(rt, alloc, find(alloc, store, named, current)),
-        "write" => written(rt, alloc, store, named, current),
-        "open" => shown(rt, alloc, call, LocalManifest::try_new(alloc, store, path)),
-        _ => shown(
+        "find" => text_or_error(rt, alloc, find(alloc, store, named, current)),
+        "write" => rewritten_manifest(rt, alloc, store, named, current),
+        "open" => manifest_or_error(rt, alloc, call, LocalManifest::try_new(alloc, store, path)),
+        _ => manifest_or_error(
             rt,
             alloc,
             call,

@@ -1,5 +1,5 @@
 //! Kinds of dependencies and their tables.
-use crate::assertion_helpers::{kept, text, unwrap_ok};
+use crate::assertion_helpers::{unwrap_alloc, text, unwrap_ok};
 use crate::rows::{LINES, check_rows};
 use edit_manifest::{DepKind, DepTable};
 use std::alloc::Global;
@@ -24,12 +24,12 @@ fn table_of(rt: &impl Abort, alloc: Global, kind: &str, target: &str) -> DepTabl
 }
 
 /// The name of a table, and its target.
-fn shown(rt: &impl Abort, alloc: Global, table: &DepTable) -> String {
+fn table_name_text(rt: &impl Abort, alloc: Global, table: &DepTable) -> String {
     let target = table
         .target
         .as_ref()
         .map_or("all", |target| target.as_str());
-    kept(rt, format!(in alloc; "{} {target}", table.kind_table()))
+    unwrap_alloc(rt, format!(in alloc; "{} {target}", table.kind_table()))
 }
 
 /// The name of a table of a kind, and the target of its copy.
@@ -39,7 +39,7 @@ fn answer(rt: &impl Abort, alloc: Global, kind: &str, target: &str) -> String {
     if copy != table {
         return text(rt, alloc, "another copy");
     }
-    shown(rt, alloc, &copy)
+    table_name_text(rt, alloc, &copy)
 }
 
 /// Rows: the name of the table of a kind, and its target; the kind and the target.

@@ -1,32 +1,32 @@
 //! Tests of dependency tables, by calls that no program makes.
-use crate::assertion_helpers::{check_result, kept, push, text, unwrap_ok};
+use crate::assertion_helpers::{check_result, unwrap_alloc, push, text, unwrap_ok};
 use crate::rows::{TILDES, check_rows};
-use edit_document::{Step, copied_place};
+use edit_document::{Step, clone_place};
 use edit_manifest::Manifest;
 use std::alloc::Global;
 use std::process::Abort;
 
 /// A step as a text.
-fn step_shown(rt: &impl Abort, alloc: Global, step: &Step) -> String {
+fn step_text(rt: &impl Abort, alloc: Global, step: &Step) -> String {
     match step {
         Step::Key(name) => text(rt, alloc, name.as_str()),
-        Step::Index(index) => kept(rt, format!(in alloc; "#{index}")),
+        Step::Index(index) => unwrap_alloc(rt, format!(in alloc; "#{index}")),
     }
 }
 
 /// The steps of a place, with a slash between them.
-fn shown(rt: &impl Abort, alloc: Global, place: &[Step]) -> String {
+fn steps_text(rt: &impl Abort, alloc: Global, place: &[Step]) -> String {
     let mut seen = Vec::new(alloc);
     'steps: for step in place {
-        push(rt, &mut seen, step_shown(rt, alloc, step));
+        push(rt, &mut seen, step_text(rt, alloc, step));
     }
-    kept(rt, seen.join(alloc, "/"))
+    unwrap_alloc(rt, seen.join(alloc, "/"))
 }
 
 /// The table `workspace.dependencies`.
-fn shared(rt: &impl Abort, alloc: Global, manifest: &Manifest) -> String {
+fn workspace_dependencies(rt: &impl Abort, alloc: Global, manifest: &Manifest) -> String {
     match unwrap_ok(rt, manifest.get_workspace_dependency_table_mut(alloc)) {
-        Some(place) => shown(rt, alloc, &place),
+        Some(place) => steps_text(rt, alloc, &place),
         None => text(rt, alloc, "none"),
     }
 }
@@ -35,8 +35,8 @@ fn shared(rt: &impl Abort, alloc: Global, manifest: &Manifest) -> String {
 fn tables(rt: &impl Abort, alloc: Global, manifest: &Manifest) -> String {
     let mut seen = String::new(alloc);
     'places: for place in &unwrap_ok(rt, manifest.get_dependency_tables_mut(alloc)) {
-        kept(rt, seen.push_str(shown(rt, alloc, place).as_str()));
-        kept(rt, seen.push(';'));
+        unwrap_alloc(rt, seen.push_str(steps_text(rt, alloc, place).as_str()));
+        unwrap_alloc(rt, seen.push(';'));
     }
     seen
 }
@@ -45,7 +45,7 @@ fn tables(rt: &impl Abort, alloc: Global, manifest: &Manifest) -> String {
 fn answer(rt: &impl Abort, alloc: Global, call: &str, source: &str) -> String {
     let manifest = unwrap_ok(rt, Manifest::read(alloc, source));
     match call {
-        "shared" => shared(rt, alloc, &manifest),
+        "shared" => workspace_dependencies(rt, alloc, &manifest),
         _ => tables(rt, alloc, &manifest),
     }
 }
@@ -71,11 +71,11 @@ fn lists_dependency_tables(rt: HostRuntime) {
 #[test]
 fn copies_a_place(rt: HostRuntime) {
     let steps = [Step::Key(text(&rt, rt.alloc(), "bin")), Step::Index(2)];
-    let copy = unwrap_ok(&rt, copied_place(rt.alloc(), &steps));
+    let copy = unwrap_ok(&rt, clone_place(rt.alloc(), &steps));
     check_result(
         &rt,
         "a place",
-        shown(&rt, rt.alloc(), &copy).as_str(),
+        steps_text(&rt, rt.alloc(), &copy).as_str(),
         "bin/#2",
     );
 }

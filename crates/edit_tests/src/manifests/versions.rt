@@ -1,5 +1,5 @@
 //! Tests of the versions in manifests, by calls that no program makes.
-use crate::assertion_helpers::{push, text, told, unwrap_ok, word_or_error};
+use crate::assertion_helpers::{push, text, error_number_and_text, unwrap_ok, word_or_error};
 use crate::rows::{TILDES, check_rows};
 use edit_document::{Document, Place, Step};
 use edit_manifest::{Manifest, get_dep_version, set_dep_version};
@@ -20,7 +20,7 @@ fn place_of(rt: &impl Abort, alloc: Global, names: &str) -> Place {
 fn requirement(rt: &impl Abort, alloc: Global, document: &Document, place: &[Step]) -> String {
     match document.item(place).map(|item| get_dep_version(item)) {
         Some(Ok(requirement)) => text(rt, alloc, requirement),
-        Some(Err(error)) => told(rt, alloc, error),
+        Some(Err(error)) => error_number_and_text(rt, alloc, error),
         None => text(rt, alloc, "no entry"),
     }
 }
@@ -69,7 +69,7 @@ fn set(rt: &impl Abort, alloc: Global, manifest: &mut Manifest, word: &str, rest
 }
 
 /// The text of a manifest after a change; or the error, where the text is unchanged then.
-fn changed(
+fn manifest_or_error(
     rt: &impl Abort,
     alloc: Global,
     manifest: &mut Manifest,
@@ -94,7 +94,7 @@ fn answer(rt: &impl Abort, alloc: Global, call: &str, source: &str) -> String {
     if word == "requirement" {
         return requirement(rt, alloc, &copy.document, &place_of(rt, alloc, rest));
     }
-    changed(rt, alloc, &mut copy, (word, rest), source)
+    manifest_or_error(rt, alloc, &mut copy, (word, rest), source)
 }
 
 /// What is answered, the call and the text; a row ends at `~` (Cargo reference, "The Manifest Format", The

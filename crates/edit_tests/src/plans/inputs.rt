@@ -1,7 +1,7 @@
 //! A plan of two manifests in distinct folders.
 ghost use Rattle.std.specs.Prelude.{◌≡◌, string_bytes};
 
-use crate::assertion_helpers::{check_result, kept, push, text, unwrap_ok};
+use crate::assertion_helpers::{check_result, unwrap_alloc, push, text, unwrap_ok};
 use cargo_edit::upgrade::{Options, UpgradePlan, plan_shared, plan_upgrade};
 use cargo_edit::workspace::Input;
 use edit_cache::IndexCache;
@@ -24,13 +24,13 @@ fn input_at(rt: &impl Abort, alloc: Global, path: &str, bytes: &[u8]) -> Input
     Input {
         name: text(rt, alloc, "w"),
         path: text(rt, alloc, path),
-        bytes: kept(rt, Vec::from_slice(alloc, bytes)),
+        bytes: unwrap_alloc(rt, Vec::from_slice(alloc, bytes)),
         rust_version: None,
     }
 }
 
 /// The options of an upgrade whose command line has no arguments.
-fn plain(alloc: Global) -> Options {
+fn default_options(alloc: Global) -> Options {
     Options {
         compatible: true,
         incompatible: false,
@@ -46,7 +46,7 @@ fn plain(alloc: Global) -> Options {
 }
 
 /// The plan of the manifests of two folders.
-fn planned(rt: &impl Abort, alloc: Global, index: &mut IndexCache<FileIndex>) -> UpgradePlan {
+fn plan_of_two_folders(rt: &impl Abort, alloc: Global, index: &mut IndexCache<FileIndex>) -> UpgradePlan {
     let first = b"[dependencies]\nx = \"1.0\"\n";
     let second = b"[dependencies]\ny = \"1.2\"\nx = \"1.1\"\n";
     let inputs = [
@@ -54,7 +54,7 @@ fn planned(rt: &impl Abort, alloc: Global, index: &mut IndexCache<FileIndex>) ->
         input_at(rt, alloc, "/w/b/Cargo.toml", second),
     ];
     let configs = [Vec::new(alloc), Vec::new(alloc)];
-    let options = plain(alloc);
+    let options = default_options(alloc);
     unwrap_ok(rt, plan_upgrade(alloc, &options, &inputs, &configs, index))
 }
 
@@ -62,9 +62,9 @@ fn planned(rt: &impl Abort, alloc: Global, index: &mut IndexCache<FileIndex>) ->
 fn outcome(rt: &impl Abort, alloc: Global) -> String {
     let lines = unwrap_ok(rt, FileIndex::read(alloc, INDEX.as_bytes()));
     let mut index = IndexCache::new(alloc, lines);
-    let plan = planned(rt, alloc, &mut index);
+    let plan = plan_of_two_folders(rt, alloc, &mut index);
     let (outputs, rows, looks) = (plan.outputs.len(), plan.rows.len(), plan.looks.len());
-    kept(
+    unwrap_alloc(
         rt,
         format!(in alloc; "{outputs} outputs, {rows} rows, {looks} looks"),
     )
@@ -108,7 +108,7 @@ fn addresses(rt: &impl Abort, alloc: Global, index: &mut IndexCache<FileIndex>) 
         list_at(rt, alloc, "https://one.example/"),
         list_at(rt, alloc, "https://two.example/"),
     ];
-    let options = plain(alloc);
+    let options = default_options(alloc);
     let which = [1, 0];
     let plan = unwrap_ok(
         rt,
@@ -116,7 +116,7 @@ fn addresses(rt: &impl Abort, alloc: Global, index: &mut IndexCache<FileIndex>) 
     );
     let mut all = String::new(alloc);
     for look in &plan.looks {
-        kept(rt, write!(all, "{} ", look.registry.as_str()));
+        unwrap_alloc(rt, write!(all, "{} ", look.registry.as_str()));
     }
     all
 }

@@ -1,8 +1,8 @@
 //! Tests of the calls that build a `Dependency`, of its text and its order.
 use super::entry_rows::dependency_fields;
-use super::parts::compared;
+use super::parts::comparison_text;
 use super::written_rows::record_of;
-use crate::assertion_helpers::{kept, text, unwrap_ok};
+use crate::assertion_helpers::{unwrap_alloc, text, unwrap_ok};
 use crate::rows::{LINES, check_rows};
 use edit_record::{Dependency, Source};
 use std::alloc::Global;
@@ -71,23 +71,23 @@ fn kind(source: &Source) -> &'static str {
 }
 
 /// The fields of a `Dependency`, and the variant of its source.
-fn record_shown(rt: &impl Abort, alloc: Global, record: &Dependency) -> String {
+fn record_text(rt: &impl Abort, alloc: Global, record: &Dependency) -> String {
     let told = dependency_fields(rt, alloc, record);
     let kind = record.source().map_or("none", kind);
-    kept(rt, format!(in alloc; "{told}, {kind}"))
+    unwrap_alloc(rt, format!(in alloc; "{told}, {kind}"))
 }
 
 /// The fields of the copy of a `Dependency`.
 fn copied_fields(rt: &impl Abort, alloc: Global, record: &Dependency, copy: &Dependency) -> String {
     if copy == record {
-        record_shown(rt, alloc, copy)
+        record_text(rt, alloc, copy)
     } else {
         text(rt, alloc, "another copy")
     }
 }
 
 /// The fields of a copy of the `Dependency` of a row.
-fn built(rt: &impl Abort, alloc: Global, name: &str, parts: &str) -> String {
+fn copied_record_text(rt: &impl Abort, alloc: Global, name: &str, parts: &str) -> String {
     let record = record_of(rt, alloc, name, parts);
     let copy = unwrap_ok(rt, record.try_clone(alloc));
     copied_fields(rt, alloc, &record, &copy)
@@ -95,14 +95,14 @@ fn built(rt: &impl Abort, alloc: Global, name: &str, parts: &str) -> String {
 
 #[test]
 fn built_records(rt: HostRuntime) {
-    check_rows(&rt, rt.alloc(), BUILT, LINES, built);
+    check_rows(&rt, rt.alloc(), BUILT, LINES, copied_record_text);
 }
 
 /// How two `Dependency` values with these parts compare.
 fn compared_parts(rt: &impl Abort, alloc: Global, one: &str, other: &str) -> String {
     let one = record_of(rt, alloc, "x", one);
     let other = record_of(rt, alloc, "x", other);
-    compared(rt, alloc, &one, &other)
+    comparison_text(rt, alloc, &one, &other)
 }
 
 #[test]

@@ -1,6 +1,6 @@
 //! Tests of calls of index entries and of Rust versions that no program makes.
-use super::parts::{chosen, compared, shown};
-use crate::assertion_helpers::{kept, push, text, unwrap_ok};
+use super::parts::{choice_text, comparison_text, dependency_text};
+use crate::assertion_helpers::{unwrap_alloc, push, text, unwrap_ok};
 use crate::rows::{LINES, check_rows};
 use edit_record::{
     IndexVersion, RustVersion, dependency_on, find_compatible_version, find_latest_version,
@@ -28,24 +28,24 @@ fn entry(rt: &impl Abort, alloc: Global) -> IndexVersion {
 }
 
 /// The version among entries that is selected for a requirement.
-fn compatible(rt: &impl Abort, alloc: Global, entries: &[IndexVersion]) -> String {
+fn select_compatible(rt: &impl Abort, alloc: Global, entries: &[IndexVersion]) -> String {
     let req = VersionReq::parse(alloc, "1")
         .ok()
         .expect(rt, "a requirement");
     let found = find_compatible_version(alloc, entries, &req, None);
-    chosen(rt, alloc, found)
+    choice_text(rt, alloc, found)
 }
 
 /// The version that is selected where an entry is the only one.
-fn selected_alone(rt: &impl Abort, alloc: Global, call: &str, told: IndexVersion) -> String {
+fn select_from_one(rt: &impl Abort, alloc: Global, call: &str, told: IndexVersion) -> String {
     let mut entries = Vec::new(alloc);
     push(rt, &mut entries, told);
     match call {
         "latest" => {
             let found = find_latest_version(alloc, entries.as_slice(), false, None);
-            chosen(rt, alloc, found)
+            choice_text(rt, alloc, found)
         }
-        _ => compatible(rt, alloc, entries.as_slice()),
+        _ => select_compatible(rt, alloc, entries.as_slice()),
     }
 }
 
@@ -54,7 +54,7 @@ fn suits(rt: &impl Abort, alloc: Global, told: &IndexVersion) -> String {
     match unwrap_ok(rt, read_candidate(alloc, told)) {
         Some(candidate) => {
             let suits = candidate.is_for(Some(RustVersion::MIN));
-            kept(rt, format!(in alloc; "{suits}"))
+            unwrap_alloc(rt, format!(in alloc; "{suits}"))
         }
         None => text(rt, alloc, "unread"),
     }
@@ -63,28 +63,28 @@ fn suits(rt: &impl Abort, alloc: Global, told: &IndexVersion) -> String {
 /// The dependency on an entry.
 fn depends(rt: &impl Abort, alloc: Global, told: &IndexVersion) -> String {
     let dependency = unwrap_ok(rt, dependency_on(alloc, told));
-    shown(rt, alloc, &dependency)
+    dependency_text(rt, alloc, &dependency)
 }
 
 /// The copy of an entry.
-fn copied(rt: &impl Abort, alloc: Global) -> IndexVersion {
+fn entry_copy(rt: &impl Abort, alloc: Global) -> IndexVersion {
     let entry = entry(rt, alloc);
     unwrap_ok(rt, entry.try_clone(alloc))
 }
 
 /// The result of a call on the copy of an entry.
-fn found(rt: &impl Abort, alloc: Global, call: &str, _row: &str) -> String {
-    let copy = copied(rt, alloc);
+fn call_result(rt: &impl Abort, alloc: Global, call: &str, _row: &str) -> String {
+    let copy = entry_copy(rt, alloc);
     match call {
         "depends" => depends(rt, alloc, &copy),
         "suits 1.0.0" => suits(rt, alloc, &copy),
-        _ => selected_alone(rt, alloc, call, copy),
+        _ => select_from_one(rt, alloc, call, copy),
     }
 }
 
 #[test]
 fn entries_are_found(rt: HostRuntime) {
-    check_rows(&rt, rt.alloc(), FOUND, LINES, found);
+    check_rows(&rt, rt.alloc(), FOUND, LINES, call_result);
 }
 
 /// The Rust version of a version; the least and the greatest; how two compare, and whether they have one
@@ -108,7 +108,7 @@ fn numbers(rt: &impl Abort, alloc: Global, version: RustVersion) -> String {
         minor,
         patch,
     } = version;
-    kept(rt, format!(in alloc; "{major}.{minor}.{patch}"))
+    unwrap_alloc(rt, format!(in alloc; "{major}.{minor}.{patch}"))
 }
 
 /// How the Rust versions of two texts compare.
@@ -116,7 +116,7 @@ fn compared_texts(rt: &impl Abort, alloc: Global, texts: &str) -> String {
     let (one, other) = texts.split_once(' ').unwrap_or((texts, ""));
     let one = unwrap_ok(rt, RustVersion::from_str(alloc, one));
     let other = unwrap_ok(rt, RustVersion::from_str(alloc, other));
-    compared(rt, alloc, &one, &other)
+    comparison_text(rt, alloc, &one, &other)
 }
 
 /// The Rust version from the version of a text.

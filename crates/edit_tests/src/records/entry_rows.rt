@@ -1,6 +1,6 @@
 //! Tests of entries of a dependency table, each read as a `Dependency`.
 use super::parts::record_at;
-use crate::assertion_helpers::{kept, text, unfolded};
+use crate::assertion_helpers::{unwrap_alloc, text, unfold_lines};
 use crate::rows::{LINES, check_rows};
 use edit_record::Dependency;
 use std::alloc::Global;
@@ -66,7 +66,7 @@ fn truth(value: Option<bool>) -> &'static str {
 /// Features separated by commas, `-` where the entry has none.
 fn features(rt: &impl Abort, alloc: Global, texts: Option<&Vec<String>>) -> String {
     match texts {
-        Some(texts) => kept(rt, texts.as_slice().join(alloc, ",")),
+        Some(texts) => unwrap_alloc(rt, texts.as_slice().join(alloc, ",")),
         None => text(rt, alloc, "-"),
     }
 }
@@ -76,7 +76,7 @@ fn feature_fields(rt: &impl Abort, alloc: Global, record: &Dependency) -> String
     let features = features(rt, alloc, record.features.as_ref());
     let default_features = truth(record.default_features());
     let optional = truth(record.optional());
-    kept(
+    unwrap_alloc(
         rt,
         format!(in alloc; "{features} {default_features} {optional}"),
     )
@@ -88,7 +88,7 @@ pub(crate) fn dependency_fields(rt: &impl Abort, alloc: Global, record: &Depende
     let key = record.toml_key();
     let version = record.version().unwrap_or("-");
     let registry = record.registry().unwrap_or("-");
-    kept(
+    unwrap_alloc(
         rt,
         format!(in alloc; "{record} {key} {version} {registry} {rest}"),
     )
@@ -96,13 +96,13 @@ pub(crate) fn dependency_fields(rt: &impl Abort, alloc: Global, record: &Depende
 
 /// The result of reading the entry of a row.
 fn entry(rt: &impl Abort, alloc: Global, key: &str, entries: &str) -> String {
-    let entries = unfolded(rt, alloc, entries);
-    let manifest = kept(rt, format!(in alloc; "[dependencies]\n{entries}"));
+    let entries = unfold_lines(rt, alloc, entries);
+    let manifest = unwrap_alloc(rt, format!(in alloc; "[dependencies]\n{entries}"));
     let record = record_at(rt, alloc, "/foo", key, manifest.as_str());
     dependency_fields(rt, alloc, &record)
 }
 
 #[test]
-fn entries(rt: HostRuntime) {
+fn reads_entries(rt: HostRuntime) {
     check_rows(&rt, rt.alloc(), ENTRIES, LINES, entry);
 }

@@ -1,5 +1,5 @@
 //! What the tests of records make and tell.
-use crate::assertion_helpers::{kept, text, told, unwrap_ok};
+use crate::assertion_helpers::{unwrap_alloc, text, error_number_and_text, unwrap_ok};
 use edit_base::CargoResult;
 use edit_document::{Document, Item};
 use edit_record::Dependency;
@@ -29,28 +29,28 @@ pub(crate) fn record_at(
 }
 
 /// The name of a dependency, its version and its new name; `-` for none.
-pub(crate) fn shown(rt: &impl Abort, alloc: Global, dependency: &Dependency) -> String {
+pub(crate) fn dependency_text(rt: &impl Abort, alloc: Global, dependency: &Dependency) -> String {
     let name = dependency.name.as_str();
     let version = dependency.version().unwrap_or("-");
     let rename = dependency.rename.as_ref().map_or("-", |text| text.as_str());
-    kept(rt, format!(in alloc; "{name} {version} {rename}"))
+    unwrap_alloc(rt, format!(in alloc; "{name} {version} {rename}"))
 }
 
 /// The dependency that is chosen, `-` for none, or the refusal.
-pub(crate) fn chosen(
+pub(crate) fn choice_text(
     rt: &impl Abort,
     alloc: Global,
     chosen: CargoResult<Option<Dependency>>,
 ) -> String {
     match chosen {
-        Ok(Some(dependency)) => shown(rt, alloc, &dependency),
+        Ok(Some(dependency)) => dependency_text(rt, alloc, &dependency),
         Ok(None) => text(rt, alloc, "-"),
-        Err(error) => told(rt, alloc, error),
+        Err(error) => error_number_and_text(rt, alloc, error),
     }
 }
 
 /// The hash of a value.
-fn hashed<T: Hash>(value: &T) -> u64 {
+fn hash_of<T: Hash>(value: &T) -> u64 {
     BuildHasherDefault::<FoldHasher>::default().hash_one(value)
 }
 
@@ -66,7 +66,7 @@ fn order<T: Ord>(one: &T, other: &T) -> &'static str {
 
 /// Whether two values have one hash.
 fn hashes<T: Hash>(one: &T, other: &T) -> &'static str {
-    if hashed(one) == hashed(other) {
+    if hash_of(one) == hash_of(other) {
         "one hash"
     } else {
         "two hashes"
@@ -74,7 +74,7 @@ fn hashes<T: Hash>(one: &T, other: &T) -> &'static str {
 }
 
 /// How one value compares to another, and whether they have one hash.
-pub(crate) fn compared<T: Ord + Hash>(
+pub(crate) fn comparison_text<T: Ord + Hash>(
     rt: &impl Abort,
     alloc: Global,
     one: &T,
@@ -82,5 +82,5 @@ pub(crate) fn compared<T: Ord + Hash>(
 ) -> String {
     let order = order(one, other);
     let hashes = hashes(one, other);
-    kept(rt, format!(in alloc; "{order}, {hashes}"))
+    unwrap_alloc(rt, format!(in alloc; "{order}, {hashes}"))
 }

@@ -1,7 +1,7 @@
 //! Rows of entries that come to say what a record says: the manifest that is left, the manifest, and the
 //! record, its parts between semicolons. Lines end with `@`; a manifest without a header is one of entries.
 use super::written_rows::record;
-use crate::assertion_helpers::{kept, push, text, unfolded, unwrap_ok, word_or_error};
+use crate::assertion_helpers::{unwrap_alloc, push, text, unfold_lines, unwrap_ok, word_or_error};
 use crate::rows::{LINES, check_rows};
 use edit_base::CargoResult;
 use edit_document::{Document, Place, Step};
@@ -135,20 +135,20 @@ fn update(
 }
 
 /// The manifest after the update, and the error where there is one.
-fn left(rt: &impl Abort, alloc: Global, document: &Document, refusal: &str) -> String {
+fn manifest_and_error(rt: &impl Abort, alloc: Global, document: &Document, refusal: &str) -> String {
     let text = document.as_str();
     let text = text.strip_prefix(HEADER).unwrap_or(text);
-    let left = kept(rt, text.replace(alloc, '\n', "@"));
+    let left = unwrap_alloc(rt, text.replace(alloc, '\n', "@"));
     let comma = if refusal.is_empty() { "" } else { ", " };
-    kept(rt, format!(in alloc; "{left}{comma}{refusal}"))
+    unwrap_alloc(rt, format!(in alloc; "{left}{comma}{refusal}"))
 }
 
 /// The manifest of a row: below `[dependencies]` where it has no header.
 fn manifest(rt: &impl Abort, alloc: Global, lines: &str) -> String {
     let is_whole = lines.starts_with('[') || lines.starts_with("dependencies");
     let header = if is_whole { "" } else { HEADER };
-    let lines = unfolded(rt, alloc, lines);
-    kept(rt, format!(in alloc; "{header}{lines}"))
+    let lines = unfold_lines(rt, alloc, lines);
+    unwrap_alloc(rt, format!(in alloc; "{header}{lines}"))
 }
 
 /// The manifest of a row after an update of its dependency from a `Dependency`.
@@ -158,16 +158,16 @@ fn left_by(rt: &impl Abort, alloc: Global, lines: &str, record: &Dependency) -> 
     let place = place_of(rt, alloc, lines);
     let answer = update(alloc, &mut document, record, &place);
     let refusal = word_or_error(rt, alloc, answer, "");
-    left(rt, alloc, &document, refusal.as_str())
+    manifest_and_error(rt, alloc, &document, refusal.as_str())
 }
 
 /// The manifest of a row after an update from the `Dependency` of the row.
-fn updated(rt: &impl Abort, alloc: Global, lines: &str, parts: &str) -> String {
+fn update_row(rt: &impl Abort, alloc: Global, lines: &str, parts: &str) -> String {
     let record = record(rt, alloc, parts);
     left_by(rt, alloc, lines, &record)
 }
 
 #[test]
 fn entries_are_updated(rt: HostRuntime) {
-    check_rows(&rt, rt.alloc(), UPDATED, LINES, updated);
+    check_rows(&rt, rt.alloc(), UPDATED, LINES, update_row);
 }

@@ -1,5 +1,5 @@
 //! Tests of calls of versions and of `NAME@REQUIREMENT` arguments that no program makes.
-use crate::assertion_helpers::{kept, text, unwrap_ok};
+use crate::assertion_helpers::{unwrap_alloc, text, unwrap_ok};
 use crate::rows::{LINES, check_rows};
 use edit_version::{CrateSpec, VersionExt, cut};
 use semver::Version;
@@ -20,37 +20,37 @@ fn version(rt: &impl Abort, alloc: Global, text: &str) -> Version {
 }
 
 /// The next patch version.
-fn patched(rt: &impl Abort, alloc: Global, text: &str) -> String {
+fn next_patch(rt: &impl Abort, alloc: Global, text: &str) -> String {
     let mut version = version(rt, alloc, text);
     unwrap_ok(rt, version.increment_patch());
-    kept(rt, format!(in alloc; "{version}"))
+    unwrap_alloc(rt, format!(in alloc; "{version}"))
 }
 
 /// Whether a version has a pre-release.
 fn has_prerelease(rt: &impl Abort, alloc: Global, text: &str) -> String {
     let has = version(rt, alloc, text).is_prerelease();
-    kept(rt, format!(in alloc; "{has}"))
+    unwrap_alloc(rt, format!(in alloc; "{has}"))
 }
 
 /// The name and the requirement of an argument.
-fn named(rt: &impl Abort, alloc: Global, word: &str) -> String {
+fn spec_text(rt: &impl Abort, alloc: Global, word: &str) -> String {
     let spec = unwrap_ok(rt, CrateSpec::from_str(alloc, word));
     let name = spec.name.as_str();
     let req = spec.version_req.as_ref().map_or("-", |text| text.as_str());
-    kept(rt, format!(in alloc; "{name} {req}"))
+    unwrap_alloc(rt, format!(in alloc; "{name} {req}"))
 }
 
 /// The result of a call.
-fn given(rt: &impl Abort, alloc: Global, call: &str, argument: &str) -> String {
+fn call_result(rt: &impl Abort, alloc: Global, call: &str, argument: &str) -> String {
     match call {
-        "patch" => patched(rt, alloc, argument),
+        "patch" => next_patch(rt, alloc, argument),
         "pre-release" => has_prerelease(rt, alloc, argument),
         "cut" => text(rt, alloc, cut(argument)),
-        _ => named(rt, alloc, argument),
+        _ => spec_text(rt, alloc, argument),
     }
 }
 
 #[test]
 fn calls_of_versions(rt: HostRuntime) {
-    check_rows(&rt, rt.alloc(), CALLS, LINES, given);
+    check_rows(&rt, rt.alloc(), CALLS, LINES, call_result);
 }

@@ -1,7 +1,7 @@
 //! Rows of records and their new entries: what is written, the folder of the manifest, and what the record
 //! says, its parts between semicolons.
 use super::parts::record_at;
-use crate::assertion_helpers::{kept, made, push, text, unwrap_ok};
+use crate::assertion_helpers::{unwrap_alloc, text_or_error, push, text, unwrap_ok};
 use crate::rows::{LINES, check_rows};
 use edit_document::NewItem;
 use edit_record::{Dependency, GitSource, PathSource, RegistrySource, Source, WorkspaceSource};
@@ -59,7 +59,7 @@ fn repository(rt: &impl Abort, alloc: Global, part: &str, text: &str) -> GitSour
     match part {
         "bare tag" => unwrap_ok(rt, git.set_tag(alloc, text)),
         "bare rev" => unwrap_ok(rt, git.set_rev(alloc, text)),
-        _ => versioned(
+        _ => versioned_git_source(
             rt,
             alloc,
             unwrap_ok(rt, git.set_version(alloc, "0.1+c")),
@@ -70,7 +70,7 @@ fn repository(rt: &impl Abort, alloc: Global, part: &str, text: &str) -> GitSour
 }
 
 /// A git source with one part more, or with a version.
-fn versioned(rt: &impl Abort, alloc: Global, git: GitSource, part: &str, text: &str) -> GitSource {
+fn versioned_git_source(rt: &impl Abort, alloc: Global, git: GitSource, part: &str, text: &str) -> GitSource {
     match part {
         "branch" => {
             let git = unwrap_ok(rt, git.set_tag(alloc, "t"));
@@ -187,23 +187,23 @@ pub(crate) fn record(rt: &impl Abort, alloc: Global, parts: &str) -> Dependency 
 }
 
 /// The text of a new entry: a value, or a dotted key.
-fn told(rt: &impl Abort, alloc: Global, item: &NewItem) -> String {
+fn entry_form_text(rt: &impl Abort, alloc: Global, item: &NewItem) -> String {
     match item {
         NewItem::Inline { dotted: true, .. } => text(rt, alloc, ".workspace = true"),
-        _ => made(rt, alloc, item.text(alloc)),
+        _ => text_or_error(rt, alloc, item.text(alloc)),
     }
 }
 
 /// The new entry of a `Dependency`.
 fn entry(rt: &impl Abort, alloc: Global, root: &str, record: &Dependency) -> String {
     let item = unwrap_ok(rt, record.to_toml(alloc, root));
-    told(rt, alloc, &item)
+    entry_form_text(rt, alloc, &item)
 }
 
 /// The entry written from what is read of an entry.
-fn again(rt: &impl Abort, alloc: Global, root: &str, key: &str, first: &str) -> String {
+fn rewritten_entry(rt: &impl Abort, alloc: Global, root: &str, key: &str, first: &str) -> String {
     let equals = if first.starts_with('.') { "" } else { " = " };
-    let manifest = kept(
+    let manifest = unwrap_alloc(
         rt,
         format!(in alloc; "[dependencies]\n{key}{equals}{first}"),
     );
@@ -212,22 +212,22 @@ fn again(rt: &impl Abort, alloc: Global, root: &str, key: &str, first: &str) -> 
 }
 
 /// An entry, and, where it differs, the entry written from what is read of it.
-fn both(rt: &impl Abort, alloc: Global, root: &str, key: &str, first: &str) -> String {
-    let again = again(rt, alloc, root, key, first);
+fn entry_texts(rt: &impl Abort, alloc: Global, root: &str, key: &str, first: &str) -> String {
+    let again = rewritten_entry(rt, alloc, root, key, first);
     if again.as_str() == first {
         return again;
     }
-    kept(rt, format!(in alloc; "{first}, then {again}"))
+    unwrap_alloc(rt, format!(in alloc; "{first}, then {again}"))
 }
 
 /// The entry of a row, and, where it differs, the entry written from what is read of it.
-fn written(rt: &impl Abort, alloc: Global, root: &str, parts: &str) -> String {
+fn entry_texts_of_row(rt: &impl Abort, alloc: Global, root: &str, parts: &str) -> String {
     let record = record(rt, alloc, parts);
     let first = entry(rt, alloc, root, &record);
-    both(rt, alloc, root, record.toml_key(), first.as_str())
+    entry_texts(rt, alloc, root, record.toml_key(), first.as_str())
 }
 
 #[test]
 fn entries_are_written(rt: HostRuntime) {
-    check_rows(&rt, rt.alloc(), WRITTEN, LINES, written);
+    check_rows(&rt, rt.alloc(), WRITTEN, LINES, entry_texts_of_row);
 }

@@ -1,5 +1,5 @@
 //! Tests of messages to a writer, and of the exit statuses of programs.
-use crate::assertion_helpers::{kept, unwrap_ok};
+use crate::assertion_helpers::{unwrap_alloc, unwrap_ok};
 use crate::rows::{LINES, check_rows, field};
 use edit_base::{CargoResult, CliError, Error};
 use edit_report::{shell_print, shell_write_stderr, shell_write_stdout};
@@ -18,15 +18,15 @@ fn write_by(out: &mut Vec<u8>, call: &str, first: &str, message: &str) -> CargoR
 }
 
 /// The contents of a writer after a message: its status and the message, with `@` for a line end.
-fn written(rt: &impl Abort, alloc: Global, call: &str, words: &str) -> String {
+fn message_contents(rt: &impl Abort, alloc: Global, call: &str, words: &str) -> String {
     let mut out = Vec::new(alloc);
     unwrap_ok(
         rt,
         write_by(&mut out, call, field(words, 0), field(words, 1)),
     );
     let seen = str::from_utf8(&out).expect(rt, "UTF-8");
-    let lines: Vec<&str> = kept(rt, seen.split('\n').collect(alloc));
-    kept(rt, lines.join(alloc, "@"))
+    let lines: Vec<&str> = unwrap_alloc(rt, seen.split('\n').collect(alloc));
+    unwrap_alloc(rt, lines.join(alloc, "@"))
 }
 
 /// What is written, with `@` for a line's end; the call; the status; the message.
@@ -39,7 +39,7 @@ a fragment|stdout||a fragment";
 
 #[test]
 fn writes_messages(rt: HostRuntime) {
-    check_rows(&rt, rt.alloc(), MESSAGES, LINES, written);
+    check_rows(&rt, rt.alloc(), MESSAGES, LINES, message_contents);
 }
 
 /// The `CliError` that the call of this name makes.
@@ -60,7 +60,7 @@ fn status(rt: &impl Abort, alloc: Global, call: &str, _words: &str) -> String {
     } else {
         "untold"
     };
-    kept(rt, format!(in alloc; "{} {told}", end.exit_code))
+    unwrap_alloc(rt, format!(in alloc; "{} {told}", end.exit_code))
 }
 
 /// The status and whether an error is told; the call.

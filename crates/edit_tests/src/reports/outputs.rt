@@ -1,7 +1,7 @@
 //! Tests of outputs written to files in memory, where a write may fail.
 ghost use Rattle.std.specs.Prelude.{◌≡◌, string_bytes};
 
-use crate::assertion_helpers::{check_result, kept, text, told, unwrap_ok};
+use crate::assertion_helpers::{check_result, unwrap_alloc, text, error_number_and_text, unwrap_ok};
 use edit_base::CargoResult;
 use edit_report::{Output, apply};
 use edit_store::{FaultStore, MemoryStore, Store};
@@ -15,12 +15,12 @@ fn output_at(rt: &impl Abort, alloc: Global, path: &str, bytes: &[u8]) -> Output
 {
     Output {
         path: text(rt, alloc, path),
-        bytes: kept(rt, Vec::from_slice(alloc, bytes)),
+        bytes: unwrap_alloc(rt, Vec::from_slice(alloc, bytes)),
     }
 }
 
 /// Applies three outputs.
-fn applied(rt: &impl Abort, alloc: Global, files: &mut FaultStore) -> CargoResult<()> {
+fn apply_outputs(rt: &impl Abort, alloc: Global, files: &mut FaultStore) -> CargoResult<()> {
     let outputs = [
         output_at(rt, alloc, "/w/a/Cargo.toml", b"new a"),
         output_at(rt, alloc, "/w/b/Cargo.toml", b"new b"),
@@ -39,26 +39,26 @@ fn files_failing(rt: &impl Abort, alloc: Global, at: u64) -> FaultStore {
 }
 
 /// The contents of a file.
-fn held(rt: &impl Abort, alloc: Global, files: &mut FaultStore, path: &str) -> String {
+fn file_contents(rt: &impl Abort, alloc: Global, files: &mut FaultStore, path: &str) -> String {
     let bytes = unwrap_ok(rt, files.read(alloc, path)).expect(rt, "a file");
     text(rt, alloc, str::from_utf8(&bytes).expect(rt, "UTF-8"))
 }
 
 /// The result of applying outputs.
-fn ended(rt: &impl Abort, alloc: Global, answer: CargoResult<()>) -> String {
+fn apply_result(rt: &impl Abort, alloc: Global, answer: CargoResult<()>) -> String {
     match answer {
         Ok(()) => text(rt, alloc, "done"),
-        Err(error) => told(rt, alloc, error),
+        Err(error) => error_number_and_text(rt, alloc, error),
     }
 }
 
 /// The result where the write at this index fails, and the contents of the first and the third file then.
 fn outcome(rt: &impl Abort, alloc: Global, at: u64) -> String {
     let mut files = files_failing(rt, alloc, at);
-    let ended = ended(rt, alloc, applied(rt, alloc, &mut files));
-    let first = held(rt, alloc, &mut files, "/w/a/Cargo.toml");
-    let third = held(rt, alloc, &mut files, "/w/c/Cargo.toml");
-    kept(rt, format!(in alloc; "{ended}; {first}; {third}"))
+    let ended = apply_result(rt, alloc, apply_outputs(rt, alloc, &mut files));
+    let first = file_contents(rt, alloc, &mut files, "/w/a/Cargo.toml");
+    let third = file_contents(rt, alloc, &mut files, "/w/c/Cargo.toml");
+    unwrap_alloc(rt, format!(in alloc; "{ended}; {first}; {third}"))
 }
 
 #[test]
@@ -74,11 +74,11 @@ fn applies_outputs(rt: HostRuntime) {
 fn applies_each_output_once(rt: HostRuntime) {
     // three outputs take three calls of the store, so that the fourth, which fails, is not among them
     let mut files = files_failing(&rt, rt.alloc(), 3);
-    let answer = applied(&rt, rt.alloc(), &mut files);
-    let seen = ended(&rt, rt.alloc(), answer);
+    let answer = apply_outputs(&rt, rt.alloc(), &mut files);
+    let seen = apply_result(&rt, rt.alloc(), answer);
     check_result(&rt, "three writes", seen.as_str(), "done");
     let next = files.write(rt.alloc(), "/w/a/Cargo.toml", b"newer a");
-    let seen = ended(&rt, rt.alloc(), next);
+    let seen = apply_result(&rt, rt.alloc(), next);
     let want = "3 Failed to write updated Cargo.toml";
     check_result(&rt, "the fourth write", seen.as_str(), want);
 }

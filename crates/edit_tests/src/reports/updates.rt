@@ -1,6 +1,6 @@
 //! Rows of calls that follow an upgrade: words that are refused, and that are not read at a dry run. The
 //! program reads each word before.
-use crate::assertion_helpers::{kept, push, text, told, unwrap_ok};
+use crate::assertion_helpers::{unwrap_alloc, push, text, error_number_and_text, unwrap_ok};
 use crate::rows::{LINES, check_rows};
 use edit_metadata::Workspace;
 use edit_upgrade::update::update_calls;
@@ -57,8 +57,8 @@ fn calls(rt: &impl Abort, alloc: Global, flags: &str, word: &str) -> String {
     let plan = plan_of(rt, alloc, "serde");
     let workspace = unwrap_ok(rt, Workspace::read(alloc, METADATA.as_bytes()));
     match update_calls(alloc, &plan, &workspace, &options) {
-        Ok(calls) => kept(rt, format!(in alloc; "{} calls", calls.len())),
-        Err(error) => told(rt, alloc, error),
+        Ok(calls) => unwrap_alloc(rt, format!(in alloc; "{} calls", calls.len())),
+        Err(error) => error_number_and_text(rt, alloc, error),
     }
 }
 

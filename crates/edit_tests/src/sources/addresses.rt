@@ -1,6 +1,6 @@
 //! Addresses under configuration files.
-use super::looks::files_of;
-use crate::assertion_helpers::{check_result, kept, text, told, unwrap_ok};
+use super::index_texts::files_of;
+use crate::assertion_helpers::{check_result, unwrap_alloc, text, error_number_and_text, unwrap_ok};
 use crate::rows::field;
 use edit_sources::config::{Config, ConfigCache, read_configs};
 use edit_sources::registry::{registry_url, resolve};
@@ -25,35 +25,35 @@ const MEMBERS: &str = "\
 fn address(rt: &impl Abort, alloc: Global, configs: &[Config]) -> String {
     match resolve(alloc, configs, Some("r")) {
         Ok(url) => text(rt, alloc, url.as_str()),
-        Err(error) => told(rt, alloc, error),
+        Err(error) => error_number_and_text(rt, alloc, error),
     }
 }
 
 /// The paths of configurations, and the address that they give a registry.
-fn shown(rt: &impl Abort, alloc: Global, configs: &[Config]) -> String {
+fn configs_text(rt: &impl Abort, alloc: Global, configs: &[Config]) -> String {
     let mut seen = String::new(alloc);
     for config in configs {
-        kept(rt, write!(seen, "{} ", config.path));
+        unwrap_alloc(rt, write!(seen, "{} ", config.path));
     }
     let address = address(rt, alloc, configs);
-    kept(rt, seen.push_str(address.as_str()));
+    unwrap_alloc(rt, seen.push_str(address.as_str()));
     seen
 }
 
 /// What counts for the other manifest, and the address.
-fn counted(rt: &impl Abort, alloc: Global, store: &mut MemoryStore) -> String {
+fn member_configs_text(rt: &impl Abort, alloc: Global, store: &mut MemoryStore) -> String {
     let configs = unwrap_ok(
         rt,
         read_configs(alloc, store, "/w/b/Cargo.toml", Some("/home")),
     );
-    shown(rt, alloc, &configs)
+    configs_text(rt, alloc, &configs)
 }
 
 /// The calls for one manifest alone: what counts for it, and the address.
 #[test]
 fn without_a_cache(rt: HostRuntime) {
     let mut store = files_of(&rt, rt.alloc(), WORKSPACE);
-    let seen = counted(&rt, rt.alloc(), &mut store);
+    let seen = member_configs_text(&rt, rt.alloc(), &mut store);
     check_result(
         &rt,
         "a member without",
@@ -79,8 +79,8 @@ fn by_cache(
     path: &str,
 ) -> String {
     match cache.read_configs(alloc, store, path, Some("/home")) {
-        Ok(configs) => shown(rt, alloc, &configs),
-        Err(error) => told(rt, alloc, error),
+        Ok(configs) => configs_text(rt, alloc, &configs),
+        Err(error) => error_number_and_text(rt, alloc, error),
     }
 }
 
@@ -112,7 +112,7 @@ fn paths_by_cache(
     let paths = unwrap_ok(rt, cache.config_paths(alloc, store, path, Some("/home")));
     let mut seen = String::new(alloc);
     for path in &paths {
-        kept(rt, write!(seen, "{path} "));
+        unwrap_alloc(rt, write!(seen, "{path} "));
     }
     seen
 }

@@ -1,7 +1,7 @@
 //! Calls of an index and of its cache, as texts.
-use super::looks::entries;
-use crate::assertion_helpers::{check_result, kept, text, told, word_or_error};
-use crate::records::parts::chosen;
+use super::index_texts::entries;
+use crate::assertion_helpers::{check_result, unwrap_alloc, text, error_number_and_text, word_or_error};
+use crate::records::parts::choice_text;
 use crate::rows::field;
 use edit_cache::{IndexCache, Ranked};
 use edit_sources::{Index, IndexKrate};
@@ -26,16 +26,16 @@ fn ranking(rt: &impl Abort, alloc: Global, ranked: Option<&Ranked>) -> String {
     let mut seen = String::new(alloc);
     'versions: for n in 0..4usize {
         if let Some(version) = ranked.version(n) {
-            kept(rt, write!(seen, "{version};"));
+            unwrap_alloc(rt, write!(seen, "{version};"));
         }
     }
     seen
 }
 
 /// The greatest version of a ranking that a requirement admits.
-fn compatible(rt: &impl Abort, alloc: Global, ranked: &Ranked, req: &str) -> String {
+fn select_compatible(rt: &impl Abort, alloc: Global, ranked: &Ranked, req: &str) -> String {
     match VersionReq::parse(alloc, req) {
-        Ok(req) => chosen(rt, alloc, ranked.compatible(alloc, &req, None)),
+        Ok(req) => choice_text(rt, alloc, ranked.compatible(alloc, &req, None)),
         Err(_) => text(rt, alloc, "no requirement"),
     }
 }
@@ -46,14 +46,14 @@ fn choice(rt: &impl Abort, alloc: Global, ranked: Option<&Ranked>, req: &str) ->
         return text(rt, alloc, "no ranking");
     };
     if req.is_empty() {
-        chosen(rt, alloc, ranked.latest(alloc, false, None))
+        choice_text(rt, alloc, ranked.latest(alloc, false, None))
     } else {
-        compatible(rt, alloc, ranked, req)
+        select_compatible(rt, alloc, ranked, req)
     }
 }
 
 /// Queries the index, and returns what is cached of the answer.
-fn asked<I: Index>(
+fn query_index<I: Index>(
     rt: &impl Abort,
     alloc: Global,
     cache: &mut IndexCache<I>,
@@ -62,7 +62,7 @@ fn asked<I: Index>(
 ) -> String {
     match cache.krate(alloc, registry, name) {
         Ok(krate) => answer(rt, alloc, krate),
-        Err(error) => told(rt, alloc, error),
+        Err(error) => error_number_and_text(rt, alloc, error),
     }
 }
 
@@ -75,8 +75,8 @@ fn has<I: Index>(
     name: &str,
 ) -> String {
     match cache.has_krate(alloc, registry, name) {
-        Ok(has) => kept(rt, format!(in alloc; "{has}")),
-        Err(error) => told(rt, alloc, error),
+        Ok(has) => unwrap_alloc(rt, format!(in alloc; "{has}")),
+        Err(error) => error_number_and_text(rt, alloc, error),
     }
 }
 
@@ -90,13 +90,13 @@ fn has_version<I: Index>(
     version: &str,
 ) -> String {
     match cache.has_krate_version(alloc, registry, name, version) {
-        Ok(has) => kept(rt, format!(in alloc; "{has:?}")),
-        Err(error) => told(rt, alloc, error),
+        Ok(has) => unwrap_alloc(rt, format!(in alloc; "{has:?}")),
+        Err(error) => error_number_and_text(rt, alloc, error),
     }
 }
 
 /// The ranking of the answer of the index.
-fn ranked<I: Index>(
+fn query_ranking<I: Index>(
     rt: &impl Abort,
     alloc: Global,
     cache: &mut IndexCache<I>,
@@ -105,12 +105,12 @@ fn ranked<I: Index>(
 ) -> String {
     match cache.ranked(alloc, registry, name) {
         Ok(ranked) => ranking(rt, alloc, ranked),
-        Err(error) => told(rt, alloc, error),
+        Err(error) => error_number_and_text(rt, alloc, error),
     }
 }
 
 /// A call without a result.
-fn done<I: Index>(
+fn call_without_result<I: Index>(
     rt: &impl Abort,
     alloc: Global,
     cache: &mut IndexCache<I>,
@@ -136,11 +136,11 @@ fn call<I: Index>(
 ) -> String {
     let name = field(row, 2);
     match field(row, 1) {
-        "krate" => asked(rt, alloc, cache, registry, name),
-        "shown" => answer(rt, alloc, cache.shown(registry, name)),
+        "krate" => query_index(rt, alloc, cache, registry, name),
+        "shown" => answer(rt, alloc, cache.cached_krate(registry, name)),
         "has" => has(rt, alloc, cache, registry, name),
         "has version" => has_version(rt, alloc, cache, registry, name, field(row, 3)),
-        "ranked" => ranked(rt, alloc, cache, registry, name),
+        "ranked" => query_ranking(rt, alloc, cache, registry, name),
         "shown ranking" => ranking(rt, alloc, cache.cached_ranking(registry, name)),
         "choice" => choice(
             rt,
@@ -148,7 +148,7 @@ fn call<I: Index>(
             cache.cached_ranking(registry, name),
             field(row, 3),
         ),
-        _ => done(rt, alloc, cache, registry, row),
+        _ => call_without_result(rt, alloc, cache, registry, row),
     }
 }
 

@@ -1,5 +1,5 @@
 //! Calls of a store, as texts.
-use crate::assertion_helpers::{check_result, kept, text, told, word_or_error};
+use crate::assertion_helpers::{check_result, unwrap_alloc, text, error_number_and_text, word_or_error};
 use crate::rows::field;
 use edit_store::{Kind, Store};
 use std::alloc::Global;
@@ -11,7 +11,7 @@ fn kind<S: Store>(rt: &impl Abort, alloc: Global, store: &mut S, path: &str) -> 
         Ok(Kind::File) => text(rt, alloc, "file"),
         Ok(Kind::Folder) => text(rt, alloc, "folder"),
         Ok(Kind::Absent) => text(rt, alloc, "absent"),
-        Err(error) => told(rt, alloc, error),
+        Err(error) => error_number_and_text(rt, alloc, error),
     }
 }
 
@@ -20,7 +20,7 @@ fn read<S: Store>(rt: &impl Abort, alloc: Global, store: &mut S, path: &str) -> 
     match store.read(alloc, path) {
         Ok(Some(bytes)) => String::from_utf8(bytes).ok().expect(rt, "a text"),
         Ok(None) => text(rt, alloc, "none"),
-        Err(error) => told(rt, alloc, error),
+        Err(error) => error_number_and_text(rt, alloc, error),
     }
 }
 
@@ -40,7 +40,7 @@ fn step<S: Store>(rt: &impl Abort, alloc: Global, store: &mut S, path: &str, row
         "kind" => kind(rt, alloc, store, path),
         "read" => read(rt, alloc, store, path),
         "write" => write(rt, alloc, store, path, field(row, 3)),
-        "faults" => kept(rt, format!(in alloc; "{}", store.faults())),
+        "faults" => unwrap_alloc(rt, format!(in alloc; "{}", store.faults())),
         _ => text(rt, alloc, "no such step"),
     }
 }

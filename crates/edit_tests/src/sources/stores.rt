@@ -1,6 +1,6 @@
 //! Stores in memory, a store whose call fails, and devices of the machine.
 use super::steps::steps;
-use crate::assertion_helpers::kept;
+use crate::assertion_helpers::unwrap_alloc;
 use edit_store::{FaultStore, HostStore, MemoryStore};
 
 /// Rows: a name, a call, a path, the text to write, and the expected result.
@@ -86,6 +86,6 @@ a second fault|faults|||2";
 
 #[test]
 fn a_device_is_no_file(rt: HostRuntime) {
-    let mut store = HostStore::new(kept(&rt, rt.clone()));
+    let mut store = HostStore::new(unwrap_alloc(&rt, rt.clone()));
     steps(&rt, rt.alloc(), &mut store, DEVICE);
 }

@@ -1,6 +1,6 @@
 //! Tests of reading the manifests of a workspace where the device fails. The others are in
 //! `tests/cases/upgrade/workspace_manifests.toml`.
-use crate::assertion_helpers::{kept, unwrap_ok, word_or_error};
+use crate::assertion_helpers::{unwrap_alloc, unwrap_ok, word_or_error};
 use crate::rows::{TILDES, check_rows};
 use edit_metadata::{Workspace, workspace_inputs};
 use edit_store::{FaultStore, MemoryStore, Store};
@@ -30,12 +30,12 @@ fn inputs(rt: &impl Abort, alloc: Global, store: &mut FaultStore) -> String {
 }
 
 /// The inputs where one call of the device fails.
-fn failing(rt: &impl Abort, alloc: Global, at: &str, _members: &str) -> String {
+fn inputs_of_failing_device(rt: &impl Abort, alloc: Global, at: &str, _members: &str) -> String {
     let at = if at == "0" { 0 } else { 1 };
     let mut store = failing_store(rt, alloc, at);
     let answer = inputs(rt, alloc, &mut store);
     let counted = store.faults();
-    kept(rt, format!(in alloc; "{answer}, {counted}"))
+    unwrap_alloc(rt, format!(in alloc; "{answer}, {counted}"))
 }
 
 /// Rows: the error, and the number of faults; the call that fails; the members.
@@ -45,5 +45,5 @@ const FAILING: &str = "\
 
 #[test]
 fn device_errors_are_reported(rt: HostRuntime) {
-    check_rows(&rt, rt.alloc(), FAILING, TILDES, failing);
+    check_rows(&rt, rt.alloc(), FAILING, TILDES, inputs_of_failing_device);
 }

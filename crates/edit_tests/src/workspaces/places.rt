@@ -1,10 +1,10 @@
 //! Tests of errors in an input other than the first. The others are in
 //! `tests/cases/upgrade/error_places.toml`.
-use crate::assertion_helpers::{kept, push, text};
+use crate::assertion_helpers::{unwrap_alloc, push, text};
 use crate::rows::{TILDES, check_rows};
 use edit_base::Error;
 use edit_metadata::Input;
-use edit_steps::{Refusal, at_input};
+use edit_steps::{RunError, at_input};
 use std::alloc::Global;
 use std::process::Abort;
 
@@ -20,7 +20,7 @@ fn input_of(rt: &impl Abort, alloc: Global, row: &str) -> Input {
     Input {
         name: String::new(alloc),
         path: text(rt, alloc, path),
-        bytes: kept(rt, bytes.to_vec(alloc)),
+        bytes: unwrap_alloc(rt, bytes.to_vec(alloc)),
         rust_version: None,
     }
 }
@@ -44,7 +44,7 @@ fn inputs_of(rt: &impl Abort, alloc: Global, rows: &str) -> Vec<Input> {
 }
 
 /// The file, line and column of an error, without the excerpt; `-` for none.
-fn shown(rt: &impl Abort, alloc: Global, refusal: &Refusal) -> String {
+fn place_text(rt: &impl Abort, alloc: Global, refusal: &RunError) -> String {
     match &refusal.place {
         Some(place) => {
             let (place, _excerpt) = place.split_once('\n').unwrap_or((place.as_str(), ""));
@@ -58,7 +58,7 @@ fn shown(rt: &impl Abort, alloc: Global, refusal: &Refusal) -> String {
 fn place_of(rt: &impl Abort, alloc: Global, word: &str, inputs: &str) -> String {
     let all = inputs_of(rt, alloc, inputs);
     let refusal = at_input(alloc, error_of_word(word), &all);
-    shown(rt, alloc, &refusal)
+    place_text(rt, alloc, &refusal)
 }
 
 /// Rows: the place; the error; the inputs.

@@ -1,9 +1,9 @@
 //! Tests of the files that an upgrade reads. Errors are in `tests/cases/upgrade/inputs_rejected.toml`.
-use super::workspaces::{quoted, rust_shown};
-use crate::assertion_helpers::{kept, told, unfolded, unwrap_ok};
+use super::workspaces::{with_quotation_marks, rust_text};
+use crate::assertion_helpers::{unwrap_alloc, error_number_and_text, unfold_lines, unwrap_ok};
 use crate::rows::{TILDES, check_rows};
 use edit_sources::Config;
-use edit_steps::upgrade_read::{Asked, IndexSource, RustChoice, Sources, read_sources};
+use edit_steps::upgrade_read::{SourceRequest, IndexSource, RustChoice, Sources, read_sources};
 use edit_store::{MemoryStore, Store};
 use edit_version::RustVersion;
 use std::alloc::Global;
@@ -31,8 +31,8 @@ const FILES: &str = "\
 /// Adds the file of a row to a store: its path and its contents.
 fn put_file(rt: &impl Abort, alloc: Global, store: &mut MemoryStore, row: &str) {
     let (path, held) = row.split_once(' ').unwrap_or((row, ""));
-    let lines = unfolded(rt, alloc, held);
-    let bytes = quoted(rt, alloc, lines.as_str());
+    let lines = unfold_lines(rt, alloc, held);
+    let bytes = with_quotation_marks(rt, alloc, lines.as_str());
     unwrap_ok(rt, store.write(alloc, path, bytes.as_bytes()));
 }
 
@@ -45,7 +45,7 @@ fn put_files(rt: &impl Abort, alloc: Global, store: &mut MemoryStore) {
 
 /// The inputs that were read: the name, the path and the Rust version of each, the number of its
 /// configurations, and the index of their list.
-fn inputs_shown(rt: &impl Abort, alloc: Global, sources: &Sources) -> String {
+fn inputs_text(rt: &impl Abort, alloc: Global, sources: &Sources) -> String {
     let mut all = String::new(alloc);
     'inputs: for (i, input) in sources.target.inputs.iter().enumerate() {
         let configs = match sources.configs.list_of(i) {
@@ -53,8 +53,8 @@ fn inputs_shown(rt: &impl Abort, alloc: Global, sources: &Sources) -> String {
             None => 99,
         };
         let list = sources.configs.which.get(i).copied().unwrap_or(99);
-        let rust = rust_shown(rt, alloc, input.rust_version);
-        kept(
+        let rust = rust_text(rt, alloc, input.rust_version);
+        unwrap_alloc(
             rt,
             write!(
                 all,
@@ -67,15 +67,15 @@ fn inputs_shown(rt: &impl Abort, alloc: Global, sources: &Sources) -> String {
 }
 
 /// What was read: the inputs, which index, and how many documents.
-fn shown(rt: &impl Abort, alloc: Global, sources: &Sources) -> String {
-    let inputs = inputs_shown(rt, alloc, sources);
+fn sources_text(rt: &impl Abort, alloc: Global, sources: &Sources) -> String {
+    let inputs = inputs_text(rt, alloc, sources);
     let index = match &sources.index {
         IndexSource::Files => "files",
         IndexSource::Lines(_) => "a file",
         IndexSource::Folder(path) => path.as_str(),
     };
     let documents = sources.target.documents.len();
-    kept(rt, format!(in alloc; "{inputs}{index}, {documents}"))
+    unwrap_alloc(rt, format!(in alloc; "{inputs}{index}, {documents}"))
 }
 
 /// A word of some, from 0; none where it is `-`, and where there is none.
@@ -97,8 +97,8 @@ fn choice(rt: &impl Abort, alloc: Global, word: Option<&str>) -> RustChoice {
 
 /// What is asked for: the words name a manifest and metadata; and an index, the choice of a Rust version, a
 /// folder of registries, and the configuration files that count before and after all others.
-fn asked<'a>(rt: &impl Abort, alloc: Global, target: &'a str, more: &'a str) -> Asked<'a> {
-    Asked {
+fn request_of_row<'a>(rt: &impl Abort, alloc: Global, target: &'a str, more: &'a str) -> SourceRequest<'a> {
+    SourceRequest {
         manifest_path: nth(target, 0),
         metadata_json: nth(target, 1),
         index_file: nth(more, 0),
@@ -111,10 +111,10 @@ fn asked<'a>(rt: &impl Abort, alloc: Global, target: &'a str, more: &'a str) -> 
 }
 
 /// Reads the requested files in `/w/a/src`, with the home folder `/h`.
-fn answered(rt: &impl Abort, alloc: Global, asked: &Asked, store: &mut MemoryStore) -> String {
+fn read_result(rt: &impl Abort, alloc: Global, asked: &SourceRequest, store: &mut MemoryStore) -> String {
     match read_sources(alloc, asked, "/w/a/src", Some("/h"), store) {
-        Ok(sources) => shown(rt, alloc, &sources),
-        Err(refusal) => told(rt, alloc, refusal.error),
+        Ok(sources) => sources_text(rt, alloc, &sources),
+        Err(refusal) => error_number_and_text(rt, alloc, refusal.error),
     }
 }
 
@@ -122,8 +122,8 @@ fn answered(rt: &impl Abort, alloc: Global, asked: &Asked, store: &mut MemorySto
 fn read(rt: &impl Abort, alloc: Global, target: &str, more: &str) -> String {
     let mut store = MemoryStore::new(alloc);
     put_files(rt, alloc, &mut store);
-    let asked = asked(rt, alloc, target, more);
-    answered(rt, alloc, &asked, &mut store)
+    let asked = request_of_row(rt, alloc, target, more);
+    read_result(rt, alloc, &asked, &mut store)
 }
 
 /// Rows: the result; the given manifest and metadata; the index, the Rust version, the folder, and the two

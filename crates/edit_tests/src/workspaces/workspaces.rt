@@ -1,5 +1,5 @@
 //! Tests of workspaces read from metadata. Errors are in `tests/cases/upgrade/metadata_rejected.toml`.
-use crate::assertion_helpers::{kept, text, told, unwrap_ok};
+use crate::assertion_helpers::{unwrap_alloc, text, error_number_and_text, unwrap_ok};
 use crate::rows::{TILDES, check_rows};
 use edit_metadata::{Package, Workspace, manifest_from_pkgid};
 use edit_version::RustVersion;
@@ -13,42 +13,42 @@ const METADATA: &str = "{'workspace_root':'/w','workspace_members':['A','B'],'pa
 {'name':'b','id':'B','manifest_path':'/w/b/Cargo.toml','version':'1.2.3-rc.1+x'}],'target':'/t'}";
 
 /// A text with quotation marks in place of apostrophes.
-pub(crate) fn quoted(rt: &impl Abort, alloc: Global, text: &str) -> String {
-    kept(rt, text.replace(alloc, '\'', "\""))
+pub(crate) fn with_quotation_marks(rt: &impl Abort, alloc: Global, text: &str) -> String {
+    unwrap_alloc(rt, text.replace(alloc, '\'', "\""))
 }
 
 /// The metadata with the first of one text replaced by another, and quotation marks in place of apostrophes.
-fn changed(rt: &impl Abort, alloc: Global, old: &str, new: &str) -> String {
+fn changed_metadata(rt: &impl Abort, alloc: Global, old: &str, new: &str) -> String {
     let (before, after) = METADATA.split_once(old).unwrap_or((METADATA, ""));
-    let text = kept(rt, format!(in alloc; "{before}{new}{after}"));
-    quoted(rt, alloc, text.as_str())
+    let text = unwrap_alloc(rt, format!(in alloc; "{before}{new}{after}"));
+    with_quotation_marks(rt, alloc, text.as_str())
 }
 
 /// The text of a Rust version, `-` for none.
-pub(crate) fn rust_shown(rt: &impl Abort, alloc: Global, version: Option<RustVersion>) -> String {
+pub(crate) fn rust_text(rt: &impl Abort, alloc: Global, version: Option<RustVersion>) -> String {
     match version {
         Some(version) => {
             let (major, minor, patch) = (version.major, version.minor, version.patch);
-            kept(rt, format!(in alloc; "{major}.{minor}.{patch}"))
+            unwrap_alloc(rt, format!(in alloc; "{major}.{minor}.{patch}"))
         }
         None => text(rt, alloc, "-"),
     }
 }
 
 /// The source and the Rust version of a package, and whether it is a member.
-fn rest_shown(rt: &impl Abort, alloc: Global, package: &Package) -> String {
+fn other_package_fields(rt: &impl Abort, alloc: Global, package: &Package) -> String {
     let source = match &package.source {
         Some(source) => source.as_str(),
         None => "-",
     };
-    let rust = rust_shown(rt, alloc, package.rust_version);
+    let rust = rust_text(rt, alloc, package.rust_version);
     let member = if package.member { "member" } else { "-" };
-    kept(rt, format!(in alloc; "{source} {rust} {member}"))
+    unwrap_alloc(rt, format!(in alloc; "{source} {rust} {member}"))
 }
 
 /// The fields of a package.
-fn shown(rt: &impl Abort, alloc: Global, package: &Package) -> String {
-    let rest = rest_shown(rt, alloc, package);
+fn package_fields(rt: &impl Abort, alloc: Global, package: &Package) -> String {
+    let rest = other_package_fields(rt, alloc, package);
     let Package {
         name,
         id,
@@ -56,32 +56,32 @@ fn shown(rt: &impl Abort, alloc: Global, package: &Package) -> String {
         manifest_path: path,
         ..
     } = package;
-    kept(
+    unwrap_alloc(
         rt,
         format!(in alloc; "; {name} {id} {path} {version} {rest}"),
     )
 }
 
 /// The fields of a workspace.
-fn told_of(rt: &impl Abort, alloc: Global, workspace: &Workspace) -> String {
+fn workspace_fields(rt: &impl Abort, alloc: Global, workspace: &Workspace) -> String {
     let mut all = text(rt, alloc, workspace.root.as_str());
     'packages: for package in &workspace.packages {
-        let one = shown(rt, alloc, package);
-        kept(rt, all.push_str(one.as_str()));
+        let one = package_fields(rt, alloc, package);
+        unwrap_alloc(rt, all.push_str(one.as_str()));
     }
     all
 }
 
 /// The workspace of the metadata with one text replaced by another.
 fn workspace(rt: &impl Abort, alloc: Global, old: &str, new: &str) -> Workspace {
-    let json = changed(rt, alloc, old, new);
+    let json = changed_metadata(rt, alloc, old, new);
     unwrap_ok(rt, Workspace::read(alloc, json.as_bytes()))
 }
 
 /// The result of reading the metadata with one text replaced by another.
 fn read(rt: &impl Abort, alloc: Global, old: &str, new: &str) -> String {
     let workspace = workspace(rt, alloc, old, new);
-    told_of(rt, alloc, &workspace)
+    workspace_fields(rt, alloc, &workspace)
 }
 
 /// Rows: the result; a text in the metadata; its replacement.
@@ -108,11 +108,11 @@ fn reads_workspaces(rt: HostRuntime) {
 }
 
 /// The path of the member with a name.
-fn named(rt: &impl Abort, alloc: Global, name: &str, members: &str) -> String {
+fn member_path(rt: &impl Abort, alloc: Global, name: &str, members: &str) -> String {
     let workspace = workspace(rt, alloc, "['A','B']", members);
     match manifest_from_pkgid(&workspace, name) {
         Ok(package) => text(rt, alloc, package.manifest_path.as_str()),
-        Err(error) => told(rt, alloc, error),
+        Err(error) => error_number_and_text(rt, alloc, error),
     }
 }
 
@@ -126,5 +126,5 @@ workspace. Try adding `--workspace`.|c|['A','B']";
 
 #[test]
 fn finds_members_by_name(rt: HostRuntime) {
-    check_rows(&rt, rt.alloc(), NAMED, TILDES, named);
+    check_rows(&rt, rt.alloc(), NAMED, TILDES, member_path);
 }

@@ -4,15 +4,15 @@ ghost use Rattle.edit_report.specs.declared.row.Reason.TheVariants as reason;
 ghost use Rattle.std.specs.Prelude.{◌≡◌, if◌then◌else◌, Some, None, false, IfErr, IfOk, option_and_then, option_copied, option_map, string_bytes};
 ghost use Rattle.edit_upgrade.specs.Decision.{decision, is_too_low, newer, or_else, same_text, text_or, unless, unless_old};
 ghost use Rattle.edit_upgrade.specs.Decided.{case_view, choice_view, decision_by, jumps_by, raised_choice};
-ghost use Rattle.edit_upgrade.specs.Offers.{offered};
+ghost use Rattle.edit_upgrade.specs.Offers.{offered_version};
 ghost use Rattle.edit_version.specs.ReadRequirement.{text_in};
-ghost use Rattle.edit_version.specs.Requirement.{plain_text, raise};
+ghost use Rattle.edit_version.specs.Requirement.{plain_text, upgrade_of};
 ghost use Rattle.semver.specs.Identifiers.{parts_of};
 
 use crate::decision::floors::is_below;
 use crate::decision::offers::Offer;
 use crate::decision::options::Options;
-use crate::decision::requirement::{Pin, pin_of};
+use crate::decision::requirement::{PinStatus, requirement_pin};
 use edit_base::{CargoResult, Error};
 use edit_report::{Change, Reason};
 use edit_version::Requirement;
@@ -36,10 +36,10 @@ fn candidate(
     other: &str,
 ) -> CargoResult<Option<String>>
     ensures text { IfOk result (λ o. option_map string_bytes o
-        ≡ text_or other.now (raise (text_in old.now) (parts_of version.now))) }
+        ≡ text_or other.now (upgrade_of (text_in old.now) (parts_of version.now))) }
     ensures error { IfErr result IsMemory }
 {
-    match old.raised(alloc, version) {
+    match old.upgrade_to(alloc, version) {
         Ok(text) => Ok(text),
         Err(Error::Unsupported { comparator: _ }) => Ok(Some(String::from_str(alloc, other)?)),
         Err(Error::InvalidRequirement { text: _ }) => Ok(None),
@@ -58,9 +58,9 @@ fn latest_candidate(
 ) -> CargoResult<Option<String>>
     ensures text { IfOk result (λ o. option_map string_bytes o
         ≡ unless (is_too_low never_lower (text_in old.now)
-        (newer (offered (option_copied latest.entry)) (offered (option_copied compatible.entry))))
-        (option_and_then (λ v. text_or (plain_text v) (raise (text_in old.now) v))
-        (newer (offered (option_copied latest.entry)) (offered (option_copied compatible.entry))))) }
+        (newer (offered_version (option_copied latest.entry)) (offered_version (option_copied compatible.entry))))
+        (option_and_then (λ v. text_or (plain_text v) (upgrade_of (text_in old.now) v))
+        (newer (offered_version (option_copied latest.entry)) (offered_version (option_copied compatible.entry))))) }
     ensures error { IfErr result IsMemory }
 {
     let Some(latest) = latest else {
@@ -86,8 +86,8 @@ fn compatible_candidate(
     compatible: Option<&Offer<'_>>,
 ) -> CargoResult<Option<String>>
     ensures text { IfOk result (λ o. option_map string_bytes o
-        ≡ option_and_then (λ v. text_or (text_in old.now) (raise (text_in old.now) v))
-        (offered (option_copied compatible.entry))) }
+        ≡ option_and_then (λ v. text_or (text_in old.now) (upgrade_of (text_in old.now) v))
+        (offered_version (option_copied compatible.entry))) }
     ensures error { IfErr result IsMemory }
 {
     match compatible {
@@ -97,7 +97,7 @@ fn compatible_candidate(
 }
 
 /// The decision to leave a requirement unchanged, for this reason.
-fn keep(alloc: Global, old: &str, why: Reason) -> Result<Decided, AllocError>
+fn leave_unchanged(alloc: Global, old: &str, why: Reason) -> Result<Decided, AllocError>
     ensures { IfOk result (λ d. choice_view d ≡ record { new = old.now; change = None; reason = Some why }) }
 {
     Ok(Decided {
@@ -118,7 +118,7 @@ fn why_same(why: Option<Reason>) -> Reason
 }
 
 /// The decision to set this requirement; no change where it equals the old one.
-fn take(old: &str, text: String, kind: Change, why: Option<Reason>) -> Decided
+fn change_requirement(old: &str, text: String, kind: Change, why: Option<Reason>) -> Decided
     ensures { choice_view result ≡ record {
       new = string_bytes text;
       change = unless_old old.now (string_bytes text) kind;
@@ -186,7 +186,7 @@ fn decide_raised(
     let held = match far {
         Some(text) => {
             if may_jump(options, pinned) {
-                return Ok(take(old, text, Change::Latest, aside));
+                return Ok(change_requirement(old, text, Change::Latest, aside));
             }
             Some(why_held(pinned, aside))
         }
@@ -195,11 +195,11 @@ fn decide_raised(
     match near {
         Some(text) => {
             if options.compatible {
-                return Ok(take(old, text, Change::Compatible, held));
+                return Ok(change_requirement(old, text, Change::Compatible, held));
             }
-            keep(alloc, old, held.unwrap_or(Reason::Compatible))
+            leave_unchanged(alloc, old, held.unwrap_or(Reason::Compatible))
         }
-        None => keep(alloc, old, why_same(held)),
+        None => leave_unchanged(alloc, old, why_same(held)),
     }
 }
 
@@ -208,7 +208,7 @@ fn decide_raised(
 fn decide_by(
     alloc: Global,
     options: &Options,
-    pin: Pin,
+    pin: PinStatus,
     selected: Option<&str>,
     old: &str,
     far: Option<String>,
@@ -222,7 +222,7 @@ fn decide_by(
         Some(text) => {
             if !pin.pinned || options.pinned {
                 let text = String::from_str(alloc, text)?;
-                return Ok(take(old, text, Change::Explicit, None));
+                return Ok(change_requirement(old, text, Change::Explicit, None));
             }
             true
         }
@@ -231,7 +231,7 @@ fn decide_by(
     if pin.readable {
         return decide_raised(alloc, options, pin.pinned, aside, old, far, near);
     }
-    keep(
+    leave_unchanged(
         alloc,
         old,
         if aside {
@@ -269,9 +269,9 @@ pub fn decide(
     ensures error { IfErr result IsMemory }
 {
     if case.excluded {
-        return Ok(keep(alloc, old.text(), Reason::Excluded)?);
+        return Ok(leave_unchanged(alloc, old.text(), Reason::Excluded)?);
     }
-    let pin = pin_of(case.renamed, old);
+    let pin = requirement_pin(case.renamed, old);
     let EntryCase {
         selected,
         compatible,

@@ -27,23 +27,23 @@ fn has_pin(comparators: &[Comparator]) -> bool
 
 /// Whether a requirement can be parsed, and whether its entry is pinned.
 #[derive(Clone, Copy)]
-pub struct Pin {
+pub struct PinStatus {
     pub readable: bool,
     pub pinned: bool,
 }
 
 /// Whether a requirement can be parsed, and whether its comparators or a `package` key (a renamed
 /// dependency) pin the entry.
-pub fn pin_of(renamed: bool, old: &Requirement<'_>) -> Pin
+pub fn requirement_pin(renamed: bool, old: &Requirement<'_>) -> PinStatus
     ensures readable { result.readable ≡ is_ok (req_of (text_in old.now)) }
     ensures pinned { result.pinned ≡ (renamed || has_pin_read (req_of (text_in old.now))) }
 {
     match old.version_req() {
-        Some(req) => Pin {
+        Some(req) => PinStatus {
             readable: true,
             pinned: renamed | has_pin(&req.comparators),
         },
-        None => Pin {
+        None => PinStatus {
             readable: false,
             pinned: renamed,
         },
@@ -51,11 +51,11 @@ pub fn pin_of(renamed: bool, old: &Requirement<'_>) -> Pin
 }
 
 /// Parses a requirement, and returns whether it can be parsed and whether its entry is pinned.
-pub fn read_pin(alloc: Global, renamed: bool, text: &str) -> CargoResult<Pin>
+pub fn read_pin(alloc: Global, renamed: bool, text: &str) -> CargoResult<PinStatus>
     ensures readable { IfOk result (λ p. p.readable ≡ is_ok (req_of text.now)) }
     ensures pinned { IfOk result (λ p. p.pinned ≡ (renamed || has_pin_read (req_of text.now))) }
     ensures error { IfErr result IsMemory }
 {
     let read = Requirement::read(alloc, text)?;
-    Ok(pin_of(renamed, &read))
+    Ok(requirement_pin(renamed, &read))
 }

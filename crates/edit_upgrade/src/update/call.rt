@@ -24,7 +24,7 @@ fn add(alloc: Global, words: &mut Call, word: &str) -> Result<(), AllocError>
 }
 
 /// The arguments that each call for a manifest begins with.
-pub(crate) fn begun(alloc: Global, manifest: &str) -> Result<Call, AllocError>
+pub(crate) fn begin_call(alloc: Global, manifest: &str) -> Result<Call, AllocError>
     ensures { IfOk result (λ v. args_view v.items ≡ codes "cargo" ∷ codes "update"
         ∷ codes "--manifest-path" ∷ manifest.now ∷ []) }
 {
@@ -92,7 +92,7 @@ pub(crate) fn precise_call(
     ensures { IfOk result (λ v. args_view v.items
         ≡ precise_call manifest.now (pin_view pin.now) (package_view krate.now)) }
 {
-    let mut words = begun(alloc, manifest)?;
+    let mut words = begin_call(alloc, manifest)?;
     add(alloc, &mut words, "--precise")?;
     let version = version_text(alloc, &pin.version)?;
     words.push(version)?;

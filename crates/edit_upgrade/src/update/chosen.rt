@@ -1,12 +1,12 @@
 //! The packages that a call names.
 ghost use Rattle.std.specs.Prelude.{◌≡◌, ◌&&◌, IfOk, is_none, map, string_bytes};
 ghost use Rattle.edit_metadata.specs.Workspaces.{package_view, packages_view};
-ghost use Rattle.edit_upgrade.specs.Groups.{nows};
+ghost use Rattle.edit_upgrade.specs.Groups.{package_values};
 ghost use Rattle.edit_upgrade.specs.Names.{HasNames};
 ghost use Rattle.edit_metadata.specs.Reading.{holds};
 ghost use Rattle.edit_upgrade.specs.PinViews.{pins_view};
 ghost use Rattle.edit_upgrade.specs.Pins.{pin_at};
-ghost use Rattle.edit_upgrade.specs.UpdateCalls.{from_git, is_from_git, unpinned};
+ghost use Rattle.edit_upgrade.specs.UpdateCalls.{from_git, is_from_git, unpinned_packages};
 
 use crate::update::pins::{Pins, pin_at};
 use edit_metadata::Package;
@@ -60,7 +60,7 @@ pub(crate) fn from_git<'a>(
     names: &[String],
     packages: &'a [Package],
 ) -> Result<Vec<&'a Package>, AllocError>
-    ensures { IfOk result (λ v. packages_view (nows v.items)
+    ensures { IfOk result (λ v. packages_view (package_values v.items)
         ≡ from_git (map string_bytes names.now) (packages_view packages.now)) }
 {
     let names = names_of(alloc, names)?;
@@ -74,14 +74,14 @@ pub(crate) fn from_git<'a>(
 }
 
 /// The packages of these names for which no precise version is given, in order.
-pub(crate) fn unpinned<'a>(
+pub(crate) fn unpinned_packages<'a>(
     alloc: Global,
     pins: &Pins,
     names: &[String],
     packages: &'a [Package],
 ) -> Result<Vec<&'a Package>, AllocError>
-    ensures { IfOk result (λ v. packages_view (nows v.items)
-        ≡ unpinned (pins_view pins.now) (map string_bytes names.now) (packages_view packages.now)) }
+    ensures { IfOk result (λ v. packages_view (package_values v.items)
+        ≡ unpinned_packages (pins_view pins.now) (map string_bytes names.now) (packages_view packages.now)) }
 {
     let names = names_of(alloc, names)?;
     let mut found = Vec::new(alloc);

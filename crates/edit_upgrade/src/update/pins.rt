@@ -56,19 +56,19 @@ fn named_version(alloc: Global, comparator: &Comparator) -> Result<Option<Versio
 }
 
 /// Whether a version precedes another in the full order, which includes build metadata.
-fn is_below(version: &Version, other: &Version) -> bool
+fn is_lower_version(version: &Version, other: &Version) -> bool
     ensures { result ≡ is_lt (full_order (parts_of version.now) (parts_of other.now)) }
 {
     version < other
 }
 
 /// The greater of two versions; the new one where they are equal.
-fn greater(best: Option<Version>, version: Version) -> Version
+fn greater_version(best: Option<Version>, version: Version) -> Version
     ensures { parts_of result ≡ pick full_order (option_map parts_of best) (parts_of version) }
 {
     match best {
         Some(best) => {
-            if is_below(&version, &best) {
+            if is_lower_version(&version, &best) {
                 best
             } else {
                 version
@@ -87,7 +87,7 @@ fn precise_version(alloc: Global, comparators: &[Comparator]) -> Result<Option<V
     'comparators: for comparator in comparators {
         let named = named_version(alloc, comparator)?;
         match named {
-            Some(version) => best = Some(greater(best, version)),
+            Some(version) => best = Some(greater_version(best, version)),
             None => {}
         }
     }

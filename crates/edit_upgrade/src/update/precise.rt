@@ -1,13 +1,13 @@
 //! Calls of `cargo update --precise` for selected names with a precise version.
 ghost use Rattle.std.specs.Prelude.{◌≡◌, ◌++◌, IfOk, OnOk, option_copied, option_map};
 ghost use Rattle.edit_metadata.specs.Workspaces.{packages_view};
-ghost use Rattle.edit_upgrade.specs.Groups.{group, nows};
+ghost use Rattle.edit_upgrade.specs.Groups.{group, package_values};
 ghost use Rattle.edit_upgrade.specs.PinViews.{pin_entry_view, pin_view, pins_view};
 ghost use Rattle.edit_upgrade.specs.UpdateCalls.{admitted_calls, entry_calls, precise_calls};
 ghost use Rattle.edit_upgrade.specs.Views.{calls_view};
 
 use crate::update::call::{Call, precise_call};
-use crate::update::groups::{Groups, grouped};
+use crate::update::groups::{Groups, group_by_name};
 use crate::update::pins::{Pin, Pins};
 use edit_metadata::Package;
 use edit_version::admits;
@@ -22,7 +22,7 @@ fn add_admitted(
     calls: &mut Vec<Call>,
 ) -> Result<(), AllocError>
     ensures { OnOk result (calls_view calls.new.items ≡ calls_view calls.old.items
-        ++ admitted_calls manifest.now (pin_view pin.now) (packages_view (nows packages.now))) }
+        ++ admitted_calls manifest.now (pin_view pin.now) (packages_view (package_values packages.now))) }
 {
     'packages: for package in packages {
         if admits(&pin.req, &package.version) {
@@ -69,7 +69,7 @@ pub(crate) fn precise_calls(
     if pins.is_empty() {
         return Ok(calls);
     }
-    let groups = grouped(alloc, packages)?;
+    let groups = group_by_name(alloc, packages)?;
     'pins: for (name, pin) in pins {
         add_entry(
             alloc,

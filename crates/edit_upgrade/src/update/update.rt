@@ -3,16 +3,16 @@ ghost use Rattle.std.specs.Prelude.{◌≡◌, ◌⊎◌, ◌++◌, All, IfErr, 
 ghost use Rattle.edit_base.specs.Errors.{IsMemory};
 ghost use Rattle.edit_metadata.specs.Workspaces.{packages_view, workspace_view};
 ghost use Rattle.edit_upgrade.specs.ParsedOptions.{call_options, is_git_updated, is_due, is_recursive};
-ghost use Rattle.edit_upgrade.specs.Groups.{nows};
+ghost use Rattle.edit_upgrade.specs.Groups.{package_values};
 ghost use Rattle.edit_upgrade.specs.PinViews.{pins_view};
 ghost use Rattle.edit_upgrade.specs.Words.{IsPackageArg};
 ghost use Rattle.edit_upgrade.specs.WordCauses.{FailsAtPackageArg};
 ghost use Rattle.edit_upgrade.specs.Pins.{pins_of};
-ghost use Rattle.edit_upgrade.specs.UpdateCalls.{aggressive_calls, calls_for, git_calls, packages_args, recursive_calls, unpinned, update_calls};
+ghost use Rattle.edit_upgrade.specs.UpdateCalls.{aggressive_calls, calls_for, git_calls, packages_args, recursive_calls, unpinned_packages, update_calls};
 ghost use Rattle.edit_upgrade.specs.Views.{calls_view, args_view};
 
-use crate::update::call::{Call, add_aggressive, add_package, begun, end};
-use crate::update::chosen::{from_git, unpinned};
+use crate::update::call::{Call, add_aggressive, add_package, begin_call, end};
+use crate::update::chosen::{from_git, unpinned_packages};
 use crate::update::pins::{Pins, read_pins};
 use crate::update::precise::precise_calls;
 use crate::{Options, UpgradePlan};
@@ -48,7 +48,7 @@ fn is_recursive(plan: &UpgradePlan, options: &Options) -> bool
 /// Appends the arguments that name these packages.
 fn add_packages(alloc: Global, words: &mut Call, packages: &[&Package]) -> Result<(), AllocError>
     ensures { OnOk result (args_view words.new.items
-        ≡ args_view words.old.items ++ packages_args (packages_view (nows packages.now))) }
+        ≡ args_view words.old.items ++ packages_args (packages_view (package_values packages.now))) }
 {
     'packages: for package in packages {
         add_package(alloc, words, package)?;
@@ -72,7 +72,7 @@ fn add_git_call(
         return Ok(());
     }
     let found = from_git(alloc, &plan.git_crates, packages)?;
-    let mut words = begun(alloc, manifest)?;
+    let mut words = begin_call(alloc, manifest)?;
     add_packages(alloc, &mut words, &found)?;
     end(alloc, &mut words)?;
     calls.push(words)?;
@@ -87,12 +87,12 @@ fn add_aggressive_call(
     calls: &mut Vec<Call>,
 ) -> Result<(), AllocError>
     ensures { OnOk result (calls_view calls.new.items ≡ calls_view calls.old.items
-        ++ aggressive_calls manifest.now (packages_view (nows packages.now))) }
+        ++ aggressive_calls manifest.now (packages_view (package_values packages.now))) }
 {
     if packages.is_empty() {
         return Ok(());
     }
-    let mut words = begun(alloc, manifest)?;
+    let mut words = begin_call(alloc, manifest)?;
     add_aggressive(alloc, &mut words)?;
     add_packages(alloc, &mut words, packages)?;
     end(alloc, &mut words)?;
@@ -117,7 +117,7 @@ fn add_recursive_call(
     if !is_recursive(plan, options) {
         return Ok(());
     }
-    let left = unpinned(alloc, pins, &plan.modified, packages)?;
+    let left = unpinned_packages(alloc, pins, &plan.modified, packages)?;
     add_aggressive_call(alloc, manifest, &left, calls)
 }
 

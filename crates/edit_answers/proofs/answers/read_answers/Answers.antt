@@ -21,12 +21,12 @@ loop-line-preserved-in-Some-read_answer c =
     let none = cut-first 10 _ _ _ c.in-Some.ensures.cases (lit< tt) in
     let says = c.in-Some-read_answer.ensures.some in (
       search rules,
-      c.put.ensures.count ∙ c.loop-line.invariant.1,
+      c.put_answer.ensures.count ∙ c.loop-line.invariant.1,
       one-first _ _ c.in-Some.line.now _ _ _ c.in-Some-read_answer.number c.in-Some-read_answer.answer
-          c.loop-line.invariant.3 cut none says c.put.ensures.put c.put.ensures.preserved
-          c.put.ensures.count c.loop-line.invariant.2,
-      line-on _ _ _ _ _ _ c.loop-line.invariant.3 cut none c.put.ensures.count c.put.ensures.preserved
-          (says-one _ _ _ _ _ says (one-number _) c.put.ensures.count c.put.ensures.has),
+          c.loop-line.invariant.3 cut none says c.put_answer.ensures.put c.put_answer.ensures.preserved
+          c.put_answer.ensures.count c.loop-line.invariant.2,
+      line-on _ _ _ _ _ _ c.loop-line.invariant.3 cut none c.put_answer.ensures.count c.put_answer.ensures.preserved
+          (says-one _ _ _ _ _ says (one-number _) c.put_answer.ensures.count c.put_answer.ensures.has),
     )
 
 pub returns-clause-found : goal.returns-clause-found

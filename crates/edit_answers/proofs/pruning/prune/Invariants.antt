@@ -1,6 +1,6 @@
 use Rattle.std.proofs.Common.{◌≡◌, ◌≤◌, true}
 use Rattle.std.specs.Prelude.{filter}
-use Rattle.edit_store.specs.Store.{raised}
+use Rattle.edit_store.specs.Store.{IsRaisedCount}
 use Rattle.edit_answers.specs.Aging.{remaining_files}
 use Rattle.edit_answers.proofs.PruneLemmas.{stays_at}
 use Rattle.edit_answers.proofs.pruning.prune.Given as goal
@@ -14,6 +14,6 @@ invariant-loop-i g l =
       tells : now.tells ≡ old.tells;
       later : old.faults ≤ now.faults;
       stays : old.tells ≡ true → remaining_files old.files now.files ≡ remaining_files old.files old.files;
-      gone : old.tells ≡ true → (raised old.faults now.faults → ⊥)
+      gone : old.tells ≡ true → (IsRaisedCount old.faults now.faults → ⊥)
           → now.files ≡ filter (stays_at old.files l.i) old.files;
     }

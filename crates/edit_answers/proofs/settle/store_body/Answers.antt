@@ -1,6 +1,6 @@
 use Rattle.std.proofs.Common.{◌≡◌, Some, refl, inl, ap, ◌∙◌, sym, subst}
 use Rattle.edit_lookups.specs.Lookups.{lookup_text}
-use Rattle.edit_answers.specs.Outcomes.{Puts, PutsIndexed, by_cached, stored}
+use Rattle.edit_answers.specs.Outcomes.{Puts, PutsIndexed, by_cached, stored_outcome}
 use Rattle.edit_answers.specs.Outcomes.Puts.{entry}
 use Rattle.edit_answers.specs.declared.meaning.Failure.TheVariants.{Unanswered}
 use Rattle.edit_answers.specs.declared.meaning.Outcome.{Outcome}
@@ -30,7 +30,7 @@ pub returns-in-Ok-store_direct-clause-changes :
 returns-in-Ok-store_direct-clause-changes g c =
     let p = c.args.places.now in
     let l = lookup_text c.args.lookup.now in
-    let may = Puts p l (stored c.args.is_direct) in
+    let may = Puts p l (stored_outcome c.args.is_direct) in
     let path = c.as_str.ensures.value ∙ c.in_ok-entry.ensures in
     let first = write-changes (λ _. may) may _ _ _ _ c.args.body.now _ c.in-Ok.ensures.tells
     c.in-Ok.ensures.written
@@ -40,7 +40,7 @@ returns-in-Ok-store_direct-clause-changes g c =
     (entry c.args.body.now (is-stored c.args.is_direct) c.requires))) in
     let second = as-ok (λ _. PutsIndexed p l) (λ _. may)
     (PutsIndexed p l) may _ _ _ c.in-Ok-link_cached.outcome
-    (λ t. indexed-puts p l (stored c.args.is_direct)) c.in-Ok-link_cached.ensures.changes in
+    (λ t. indexed-puts p l (stored_outcome c.args.is_direct)) c.in-Ok-link_cached.ensures.changes in
     let third = weakened _ (λ _. may) _ may _ _ _
     (λ t v q bytes. direct-puts p l c.args.is_direct c.args.body.now _ q bytes c.requires
     (c.as_str-2.ensures.value ∙ c.in_ok-entry.ensures))
@@ -50,9 +50,9 @@ returns-in-Ok-store_direct-clause-changes g c =
     as-ok (λ _. may) (Puts p l) may (Puts p l Fetched) _ _ _ c.in-Ok-link_cached.outcome
     (λ t q bytes h. subst (λ o. Puts p l o q bytes)
     (sym (c.in-Ok-link_cached.ensures.outcome (c.write.ensures.tells ∙ t)
-    ∙ (ap (λ o. by_cached o c.stored.result Unanswered)
+    ∙ (ap (λ o. by_cached o c.stored_outcome.result Unanswered)
     (subst (λ q. (g.S.Store.view c.write.new.self).file_at q ≡ Some c.args.body.now) path
-    (c.in-Ok.ensures.written t)) ∙ c.stored.ensures))) h)
+    (c.in-Ok.ensures.written t)) ∙ c.stored_outcome.ensures))) h)
     (then may _ _ _ _ _ first (then may _ _ _ _ _ second third))
 
 pub returns-clause-changes : goal.returns-clause-changes

@@ -19,7 +19,7 @@ returns-then-kind c =
     ] in (
       λ e. absurd cc,
       λ h. absurd (c.if-kind.true (c.kind.ensures
-          ∙ sym (ap kind_of (members_view c.args.document.now c.args.number c.stands.ensures c.args.is_inline ms
+          ∙ sym (ap kind_of (members_view c.args.document.now c.args.number c.lemma_exists.ensures c.args.is_inline ms
           h))
           ∙ members_kind c.args.is_inline ms ∙ sym kind)),
     )
@@ -29,7 +29,7 @@ returns-then-name_count-members c =
     let ms = new_pair_views c.args.members.now in (
       λ e. absurd cc,
       λ h. absurd (c.if-name_count-members.true (c.name_count.ensures
-          ∙ ap length (members_count c.args.document.now c.args.number c.stands.ensures c.args.is_inline ms h)
+          ∙ ap length (members_count c.args.document.now c.args.number c.lemma_exists.ensures c.args.is_inline ms h)
           ∙ length-map ms (λ (m : List ℕ × NewValue). m.0) ∙ length-map c.args.members.now new_pair_view)),
     )
 
@@ -43,7 +43,7 @@ returns-then-not-shows_member c =
       λ e. absurd cc,
       λ h. sym c.if-not-shows_member.true ∙
           c.shows_member.ensures.1 (members_pair c.args.document.now c.args.number
-          c.stands.ensures c.args.is_inline ms c.lemma_unique_names.ensures c.members.index
+          c.lemma_exists.ensures c.args.is_inline ms c.lemma_unique_names.ensures c.members.index
           (new_pair_view c.index-members-index.result) h there),
     )
 
@@ -72,9 +72,9 @@ returns c =
       | then-is_inline w ↦ w.kind-is ∙ sym (ap (λ b. cond b 8 9) w.if-is_inline.true)
       | else-is_inline w ↦ w.kind-is ∙ sym (ap (λ b. cond b 8 9) w.if-is_inline.false)
     ] in (
-      λ e. members_show c.args.document.now c.args.number c.stands.ensures c.args.is_inline ms
+      λ e. members_show c.args.document.now c.args.number c.lemma_exists.ensures c.args.is_inline ms
           c.lemma_tree.ensures.below
-          c.is_whole.ensures.parts c.is_whole.ensures.keys c.is_whole.ensures.steps
+          c.lemma_children.ensures.parts c.lemma_children.ensures.keys c.lemma_children.ensures.steps
           (sym c.kind.ensures ∙ c.if-kind.false ∙ kind)
           (sym c.name_count.ensures ∙ c.if-name_count-members.false ∙
           sym (length-map c.args.members.now new_pair_view))

@@ -11,8 +11,8 @@ returns-then-not-same_view t c = (
   λ e. absurd cc,
   λ h. sym c.if-not-same_view.true ∙
       c.same_view.ensures.1
-      (same_here c.args.document.now c.args.number c.args.other.now c.args.there c.stands.ensures
-      c.stands-2.ensures
+      (same_here c.args.document.now c.args.number c.args.other.now c.args.there c.lemma_exists.ensures
+      c.lemma_exists-2.ensures
       h),
 )
 
@@ -32,8 +32,8 @@ pub returns : goal.returns
 returns t c =
     let same = c.same_view.ensures.0 c.if-not-same_view.false in (
       λ e. same_all c.args.document.now c.args.number c.args.other.now c.args.there c.lemma_tree.ensures.below
-          c.lemma_tree-2.ensures.below c.is_whole.ensures.parts c.is_whole-2.ensures.parts c.stands.ensures
-          c.stands-2.ensures same
+          c.lemma_tree-2.ensures.below c.lemma_children.ensures.parts c.lemma_children-2.ensures.parts c.lemma_exists.ensures
+          c.lemma_exists-2.ensures same
           (parts_all c.args.document.now c.args.number c.args.other.now c.args.there c.parts.index
           c.member_count-count.result c.parts.invariant c.parts-test.false c.member_count-count.ensures),
       λ h. refl,

@@ -26,5 +26,5 @@ steps-preserved c =
     c.steps.step-index c.step-item.result
     c.steps-test.true c.step-item.is c.steps.number c.steps.there c.steps.invariant.1.1 c.steps.invariant.2.1
     c.steps.invariant.0 (c.unordered_around.ensures.same.0 c.if-not-unordered_around.false)
-    c.in-Some-step_down.next c.in-Some.other_next (c.in-Some-step_down.ensures {u = tt})
+    c.in-Some-child_by_step.next c.in-Some.other_next (c.in-Some-child_by_step.ensures {u = tt})
     (c.in-Some.ensures {u = tt})

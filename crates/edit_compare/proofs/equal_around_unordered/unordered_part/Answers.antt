@@ -7,7 +7,7 @@ pub returns-in_default-counterpart : goal.returns-in_default-counterpart
 returns-in_default-counterpart c = (
   λ e. absurd cc,
   λ h. absurd (part_missing (at (node_place c.args.other.now c.args.there)) c.args.document.now c.args.number
-      c.args.other.now c.args.index c.in-Some.part (c.in-Some.ensures {u = tt}) c.is_whole.ensures.stands
+      c.args.other.now c.args.index c.in-Some.part (c.in-Some.ensures {u = tt}) c.lemma_children.ensures.stands
       (c.in_default-counterpart.ensures {u = tt}) h),
 )
 

@@ -31,8 +31,8 @@ returns-then-not-is_same_text c =
     let v = node_view c.args.document.now c.args.number in
     let w = node_view c.args.other.now c.args.there in
     let has_no_child : (i : ℕ) → slice_get (names_in v) i ≡ Some c.args.key.now → ⊥ = λ i h.
-    c.is_whole.ensures.stands (key c.args.key.now) i
-    (c.is_whole.ensures.names i c.args.key.now h) c.requires.absent in
+    c.lemma_children.ensures.stands (key c.args.key.now) i
+    (c.lemma_children.ensures.names i c.args.key.now h) c.requires.absent in
     let first = c.in-Some.ensures {u = tt} in (
       λ e. absurd cc,
       λ h.
@@ -57,7 +57,7 @@ returns c =
     let size : length (names_in w) ≡ suc (length (names_in v)) =
     let lt = slice_get_within (names_in w) c.in-Some.added c.args.key.now first.0 in
     omega (arith, lt, c.name_count-count.ensures, c.if-saturating_sub-count.false) in (
-      λ e. grown_view c.args.key.now v w c.is_whole.ensures.keys c.is_whole-2.ensures.keys
+      λ e. grown_view c.args.key.now v w c.lemma_children.ensures.keys c.lemma_children-2.ensures.keys
           (names_grown c.args.key.now v w c.in-Some.added (omega (arith, c.kind-kind.ensures))
           (sym c.kind-kind.ensures ∙ c.if-kind.false ∙ c.kind.ensures)
           (one_more c.args.key.now c.in-Some.added (names_in v) (names_in w) first.0 size

@@ -14,7 +14,7 @@ pub returns-then-kind-ne6 : goal.returns-then-kind-ne6
 returns-then-kind-ne6 c = (
   λ e. absurd cc,
   λ h. absurd (c.if-kind-ne6.true (c.kind.ensures ∙ sym (ap kind_of (list_view c.args.document.now c.args.number
-      c.stands.ensures (map string_bytes c.args.list.now) h)))),
+      c.lemma_exists.ensures (map string_bytes c.args.list.now) h)))),
 )
 
 pub returns-then-member_count-list : goal.returns-then-member_count-list
@@ -22,7 +22,7 @@ returns-then-member_count-list c = (
   λ e. absurd cc,
   λ h. absurd (c.if-member_count-list.true (c.member_count.ensures ∙
       sym (ap count_in (list_view c.args.document.now
-      c.args.number c.stands.ensures (map string_bytes c.args.list.now) h)) ∙
+      c.args.number c.lemma_exists.ensures (map string_bytes c.args.list.now) h)) ∙
       length-map c.args.list.now string_bytes)),
 )
 
@@ -36,7 +36,7 @@ returns-then-not-shows_element c =
       λ e. absurd cc,
       λ h. sym c.if-not-shows_element.true ∙
           c.shows_element.ensures.1 (list_element c.args.document.now c.args.number
-          c.stands.ensures (map string_bytes c.args.list.now) c.texts.index c.as_str.result.now h said),
+          c.lemma_exists.ensures (map string_bytes c.args.list.now) c.texts.index c.as_str.result.now h said),
     )
 
 pub texts-preserved : goal.texts-preserved
@@ -61,8 +61,8 @@ texts-preserved c i s lt e =
 
 pub returns : goal.returns
 returns c = (
-  λ e. list_shows c.args.document.now c.args.number c.stands.ensures c.lemma_tree.ensures.below
-      c.is_whole.ensures.parts
+  λ e. list_shows c.args.document.now c.args.number c.lemma_exists.ensures c.lemma_tree.ensures.below
+      c.lemma_children.ensures.parts
       (map string_bytes c.args.list.now) (sym c.kind.ensures ∙ c.if-kind-ne6.false)
       (sym c.member_count.ensures ∙ c.if-member_count-list.false ∙
       sym (length-map c.args.list.now string_bytes))

@@ -11,8 +11,8 @@ returns-then-truth c =
     subst (λ (b : Bool). Decides (eqb c.kind-kind.result 2)
     (ShowsValue c.args.document.now (node_place c.args.document.now c.args.number) (a_truth b)))
     (sym c.if-truth.true)
-    (truth_decides c.args.document.now c.args.number c.stands.ensures c.lemma_tree.ensures.below
-    c.is_whole.ensures.parts true
+    (truth_decides c.args.document.now c.args.number c.lemma_exists.ensures c.lemma_tree.ensures.below
+    c.lemma_children.ensures.parts true
     c.kind-kind.result c.kind-kind.ensures)
 
 pub returns-else-truth : goal.returns-else-truth
@@ -20,6 +20,6 @@ returns-else-truth c =
     subst (λ (b : Bool). Decides (eqb c.kind-kind.result 1)
     (ShowsValue c.args.document.now (node_place c.args.document.now c.args.number) (a_truth b)))
     (sym c.if-truth.false)
-    (truth_decides c.args.document.now c.args.number c.stands.ensures c.lemma_tree.ensures.below
-    c.is_whole.ensures.parts false
+    (truth_decides c.args.document.now c.args.number c.lemma_exists.ensures c.lemma_tree.ensures.below
+    c.lemma_children.ensures.parts false
     c.kind-kind.result c.kind-kind.ensures)

@@ -31,7 +31,7 @@ returns-then-kind-lt8 c =
     let v = node_view c.args.document.now c.args.number in
     let w = node_view c.args.other.now c.args.there in
     let t = step_view c.args.step.now in
-    let p = part_is c.args.document.now c.args.number t c.is_whole.ensures.parts c.requires.part in
+    let p = part_is c.args.document.now c.args.number t c.lemma_children.ensures.parts c.requires.part in
     let lt = part_less v p.0 t p.1 in
     let kind : kind_of v ≡ kind_of w = sym c.kind-kind.ensures ∙ c.if-kind.false ∙ c.kind.ensures in
     let size : count_in v ≡ suc (count_in w) =
@@ -48,7 +48,7 @@ returns-then-not-has_names_but c =
       λ h. sym c.if-not-has_names_but.true ∙
           c.has_names_but.ensures.1 (names_but c.args.document.now c.args.number
           c.args.other.now c.args.there
-          (step_view c.args.step.now) c.is_whole-2.ensures.stands c.is_whole.ensures.names
+          (step_view c.args.step.now) c.lemma_children-2.ensures.stands c.lemma_children.ensures.names
           (loses_parts (step_view c.args.step.now) v w h big)),
     )
 
@@ -60,7 +60,7 @@ returns-then-not-has_names_of c =
       λ e. absurd cc,
       λ h. sym c.if-not-has_names_of.true ∙
           c.has_names_of.ensures.1 (names_by_parts c.args.other.now c.args.there
-          c.args.document.now c.args.number c.is_whole.ensures.stands c.is_whole-2.ensures.names
+          c.args.document.now c.args.number c.lemma_children.ensures.stands c.lemma_children-2.ensures.names
           (loses_parts (step_view c.args.step.now) v w h big).back),
     )
 
@@ -69,7 +69,7 @@ returns c =
     let v = node_view c.args.document.now c.args.number in
     let w = node_view c.args.other.now c.args.there in
     let t = step_view c.args.step.now in
-    let p = part_is c.args.document.now c.args.number t c.is_whole.ensures.parts c.requires.part in
+    let p = part_is c.args.document.now c.args.number t c.lemma_children.ensures.parts c.requires.part in
     let lt = part_less v p.0 t p.1 in
     let kind : kind_of v ≡ kind_of w = sym c.kind-kind.ensures ∙ c.if-kind.false ∙ c.kind.ensures in
     let size : count_in v ≡ suc (count_in w) =
@@ -77,11 +77,11 @@ returns c =
     let big : 8 ≤ kind_of v = subst (λ (k : ℕ). 8 ≤ k) c.kind-kind.ensures c.if-kind-lt8.false in (
       λ e. table_loses t v w big kind size
           (parts_but c.args.document.now c.args.number c.args.other.now c.args.there t
-          big kind c.is_whole.ensures.parts c.is_whole-2.ensures.parts c.is_whole-2.ensures.stands
-          c.is_whole-2.ensures.steps c.is_whole-2.ensures.names c.is_whole.ensures.keys
-          c.is_whole-2.ensures.keys
+          big kind c.lemma_children.ensures.parts c.lemma_children-2.ensures.parts c.lemma_children-2.ensures.stands
+          c.lemma_children-2.ensures.steps c.lemma_children-2.ensures.names c.lemma_children.ensures.keys
+          c.lemma_children-2.ensures.keys
           (c.has_names_but.ensures.0 c.if-not-has_names_but.false)
           (c.has_names_of.ensures.0 c.if-not-has_names_of.false)
           (c.has_no_child.ensures.0 e)),
-      λ h. c.has_no_child.ensures.1 (c.is_whole-2.ensures.parts t (loses_parts t v w h big).none),
+      λ h. c.has_no_child.ensures.1 (c.lemma_children-2.ensures.parts t (loses_parts t v w h big).none),
     )

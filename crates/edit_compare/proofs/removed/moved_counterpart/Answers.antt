@@ -5,7 +5,7 @@ use Rattle.edit_compare.proofs.removed.moved_counterpart.Goals as goal
 
 pub returns-in-Some : goal.returns-in-Some
 returns-in-Some c s part =
-    key_moves (node_view c.args.document.now c.args.number) c.is_whole.ensures.steps c.args.index
+    key_moves (node_view c.args.document.now c.args.number) c.lemma_children.ensures.steps c.args.index
     c.in-Some.name.now
     (sym c.member_name.ensures ∙ ap (option_map (λ (t : Bor (List ℕ)). t.now)) c.in-Some.is) c.args.other.now
     (step_view c.args.step.now) (node_place c.args.other.now c.args.there) c.member.result
@@ -13,7 +13,7 @@ returns-in-Some c s part =
 
 pub returns-in-None : goal.returns-in-None
 returns-in-None c s part =
-    index_moves (node_view c.args.document.now c.args.number) c.is_whole.ensures.steps c.args.index
+    index_moves (node_view c.args.document.now c.args.number) c.lemma_children.ensures.steps c.args.index
     c.moved_index.result
     (sym c.member_name.ensures ∙ ap (option_map (λ (t : Bor (List ℕ)). t.now)) c.in-None.is) c.args.other.now
     (step_view c.args.step.now) (node_place c.args.other.now c.args.there) c.element.result

@@ -14,7 +14,7 @@ returns-in_default-moved_counterpart c = (
   λ h. absurd (part_missing
       (moved_place (step_view c.args.step.now) (node_place c.args.other.now c.args.there))
       c.args.document.now c.args.number c.args.other.now c.args.index c.in-Some.part (c.in-Some.ensures {u = tt})
-      c.is_whole.ensures.stands (c.in_default-moved_counterpart.ensures {u = tt}) h),
+      c.lemma_children.ensures.stands (c.in_default-moved_counterpart.ensures {u = tt}) h),
 )
 
 pub returns : goal.returns

@@ -10,7 +10,7 @@ returns-then-not-same_but_order t c = (
   λ e. absurd cc,
   λ h. sym c.if-not-same_but_order.true ∙
       c.same_but_order.ensures.1 (unordered_here c.args.document.now c.args.number
-      c.args.other.now c.args.there c.stands.ensures c.stands-2.ensures h),
+      c.args.other.now c.args.there c.lemma_exists.ensures c.lemma_exists-2.ensures h),
 )
 
 pub returns-in_default : goal.returns-in_default
@@ -23,7 +23,7 @@ returns-in_default-counterpart t c = (
   λ e. absurd cc,
   λ h. absurd (unordered_lacks c.args.document.now c.args.number c.args.other.now c.args.there c.parts.index
       c.in-Some.part
-      (c.in-Some.ensures {u = tt}) c.is_whole.ensures.stands (c.in_default-counterpart.ensures {u = tt}) h),
+      (c.in-Some.ensures {u = tt}) c.lemma_children.ensures.stands (c.in_default-counterpart.ensures {u = tt}) h),
 )
 
 pub returns-then-not-same_unordered : goal.returns-then-not-same_unordered
@@ -43,9 +43,9 @@ parts-preserved t c =
 
 pub returns : goal.returns
 returns t c = (
-  λ e. unordered_all c.args.document.now c.args.number c.args.other.now c.args.there c.stands.ensures
-      c.stands-2.ensures
-      c.lemma_tree.ensures.below c.lemma_tree-2.ensures.below c.is_whole.ensures.parts c.is_whole-2.ensures.parts
+  λ e. unordered_all c.args.document.now c.args.number c.args.other.now c.args.there c.lemma_exists.ensures
+      c.lemma_exists-2.ensures
+      c.lemma_tree.ensures.below c.lemma_tree-2.ensures.below c.lemma_children.ensures.parts c.lemma_children-2.ensures.parts
       (c.same_but_order.ensures.0 c.if-not-same_but_order.false)
       (λ j s lt ps. c.parts.invariant j s
       (omega (arith, lt, c.parts-test.false, c.member_count-count.ensures)) ps),

@@ -20,7 +20,7 @@ returns-then-not-has_names_of c =
       λ e. absurd cc,
       λ h. sym c.if-not-has_names_of.true ∙
           c.has_names_of.ensures.1 (names_by_parts c.args.document.now c.args.number
-          c.args.other.now c.args.there c.is_whole-2.ensures.stands c.is_whole.ensures.names
+          c.args.other.now c.args.there c.lemma_children-2.ensures.stands c.lemma_children.ensures.names
           (order_free v w h).there),
     )
 
@@ -32,14 +32,14 @@ returns c =
     let kind : kind_of v ≡ kind_of w = sym c.kind-kind.ensures ∙ c.if-kind.false ∙ c.kind.ensures in
     let size = sym c.member_count.ensures ∙ c.if-member_count.false ∙ c.member_count-2.ensures in
     let there = parts_by_names c.args.document.now c.args.number c.args.other.now c.args.there
-    c.is_whole-2.ensures.parts c.is_whole.ensures.steps c.is_whole.ensures.names
-    (named_parts v big c.is_whole.ensures.keys) (c.has_names_of.ensures.0 c.if-not-has_names_of.false) in (
+    c.lemma_children-2.ensures.parts c.lemma_children.ensures.steps c.lemma_children.ensures.names
+    (named_parts v big c.lemma_children.ensures.keys) (c.has_names_of.ensures.0 c.if-not-has_names_of.false) in (
       λ e. free_tabled v w big kind size there
           (parts_by_names c.args.other.now c.args.there c.args.document.now c.args.number
-          c.is_whole.ensures.parts c.is_whole-2.ensures.steps c.is_whole-2.ensures.names
-          (named_parts w (subst (λ (k : ℕ). 8 ≤ k) kind big) c.is_whole-2.ensures.keys)
+          c.lemma_children.ensures.parts c.lemma_children-2.ensures.steps c.lemma_children-2.ensures.names
+          (named_parts w (subst (λ (k : ℕ). 8 ≤ k) kind big) c.lemma_children-2.ensures.keys)
           (c.has_names_of-2.ensures.0 e)),
       λ h. c.has_names_of-2.ensures.1
           (names_by_parts c.args.other.now c.args.there c.args.document.now c.args.number
-          c.is_whole.ensures.stands c.is_whole-2.ensures.names (order_free v w h).back),
+          c.lemma_children.ensures.stands c.lemma_children-2.ensures.names (order_free v w h).back),
     )

@@ -1,6 +1,6 @@
 use Rattle.std.proofs.Common.{[], ◌∙◌, ap, codes, refl}
 use Rattle.std.specs.Str.{bytes_eq}
-use Rattle.edit_program.proofs.AskedLemmas.{value_is}
+use Rattle.edit_program.proofs.ArgsLemmas.{value_is}
 use Rattle.edit_program.proofs.lookups.is_given.Goals as goal
 
 pub returns : goal.returns

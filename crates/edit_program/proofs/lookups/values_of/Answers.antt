@@ -1,6 +1,6 @@
 use Rattle.std.proofs.Common.{◌∙◌, ap, map, string_bytes}
 use Rattle.std.proofs.lemmas.Result.{IfOk-weaker}
-use Rattle.edit_program.proofs.AskedLemmas.{values_absent, values_there}
+use Rattle.edit_program.proofs.ArgsLemmas.{values_absent, values_there}
 use Rattle.edit_program.proofs.lookups.values_of.Goals as goal
 
 pub returns-in-Some : goal.returns-in-Some

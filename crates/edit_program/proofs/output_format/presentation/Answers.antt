@@ -1,7 +1,7 @@
 use Rattle.std.proofs.Common.{◌∙◌, [], ap₂, codes, refl, sym}
 use Rattle.std.proofs.lemmas.Result.{IfErr-weaker, IfOk-weaker}
 use Rattle.edit_program.specs.Presented.{format_of_options}
-use Rattle.edit_program.proofs.AskedLemmas.{value_is}
+use Rattle.edit_program.proofs.ArgsLemmas.{value_is}
 use Rattle.edit_program.proofs.output_format.presentation.Goals as goal
 
 pub returns-clause-ok : goal.returns-clause-ok

@@ -2,7 +2,7 @@ use Rattle.std.proofs.Common.{ℕ, List, ◌++◌, length, ap, ◌∙◌}
 use Rattle.std.specs.Prelude.{codes}
 use Rattle.std.proofs.lemmas.Result.{IfOk-weaker}
 use Rattle.edit_syntax.specs.Grammar.{lines}
-use Rattle.edit_syntax.specs.Reading.{past_mark}
+use Rattle.edit_syntax.specs.Reading.{skip_byte_order_mark}
 use Rattle.edit_syntax.proofs.TextLaws.{lines_only}
 use Rattle.edit_tree.specs.EditBytes.{put_before, with_splice}
 use Rattle.edit_rewrite.proofs.StatementSpots.{start_spot}
@@ -11,7 +11,7 @@ use Rattle.edit_rewrite.proofs.insert.with_first.Goals as goal
 pub returns-clause-text : goal.returns-clause-text
 returns-clause-text c form m =
     let text = c.args.text.now in
-    let rest = c.past_mark.ensures ∙ ap past_mark c.as_bytes.ensures.value ∙
+    let rest = c.skip_byte_order_mark.ensures ∙ ap skip_byte_order_mark c.as_bytes.ensures.value ∙
     lines_only text form m.grammar in
     let line = c.as_str.ensures.value ∙ (c.in_ok-push_str.ensures {u = tt}).bytes
     ∙ ap (λ (l : List ℕ). l ++ codes "\n") (c.in_ok-line.ensures {u = tt}).ok in

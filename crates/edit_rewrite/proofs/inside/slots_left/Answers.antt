@@ -4,7 +4,7 @@ use Rattle.edit_syntax.specs.Characters.{comma, left_brace}
 use Rattle.edit_syntax.specs.Reading.{first, past_gap}
 use Rattle.edit_document.specs.Items.{place_view}
 use Rattle.edit_rewrite.specs.Remainders.{before_end}
-use Rattle.edit_tree.specs.Slots.{closing, goes, enclosed_left}
+use Rattle.edit_tree.specs.Slots.{closing, is_item_removed, enclosed_left}
 use Rattle.edit_tree.specs.SlotTexts.{StandsAt}
 use Rattle.edit_rewrite.proofs.SlotSteps.{keeps_memory}
 use Rattle.edit_rewrite.proofs.SlotTurns.{slots_front, at_with, turned, table_is, stop_is}
@@ -35,7 +35,7 @@ returns-then-begins c t g ss h =
     let rest = c.slots.rest.now in
     let ends : c.closer-end.result ≡ closing t = c.closer-end.ensures ∙ ap closing (sym inv.0) in
     let shut = ap (λ (x : ℕ). eqb (first rest) x) (sym ends) ∙ sym c.begins.ensures ∙ c.if-begins.true in
-    c.in_ok-with.ensures {u = tt} ∙
+    c.in_ok-finish_with_comma.ensures {u = tt} ∙
     sym (slots_closed t c.args.text.now
     (place_view c.args.below.now) c.slots.index rest c.slots.left.firm.items c.slots.left.with_comma.items
     c.slots.left.without_comma.items _ inv.1 shut)
@@ -78,7 +78,7 @@ returns-then-not-begins c t g ss h =
     c.in_ok-end.ensures {u = tt}
     ∙ ap (λ (b : Bool). if b then (firm ++ gaps) ++ c.in_ok-is_gone.after.now else (firm ++ commas) ++ rest)
     r.0
-    ∙ ap (λ (x : List ℕ). if goes below c.slots.index f.it then (firm ++ gaps) ++ x else
+    ∙ ap (λ (x : List ℕ). if is_item_removed below c.slots.index f.it then (firm ++ gaps) ++ x else
     (firm ++ commas) ++ rest) r.1
     ∙ sym (f.last other)
 

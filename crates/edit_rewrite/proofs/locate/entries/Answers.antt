@@ -1,7 +1,7 @@
 use Rattle.std.proofs.Common.{◌≡◌, List, ◌++◌, length, refl, sym, ap, ◌∙◌}
 use Rattle.std.proofs.lemmas.Bool.{eqb-true, eqb-false}
-use Rattle.edit_syntax.specs.declared.read.marks.Mark.{Mark}
-use Rattle.edit_syntax.specs.Reading.{past_mark}
+use Rattle.edit_syntax.specs.declared.read.syntax_tokens.SyntaxToken.{SyntaxToken}
+use Rattle.edit_syntax.specs.Reading.{skip_byte_order_mark}
 use Rattle.edit_syntax.specs.FirstLine.{tokens_of_first_line}
 use Rattle.edit_rewrite.specs.declared.locate.StatementOffsets.{StatementOffsets}
 use Rattle.edit_document.specs.Items.{place_view}
@@ -12,8 +12,8 @@ use Rattle.edit_rewrite.proofs.locate.entries.Goals as goal
 pub lines-init : goal.lines-init
 lines-init c form m =
     at_start c.args.text.now (place_view c.args.place.now) form c.in_ok-standing.standing
-    c.new-found.result.items c.past_mark-rest.result.now m c.utf8.text c.new-found.ensures.items
-    (c.past_mark-rest.ensures ∙ ap past_mark c.as_bytes.ensures.value)
+    c.new-found.result.items c.skip_byte_order_mark-rest.result.now m c.utf8.text c.new-found.ensures.items
+    (c.skip_byte_order_mark-rest.ensures ∙ ap skip_byte_order_mark c.as_bytes.ensures.value)
     (c.in_ok-standing.ensures {u = tt}).none
 
 pub returns-then-is_empty-clause-found : goal.returns-then-is_empty-clause-found
@@ -24,7 +24,7 @@ returns-then-is_empty-clause-found c form m =
     let f = c.in-Ok.ensures.only d.left d.same d.valid d.shallow in
     let marks = c.as_slice-seen.result.now in
     let marked : marks ≡ tokens_of_first_line d.left = c.as_slice-seen.ensures.value ∙ f.1 ∙
-    ap (λ (xs : List Mark). xs ++ tokens_of_first_line d.left) c.clear.ensures.items in
+    ap (λ (xs : List SyntaxToken). xs ++ tokens_of_first_line d.left) c.clear.ensures.items in
     let after = c.in-Ok.after.now in
     let next = c.next_line-next.result.now in
     let over : length after ≡ 0 = eqb-true _ _ (sym c.is_empty-in-lines.ensures ∙ c.if-is_empty.true) in
@@ -57,7 +57,7 @@ lines-preserved c form m =
     let f = c.in-Ok.ensures.only d.left d.same d.valid d.shallow in
     let marks = c.as_slice-seen.result.now in
     let marked : marks ≡ tokens_of_first_line d.left = c.as_slice-seen.ensures.value ∙ f.1 ∙
-    ap (λ (xs : List Mark). xs ++ tokens_of_first_line d.left) c.clear.ensures.items in
+    ap (λ (xs : List SyntaxToken). xs ++ tokens_of_first_line d.left) c.clear.ensures.items in
     let after = c.in-Ok.after.now in
     let next = c.next_line-next.result.now in
     let more : length after ≡ 0 → ⊥ = eqb-false _ _ (sym c.is_empty-in-lines.ensures ∙ c.if-is_empty.false) in

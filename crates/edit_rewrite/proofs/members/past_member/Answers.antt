@@ -1,6 +1,6 @@
 use Rattle.std.proofs.Common.{◌≡◌, ℕ, List, [], ◌∷◌, ◌++◌, refl, sym, ap, subst, ◌∙◌}
 use Rattle.std.proofs.lemmas.List.{append-nil}
-use Rattle.edit_syntax.specs.declared.read.marks.Mark.{Mark}
+use Rattle.edit_syntax.specs.declared.read.syntax_tokens.SyntaxToken.{SyntaxToken}
 use Rattle.edit_syntax.specs.Characters.{equals}
 use Rattle.edit_syntax.specs.Grammar.{gap, value}
 use Rattle.edit_syntax.specs.SyntaxTokens.{tokens_of_key}
@@ -34,10 +34,10 @@ returns-clause-outcome c table k a b v g rest st begins =
     let read = c.in-Ok.ensures k a b more naming st.spelled in
     let all = tokens_of_key k behind in
     let marks : c.as_slice-seen.result.now ≡ all =
-    c.as_slice-seen.ensures.value ∙ read.1 ∙ ap (λ (l : List Mark). l ++ all) c.new-marks.ensures.items in
+    c.as_slice-seen.ensures.value ∙ read.1 ∙ ap (λ (l : List SyntaxToken). l ++ all) c.new-marks.ensures.items in
     let ends : Ends text (strings.key k behind) =
     (st.within.0, st.within.1 ∙ ap (λ (x : List ℕ). st.within.0 ++ x) st.spelled) in
-    let are = subst (λ (l : List Mark). AreParts text (parts k behind) l) (append-nil all ∙ sym marks)
+    let are = subst (λ (l : List SyntaxToken). AreParts text (parts k behind) l) (append-nil all ∙ sym marks)
     (key_are text k behind [] w.1 c.utf8.text ends refl) in
     let goes =
     (c.in_ok-named.ensures {u = tt}).goes table unresolved n ns are (follows_itself place) begins in (

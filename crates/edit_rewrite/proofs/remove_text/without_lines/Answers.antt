@@ -2,7 +2,7 @@ use Rattle.std.proofs.Common.{◌≡◌, Bool, if◌then◌else◌, List, ℕ, �
 use Rattle.std.specs.Prelude.{string_bytes}
 use Rattle.std.proofs.lemmas.List.{drop_more, drop_all}
 use Rattle.edit_syntax.specs.Grammar.{lines, byte_order_mark}
-use Rattle.edit_syntax.specs.Reading.{past_mark}
+use Rattle.edit_syntax.specs.Reading.{skip_byte_order_mark}
 use Rattle.edit_syntax.proofs.TextLaws.{lines_only}
 use Rattle.edit_document.specs.Items.{place_view}
 use Rattle.edit_tree.specs.RemovedBytes.{lines_left}
@@ -16,7 +16,7 @@ pub entries-init : goal.entries-init
 entries-init c form m =
     let text = c.args.text.now in
     at_first text form (place_view c.args.place.now) _ _ _ m c.utf8.text
-    (ap length (c.past_mark-from.ensures ∙ ap past_mark c.as_bytes.ensures.value
+    (ap length (c.skip_byte_order_mark-from.ensures ∙ ap skip_byte_order_mark c.as_bytes.ensures.value
     ∙ lines_only text form m.grammar))
     ((c.in_ok-out.ensures {u = tt}).ok ∙ c.between.ensures)
     (c.as_slice-found.ensures.value ∙ (c.in_ok-all.ensures {u = tt}).found form m)

@@ -1,6 +1,6 @@
 use Rattle.std.proofs.Common.{◌≡◌, List, ◌++◌, ap, ◌∙◌}
 use Rattle.std.specs.Prelude.{unwrap_or}
-use Rattle.edit_syntax.specs.declared.read.marks.Mark.{Mark}
+use Rattle.edit_syntax.specs.declared.read.syntax_tokens.SyntaxToken.{SyntaxToken}
 use Rattle.edit_syntax.specs.FirstLine.{tokens_of_first_line}
 use Rattle.edit_syntax.specs.Grammar.{lines}
 use Rattle.edit_syntax.specs.SyntaxTokens.{tokens_of_statement}
@@ -26,7 +26,7 @@ returns-clause-around c form place s m one listed is kind =
     let f = c.in-Ok.ensures.only st.left here st.well st.shallow in
     let marks : seen ≡ tokens_of_statement s.statement s.behind =
     c.as_slice-seen.ensures.value ∙ f.1
-    ∙ ap (λ (xs : List Mark). xs ++ tokens_of_first_line st.left) c.new-marks.ensures.items ∙ st.marked in
+    ∙ ap (λ (xs : List SyntaxToken). xs ++ tokens_of_first_line st.left) c.new-marks.ensures.items ∙ st.marked in
     around_as place (line_pairs form) _ (c.unwrap_or.result, c.last_to.result)
     (line_around text form place s seen c.args.entry one c.utf8.text st among is kind marks)
     (c.unwrap_or.ensures ∙ ap (unwrap_or c.args.entry.front) c.key_end.ensures) c.last_to.ensures

@@ -4,7 +4,7 @@ use Rattle.std.specs.List.{filter}
 use Rattle.std.proofs.lemmas.List.{length-map, map-append}
 use Rattle.std.proofs.lemmas.Result.{err_from_is_err_and}
 use Rattle.edit_base.specs.Errors.{IsMemory}
-use Rattle.edit_set_version.specs.Chosen.{Member, added, inheriting, is_among}
+use Rattle.edit_set_version.specs.Chosen.{Member, added_by_inheritance, inheriting_members, is_among}
 use Rattle.edit_set_version.specs.Crates.{member_of, members_of}
 use Rattle.edit_set_version.specs.PlanCauses.{IsExcludeError}
 use Rattle.edit_set_version.specs.Selections.{selection_view}
@@ -21,19 +21,19 @@ returns-in_err-check_excluded-clause-error c =
     let w = c.in_ok-wanted.wanted in
     let is = c.in_ok-wanted.ensures.ok in
     let held : Member → Bool = λ m. is_among a.exclude m.name in
-    let inh : members_of c.in_ok-inheriting.inheriting.items ≡ inheriting a ms
+    let inh : members_of c.in_ok-inheriting.inheriting.items ≡ inheriting_members a ms
     = c.in_ok-inheriting.ensures.ok ∙ inheriting_part a w ms is in
-    let long : length c.deref.result.now ≡ length (inheriting a ms)
+    let long : length c.deref.result.now ≡ length (inheriting_members a ms)
     = ap length c.deref.ensures.value ∙ sym (length-map c.in_ok-inheriting.inheriting.items member_of)
     ∙ ap length inh in
-    let more : members_of c.in_ok-others.others.items ≡ added a ms
+    let more : members_of c.in_ok-others.others.items ≡ added_by_inheritance a ms
     = c.in_ok-others.ensures.ok ∙ ap (λ n. if n == 0 then [] else filter (is_in Others w) ms) long
-    ∙ ap (λ xs. if length (inheriting a ms) == 0 then [] else xs) (others_part a w ms is) in
+    ∙ ap (λ xs. if length (inheriting_members a ms) == 0 then [] else xs) (others_part a w ms is) in
     let p = err_from_is_err_and c.from_residual-in_err-check_excluded.result
     c.from_residual-in_err-check_excluded.ensures.1 in
     let e = c.in_err-check_excluded.field-0.0 in
     rw (p.1, p.2)
-    (subst (λ xs. IsMemory e ⊎ IsExcludeError (filter held xs) (inheriting a ms) e)
+    (subst (λ xs. IsMemory e ⊎ IsExcludeError (filter held xs) (inheriting_members a ms) e)
     (ap members_of c.deref-2.ensures.value ∙ more)
     (subst (λ ys. IsMemory e ⊎ IsExcludeError (filter held (members_of c.deref-2.result.now)) ys e)
     (ap members_of c.deref-3.ensures.value ∙ inh) c.in_err-check_excluded.ensures.error))
@@ -44,14 +44,14 @@ returns-clause-chosen c =
     let ms = members_of c.args.crates.now in
     let w = c.in_ok-wanted.wanted in
     let is = c.in_ok-wanted.ensures.ok in
-    let inh : members_of c.in_ok-inheriting.inheriting.items ≡ inheriting a ms
+    let inh : members_of c.in_ok-inheriting.inheriting.items ≡ inheriting_members a ms
     = c.in_ok-inheriting.ensures.ok ∙ inheriting_part a w ms is in
-    let long : length c.deref.result.now ≡ length (inheriting a ms)
+    let long : length c.deref.result.now ≡ length (inheriting_members a ms)
     = ap length c.deref.ensures.value ∙ sym (length-map c.in_ok-inheriting.inheriting.items member_of)
     ∙ ap length inh in
-    let more : members_of c.in_ok-others.others.items ≡ added a ms
+    let more : members_of c.in_ok-others.others.items ≡ added_by_inheritance a ms
     = c.in_ok-others.ensures.ok ∙ ap (λ n. if n == 0 then [] else filter (is_in Others w) ms) long
-    ∙ ap (λ xs. if length (inheriting a ms) == 0 then [] else xs) (others_part a w ms is) in
+    ∙ ap (λ xs. if length (inheriting_members a ms) == 0 then [] else xs) (others_part a w ms is) in
     ap members_of c.in_ok-extend_from_slice.ensures.items
     ∙ map-append member_of c.in_ok-chosen.chosen.items c.deref-4.result.now
     ∙ ap₂ (λ (x y : List Member). x ++ y) (c.in_ok-chosen.ensures.ok ∙ asked_part a w ms is)
@@ -62,15 +62,15 @@ returns-clause-workspace c =
     let a = selection_view c.args.selection.now in
     let ms = members_of c.args.crates.now in
     let is = c.in_ok-wanted.ensures.ok in
-    let inh : members_of c.in_ok-inheriting.inheriting.items ≡ inheriting a ms
+    let inh : members_of c.in_ok-inheriting.inheriting.items ≡ inheriting_members a ms
     = c.in_ok-inheriting.ensures.ok ∙ inheriting_part a c.in_ok-wanted.wanted ms is in
-    let some = not (length (inheriting a ms) == 0) in
+    let some = not (length (inheriting_members a ms) == 0) in
     elim c.if-is_whole_selected.branch [
       | then-is_whole_selected w ↦
           w.workspace-is ∙ w.if-is_whole_selected.true
           ∙ sym (ap (λ b. b || some) (sym c.is_whole_selected.ensures ∙ w.if-is_whole_selected.true))
       | else-is_whole_selected w ↦
-          w.workspace-is ∙ ap not w.is_none.ensures
+          w.workspace-is ∙ ap not w.is_empty_list.ensures
           ∙ ap (λ (n : ℕ). not (n == 0)) (ap length w.deref-else-is_whole_selected.ensures.value
           ∙ sym (length-map c.in_ok-inheriting.inheriting.items member_of) ∙ ap length inh)
           ∙ sym (ap (λ b. b || some) (sym c.is_whole_selected.ensures ∙ w.if-is_whole_selected.false))
@@ -83,14 +83,14 @@ returns-clause-excluded c =
     let w = c.in_ok-wanted.wanted in
     let is = c.in_ok-wanted.ensures.ok in
     let held : Member → Bool = λ m. is_among a.exclude m.name in
-    let inh : members_of c.in_ok-inheriting.inheriting.items ≡ inheriting a ms
+    let inh : members_of c.in_ok-inheriting.inheriting.items ≡ inheriting_members a ms
     = c.in_ok-inheriting.ensures.ok ∙ inheriting_part a w ms is in
-    let long : length c.deref.result.now ≡ length (inheriting a ms)
+    let long : length c.deref.result.now ≡ length (inheriting_members a ms)
     = ap length c.deref.ensures.value ∙ sym (length-map c.in_ok-inheriting.inheriting.items member_of)
     ∙ ap length inh in
-    let more : members_of c.in_ok-others.others.items ≡ added a ms
+    let more : members_of c.in_ok-others.others.items ≡ added_by_inheritance a ms
     = c.in_ok-others.ensures.ok ∙ ap (λ n. if n == 0 then [] else filter (is_in Others w) ms) long
-    ∙ ap (λ xs. if length (inheriting a ms) == 0 then [] else xs) (others_part a w ms is) in
+    ∙ ap (λ xs. if length (inheriting_members a ms) == 0 then [] else xs) (others_part a w ms is) in
     ap (filter held) (sym (ap members_of c.deref-2.ensures.value ∙ more))
     ∙ c.in_ok-check_excluded.ensures.none
 

@@ -4,7 +4,7 @@ use Rattle.std.specs.List.{filter_map}
 use Rattle.edit_tree.specs.DocumentViews.{tree_of}
 use Rattle.edit_set_version.specs.Dependents.{HasRaisedText, numbered_dependent_view, with_bump_index}
 use Rattle.edit_set_version.specs.BumpsByFolder.{HasFirstBumps}
-use Rattle.edit_set_version.specs.PathDependency.{pointed, path_dependency_views}
+use Rattle.edit_set_version.specs.PathDependency.{path_dependencies, path_dependency_views}
 use Rattle.edit_set_version.specs.SetVersioned.{Bump}
 use Rattle.edit_set_version.proofs.dependents.dependents_of.Given as goal
 
@@ -13,6 +13,6 @@ invariant-entries l = record {
   seen : (bs : List Bump) → HasFirstBumps bs l.numbers
       → map numbered_dependent_view l.dependents.items
       ≡ filter_map (with_bump_index bs l.file) (path_dependency_views l.yielded);
-  rest : path_dependency_views (l.yielded ++ l.entry-iterator.rest.items) ≡ pointed (tree_of l.document);
+  rest : path_dependency_views (l.yielded ++ l.entry-iterator.rest.items) ≡ path_dependencies (tree_of l.document);
   risen : All HasRaisedText l.dependents.items;
 }

@@ -4,7 +4,7 @@ use Rattle.std.proofs.lemmas.List.{map_push}
 use Rattle.std.proofs.lemmas.List.Elements.{All-push}
 use Rattle.std.proofs.lemmas.Result.{err_from_is_err_and}
 use Rattle.edit_set_version.specs.Dependents.{HasRaisedText, numbered_dependent_view, lacks, stays}
-use Rattle.edit_set_version.specs.Folders.{reached}
+use Rattle.edit_set_version.specs.Folders.{resolve_folder}
 use Rattle.edit_set_version.specs.BumpsByFolder.{numbered_view, numbered_at}
 use Rattle.edit_set_version.specs.PathDependency.{path_dependency_view}
 use Rattle.edit_set_version.proofs.DependentLemmas.{led_numbered, numbered_by}
@@ -16,7 +16,7 @@ returns-in_err-dependent-in-Some-clause-error c =
     let q = path_dependency_view c.args.entry in
     let n = numbered_view c.in-Some.bump in
     let told = c.in_ok-bump.ensures.ok
-    ∙ ap (λ p. numbered_at c.args.numbers.now (reached file p)) c.as_str.ensures.value in
+    ∙ ap (λ p. numbered_at c.args.numbers.now (resolve_folder file p)) c.as_str.ensures.value in
     let p = err_from_is_err_and c.from_residual-in_err-dependent-in-Some.result
     c.from_residual-in_err-dependent-in-Some.ensures.1 in
     rw (p.1, p.2) (λ bs tells. stays (record { place = q.place; text = q.text; next = n.1 })
@@ -32,7 +32,7 @@ returns-in_ok-push-in-Some-clause-ok c = λ bs tells.
     let f = c.in_ok-dependent-in-Some.dependent in
     let was = c.args.dependents.now.items in
     let told = c.in_ok-bump.ensures.ok
-    ∙ ap (λ p. numbered_at c.args.numbers.now (reached file p)) c.as_str.ensures.value in
+    ∙ ap (λ p. numbered_at c.args.numbers.now (resolve_folder file p)) c.as_str.ensures.value in
     let is = numbered_by bs c.args.numbers.now file q (option_map numbered_view c.in_ok-bump.bump) tells told
     ∙ ap (λ b. option_map (λ n. (n.0, record { place = q.place; text = q.text; next = n.1 }))
     (option_map numbered_view b)) c.in-Some.is in
@@ -53,7 +53,7 @@ returns-in-None-clause-ok c = λ bs tells.
     let file = c.args.file.now in
     let q = path_dependency_view c.args.entry in
     let told = c.in_ok-bump.ensures.ok
-    ∙ ap (λ p. numbered_at c.args.numbers.now (reached file p)) c.as_str.ensures.value in
+    ∙ ap (λ p. numbered_at c.args.numbers.now (resolve_folder file p)) c.as_str.ensures.value in
     let is = numbered_by bs c.args.numbers.now file q (option_map numbered_view c.in_ok-bump.bump) tells told
     ∙ ap (λ b. option_map (λ n. (n.0, record { place = q.place; text = q.text; next = n.1 }))
     (option_map numbered_view b)) c.in-None.is in

@@ -5,7 +5,7 @@ use Rattle.std.specs.Str.{bytes_eq}
 use Rattle.std.proofs.Math.Seq.{take-length}
 use Rattle.std.proofs.lemmas.List.{map_more}
 use Rattle.edit_set_version.specs.Chosen.{is_among}
-use Rattle.edit_set_version.specs.Missing.{absent}
+use Rattle.edit_set_version.specs.Missing.{names_not_among}
 use Rattle.edit_set_version.proofs.NameLemmas.{absent_more, among_more, or_false, or_later}
 use Rattle.edit_set_version.proofs.names.missing_names.Goals as goal
 
@@ -32,9 +32,9 @@ names-preserved c = λ there are.
           ∙ ap (λ (xs : List (List ℕ)). is_among there q || is_among xs q) (sym more),
       c.in_ok-push_missing.ensures.missing
           ∙ ap (λ (ms : List (List ℕ)). ms ++ cond (contains_text c.names.known own) [] (own ∷ [])) was.1
-          ∙ ap (λ b. absent there old ++ cond b [] (own ∷ [])) (was.0 own)
+          ∙ ap (λ b. names_not_among there old ++ cond b [] (own ∷ [])) (was.0 own)
           ∙ sym (absent_more there old own)
-          ∙ ap (absent there) (sym more),
+          ∙ ap (names_not_among there) (sym more),
     )
 
 pub returns : goal.returns
@@ -42,5 +42,5 @@ returns c = record {
   ok = λ there are.
       let all : take c.names.name-index c.args.names.now ≡ c.args.names.now
       = search (rules, take-length c.args.names.now) in
-      (c.names.invariant there are).1 ∙ ap (λ xs. absent there (map string_bytes xs)) all;
+      (c.names.invariant there are).1 ∙ ap (λ xs. names_not_among there (map string_bytes xs)) all;
 }

@@ -3,7 +3,7 @@ use Rattle.std.specs.Prelude.{is_some, string_bytes}
 use Rattle.std.specs.BTreeMap.{get_by_text}
 use Rattle.std.specs.Str.{bytes_eq}
 use Rattle.std.proofs.lemmas.Map.Text.{btree_map_updates_text}
-use Rattle.edit_set_version.specs.Folders.{folder_of, names_of, same_folder}
+use Rattle.edit_set_version.specs.Folders.{folder_of, folder_at_path, same_folder}
 use Rattle.edit_set_version.specs.FolderTexts.{folder_text}
 use Rattle.edit_set_version.specs.BumpsByFolder.{numbered_view}
 use Rattle.edit_set_version.proofs.FolderSameness.{kept_first, names_above, put_first, same_by_text, same_folder_is}
@@ -17,7 +17,7 @@ is_some_map f (Some x) = refl
 pub returns-then-contains_key-clause-ok : goal.returns-then-contains_key-clause-ok
 returns-then-contains_key-clause-ok c = λ q.
     let own = folder_of c.args.path.now in
-    let there = names_of q in
+    let there = folder_at_path q in
     let text : c.as_str.result.now ≡ folder_text own = c.as_str.ensures.value ∙ c.in_ok-folder.ensures.ok in
     kept_first (option_map numbered_view (get_by_text c.args.numbers.now (folder_text there)))
     (same_folder own there) (numbered_view c.args.bump)
@@ -29,7 +29,7 @@ returns-then-contains_key-clause-ok c = λ q.
 pub returns-clause-ok : goal.returns-clause-ok
 returns-clause-ok c = λ q.
     let own = folder_of c.args.path.now in
-    let there = names_of q in
+    let there = folder_at_path q in
     let text : c.as_str.result.now ≡ folder_text own = c.as_str.ensures.value ∙ c.in_ok-folder.ensures.ok in
     ap (option_map numbered_view)
     (btree_map_updates_text (string_bytes c.in_ok-folder.folder) c.args.numbers.now c.insert.new.self

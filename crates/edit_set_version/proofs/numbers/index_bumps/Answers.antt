@@ -4,7 +4,7 @@ use Rattle.std.specs.Prelude.{if◌then◌else◌}
 use Rattle.std.proofs.lemmas.List.{length-map, map_more}
 use Rattle.std.proofs.Math.Seq.{take-length}
 use Rattle.edit_set_version.specs.Crates.{bump_view, bumps_view}
-use Rattle.edit_set_version.specs.Folders.{folder_of, names_of, same_folder}
+use Rattle.edit_set_version.specs.Folders.{folder_of, folder_at_path, same_folder}
 use Rattle.edit_set_version.specs.BumpsByFolder.{first_in}
 use Rattle.edit_set_version.specs.SetVersioned.{Bump}
 use Rattle.edit_set_version.proofs.NumberLemmas.{first_more}
@@ -22,14 +22,14 @@ bumps-preserved c = λ q.
     length-map (take n c.args.bumps.now) bump_view
     ∙ length-take-le n c.args.bumps.now c.bumps.auto.number-end in
     c.in_ok-add_bump.ensures.ok q
-    ∙ ap (λ o. option_or o (if same_folder (folder_of c.as_str-path.result.now) (names_of q)
+    ∙ ap (λ o. option_or o (if same_folder (folder_of c.as_str-path.result.now) (folder_at_path q)
     then Some (n, own.next) else None)) (c.bumps.invariant q)
-    ∙ ap (λ p. option_or (first_in old (names_of q)) (if same_folder (folder_of p) (names_of q)
+    ∙ ap (λ p. option_or (first_in old (folder_at_path q)) (if same_folder (folder_of p) (folder_at_path q)
     then Some (n, own.next) else None)) c.as_str-path.ensures.value
-    ∙ ap (λ m. option_or (first_in old (names_of q)) (if same_folder (folder_of own.member.path) (names_of q)
+    ∙ ap (λ m. option_or (first_in old (folder_at_path q)) (if same_folder (folder_of own.member.path) (folder_at_path q)
     then Some (m, own.next) else None)) (sym long)
-    ∙ sym (first_more old own (names_of q))
-    ∙ ap (λ (bs : List Bump). first_in bs (names_of q)) (sym more)
+    ∙ sym (first_more old own (folder_at_path q))
+    ∙ ap (λ (bs : List Bump). first_in bs (folder_at_path q)) (sym more)
 
 pub bumps-init : goal.bumps-init
 bumps-init c = λ q. rw c.new-numbers.ensures.empty refl
@@ -38,4 +38,4 @@ pub returns-clause-ok : goal.returns-clause-ok
 returns-clause-ok c = λ q.
     let all : take c.bumps.number c.args.bumps.now ≡ c.args.bumps.now
     = search (rules, take-length c.args.bumps.now) in
-    c.bumps.invariant q ∙ ap (λ bs. first_in (bumps_view bs) (names_of q)) all
+    c.bumps.invariant q ∙ ap (λ bs. first_in (bumps_view bs) (folder_at_path q)) all

@@ -8,7 +8,7 @@ use Rattle.edit_manifest.specs.Versions.{workspace_version}
 use Rattle.edit_tree.specs.DocumentViews.{tree_of}
 use Rattle.edit_version.specs.Laws.{IsReadable}
 use Rattle.edit_set_version.specs.Bumps.{bump, next_of, target_of}
-use Rattle.edit_set_version.specs.Chosen.{Member, bumps_workspace, chosen, held_back, inheriting}
+use Rattle.edit_set_version.specs.Chosen.{Member, bumps_workspace, chosen_members, excluded_inheriting, inheriting_members}
 use Rattle.edit_set_version.specs.Crates.{members_of, project_view}
 use Rattle.edit_set_version.specs.BumpCauses.{IsBumpable}
 use Rattle.edit_set_version.specs.PlanCauses.{AreUnbumped, IsExcludeError, excluded, version}
@@ -33,8 +33,8 @@ returns-in_err-next-clause-error c =
     = seen_copied c.as_ref.result ∙ ap (option_map parts_of) c.as_ref.ensures.value ∙ is in
     let why = c.in_err-next.ensures.error in
     let r = err_from_is_err_and c.from_residual-in_err-next.result c.from_residual-in_err-next.ensures.1 in
-    let none : held_back a p.members ≡ []
-    = ap (λ cs. held_back a (members_of cs)) (sym c.deref.ensures.value) ∙ c.in_ok-choice.ensures.excluded in
+    let none : excluded_inheriting a p.members ≡ []
+    = ap (λ cs. excluded_inheriting a (members_of cs)) (sym c.deref.ensures.value) ∙ c.in_ok-choice.ensures.excluded in
     rw (r.1, r.2) (inr (version none (unbumped_shared (target_of c.args.target.now) a p why.0
     c.in_err-next.field-0.0 (sym seen ∙ why.1) why.2)))
 
@@ -45,9 +45,9 @@ returns-in_err-bumps-clause-error c =
     let p = project_view c.args.project.now in
     let e = c.in_err-bumps.field-0.0 in
     let tree = tree_of c.args.project.now.root.manifest.now.document in
-    let these : members_of c.deref-2.result.now ≡ chosen a p.members
+    let these : members_of c.deref-2.result.now ≡ chosen_members a p.members
     = ap members_of c.deref-2.ensures.value ∙ c.in_ok-choice.ensures.chosen
-    ∙ ap (λ cs. chosen a (members_of cs)) c.deref.ensures.value in
+    ∙ ap (λ cs. chosen_members a (members_of cs)) c.deref.ensures.value in
     let is : option_map parts_of c.in_ok-current.current ≡ workspace_current a p
     = c.in_ok-current.ensures.ok
     ∙ ap (λ b. if b then workspace_version tree else None) (c.in_ok-choice.ensures.workspace
@@ -58,8 +58,8 @@ returns-in_err-bumps-clause-error c =
     (workspace_current a p) seen c.in_ok-next.ensures.bumpable in
     let r = err_from_is_err_and c.from_residual-in_err-bumps.result
     c.from_residual-in_err-bumps.ensures.1 in
-    let kept : held_back a p.members ≡ []
-    = ap (λ cs. held_back a (members_of cs)) (sym c.deref.ensures.value) ∙ c.in_ok-choice.ensures.excluded in
+    let kept : excluded_inheriting a p.members ≡ []
+    = ap (λ cs. excluded_inheriting a (members_of cs)) (sym c.deref.ensures.value) ∙ c.in_ok-choice.ensures.excluded in
     rw (r.1, r.2) (elim c.in_err-bumps.ensures.error [
       | inl none ↦ inl none
       | inr why ↦ inr (version kept (unbumped_chosen t a p e shared
@@ -72,9 +72,9 @@ returns-clause-bumpable c =
     let a = selection_view c.args.selection.now in
     let p = project_view c.args.project.now in
     let tree = tree_of c.args.project.now.root.manifest.now.document in
-    let these : members_of c.deref-2.result.now ≡ chosen a p.members
+    let these : members_of c.deref-2.result.now ≡ chosen_members a p.members
     = ap members_of c.deref-2.ensures.value ∙ c.in_ok-choice.ensures.chosen
-    ∙ ap (λ cs. chosen a (members_of cs)) c.deref.ensures.value in
+    ∙ ap (λ cs. chosen_members a (members_of cs)) c.deref.ensures.value in
     let is : option_map parts_of c.in_ok-current.current ≡ workspace_current a p
     = c.in_ok-current.ensures.ok
     ∙ ap (λ b. if b then workspace_version tree else None) (c.in_ok-choice.ensures.workspace
@@ -91,9 +91,9 @@ pub returns-clause-versions : goal.returns-clause-versions
 returns-clause-versions c = λ target all.
     let a = selection_view c.args.selection.now in
     let p = project_view c.args.project.now in
-    let these : members_of c.deref-2.result.now ≡ chosen a p.members
+    let these : members_of c.deref-2.result.now ≡ chosen_members a p.members
     = ap members_of c.deref-2.ensures.value ∙ c.in_ok-choice.ensures.chosen
-    ∙ ap (λ cs. chosen a (members_of cs)) c.deref.ensures.value in
+    ∙ ap (λ cs. chosen_members a (members_of cs)) c.deref.ensures.value in
     c.in_ok-bumps.ensures.versions target
     (subst (All (λ (m : Member). IsReadable m.version)) (sym these) all)
 
@@ -104,8 +104,8 @@ returns-in_err-choice-clause-error c =
     let r = err_from_is_err_and c.from_residual.result c.from_residual.ensures.1 in
     rw (r.1, r.2) (elim c.in_err-choice.ensures.error [
       | inl none ↦ inl none
-      | inr why ↦ inr (excluded (subst (λ (cs : List Crate). IsExcludeError (held_back a (members_of cs))
-          (inheriting a (members_of cs)) e) c.deref.ensures.value why))
+      | inr why ↦ inr (excluded (subst (λ (cs : List Crate). IsExcludeError (excluded_inheriting a (members_of cs))
+          (inheriting_members a (members_of cs)) e) c.deref.ensures.value why))
     ])
 
 pub returns-in_err-current-clause-error : goal.returns-in_err-current-clause-error
@@ -119,9 +119,9 @@ returns-clause-bumps c =
     let t = target_of c.args.target.now in
     let a = selection_view c.args.selection.now in
     let p = project_view c.args.project.now in
-    let these : members_of c.deref-2.result.now ≡ chosen a p.members
+    let these : members_of c.deref-2.result.now ≡ chosen_members a p.members
     = ap members_of c.deref-2.ensures.value ∙ c.in_ok-choice.ensures.chosen
-    ∙ ap (λ cs. chosen a (members_of cs)) c.deref.ensures.value in
+    ∙ ap (λ cs. chosen_members a (members_of cs)) c.deref.ensures.value in
     c.in_ok-bumps.ensures.ok ∙ ap (filter_map (bump_of t a)) these
 
 pub returns-clause-current : goal.returns-clause-current
@@ -149,4 +149,4 @@ returns-clause-next c =
 pub returns-clause-excluded : goal.returns-clause-excluded
 returns-clause-excluded c =
     let a = selection_view c.args.selection.now in
-    ap (λ cs. held_back a (members_of cs)) (sym c.deref.ensures.value) ∙ c.in_ok-choice.ensures.excluded
+    ap (λ cs. excluded_inheriting a (members_of cs)) (sym c.deref.ensures.value) ∙ c.in_ok-choice.ensures.excluded

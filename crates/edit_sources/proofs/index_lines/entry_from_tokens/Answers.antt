@@ -20,6 +20,6 @@ returns-clause-ok c =
         name = says.name ∙ ap (option_map (λ s. s.now)) c.in-Some-name.is ∙ ap Some (sym name);
         version = says.version ∙ ap (option_map (λ s. s.now)) c.in-Some-version.is ∙ ap Some (sym version);
         yanked = says.yanked;
-        rust_version = says.rust_version ∙ ap Some (sym c.in_ok-copied.ensures);
+        rust_version = says.rust_version ∙ ap Some (sym c.in_ok-clone_optional_str.ensures);
       };
     }

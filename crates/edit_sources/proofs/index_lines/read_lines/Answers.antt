@@ -17,11 +17,11 @@ overflow_add-number c =
     let within : c.lines.number ≤ length c.args.bytes.now = omega (arith, read.bound) in
     search (rules, arith)
 
-pub lines-preserved-then-blank : goal.lines-preserved-then-blank
-lines-preserved-then-blank c =
+pub lines-preserved-then-is_blank_line : goal.lines-preserved-then-is_blank_line
+lines-preserved-then-is_blank_line c =
     let read = subst (λ r. HasRead c.args.bytes.now c.lines.number r (map entry_of c.lines.entries.items))
     c.in-Some.is c.lines.invariant in
-    let is : is_blank c.split_line.result.0.now ≡ true = sym c.blank.ensures ∙ c.if-blank.true in
+    let is : is_blank c.split_line.result.0.now ≡ true = sym c.is_blank_line.ensures ∙ c.if-is_blank_line.true in
     read-more c.args.bytes.now c.lines.number c.split_line.result.0.now c.in-Some.text c.split_line.result.1
     (map entry_of c.lines.entries.items) read c.split_line.ensures.lines _ c.split_line.ensures.shorter
     (blank _ _ _ read.say is)
@@ -30,7 +30,7 @@ pub lines-preserved : goal.lines-preserved
 lines-preserved c =
     let read = subst (λ r. HasRead c.args.bytes.now c.lines.number r (map entry_of c.lines.entries.items))
     c.in-Some.is c.lines.invariant in
-    let is : is_blank c.split_line.result.0.now ≡ false = sym c.blank.ensures ∙ c.if-blank.false in
+    let is : is_blank c.split_line.result.0.now ≡ false = sym c.is_blank_line.ensures ∙ c.if-is_blank_line.false in
     let pushed : c.push.new.self.items ≡ c.lines.entries.items ++ c.in-Ok.entry ∷ [] =
     c.in_ok-push-in-Ok.ensures.items in
     let all : map entry_of c.push.new.self.items ≡ map entry_of c.lines.entries.items
@@ -45,7 +45,7 @@ pub returns-in-Err-clause-error : goal.returns-in-Err-clause-error
 returns-in-Err-clause-error c =
     let read = subst (λ r. HasRead c.args.bytes.now c.lines.number r (map entry_of c.lines.entries.items))
     c.in-Some.is c.lines.invariant in
-    let is : is_blank c.split_line.result.0.now ≡ false = sym c.blank.ensures ∙ c.if-blank.false in
+    let is : is_blank c.split_line.result.0.now ≡ false = sym c.is_blank_line.ensures ∙ c.if-is_blank_line.false in
     let parts = read-parts c.args.bytes.now c.lines.number c.split_line.result.0.now c.in-Some.text
     c.split_line.result.1 (map entry_of c.lines.entries.items) read c.split_line.ensures.lines in
     ⊎_elim (λ m. inl m) (λ b. inr (

@@ -8,12 +8,12 @@ returns-then-number-len c text spots holds =
     let n : c.len.result ≡ c.args.nodes.now.len = c.len.ensures in omega arith in
     again_past c.args.nodes.now.items spots c.args.number c.args.taken holds past
 
-pub returns-then-not-joins : goal.returns-then-not-joins
-returns-then-not-joins c text spots holds =
+pub returns-then-not-can_extend : goal.returns-then-not-can_extend
+returns-then-not-can_extend c text spots holds =
     let inside : c.args.number < length c.args.nodes.now.items = let k = c.args.nodes.now.ok.0 in
     let n : c.len.result ≡ c.args.nodes.now.len = c.len.ensures in omega arith in
     again_stopped c.args.nodes.now.items spots c.args.number c.index.result.now c.args.taken holds inside
-    c.index.ensures (sym c.joins.ensures ∙ c.if-not-joins.true)
+    c.index.ensures (sym c.can_extend.ensures ∙ c.if-not-can_extend.true)
 
 pub returns : goal.returns
 returns c text spots holds =
@@ -21,4 +21,4 @@ returns c text spots holds =
     let n : c.len.result ≡ c.args.nodes.now.len = c.len.ensures in omega arith in
     again_done c.args.nodes.now.items spots c.args.number c.index.result.now c.index_mut-node.result.now
     c.args.taken c.merged_definition-node.result holds inside c.index.ensures c.index_mut-node.ensures.value
-    (sym c.joins.ensures ∙ c.if-not-joins.false) c.merged_definition-node.ensures
+    (sym c.can_extend.ensures ∙ c.if-not-can_extend.false) c.merged_definition-node.ensures

@@ -22,7 +22,7 @@ elements-preserved c =
     c.at.ensures) in
     told_stays (tree_of d) c.args.gone.is_held c.args.gone.name.now array c.elements.left m
     c.elements.places.items _ more
-    (sym (c.goes.ensures d (at array (index m)) found) ∙ c.if-goes.false) c.elements.invariant
+    (sym (c.is_stale_item.ensures d (at array (index m)) found) ∙ c.if-is_stale_item.false) c.elements.invariant
 
 pub elements-preserved-in-Continue-branch-2 : goal.elements-preserved-in-Continue-branch-2
 elements-preserved-in-Continue-branch-2 c =
@@ -41,5 +41,5 @@ elements-preserved-in-Continue-branch-2 c =
     told_goes (tree_of d) c.args.gone.is_held c.args.gone.name.now array c.elements.left m
     c.elements.places.items
     c.push.new.self.items c.in_ok-place.place _ more
-    (sym (c.goes.ensures d (at array (index m)) found) ∙ c.if-goes.true) c.in_ok-push.ensures.items
+    (sym (c.is_stale_item.ensures d (at array (index m)) found) ∙ c.if-is_stale_item.true) c.in_ok-push.ensures.items
     c.in_ok-place.ensures.ok c.elements.invariant

@@ -5,14 +5,14 @@ use Rattle.edit_update.specs.Removals.{AreInTurn, AreStrings}
 use Rattle.edit_update.proofs.StaleTurns.{stale_are_strings, stale_turns}
 use Rattle.edit_update.proofs.features.remove_features.Goals as goal
 
-pub without-requires-clause-strings : goal.without-requires-clause-strings
-without-requires-clause-strings c =
+pub remove_strings-requires-clause-strings : goal.remove_strings-requires-clause-strings
+remove_strings-requires-clause-strings c =
     subst (AreStrings (tree_of c.args.document.now))
     (sym c.in_ok-places.ensures.ok ∙ ap places_view (sym c.deref.ensures.value))
     (stale_are_strings (tree_of c.args.document.now) c.args.name.now)
 
-pub without-requires-clause-apart : goal.without-requires-clause-apart
-without-requires-clause-apart c =
+pub remove_strings-requires-clause-apart : goal.remove_strings-requires-clause-apart
+remove_strings-requires-clause-apart c =
     let form = c.lemma_form.ensures.some in
     subst AreInTurn (sym c.in_ok-places.ensures.ok ∙ ap places_view (sym c.deref.ensures.value))
     (stale_turns form.0 (tree_of c.args.document.now) c.args.name.now

@@ -5,7 +5,7 @@ use Rattle.std.specs.Global.{Vec}
 use Rattle.std.specs.declared.alloc.Global.{Global}
 use Rattle.edit_upgrade.specs.Caches.{cache_view}
 use Rattle.edit_upgrade.specs.ConfigLists.{lists_in}
-use Rattle.edit_upgrade.specs.Words.{words_of}
+use Rattle.edit_upgrade.specs.Words.{package_args_of}
 use Rattle.edit_upgrade.proofs.CauseLemmas.{finish-refused, rows-some}
 use Rattle.edit_upgrade.proofs.DraftedInputs.{finish_plan-draft, plan-of}
 use Rattle.edit_upgrade.proofs.MissingLemmas.{missing-are}
@@ -84,6 +84,6 @@ pub returns-in_err-missing-clause-read : goal.returns-in_err-missing-clause-read
 returns-in_err-missing-clause-read g c =
     refusal-has c.from_residual-in_err-missing.result c.in_err-missing.field-0.0 _
     c.from_residual-in_err-missing.ensures.1
-    (λ none. inl (inl (memory-at (words_of c.args.options.now) c.deref.result.now c.in_err-missing.field-0.0
+    (λ none. inl (inl (memory-at (package_args_of c.args.options.now) c.deref.result.now c.in_err-missing.field-0.0
     (ap (map string_bytes) c.deref.ensures.value ∙ c.in_ok-picks.ensures.ok.words.names)
     c.in_err-missing.ensures.error.1 c.in_err-missing.ensures.error.0)))

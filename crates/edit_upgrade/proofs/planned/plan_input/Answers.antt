@@ -5,14 +5,14 @@ use Rattle.std.specs.Prelude.{option_map}
 use Rattle.edit_version.specs.RustVersions.{numbers_of}
 use Rattle.edit_cache.specs.IndexCache.{index_of}
 use Rattle.edit_manifest.specs.EntryViews.{entry_view}
-use Rattle.edit_upgrade.specs.Found.{seen_of}
+use Rattle.edit_upgrade.specs.Found.{row_entry_view}
 use Rattle.edit_upgrade.specs.Lines.{line_of}
 use Rattle.edit_upgrade.specs.Lists.{warning_view}
 use Rattle.edit_upgrade.specs.Looks.{cached_basis, cached_by}
 use Rattle.edit_upgrade.specs.PlannedView.{AreRowEntries}
 use Rattle.edit_upgrade.specs.Records.{with_row}
 use Rattle.edit_upgrade.specs.declared.planned.Planned.{Planned}
-use Rattle.edit_upgrade.specs.declared.seen.Entry.{Entry}
+use Rattle.edit_upgrade.specs.declared.entries_with_rows.Entry.{Entry}
 use Rattle.edit_upgrade.proofs.PlannedLemmas.{document-seen, planned-left, planned-names, planned-refused, planned-shown, planned-walked, planned-warnings, refusal-has, rows-long}
 use Rattle.edit_upgrade.proofs.planned.plan_input.Goals as goal
 
@@ -48,52 +48,52 @@ returns-clause-known g c =
 
 pub returns-clause-walked : goal.returns-clause-walked
 returns-clause-walked g c =
-    let seen = subst (λ (xs : List Entry). AreRowEntries c.args.job.input.now.bytes.items (map seen_of xs))
+    let seen = subst (λ (xs : List Entry). AreRowEntries c.args.job.input.now.bytes.items (map row_entry_view xs))
     (sym c.deref-3.ensures.value)
     (document-seen c.args.job.input.now.bytes.items c.args.document.now
-    (map seen_of c.in_ok-entries.entries.items) c.requires.document
+    (map row_entry_view c.in_ok-entries.entries.items) c.requires.document
     c.lemma_form.ensures.some c.lemma_form.ensures.shows
     (c.in_ok-entries.ensures.ok ∙ ap (filter_map with_row) c.in_ok-found.ensures.ok)) in
     planned-walked c.args.job.number c.args.job.asked.options.now c.args.job.input.now
     c.args.addresses.now.configs.now (g.I.Index.view (index_of c.args.index.now)).gives
     (cached_by c.args.index.now) (cached_by c.walk.new.index) c.args.books.now c.walk.new.books
-    (map seen_of c.deref-3.result.now) (map line_of c.in_ok-rows.rows.items) seen
+    (map row_entry_view c.deref-3.result.now) (map line_of c.in_ok-rows.rows.items) seen
     c.in_ok-rows.ensures.steps c.in_ok-rows.ensures.passed c.in_ok-rows.ensures.rows
 
 pub returns-clause-left : goal.returns-clause-left
 returns-clause-left g c =
-    let seen = subst (λ (xs : List Entry). AreRowEntries c.args.job.input.now.bytes.items (map seen_of xs))
+    let seen = subst (λ (xs : List Entry). AreRowEntries c.args.job.input.now.bytes.items (map row_entry_view xs))
     (sym c.deref-3.ensures.value)
     (document-seen c.args.job.input.now.bytes.items c.args.document.now
-    (map seen_of c.in_ok-entries.entries.items) c.requires.document
+    (map row_entry_view c.in_ok-entries.entries.items) c.requires.document
     c.lemma_form.ensures.some c.lemma_form.ensures.shows
     (c.in_ok-entries.ensures.ok ∙ ap (filter_map with_row) c.in_ok-found.ensures.ok)) in
     planned-left c.args.addresses.now.configs.now c.args.job.input.now.bytes.items
     (g.I.Index.view (index_of c.args.index.now)).gives (g.I.Index.view (index_of c.walk.new.index)).gives
     (g.I.Index.view (index_of c.args.index.now)).faults (g.I.Index.view (index_of c.walk.new.index)).faults
-    (cached_by c.args.index.now) (cached_by c.walk.new.index) (map seen_of c.deref-3.result.now) seen
+    (cached_by c.args.index.now) (cached_by c.walk.new.index) (map row_entry_view c.deref-3.result.now) seen
     c.in_ok-rows.ensures.left
 
 pub returns-in_err-rows-clause-left : goal.returns-in_err-rows-clause-left
 returns-in_err-rows-clause-left g c =
-    let seen = subst (λ (xs : List Entry). AreRowEntries c.args.job.input.now.bytes.items (map seen_of xs))
+    let seen = subst (λ (xs : List Entry). AreRowEntries c.args.job.input.now.bytes.items (map row_entry_view xs))
     (sym c.deref-3.ensures.value)
     (document-seen c.args.job.input.now.bytes.items c.args.document.now
-    (map seen_of c.in_ok-entries.entries.items) c.requires.document
+    (map row_entry_view c.in_ok-entries.entries.items) c.requires.document
     c.lemma_form.ensures.some c.lemma_form.ensures.shows
     (c.in_ok-entries.ensures.ok ∙ ap (filter_map with_row) c.in_ok-found.ensures.ok)) in
     planned-left c.args.addresses.now.configs.now c.args.job.input.now.bytes.items
     (g.I.Index.view (index_of c.args.index.now)).gives (g.I.Index.view (index_of c.walk.new.index)).gives
     (g.I.Index.view (index_of c.args.index.now)).faults (g.I.Index.view (index_of c.walk.new.index)).faults
-    (cached_by c.args.index.now) (cached_by c.walk.new.index) (map seen_of c.deref-3.result.now) seen
+    (cached_by c.args.index.now) (cached_by c.walk.new.index) (map row_entry_view c.deref-3.result.now) seen
     c.in_err-rows.ensures.left
 
 pub returns-in_err-rows-clause-error : goal.returns-in_err-rows-clause-error
 returns-in_err-rows-clause-error g c =
-    let seen = subst (λ (xs : List Entry). AreRowEntries c.args.job.input.now.bytes.items (map seen_of xs))
+    let seen = subst (λ (xs : List Entry). AreRowEntries c.args.job.input.now.bytes.items (map row_entry_view xs))
     (sym c.deref-3.ensures.value)
     (document-seen c.args.job.input.now.bytes.items c.args.document.now
-    (map seen_of c.in_ok-entries.entries.items) c.requires.document
+    (map row_entry_view c.in_ok-entries.entries.items) c.requires.document
     c.lemma_form.ensures.some c.lemma_form.ensures.shows
     (c.in_ok-entries.ensures.ok ∙ ap (filter_map with_row) c.in_ok-found.ensures.ok)) in
     refusal-has c.from_residual-in_err-rows.result c.in_err-rows.field-0.0 _ c.from_residual-in_err-rows.ensures.1
@@ -101,4 +101,4 @@ returns-in_err-rows-clause-error g c =
     (g.I.Index.view (index_of c.args.index.now)).gives
     (cached_by c.args.index.now) (cached_by c.walk.new.index)
     (g.I.Index.view (index_of c.args.index.now)).faults (g.I.Index.view (index_of c.walk.new.index)).faults
-    (map seen_of c.deref-3.result.now) c.in_err-rows.field-0.0 seen c.in_err-rows.ensures.error)
+    (map row_entry_view c.deref-3.result.now) c.in_err-rows.field-0.0 seen c.in_err-rows.ensures.error)

@@ -6,7 +6,7 @@ use Rattle.edit_version.specs.RustVersions.{numbers_of}
 use Rattle.edit_cache.specs.IndexCache.{cached_answer_at, ranking_at}
 use Rattle.edit_cache.specs.declared.ranking.Ranked.{Ranked}
 use Rattle.url.specs.Parts.{serialize}
-use Rattle.edit_upgrade.specs.Found.{seen_of}
+use Rattle.edit_upgrade.specs.Found.{row_entry_view}
 use Rattle.edit_upgrade.specs.Lines.{line_of}
 use Rattle.edit_upgrade.specs.Looks.{Answer, cached_by, versions_in}
 use Rattle.edit_upgrade.specs.Rankings.{IsRankingOf}
@@ -22,7 +22,7 @@ returns-clause-ok g c =
     let input = c.args.job.number in
     let options = c.args.job.asked.options.now in
     let rust = option_map numbers_of c.args.job.input.now.rust_version in
-    let e = seen_of c.args.entry.now in
+    let e = row_entry_view c.args.entry.now in
     let answer : Option Answer = cached_by index address name in
     let ranking : IsRankingOf answer (option_copied c.cached_ranking-ranked.result) =
     subst (λ (r : Option Ranked). IsRankingOf answer r) (sym c.cached_ranking-ranked.ensures)

@@ -1,5 +1,5 @@
 use Rattle.edit_report.specs.declared.row.Row.{Row}
-use Rattle.edit_upgrade.specs.declared.seen.Entry.{Entry}
+use Rattle.edit_upgrade.specs.declared.entries_with_rows.Entry.{Entry}
 use Rattle.std.proofs.Common.{◌⊎◌, arith, ◌∷◌, ◌++◌, ◌∙◌, [], List, ap, map, take, drop, suc, subst, sym}
 use Rattle.std.specs.Prelude.{option_map}
 use Rattle.std.proofs.lemmas.List.{map-append, take_all}
@@ -10,7 +10,7 @@ use Rattle.edit_cache.specs.IndexCache.{index_of}
 use Rattle.edit_base.specs.Errors.{IsMemory}
 use Rattle.edit_sources.specs.declared.config.Config.{Config}
 use Rattle.edit_upgrade.specs.Addresses.{AreAddresses}
-use Rattle.edit_upgrade.specs.Found.{seen_of}
+use Rattle.edit_upgrade.specs.Found.{row_entry_view}
 use Rattle.edit_upgrade.specs.Lines.{line_of}
 use Rattle.edit_upgrade.specs.Causes.{IsPassed, StopsAt}
 use Rattle.edit_upgrade.specs.Looked.{AreSteps, IsEntryStep, Leaves, further, start}
@@ -40,7 +40,7 @@ entries-init g c =
       rows = subst (λ (rows : List Row). AreDecided (cached_basis c.args.job.number c.args.job.asked.options.now
           rust configs kept) [] (map line_of rows))
           (sym c.in_ok-rows.ensures.items) tt;
-      left = leaves-same (IsNeededIn configs (map seen_of c.args.entries.now))
+      left = leaves-same (IsNeededIn configs (map row_entry_view c.args.entries.now))
           (g.I.Index.view (index_of c.args.index.now)).gives
           (g.I.Index.view (index_of c.args.index.now)).faults kept;
     }
@@ -55,19 +55,19 @@ pub returns-clause-passed : goal.returns-clause-passed
 returns-clause-passed g c =
     let whole = take_all c.entries.entry-index c.args.entries.now (omega (arith, c.entries-test.false)) in
     subst (λ (es : List Entry). All (IsPassed c.args.addresses.now.configs.now (cached_by c.entries.index))
-    (map seen_of es)) whole c.entries.invariant.passed
+    (map row_entry_view es)) whole c.entries.invariant.passed
 
 pub returns-in_err-row-clause-left : goal.returns-in_err-row-clause-left
 returns-in_err-row-clause-left g c =
-    let es = map seen_of c.args.entries.now in
-    let e = seen_of c.entry-item.result in
+    let es = map row_entry_view c.args.entries.now in
+    let e = row_entry_view c.entry-item.result in
     leaves-more (IsNeededIn c.args.addresses.now.configs.now es) (IsNeededFor c.args.addresses.now.configs.now e)
     (g.I.Index.view (index_of c.args.index.now)).gives (g.I.Index.view (index_of c.entries.index)).gives
     (g.I.Index.view (index_of c.entry_row.new.index)).gives
     (g.I.Index.view (index_of c.args.index.now)).faults (g.I.Index.view (index_of c.entries.index)).faults
     (g.I.Index.view (index_of c.entry_row.new.index)).faults
     (cached_by c.args.index.now) (cached_by c.entries.index) (cached_by c.entry_row.new.index)
-    (for-among c.args.addresses.now.configs.now es e (contains-item seen_of c.args.entries.now c.entries.entry-index
+    (for-among c.args.addresses.now.configs.now es e (contains-item row_entry_view c.args.entries.now c.entries.entry-index
     c.entry-item.result c.entries-test.true c.entry-item.is))
     c.entries.invariant.left
     (subst (λ (cs : List Config). Leaves (IsNeededFor cs e)
@@ -78,15 +78,15 @@ returns-in_err-row-clause-left g c =
 
 pub returns-in_err-push-clause-left : goal.returns-in_err-push-clause-left
 returns-in_err-push-clause-left g c =
-    let es = map seen_of c.args.entries.now in
-    let e = seen_of c.entry-item.result in
+    let es = map row_entry_view c.args.entries.now in
+    let e = row_entry_view c.entry-item.result in
     leaves-more (IsNeededIn c.args.addresses.now.configs.now es) (IsNeededFor c.args.addresses.now.configs.now e)
     (g.I.Index.view (index_of c.args.index.now)).gives (g.I.Index.view (index_of c.entries.index)).gives
     (g.I.Index.view (index_of c.entry_row.new.index)).gives
     (g.I.Index.view (index_of c.args.index.now)).faults (g.I.Index.view (index_of c.entries.index)).faults
     (g.I.Index.view (index_of c.entry_row.new.index)).faults
     (cached_by c.args.index.now) (cached_by c.entries.index) (cached_by c.entry_row.new.index)
-    (for-among c.args.addresses.now.configs.now es e (contains-item seen_of c.args.entries.now c.entries.entry-index
+    (for-among c.args.addresses.now.configs.now es e (contains-item row_entry_view c.args.entries.now c.entries.entry-index
     c.entry-item.result c.entries-test.true c.entry-item.is))
     c.entries.invariant.left
     (subst (λ (cs : List Config). Leaves (IsNeededFor cs e)
@@ -104,10 +104,10 @@ returns-in_err-row-clause-error g c =
     (cached_by c.args.index.now) (cached_by c.entries.index) (cached_by c.entry_row.new.index)
     (g.I.Index.view (index_of c.args.index.now)).faults (g.I.Index.view (index_of c.entries.index)).faults
     (g.I.Index.view (index_of c.entry_row.new.index)).faults
-    (map seen_of c.args.entries.now) (map seen_of (take c.entries.entry-index c.args.entries.now))
-    (seen_of c.entry-item.result)
-    (map seen_of (drop (suc c.entries.entry-index) c.args.entries.now)) c.in_err-row.field-0.0
-    (names-split seen_of c.args.entries.now c.entries.entry-index c.entry-item.result c.entries-test.true
+    (map row_entry_view c.args.entries.now) (map row_entry_view (take c.entries.entry-index c.args.entries.now))
+    (row_entry_view c.entry-item.result)
+    (map row_entry_view (drop (suc c.entries.entry-index) c.args.entries.now)) c.in_err-row.field-0.0
+    (names-split row_entry_view c.args.entries.now c.entries.entry-index c.entry-item.result c.entries-test.true
     c.entry-item.is)
     c.entries.invariant.passed c.entries.invariant.left.same c.entries.invariant.left.adds.stays
     c.in_err-row.ensures.left.adds.stays
@@ -115,17 +115,17 @@ returns-in_err-row-clause-error g c =
     (subst (λ (cs : List Config). IsMemory c.in_err-row.field-0.0
     ⊎ StopsAt cs (g.I.Index.view (index_of c.entries.index)).gives (cached_by c.entries.index)
     (g.I.Index.view (index_of c.entries.index)).faults
-    (g.I.Index.view (index_of c.entry_row.new.index)).faults (seen_of c.entry-item.result)
+    (g.I.Index.view (index_of c.entry_row.new.index)).faults (row_entry_view c.entry-item.result)
     c.in_err-row.field-0.0) c.entries.invariant.addresses.own c.in_err-row.ensures.error))
 
 pub entries-preserved : goal.entries-preserved
 entries-preserved g c =
     let configs = c.args.addresses.now.configs.now in
-    let all = map seen_of c.args.entries.now in
-    let front = map seen_of (take c.entries.entry-index c.args.entries.now) in
-    let e = seen_of c.entry-item.result in
+    let all = map row_entry_view c.args.entries.now in
+    let front = map row_entry_view (take c.entries.entry-index c.args.entries.now) in
+    let e = row_entry_view c.entry-item.result in
     let rust = option_map numbers_of c.args.job.input.now.rust_version in
-    let more = names-more seen_of c.args.entries.now c.entries.entry-index c.entry-item.result
+    let more = names-more row_entry_view c.args.entries.now c.entries.entry-index c.entry-item.result
     c.entries-test.true c.entry-item.is in
     let lines = ap (map line_of) c.in_ok-push.ensures.items ∙ map-append line_of c.entries.rows.items
     (c.in_ok-row.row ∷ []) in
@@ -173,7 +173,7 @@ entries-preserved g c =
           (g.I.Index.view (index_of c.entries.index)).faults
           (g.I.Index.view (index_of c.entry_row.new.index)).faults
           old now next
-          (for-among configs all e (contains-item seen_of c.args.entries.now c.entries.entry-index
+          (for-among configs all e (contains-item row_entry_view c.args.entries.now c.entries.entry-index
           c.entry-item.result c.entries-test.true c.entry-item.is))
           c.entries.invariant.left
           (subst (λ (cs : List Config). Leaves (IsNeededFor cs e) last
@@ -187,7 +187,7 @@ pub returns-clause-steps : goal.returns-clause-steps
 returns-clause-steps g c =
     let whole = take_all c.entries.entry-index c.args.entries.now (omega (arith, c.entries-test.false)) in
     subst (λ (es : List Entry). AreSteps c.args.addresses.now.configs.now
-    (g.I.Index.view (index_of c.args.index.now)).gives (map seen_of es)
+    (g.I.Index.view (index_of c.args.index.now)).gives (map row_entry_view es)
     (cached_by c.args.index.now) (cached_by c.entries.index)
     c.args.books.now.looks.items c.entries.books.looks.items
     (holds_pair c.args.books.now.pairs) (holds_pair c.entries.books.pairs)) whole c.entries.invariant.steps
@@ -198,10 +198,10 @@ returns-clause-rows g c =
     subst (λ (es : List Entry). AreDecided
     (cached_basis c.args.job.number c.args.job.asked.options.now
     (option_map numbers_of c.args.job.input.now.rust_version) c.args.addresses.now.configs.now (cached_by c.entries.index))
-    (map seen_of es) (map line_of c.entries.rows.items)) whole c.entries.invariant.rows
+    (map row_entry_view es) (map line_of c.entries.rows.items)) whole c.entries.invariant.rows
 
 pub returns-in_err-rows-clause-left : goal.returns-in_err-rows-clause-left
 returns-in_err-rows-clause-left g c =
-    leaves-same (IsNeededIn c.args.addresses.now.configs.now (map seen_of c.args.entries.now))
+    leaves-same (IsNeededIn c.args.addresses.now.configs.now (map row_entry_view c.args.entries.now))
     (g.I.Index.view (index_of c.args.index.now)).gives
     (g.I.Index.view (index_of c.args.index.now)).faults (cached_by c.args.index.now)

@@ -3,7 +3,7 @@ use Rattle.std.specs.Prelude.{All, option_map}
 use Rattle.edit_version.specs.RustVersions.{numbers_of}
 use Rattle.edit_cache.specs.IndexCache.{index_of}
 use Rattle.edit_upgrade.specs.Addresses.{AreAddresses}
-use Rattle.edit_upgrade.specs.Found.{seen_of}
+use Rattle.edit_upgrade.specs.Found.{row_entry_view}
 use Rattle.edit_upgrade.specs.Lines.{line_of}
 use Rattle.edit_upgrade.specs.Causes.{IsPassed}
 use Rattle.edit_upgrade.specs.Looked.{AreAllCached, AreSteps, Leaves}
@@ -18,15 +18,15 @@ invariant-entries g l = record {
   addresses : AreAddresses l.fn.addresses.configs.now l.addresses;
   kept : AreAllCached (holds_pair l.books.pairs) (cached_by l.index);
   steps : AreSteps l.fn.addresses.configs.now (g.I.Index.view (index_of l.fn.index)).gives
-      (map seen_of (take l.entry-index l.entries))
+      (map row_entry_view (take l.entry-index l.entries))
       (cached_by l.fn.index) (cached_by l.index) l.fn.books.looks.items l.books.looks.items
       (holds_pair l.fn.books.pairs) (holds_pair l.books.pairs);
-  passed : All (IsPassed l.fn.addresses.configs.now (cached_by l.index)) (map seen_of (take l.entry-index l.entries));
+  passed : All (IsPassed l.fn.addresses.configs.now (cached_by l.index)) (map row_entry_view (take l.entry-index l.entries));
   rows : AreDecided (cached_basis l.job.number l.job.asked.options.now
       (option_map numbers_of l.job.input.now.rust_version)
       l.fn.addresses.configs.now (cached_by l.index))
-      (map seen_of (take l.entry-index l.entries)) (map line_of l.rows.items);
-  left : Leaves (IsNeededIn l.fn.addresses.configs.now (map seen_of l.entries))
+      (map row_entry_view (take l.entry-index l.entries)) (map line_of l.rows.items);
+  left : Leaves (IsNeededIn l.fn.addresses.configs.now (map row_entry_view l.entries))
       (g.I.Index.view (index_of l.fn.index)).gives (g.I.Index.view (index_of l.index)).gives
       (g.I.Index.view (index_of l.fn.index)).faults (g.I.Index.view (index_of l.index)).faults
       (cached_by l.fn.index) (cached_by l.index);

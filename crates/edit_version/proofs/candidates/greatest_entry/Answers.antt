@@ -1,6 +1,6 @@
 use Rattle.std.proofs.Common.{Option, ap, map, subst}
 use Rattle.std.specs.Prelude.{option_copied, option_map}
-use Rattle.edit_version.specs.Admissible.{entry_order, is_kept, is_wanted}
+use Rattle.edit_version.specs.Admissible.{entry_order, is_qualifying, is_selectable}
 use Rattle.edit_version.specs.Greatest.{IsGreatest}
 use Rattle.edit_version.specs.IndexEntry.{IndexEntry, entry_of}
 use Rattle.edit_version.specs.Requirement.{comparators_of}
@@ -13,8 +13,8 @@ use Rattle.edit_version.proofs.candidates.greatest_entry.Goals as goal
 pub entries-preserved : goal.entries-preserved
 entries-preserved c =
     advanced-more (λ (t : IndexVersion). entry_of t)
-    (is_kept (option_map numbers_of c.args.rust_version)
-    (is_wanted c.args.allow_prerelease (option_map comparators_of (option_copied c.args.req))))
+    (is_qualifying (option_map numbers_of c.args.rust_version)
+    (is_selectable c.args.allow_prerelease (option_map comparators_of (option_copied c.args.req))))
     entry_order entry_total c.args.versions.now c.entries.told-index c.told-item.result
     (option_map (λ f. entry_of f.told.now) c.entries.best)
     (option_map (λ f. entry_of f.told.now) c.in_ok-best.best) c.entries-test.true c.told-item.is
@@ -23,12 +23,12 @@ entries-preserved c =
 pub returns-in-None-clause-ok : goal.returns-in-None-clause-ok
 returns-in-None-clause-ok c =
     let whole = advanced-all (λ (t : IndexVersion). entry_of t)
-    (is_kept (option_map numbers_of c.args.rust_version)
-    (is_wanted c.args.allow_prerelease (option_map comparators_of (option_copied c.args.req))))
+    (is_qualifying (option_map numbers_of c.args.rust_version)
+    (is_selectable c.args.allow_prerelease (option_map comparators_of (option_copied c.args.req))))
     entry_order c.args.versions.now c.entries.told-index
     (option_map (λ f. entry_of f.told.now) c.entries.best) c.entries-test.false c.entries.invariant in
     let none = ap (λ o. option_map (λ f. entry_of f.told.now) o) c.in-None.is in
     subst (λ (o : Option IndexEntry). IsGreatest
-    (is_kept (option_map numbers_of c.args.rust_version)
-    (is_wanted c.args.allow_prerelease (option_map comparators_of (option_copied c.args.req))))
+    (is_qualifying (option_map numbers_of c.args.rust_version)
+    (is_selectable c.args.allow_prerelease (option_map comparators_of (option_copied c.args.req))))
     entry_order (map entry_of c.args.versions.now) o) none whole

@@ -8,7 +8,7 @@ pub returns : goal.returns
 returns c =
     let start : app_of c.about.result ≡ new_app (codes "set-version") = search rules in
     let local : (out-Command c.about.result).has_globals ≡ false = search rules in
-    words_added _ _ _ _ _ c.with_args.ensures c.ignored.ensures
+    words_added _ _ _ _ _ c.with_args.ensures c.ignored_flags.ensures
     (words_added _ _ _ _ _ c.with_args-command-3.ensures c.reports.ensures
     (words_added _ _ _ _ _ c.with_args-command-2.ensures c.members.ensures
     (words_added (Ok c.about.result) _ _ _ (new_app (codes "set-version"))

@@ -10,4 +10,4 @@ pub returns-clause-at_least : goal.returns-clause-at_least
 returns-clause-at_least c = λ entries g.
     let rust = option_map numbers_of c.args.rust_version in
     IfOk-weaker _ (IsFound rust (is_allowed c.args.allow_prerelease) entries) _
-    (λ o h. found-at_least rust c.args.allow_prerelease entries o h) (c.best.ensures.found entries g)
+    (λ o h. found-at_least rust c.args.allow_prerelease entries o h) (c.first_match.ensures.found entries g)

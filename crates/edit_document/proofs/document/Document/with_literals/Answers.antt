@@ -8,7 +8,7 @@ use Rattle.edit_document.specs.Ranges.{edit_views}
 use Rattle.edit_document.specs.Splices.{range_of, Locates}
 use Rattle.edit_tree.specs.Tree.{view_at, is_value_at}
 use Rattle.edit_syntax.specs.Grammar.{Text, text as text_of}
-use Rattle.edit_tree.specs.Replaces.{Replaces, replaced, written, tree_without_below}
+use Rattle.edit_tree.specs.Replaces.{Replaces, replaced, tree_with_strings, tree_without_below}
 use Rattle.edit_tree.proofs.ReplacedDocuments.{tree_again}
 use Rattle.edit_document.proofs.ReplacementLaws.{value_at, range_seen, ranged_more, all_ranges, replaces_apart}
 use Rattle.edit_tree.proofs.ReplacedStrings.{values_apart}
@@ -65,5 +65,5 @@ returns-clause-tree c =
     let shows = c.lemma_form.ensures.shows f.0 f.1 in
     let apart = values_apart edits f.0 f.1.no_clash (c.requires.values f.0 f.1) c.requires.outside in
     replaced_text c (λ new. (form : Text) → IsDocument new form → (at : Place)
-    → view_at form at ≡ written edits (tree_without_below edits (tree_of c.args.self.now)) at)
+    → view_at form at ≡ tree_with_strings edits (tree_without_below edits (tree_of c.args.self.now)) at)
     (λ new e. tree_again edits c.args.self.now.bytes new f.0 (tree_of c.args.self.now) f.1 apart shows e)

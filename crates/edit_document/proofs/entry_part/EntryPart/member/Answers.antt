@@ -15,7 +15,7 @@ invariant_of-result c =
     let ms = new_pair_views c.in-Inline.members.items in
     let n = c.args.name.now in
     let is = ap (λ xs. find (λ x. same_bytes x.0 n) (new_pair_views xs)) (sym c.as_slice.ensures.value)
-    ∙ sym c.named.ensures ∙ ap (option_map (λ x. new_pair_view x.now)) c.in-Some.is in
+    ∙ sym c.first_named.ensures ∙ ap (option_map (λ x. new_pair_view x.now)) c.in-Some.is in
     record {
       stands = (
         λ q. ap (λ x. item_view false (new_item_view x) (key m.0 ∷ q)) c.in-Inline.is
@@ -37,7 +37,7 @@ pub returns-in-Some : goal.returns-in-Some
 returns-in-Some c =
     let n = c.args.name.now in
     let m = new_pair_view c.in-Some.member.now in
-    let is = sym c.named.ensures ∙ ap (option_map (λ x. new_pair_view x.now)) c.in-Some.is in (
+    let is = sym c.first_named.ensures ∙ ap (option_map (λ x. new_pair_view x.now)) c.in-Some.is in (
       refl,
       ap (λ (k : List ℕ). key k ∷ []) (member_name (new_pair_views c.as_slice.result.now) n m is)
           ∙ ap (λ p. at (part_place p) (key n)) (sym c.in-Whole.is),
@@ -48,7 +48,7 @@ returns-in-None c =
     let item = new_item_view c.args.self.item.now in
     let n = c.args.name.now in
     let none = ap (λ xs. find (λ x. same_bytes x.0 n) (new_pair_views xs)) (sym c.as_slice.ensures.value)
-    ∙ sym c.named.ensures ∙ ap (option_map (λ x. new_pair_view x.now)) c.in-None.is in
+    ∙ sym c.first_named.ensures ∙ ap (option_map (λ x. new_pair_view x.now)) c.in-None.is in
     part_absent item c.args.self.part (key n) c.args.self.stands
     (ap (λ p. part_view item p (key n ∷ [])) c.in-Whole.is
     ∙ ap (λ x. item_view false (new_item_view x) (key n ∷ [])) c.in-Inline.is

@@ -10,5 +10,5 @@ pub returns-in-Members : goal.returns-in-Members
 returns-in-Members c =
     c.nth_name.ensures
     ∙ ap (λ (ns : List (List ℕ)). slice_get ns c.args.index)
-    (sym (ap names_in (c.said.ensures ∙ ap part_value_view c.in-Members.is)
+    (sym (ap names_in (c.part_value.ensures ∙ ap part_value_view c.in-Members.is)
     ∙ members_names (not c.in-Members.field-1) (new_pair_views c.in-Members.members.now)))

@@ -8,5 +8,5 @@ use Rattle.edit_document.proofs.new_item.NewItem.view.Goals as goal
 pub returns-clause-document : goal.returns-clause-document
 returns-clause-document c q =
     ap (λ (d : DocumentViews). tree_of d q)
-    (c.of_part.ensures.document ∙ ap (λ x. entry_document (new_item_view x)) c.whole.ensures.0)
+    (c.of_part.ensures.document ∙ ap (λ x. entry_document (new_item_view x)) c.entry_root.ensures.0)
     ∙ entry_tree (new_item_view c.args.self.now) q

@@ -5,7 +5,7 @@ use Rattle.edit_report.specs.Applied.{AreWritten, HasStopped, HaveDistinctPaths}
 use Rattle.edit_set_version.specs.Planned.{plan_lines_view}
 use Rattle.edit_steps.proofs.ErrorFields.{on_refusal, refusal_has, refusal_made}
 use Rattle.edit_steps.proofs.Written.{stopped_after, written_after}
-use Rattle.edit_program.specs.Printed.{shown}
+use Rattle.edit_program.specs.Printed.{set_version_stdout_text}
 use Rattle.edit_program.specs.SetVersions.{AreDelivered, HasStoppedAt}
 use Rattle.edit_program.proofs.PrintedLemmas.{printed_all}
 use Rattle.edit_program.proofs.SetVersionLemmas.{plan_cause, planned_to, stream_cause, workspace_cause, written_differ}
@@ -33,7 +33,7 @@ returns-in_err-plan-clause-why g c =
 
 pub write_outputs-requires : goal.write_outputs-requires
 write_outputs-requires g c =
-    subst HaveDistinctPaths (sym c.written.ensures)
+    subst HaveDistinctPaths (sym c.outputs_to_write.ensures)
     (written_differ c.args.words.now c.in_ok-read.read.inputs.items c.in_ok-plan.plan.outputs.items
     c.in_ok-read.ensures.paths c.in_ok-plan.ensures.planned.is.holds.in_order)
 
@@ -58,13 +58,13 @@ returns-clause-done g c =
     (workspace_view c.in_ok-read.read.workspace) c.in_ok-read.read.inputs.items plan
     c.in_ok-read.ensures.workspace c.in_ok-plan.ensures.planned
     (subst (λ root. Appends (g.O.Write.contents c.args.out.now) (g.O.Write.contents c.print_plan.new.out)
-    (shown words root c.in_ok-read.read.inputs.items plan)) c.as_str.ensures.value
+    (set_version_stdout_text words root c.in_ok-read.read.inputs.items plan)) c.as_str.ensures.value
     (subst (λ is. Appends (g.O.Write.contents c.args.out.now) (g.O.Write.contents c.print_plan.new.out)
-    (shown words c.as_str.result.now is plan)) c.as_slice.ensures.value c.in_ok-print_plan.ensures.shown))
+    (set_version_stdout_text words c.as_str.result.now is plan)) c.as_slice.ensures.value c.in_ok-print_plan.ensures.set_version_stdout_text))
     (printed_all words (plan_lines_view plan) _ (g.E.Write.contents c.warn_if.new.err)
     (g.E.Write.contents c.print_plan.new.err) _ c.in_ok-warn_if.ensures.text
     c.in_ok-print_plan.ensures.outcome c.in_ok-warn_if-2.ensures.text) (
-      subst (λ os. AreWritten os old new) c.written.ensures
+      subst (λ os. AreWritten os old new) c.outputs_to_write.ensures
           (written_after _ old (g.S.Store.view c.read_workspace.new.files) new c.in_ok-read.ensures.reads
           c.in_ok-write_outputs.ensures.written),
       c.has_some.ensures,
@@ -84,13 +84,13 @@ returns-in_err-write_outputs-clause-error g c =
     (workspace_view c.in_ok-read.read.workspace) c.in_ok-read.read.inputs.items plan
     c.in_ok-read.ensures.workspace c.in_ok-plan.ensures.planned
     (subst (λ root. Appends (g.O.Write.contents c.args.out.now) (g.O.Write.contents c.print_plan.new.out)
-    (shown words root c.in_ok-read.read.inputs.items plan)) c.as_str.ensures.value
+    (set_version_stdout_text words root c.in_ok-read.read.inputs.items plan)) c.as_str.ensures.value
     (subst (λ is. Appends (g.O.Write.contents c.args.out.now) (g.O.Write.contents c.print_plan.new.out)
-    (shown words c.as_str.result.now is plan)) c.as_slice.ensures.value c.in_ok-print_plan.ensures.shown))
+    (set_version_stdout_text words c.as_str.result.now is plan)) c.as_slice.ensures.value c.in_ok-print_plan.ensures.set_version_stdout_text))
     (printed_all words (plan_lines_view plan) _ (g.E.Write.contents c.warn_if.new.err)
     (g.E.Write.contents c.print_plan.new.err) _ c.in_ok-warn_if.ensures.text
     c.in_ok-print_plan.ensures.outcome c.in_ok-warn_if-2.ensures.text)
-    (subst (λ os. HasStopped os old new) c.written.ensures
+    (subst (λ os. HasStopped os old new) c.outputs_to_write.ensures
     (stopped_after _ old (g.S.Store.view c.read_workspace.new.files) new c.in_ok-read.ensures.reads
     c.in_err-write_outputs.ensures.stopped)) t))
 

@@ -1,7 +1,7 @@
 use Rattle.std.proofs.Common.{take}
 use Rattle.std.specs.Io.KnownBytes.{Appends}
 use Rattle.edit_upgrade.specs.Views.{calls_view}
-use Rattle.edit_program.specs.Said.{call_statuses}
+use Rattle.edit_program.specs.StderrText.{call_statuses}
 use Rattle.edit_program.proofs.upgrade_output.calls.print_calls.Given as goal
 
 abbrev pub invariant-loop-call : goal.invariant-loop-call

@@ -5,7 +5,7 @@ use Rattle.std.proofs.lemmas.Result.{IfErr-weaker, on_ok_weaker}
 use Rattle.edit_steps.proofs.ErrorFields.{on_refusal, refusal_made}
 use Rattle.edit_program.specs.Delivered.{AreBothWritten, HaveStopped}
 use Rattle.edit_program.specs.Delivery.{delivery_of}
-use Rattle.edit_program.specs.Said.{call_statuses}
+use Rattle.edit_program.specs.StderrText.{call_statuses}
 use Rattle.edit_program.proofs.DeliveryLemmas.{calls_cause, delivered, end_cause, told_calls, told_to}
 use Rattle.edit_program.proofs.upgrade_output.delivery.deliver.Goals as goal
 
@@ -24,7 +24,7 @@ returns-in_err-carry_out-clause-stopped g c =
     (delivery_of task) (g.S.Store.view c.args.files.now) (g.S.Store.view c.carry_out.new.files) _ _ _ _
     (told_calls task.lock task.offline _ _ _ _ c.as_slice-calls.ensures.value c.in_ok-made.ensures
     c.in_ok-due.ensures.calls)
-    c.in_ok-print_plan.ensures.shows c.in_ok-check_lock.ensures.ok c.written.ensures
+    c.in_ok-print_plan.ensures.shows c.in_ok-check_lock.ensures.ok c.upgrade_outputs_to_write.ensures
     c.as_slice-file.ensures.value c.in_ok-outputs.ensures.file c.in_err-carry_out.ensures.stopped)))
 
 pub returns-clause-done : goal.returns-clause-done
@@ -36,7 +36,7 @@ returns-clause-done g c =
     (delivery_of task) (g.S.Store.view c.args.files.now) (g.S.Store.view c.carry_out.new.files) _ _ _ _
     (told_calls task.lock task.offline _ _ _ _ c.as_slice-calls.ensures.value c.in_ok-made.ensures
     c.in_ok-due.ensures.calls)
-    c.in_ok-print_plan.ensures.shows c.in_ok-check_lock.ensures.ok c.written.ensures
+    c.in_ok-print_plan.ensures.shows c.in_ok-check_lock.ensures.ok c.upgrade_outputs_to_write.ensures
     c.as_slice-file.ensures.value c.in_ok-outputs.ensures.file c.in_ok-carry_out.ensures.written) complete)
     c.conclude.ensures.complete
 
@@ -48,7 +48,7 @@ returns-clause-stopped g c =
     (delivery_of task) (g.S.Store.view c.args.files.now) (g.S.Store.view c.carry_out.new.files) _ _ _ _
     (told_calls task.lock task.offline _ _ _ _ c.as_slice-calls.ensures.value c.in_ok-made.ensures
     c.in_ok-due.ensures.calls)
-    c.in_ok-print_plan.ensures.shows c.in_ok-check_lock.ensures.ok c.written.ensures
+    c.in_ok-print_plan.ensures.shows c.in_ok-check_lock.ensures.ok c.upgrade_outputs_to_write.ensures
     c.as_slice-file.ensures.value c.in_ok-outputs.ensures.file c.in_ok-carry_out.ensures.written)))
 
 pub returns-clause-content : goal.returns-clause-content
@@ -78,6 +78,6 @@ returns-clause-cause g c =
     (told_to AreBothWritten HasFields (delivery_of task) old new _ _ _ _
     (told_calls task.lock task.offline _ _ _ _ c.as_slice-calls.ensures.value c.in_ok-made.ensures
     c.in_ok-due.ensures.calls)
-    c.in_ok-print_plan.ensures.shows c.in_ok-check_lock.ensures.ok c.written.ensures
+    c.in_ok-print_plan.ensures.shows c.in_ok-check_lock.ensures.ok c.upgrade_outputs_to_write.ensures
     c.as_slice-file.ensures.value c.in_ok-outputs.ensures.file c.in_ok-carry_out.ensures.written))
     c.conclude.ensures.error

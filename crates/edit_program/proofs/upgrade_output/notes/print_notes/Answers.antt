@@ -1,7 +1,7 @@
 use Rattle.std.proofs.Common.{◌≡◌, ◌∙◌, ap, of_z, rules, subst, to_z, w8}
 use Rattle.std.specs.Io.KnownBytes.{Appends}
 use Rattle.std.proofs.lemmas.Result.{on_ok_weaker}
-use Rattle.edit_program.specs.Said.{hidden, hidden_note}
+use Rattle.edit_program.specs.StderrText.{hidden_rows, hidden_note}
 use Rattle.edit_program.proofs.NoteLemmas.{notes_said}
 use Rattle.edit_program.proofs.upgrade_output.notes.print_notes.Goals as goal
 
@@ -18,7 +18,7 @@ returns-clause-text g c =
     (g.E.Write.contents c.print_absent.new.err)
     c.in_ok-note_if.ensures.text c.in_ok-note_if-2.ensures.text
     (subst (Appends before behind)
-    (ap (λ n. hidden_note n (hidden n c.as_slice.result.now)) known
-    ∙ ap (λ rows. hidden_note v (hidden v rows)) c.as_slice.ensures.value)
+    (ap (λ n. hidden_note n (hidden_rows n c.as_slice.result.now)) known
+    ∙ ap (λ rows. hidden_note v (hidden_rows v rows)) c.as_slice.ensures.value)
     c.in_ok-print_hidden.ensures.text) c.in_ok-warn_if.ensures.text h)
     c.print_absent.ensures.text

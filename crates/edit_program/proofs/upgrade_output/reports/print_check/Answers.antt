@@ -4,7 +4,7 @@ use Rattle.std.specs.List.{flat_map}
 use Rattle.std.proofs.KnownBytes.{Appends-trans}
 use Rattle.std.proofs.lemmas.Int.{to_z-of_z}
 use Rattle.std.proofs.lemmas.Result.{on_ok_weaker}
-use Rattle.edit_program.specs.Said.{warning_on}
+use Rattle.edit_program.specs.StderrText.{warning_on}
 use Rattle.edit_program.proofs.DeliveryLemmas.{said_of_own}
 use Rattle.edit_program.proofs.upgrade_output.reports.print_check.Goals as goal
 

@@ -1,7 +1,7 @@
 use Rattle.std.proofs.Common.{◌∙◌, ap, length, of_z, refl, subst, sym, to_z, w8}
 use Rattle.std.specs.Io.KnownBytes.{Appends}
 use Rattle.std.proofs.lemmas.Option.{slice_get_read}
-use Rattle.edit_program.specs.Said.{input_report, input_report_at}
+use Rattle.edit_program.specs.StderrText.{input_report, input_report_at}
 use Rattle.edit_program.specs.Tables.{table}
 use Rattle.edit_program.proofs.DeliveryLemmas.{check_is, text_more}
 use Rattle.edit_program.proofs.upgrade_output.reports.print_reports.Goals as goal

@@ -1,7 +1,7 @@
 use Rattle.std.proofs.Common.{take}
 use Rattle.std.specs.Io.KnownBytes.{Appends}
 use Rattle.std.specs.List.{flat_map}
-use Rattle.edit_program.specs.Said.{warning_on}
+use Rattle.edit_program.specs.StderrText.{warning_on}
 use Rattle.edit_program.proofs.upgrade_output.reports.print_warnings.Given as goal
 
 abbrev pub invariant-loop-warning : goal.invariant-loop-warning

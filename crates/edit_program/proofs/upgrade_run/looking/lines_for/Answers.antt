@@ -14,7 +14,7 @@ use Rattle.edit_program.proofs.upgrade_run.looking.lines_for.Goals as goal
 
 pub returns-clause-lines : goal.returns-clause-lines
 returns-clause-lines c =
-    IfOk-weaker c.looks_text.result _ _
+    IfOk-weaker c.lookup_lines_text.result _ _
     (λ text is. record {
       plan = c.in_ok-plan.plan;
       planned = c.in_ok-plan.ensures.planned;
@@ -23,24 +23,24 @@ returns-clause-lines c =
       in_order = c.in_ok-plan.ensures.planned.is.looks_in_order;
       is = is;
     })
-    (subst (λ looks. IfOk c.looks_text.result (λ s. string_bytes s ≡ flat_map look_as_line looks))
-    c.deref.ensures.value c.looks_text.ensures.text)
+    (subst (λ looks. IfOk c.lookup_lines_text.result (λ s. string_bytes s ≡ flat_map look_as_line looks))
+    c.deref.ensures.value c.lookup_lines_text.ensures.text)
 
 pub returns-clause-error : goal.returns-clause-error
 returns-clause-error c =
-    IfErr-weaker c.looks_text.result _ _
+    IfErr-weaker c.lookup_lines_text.result _ _
     (λ e h. inl (lines_refused c.args.options.now c.args.target.now.inputs.items
     (lists_for c.args.configs.now) c.in_ok-plan.plan e c.in_ok-plan.ensures.planned h))
-    (subst (λ looks. IfErr c.looks_text.result (λ e. IsMemory e ⊎ HasBadLookup looks (number_of e)))
-    c.deref.ensures.value c.looks_text.ensures.error)
+    (subst (λ looks. IfErr c.lookup_lines_text.result (λ e. IsMemory e ⊎ HasBadLookup looks (number_of e)))
+    c.deref.ensures.value c.lookup_lines_text.ensures.error)
 
 pub returns-clause-counted : goal.returns-clause-counted
 returns-clause-counted c =
-    IfErr-weaker c.looks_text.result _ _
+    IfErr-weaker c.lookup_lines_text.result _ _
     (λ e h. memory_counts e (lines_refused c.args.options.now c.args.target.now.inputs.items
     (lists_for c.args.configs.now) c.in_ok-plan.plan e c.in_ok-plan.ensures.planned h))
-    (subst (λ looks. IfErr c.looks_text.result (λ e. IsMemory e ⊎ HasBadLookup looks (number_of e)))
-    c.deref.ensures.value c.looks_text.ensures.error)
+    (subst (λ looks. IfErr c.lookup_lines_text.result (λ e. IsMemory e ⊎ HasBadLookup looks (number_of e)))
+    c.deref.ensures.value c.lookup_lines_text.ensures.error)
 
 pub returns-in_err-plan-clause-counted : goal.returns-in_err-plan-clause-counted
 returns-in_err-plan-clause-counted c =

@@ -37,7 +37,7 @@ returns-in_err-sources-clause-error g c =
     ⊎ (old.tells ≡ true → HasNoLock old.file_at current (given words.lock_file) error))
     c.from_residual-in_err-sources.ensures.1
     (inl (cause_after old mid new current home (to_request words) e.error c.in_ok-lock.ensures.store
-    (subst (λ a. IsReadCause current home a mid new e.error) c.asked.ensures c.in_err-sources.ensures.error)))
+    (subst (λ a. IsReadCause current home a mid new e.error) c.to_request.ensures c.in_err-sources.ensures.error)))
 
 pub returns-in_err-sources-clause-counted : goal.returns-in_err-sources-clause-counted
 returns-in_err-sources-clause-counted g c =

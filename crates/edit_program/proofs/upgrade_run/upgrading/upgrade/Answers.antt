@@ -6,10 +6,10 @@ use Rattle.edit_sources.specs.Configured.{given}
 use Rattle.edit_steps.proofs.ErrorFields.{refusal_has}
 use Rattle.edit_report.specs.Applied.{HaveDistinctPaths}
 use Rattle.edit_store.specs.Store.{SameFiles}
-use Rattle.edit_program.specs.Delivered.{IsCutShort}
+use Rattle.edit_program.specs.Delivered.{IsDeliveryInterrupted}
 use Rattle.edit_program.specs.Delivery.{Delivery}
 use Rattle.edit_program.specs.Run.{run_at}
-use Rattle.edit_program.specs.Said.{AreWarningsInOrder}
+use Rattle.edit_program.specs.StderrText.{AreWarningsInOrder}
 use Rattle.edit_program.specs.Tables.{AreInOrder}
 use Rattle.edit_program.specs.TellingCauses.{IsDeliveryCause}
 use Rattle.edit_program.specs.UpgradeCauses.{IsUpgradeCause}
@@ -138,7 +138,7 @@ returns-clause-error g c =
     (c.in_ok-readings.ensures.locked t) in
     broken HasFields words current home local old mid new s plan path lock c.in_ok-readings.ensures.store
     read planned at locked
-    (subst (λ d. SameFiles mid.file_at new.file_at ⊎ IsCutShort HasFields d mid new) c.delivery_task-task.ensures
+    (subst (λ d. SameFiles mid.file_at new.file_at ⊎ IsDeliveryInterrupted HasFields d mid new) c.delivery_task-task.ensures
     c.in-Err-deliver.ensures.stopped)
 
 pub returns-clause-why : goal.returns-clause-why

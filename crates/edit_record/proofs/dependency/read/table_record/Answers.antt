@@ -29,6 +29,6 @@ returns-clause-ok c =
       c.in_ok-source.ensures.ok,
       c.in_ok-registry.ensures.ok,
       ← c.in_ok-name.ensures,
-      ← c.truth_at.ensures,
-      ← c.truth_at-2.ensures,
+      ← c.bool_at.ensures,
+      ← c.bool_at-2.ensures,
     ) refl

@@ -14,6 +14,6 @@ loop-i-preserved c =
           ∙ append_assoc c.args.text.now.items front (piece c.loop-i.i)
           ∙ sym (ap (λ (t : List ℕ). c.args.text.now.items ++ t) (pieces_more piece c.loop-i.i));
       counted = counted_more c.args.marks.now c.loop-i.i _ c.loop-i.before.old c.loop-i.before.new
-          c.past-before.result.old c.past-before.result.new (omega arith)
-          c.loop-i.invariant.counted c.past-before.ensures.old c.past-before.ensures.new;
+          c.counts_after-before.result.old c.counts_after-before.result.new (omega arith)
+          c.loop-i.invariant.counted c.counts_after-before.ensures.old c.counts_after-before.ensures.new;
     }

@@ -10,7 +10,7 @@ returns-clause-error c =
     let document : parse_document c.args.bytes.now ≡ Some (table_view c.in-Ok-table_from_str.table) =
     search rules in
     let none : configuration_of (table_view c.in-Ok-table_from_str.table) ≡ None = search rules in
-    elim c.unreadable-in-None.ensures [
+    elim c.config_file_error-in-None.ensures [
       | inl memory ↦ inl memory
       | inr named ↦ inr (named, misshapen _ document none)
     ]

@@ -1,5 +1,5 @@
 use Rattle.std.proofs.Common.{inl, inr, ⊎_elim, sym, ◌∙◌, subst}
-use Rattle.edit_sources.specs.ConfigurationFiles.{IsReadOf, standing}
+use Rattle.edit_sources.specs.ConfigurationFiles.{IsReadOf, existing_file}
 use Rattle.edit_sources.proofs.FileLemmas.{file_in-second, failed_later}
 use Rattle.edit_sources.proofs.config.files.config_in.Goals as goal
 
@@ -7,7 +7,7 @@ pub returns-in-Ok-read_file-clause-read : goal.returns-in-Ok-read_file-clause-re
 returns-in-Ok-read_file-clause-read g c = λ tells.
     let first = c.as_str.ensures.value ∙ c.in-Ok.ensures.text in
     let second = c.as_str-2.ensures.value ∙ c.in-Ok-join.ensures.text in
-    let none = subst (λ o. IsReadOf (standing (g.S.Store.view c.args.store.now).file_at c.as_str.result.now)
+    let none = subst (λ o. IsReadOf (existing_file (g.S.Store.view c.args.store.now).file_at c.as_str.result.now)
     o) c.in-Ok-None.field-0-is (c.in-Ok-None.ensures.read tells) in
     let counts = file_in-second (g.S.Store.view c.args.store.now).file_at
     (g.S.Store.view c.read_file.new.store).file_at c.args.place.now c.as_str.result.now c.as_str-2.result.now
@@ -28,7 +28,7 @@ returns-clause-error g c =
           (file_in-second (g.S.Store.view c.args.store.now).file_at
           (g.S.Store.view c.read_file.new.store).file_at c.args.place.now c.as_str.result.now
           c.as_str-2.result.now first second c.read_file.ensures.store.files
-          (subst (λ o. IsReadOf (standing (g.S.Store.view c.args.store.now).file_at c.as_str.result.now) o)
+          (subst (λ o. IsReadOf (existing_file (g.S.Store.view c.args.store.now).file_at c.as_str.result.now) o)
           c.in-Ok-None.field-0-is (c.in-Ok-None.ensures.read tells))) ∙
           fails.stands (c.read_file.ensures.store.tells ∙ tells);
       unread = fails.unread;

@@ -25,6 +25,6 @@ pub returns-clause-entries : goal.returns-clause-entries
 returns-clause-entries c = record {
   entries = map entry_of c.in_ok-entries.entries.items;
   say = c.in_ok-entries.ensures.entries;
-  groups = λ q. ap (λ xs. map entry_of xs) (c.in_ok-grouped.ensures q) ∙
+  groups = λ q. ap (λ xs. map entry_of xs) (c.in_ok-group_by_crate.ensures q) ∙
       map-filter q c.in_ok-entries.entries.items;
 }

@@ -9,8 +9,8 @@ use Rattle.edit_steps.proofs.upgrade_read.target.read_target.Goals as goal
 pub returns-in_default-clause-read : goal.returns-in_default-clause-read
 returns-in_default-clause-read g c =
     λ t. found_read (g.S.Store.view c.args.files.now).file_at c.args.current.now c.args.asked.now
-    c.in_ok-manifest.manifest.input c.in_ok-alone.field-0 c.in_default.is c.in_ok-alone.ensures.workspace
-    c.in_ok-alone.ensures.inputs (c.in_ok-manifest.ensures.read t)
+    c.in_ok-manifest.manifest.input c.in_ok-target_of_manifest.field-0 c.in_default.is c.in_ok-target_of_manifest.ensures.workspace
+    c.in_ok-target_of_manifest.ensures.inputs (c.in_ok-manifest.ensures.read t)
 
 pub returns-in_err-read-clause-error : goal.returns-in_err-read-clause-error
 returns-in_err-read-clause-error g c =
@@ -24,8 +24,8 @@ pub returns-clause-read : goal.returns-clause-read
 returns-clause-read g c =
     λ t. members_read (g.S.Store.view c.args.files.now).file_at c.args.current.now c.args.asked.now
     c.in-Some.named c.in_ok-read.read.workspace c.in_ok-read.read.inputs.items
-    (option_map numbers_of c.given-given.result) c.is_ignored-ignored.result c.in-Some.is
-    c.given-given.ensures c.is_ignored-ignored.ensures (c.in_ok-read.ensures.workspace t)
+    (option_map numbers_of c.given_version-given.result) c.is_ignored-ignored.result c.in-Some.is
+    c.given_version-given.ensures c.is_ignored-ignored.ensures (c.in_ok-read.ensures.workspace t)
 
 pub returns-in_err-manifest-clause-only : goal.returns-in_err-manifest-clause-only
 returns-in_err-manifest-clause-only g c =

@@ -15,6 +15,6 @@ returns c =
     let k : (k : Key) × (key_at c.past_run.result.now ≡ Some (k, c.in_ok-after_key.after_key.now))
     × (c.key.new.out.items ≡ c.args.out.now.items ++ tokens_of_key k c.in_ok-after_key.after_key.now) =
     c.in_ok-after_key.ensures in
-    header_noted c.args.out.now.items c.key.new.out.items c.note.new.out.items s
+    header_noted c.args.out.now.items c.key.new.out.items c.append_token.new.out.items s
     c.in_ok-after_key.after_key.now c.in-Some.rest.now k.0 opened (rw (← inner) k.1) k.2
-    (c.in-Some.ensures ∙ ap (past right_bracket) c.past_run-end.ensures) c.in_ok-note.ensures
+    (c.in-Some.ensures ∙ ap (past right_bracket) c.past_run-end.ensures) c.in_ok-append_token.ensures

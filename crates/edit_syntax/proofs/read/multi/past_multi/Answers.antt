@@ -10,16 +10,16 @@ pub pieces-init : goal.pieces-init
 unfolding multi_at
 pieces-init c = let k : length c.args.s.now - 0 ≡ length c.args.s.now = omega arith in rw k refl
 
-pub returns-then-closes : goal.returns-then-closes
-returns-then-closes c =
-    let closed = sym c.closes.ensures ∙ c.if-closes.true in
+pub returns-then-is_closing_delimiter : goal.returns-then-is_closing_delimiter
+returns-then-is_closing_delimiter c =
+    let closed = sym c.is_closing_delimiter.ensures ∙ c.if-is_closing_delimiter.true in
     let k = one_less (length c.args.s.now) c.pieces._piece c.pieces-test.true in
     ap Some c.skip.ensures ∙ sym (body_end c.args.mark _ c.pieces.few c.pieces.rest.now closed) ∙
     (rw k at c.pieces.invariant)
 
 pub returns-in_err-rest : goal.returns-in_err-rest
 returns-in_err-rest c =
-    let going = sym c.closes.ensures ∙ c.if-closes.false in
+    let going = sym c.is_closing_delimiter.ensures ∙ c.if-is_closing_delimiter.false in
     let other : eqb (first c.pieces.rest.now) c.args.mark ≡ false = grind (arith, nat_tests) in
     let k = one_less (length c.args.s.now) c.pieces._piece c.pieces-test.true in
     let none : None ≡ rest_of (line_piece_at c.args.mark c.pieces.rest.now) =
@@ -30,7 +30,7 @@ returns-in_err-rest c =
 
 pub returns-then-few-eq0 : goal.returns-then-few-eq0
 returns-then-few-eq0 c =
-    let going = sym c.closes.ensures ∙ c.if-closes.false in
+    let going = sym c.is_closing_delimiter.ensures ∙ c.if-is_closing_delimiter.false in
     let here : eqb (first c.pieces.rest.now) c.args.mark ≡ true =
     eq-eqb _ _ (sym c.first.ensures ∙ c.if-first-mark.false) in
     let k = one_less (length c.args.s.now) c.pieces._piece c.pieces-test.true in
@@ -39,7 +39,7 @@ returns-then-few-eq0 c =
 
 pub pieces-preserved : goal.pieces-preserved
 pieces-preserved c =
-    let going = sym c.closes.ensures ∙ c.if-closes.false in
+    let going = sym c.is_closing_delimiter.ensures ∙ c.if-is_closing_delimiter.false in
     let k = one_less (length c.args.s.now) c.pieces._piece c.pieces-test.true in
     let left = length c.args.s.now - (c.pieces._piece + 1) in
     let P : ℕ → List ℕ → Type 0 = λ few rest. rest_of (body_at c.args.mark left few rest)

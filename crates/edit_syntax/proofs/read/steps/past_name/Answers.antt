@@ -8,8 +8,8 @@ use Rattle.edit_syntax.proofs.read.steps.past_name.Goals as goal
 
 pub returns-in-Err : goal.returns-in-Err
 returns-in-Err c k a b more h e =
-    refused_memory (key_at c.args.s.now) (k, a ++ (equals ∷ (b ++ more))) c.in-Err.error c.refusal.result
-    (ap key_at e ∙ naming_again k a b more h) c.in-Err.ensures c.refusal.ensures
+    refused_memory (key_at c.args.s.now) (k, a ++ (equals ∷ (b ++ more))) c.in-Err.error c.to_error.result
+    (ap key_at e ∙ naming_again k a b more h) c.in-Err.ensures c.to_error.ensures
 
 pub returns-in_default : goal.returns-in_default
 returns-in_default c k a b more h e =

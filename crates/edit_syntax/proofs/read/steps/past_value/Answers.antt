@@ -11,5 +11,5 @@ returns-in-Ok c v g rest h e =
 
 pub returns : goal.returns
 returns c v g rest h e =
-    refused_memory (value_at 80 c.args.s.now) (v, gap g rest) c.in-Err.error c.refusal.result
-    (ap (value_at 80) e ∙ item_again v g rest h) c.in-Err.ensures c.refusal.ensures
+    refused_memory (value_at 80 c.args.s.now) (v, gap g rest) c.in-Err.error c.to_error.result
+    (ap (value_at 80) e ∙ item_again v g rest h) c.in-Err.ensures c.to_error.ensures

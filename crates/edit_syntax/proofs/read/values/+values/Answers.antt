@@ -25,10 +25,10 @@ members-returns-then-first-eq125 t c =
     let closed : eqb (first c.members.rest.now) right_brace ≡ true = grind (arith, nat_tests) in
     let after : c.skip-after.result.now ≡ drop 1 c.members.rest.now = c.skip-after.ensures in
     subst (λ (r : List ℕ). (x : Members) × (members_at read c.args.count c.args.s.now ≡ Some (x, r))
-    × (c.note.new.out.items ≡ c.args.out.now.items ++ tokens_of_inline_table x r)) (sym after)
+    × (c.append_token.new.out.items ≡ c.args.out.now.items ++ tokens_of_inline_table x r)) (sym after)
     (members_end read (members_at read c.args.count c.args.s.now)
     (c.args.count - (c.members._member + 1)) c.members.rest.now c.args.out.now.items c.members.out.items
-    c.note.new.out.items closed (rw (← after) c.in_ok-note.ensures) (rw k at c.members.invariant))
+    c.append_token.new.out.items closed (rw (← after) c.in_ok-append_token.ensures) (rw k at c.members.invariant))
 
 pub members-returns-in_err-after_value : goal.members-returns-in_err-after_value
 members-returns-in_err-after_value t c =
@@ -73,8 +73,8 @@ members-returns-then-first-ne44 t c =
     let closed : Some c.in-Some.after.now ≡ past right_brace c.past_gap-end.result.now = c.in-Some.ensures in
     members_done read (members_at read c.args.count c.args.s.now)
     (c.args.count - (c.members._member + 1)) c.members.rest.now r c.in-Some.after.now p.0 c.args.out.now.items
-    c.members.out.items c.pair.new.out.items c.note-then-first-ne44.new.out.items unclosed p.1 sign
-    (closed ∙ ap (past right_brace) end) p.2 (rw (← end) c.in_ok-note-2.ensures) (rw k at c.members.invariant)
+    c.members.out.items c.pair.new.out.items c.append_token-then-first-ne44.new.out.items unclosed p.1 sign
+    (closed ∙ ap (past right_brace) end) p.2 (rw (← end) c.in_ok-append_token-2.ensures) (rw k at c.members.invariant)
 
 pub members-members-preserved : goal.members-members-preserved
 members-members-preserved t c =
@@ -137,10 +137,10 @@ elements-returns-then-first-eq93 t c =
     let closed : eqb (first c.elements.rest.now) right_bracket ≡ true = grind (arith, nat_tests) in
     let after : c.skip-after.result.now ≡ drop 1 c.elements.rest.now = c.skip-after.ensures in
     subst (λ (r : List ℕ). (x : Elements) × (elements_at read c.args.count c.args.s.now ≡ Some (x, r))
-    × (c.note.new.out.items ≡ c.args.out.now.items ++ tokens_of_array x r)) (sym after)
+    × (c.append_token.new.out.items ≡ c.args.out.now.items ++ tokens_of_array x r)) (sym after)
     (elements_end read (elements_at read c.args.count c.args.s.now)
     (c.args.count - (c.elements._element + 1)) c.elements.rest.now c.args.out.now.items c.elements.out.items
-    c.note.new.out.items closed (rw (← after) c.in_ok-note.ensures) (rw k at c.elements.invariant))
+    c.append_token.new.out.items closed (rw (← after) c.in_ok-append_token.ensures) (rw k at c.elements.invariant))
 
 pub elements-returns-in_err-after_value : goal.elements-returns-in_err-after_value
 elements-returns-in_err-after_value t c =
@@ -187,8 +187,8 @@ elements-returns-then-first-ne44 t c =
     c.in-Some.ensures in
     elements_done read (elements_at read c.args.count c.args.s.now)
     (c.args.count - (c.elements._element + 1)) c.elements.rest.now r c.in-Some.after.now v.0
-    c.args.out.now.items c.elements.out.items c.value.new.out.items c.note-then-first-ne44.new.out.items
-    unclosed v.1 sign (closed ∙ ap (past right_bracket) end) v.2 (rw (← end) c.in_ok-note-2.ensures)
+    c.args.out.now.items c.elements.out.items c.value.new.out.items c.append_token-then-first-ne44.new.out.items
+    unclosed v.1 sign (closed ∙ ap (past right_bracket) end) v.2 (rw (← end) c.in_ok-append_token-2.ensures)
     (rw k at c.elements.invariant)
 
 pub elements-elements-preserved : goal.elements-elements-preserved
@@ -224,8 +224,8 @@ array-returns t c =
     ap past_gap c.skip-behind.ensures in
     subst (λ (d : ℕ). AppendsTokens tokens_of_value c.args.out.now c.elements.new.out c.elements.result (value_at d s))
     (sym k)
-    (array_noted c.args.depth c.args.out.now c.note.new.out c.elements.new.out s c.elements.result opened
-    (rw (← c.skip-behind.ensures) c.in_ok-note.ensures) (rw (← inner) c.elements.ensures))
+    (array_noted c.args.depth c.args.out.now c.append_token.new.out c.elements.new.out s c.elements.result opened
+    (rw (← c.skip-behind.ensures) c.in_ok-append_token.ensures) (rw (← inner) c.elements.ensures))
 
 pub inline_table-returns : goal.inline_table-returns
 inline_table-returns t c =
@@ -236,5 +236,5 @@ inline_table-returns t c =
     ap past_gap c.skip-behind.ensures in
     subst (λ (d : ℕ). AppendsTokens tokens_of_value c.args.out.now c.members.new.out c.members.result (value_at d s))
     (sym k)
-    (inline_noted c.args.depth c.args.out.now c.note.new.out c.members.new.out s c.members.result opened
-    (rw (← c.skip-behind.ensures) c.in_ok-note.ensures) (rw (← inner) c.members.ensures))
+    (inline_noted c.args.depth c.args.out.now c.append_token.new.out c.members.new.out s c.members.result opened
+    (rw (← c.skip-behind.ensures) c.in_ok-append_token.ensures) (rw (← inner) c.members.ensures))

@@ -2,5 +2,5 @@ use Rattle.edit_syntax.proofs.NotedTokens.{scalar_noted}
 use Rattle.edit_syntax.proofs.read.values.scalar.Goals as goal
 
 pub returns : goal.returns
-returns c = scalar_noted c.args.out.now.items c.note.new.out.items c.in-Some.kind c.args.s.now
-    c.in-Some.rest.now c.in-Some.ensures c.in_ok-note.ensures
+returns c = scalar_noted c.args.out.now.items c.append_token.new.out.items c.in-Some.kind c.args.s.now
+    c.in-Some.rest.now c.in-Some.ensures c.in_ok-append_token.ensures

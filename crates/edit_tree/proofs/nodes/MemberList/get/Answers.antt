@@ -13,7 +13,7 @@ returns-in-Some c indexed =
     let first : number_in (take 8 (entries_in text list)) name ≡ Some c.in-Some.number =
     ap (λ (es : List (List ℕ × ℕ)). number_in es name)
     (take-map (λ (e : Member). (bytes_of text e.name, e.number)) 8 list)
-    ∙ ap (λ (ms : List Member). number_in (entries_in text ms) name) (sym c.few.ensures) ∙
+    ∙ ap (λ (ms : List Member). number_in (entries_in text ms) name) (sym c.first_members.ensures) ∙
     sym (c.in-Some.ensures {u = tt}) in
     sym (number_few 8 (entries_in text list) name c.in-Some.number first)
 
@@ -25,6 +25,6 @@ returns-in-None c indexed =
     let first : number_in (take 8 (entries_in text list)) name ≡ None =
     ap (λ (es : List (List ℕ × ℕ)). number_in es name)
     (take-map (λ (e : Member). (bytes_of text e.name, e.number)) 8 list)
-    ∙ ap (λ (ms : List Member). number_in (entries_in text ms) name) (sym c.few.ensures) ∙
+    ∙ ap (λ (ms : List Member). number_in (entries_in text ms) name) (sym c.first_members.ensures) ∙
     sym (c.in-None.ensures {u = tt}) in
     c.get.ensures ∙ indexed name ∙ sym (number_others 8 (entries_in text list) name first)

@@ -21,7 +21,7 @@ returns-in-Some-name c = record {
       let text = c.args.text.now in
       let top : last_of c.args.self.now.tables.items ≡ Some c.in-Some.number =
       ap last_of (sym c.deref.ensures.value) ∙ sym c.last.ensures.value ∙ sym c.copied.ensures ∙ c.in-Some.is in
-      if_ok_map c.settle.result (c.settle.ensures.goes st w)
+      if_ok_map c.define_pending.result (c.define_pending.ensures.goes st w)
       (λ r settles. settles_named c.args.self.now _ st
       (shape_of text c.args.content) c.args.span c.in-Some.number c.in-Some-name.field-0 r w top
       c.in-Some-name.is settles);

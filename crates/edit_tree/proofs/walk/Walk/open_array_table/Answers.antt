@@ -9,7 +9,7 @@ use Rattle.edit_tree.proofs.walk.Walk.open_array_table.Goals as goal
 pub returns-clause-goes : goal.returns-clause-goes
 returns-clause-goes c st w =
     let text = c.args.text.now in
-    let middle = c.settle.new.self in
+    let middle = c.define_pending.new.self in
     goes_element text middle c.open_only.new.self
     (record {
       nodes = c.add_element.new.nodes;
@@ -27,15 +27,15 @@ returns-clause-goes c st w =
 pub returns-in_default-clause-goes : goal.returns-in_default-clause-goes
 returns-in_default-clause-goes c st w =
     let text = c.args.text.now in
-    element_unheaded text c.settle.new.self st
-    (subst (HasDefinedState text c.settle.new.self (pending_defined st 0 Super sections Array None)) c.in_default.is
+    element_unheaded text c.define_pending.new.self st
+    (subst (HasDefinedState text c.define_pending.new.self (pending_defined st 0 Super sections Array None)) c.in_default.is
     ((c.in_ok-number.ensures {u = tt}).goes st w))
 
 pub returns-in_default-2-clause-goes : goal.returns-in_default-2-clause-goes
 returns-in_default-2-clause-goes c st w =
     let text = c.args.text.now in
-    element_refused text c.settle.new.self c.add_element.new.nodes.items st c.in-Some.number
-    (subst (HasDefinedState text c.settle.new.self (pending_defined st 0 Super sections Array None)) c.in-Some.is
+    element_refused text c.define_pending.new.self c.add_element.new.nodes.items st c.in-Some.number
+    (subst (HasDefinedState text c.define_pending.new.self (pending_defined st 0 Super sections Array None)) c.in-Some.is
     ((c.in_ok-number.ensures {u = tt}).goes st w))
     (λ spots holds. subst
     (HasNodeAt text c.add_element.new.nodes.items (element_added spots c.in-Some.number section Element None))

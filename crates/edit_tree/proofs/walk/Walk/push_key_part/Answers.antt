@@ -1,6 +1,6 @@
 use Rattle.std.proofs.Common.{◌≡◌, ◌++◌, Option, Some, None, refl, sym, ap, ◌∙◌, append-nil}
 use Rattle.std.specs.Prelude.{option_to_list}
-use Rattle.edit_tree.specs.declared.nodes.Words.{Words}
+use Rattle.edit_tree.specs.declared.nodes.DecodedText.{DecodedText}
 use Rattle.edit_tree.specs.declared.walk.Walk.{Walk}
 use Rattle.edit_tree.proofs.WalkSteps.{awaits}
 use Rattle.edit_tree.proofs.walk.Walk.push_key_part.Goals as goal
@@ -17,12 +17,12 @@ returns c = record {
             awaits old _ st c.args.name w (ap (λ (m : Walk). m.nodes.items) b.self-is)
             (ap (λ (m : Walk). m.tables.items) b.self-is)
             (ap (λ (m : Walk). m.fronts.items) b.self-is ∙ (b.in_ok-push.ensures {u = tt}).items ∙
-            ap (λ (o : Option Words). fronts ++ option_to_list o) (sym some)) refl
+            ap (λ (o : Option DecodedText). fronts ++ option_to_list o) (sym some)) refl
         | in_default b ↦
             let none : old.name ≡ None = sym c.take.ensures.value ∙ b.in_default.is in
             awaits old _ st c.args.name w (ap (λ (m : Walk). m.nodes.items) b.self-is)
             (ap (λ (m : Walk). m.tables.items) b.self-is)
             (ap (λ (m : Walk). m.fronts.items) b.self-is ∙ sym (append-nil fronts) ∙
-            ap (λ (o : Option Words). fronts ++ option_to_list o) (sym none)) refl
+            ap (λ (o : Option DecodedText). fronts ++ option_to_list o) (sym none)) refl
       ];
 }

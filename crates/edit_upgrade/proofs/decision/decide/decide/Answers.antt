@@ -9,10 +9,10 @@ pub returns-clause-decided : goal.returns-clause-decided
 returns-clause-decided c =
     c.in_ok-decide_by.ensures
     ∙ ap (λ (t : List ℕ).
-    decision_by c.args.options.now false c.pin_of-pin.result.pinned c.pin_of-pin.result.readable
+    decision_by c.args.options.now false c.requirement_pin-pin.result.pinned c.requirement_pin-pin.result.readable
     (option_copied c.args.case.selected) t
     (option_map string_bytes c.in_ok-far.far) (option_map string_bytes c.in_ok-near.near)) c.text-2.ensures
     ∙ decision-is c.args.options.now
     (case_view c.args.case c.args.options.now.never_lower (text_in c.args.old.now))
-    _ _ _ _ c.if-case.false c.pin_of-pin.ensures.pinned c.pin_of-pin.ensures.readable
+    _ _ _ _ c.if-case.false c.requirement_pin-pin.ensures.pinned c.requirement_pin-pin.ensures.readable
     c.in_ok-far.ensures.text c.in_ok-near.ensures.text

@@ -22,7 +22,7 @@ comparators-preserved c =
           let v = parts_of w.in-Some.version in
           let e : Some v ≡ named_version x =
           sym (ap (option_map parts_of) w.in-Some.is) ∙ c.in_ok-named.ensures in
-          ap (option_map parts_of) w.best-is ∙ ap Some w.greater.ensures
+          ap (option_map parts_of) w.best-is ∙ ap Some w.greater_version.ensures
           ∙ ap (λ (o : Option Parts). Some (pick full_order o v)) c.comparators.invariant
           ∙ sym (greatest-more named v) ∙ sym (precise-more before x (Some v) e)
           ∙ ap precise_version (sym more)

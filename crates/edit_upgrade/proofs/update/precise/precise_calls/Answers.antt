@@ -6,7 +6,7 @@ use Rattle.edit_metadata.specs.Metadata.{PackageModel}
 use Rattle.edit_metadata.specs.Workspaces.{packages_view}
 use Rattle.edit_upgrade.specs.Groups.{group}
 use Rattle.edit_upgrade.specs.PinViews.{pin_entry_view, pin_view}
-use Rattle.edit_upgrade.specs.UpdateCalls.{Call, entry_calls, named, precise_calls}
+use Rattle.edit_upgrade.specs.UpdateCalls.{Call, entry_calls, packages_named, precise_calls}
 use Rattle.edit_upgrade.specs.Views.{calls_view}
 use Rattle.edit_upgrade.specs.declared.update.pins.Pin.{Pin}
 use Rattle.edit_upgrade.proofs.CachedAnswer.{group-said}
@@ -23,16 +23,16 @@ pins-preserved c =
     rest_more deref_pair c.pins.name-iterator c.next.new.self c.next.result
     (c.in-Some.name, c.in-Some.pin) c.in-Some.is c.next.ensures.steps in
     let those : packages_view (group c.in_ok-groups.groups name)
-    ≡ named (string_bytes c.in-Some.name.now) packages =
+    ≡ packages_named (string_bytes c.in-Some.name.now) packages =
     ap packages_view (c.in_ok-groups.ensures name) ∙ group-said name c.args.packages.now
-    ∙ ap (λ k. named k packages) c.as_str.ensures.value in
+    ∙ ap (λ k. packages_named k packages) c.as_str.ensures.value in
     let pin = option_map pin_view c.in-Some.pin.now in
-    let own = entry_calls manifest (named (string_bytes c.in-Some.name.now) packages) pin in
+    let own = entry_calls manifest (packages_named (string_bytes c.in-Some.name.now) packages) pin in
     let new : calls_view c.add_entry.new.calls.items ≡ old ++ own = c.in_ok-add_entry.ensures
     ∙ ap (λ (ps : List PackageModel). old ++ entry_calls manifest ps
     (option_map pin_view (option_copied c.as_ref.result))) those
     ∙ ap (λ (o : Option Pin). old ++ entry_calls manifest
-    (named (string_bytes c.in-Some.name.now) packages) (option_map pin_view o)) c.as_ref.ensures.value in
+    (packages_named (string_bytes c.in-Some.name.now) packages) (option_map pin_view o)) c.as_ref.ensures.value in
     ap (λ (l : List Call). l ++ rest) new ∙ append_assoc old own rest
     ∙ sym (ap (λ es. old ++ precise_calls manifest packages (map pin_entry_view es)) step)
     ∙ c.pins.invariant

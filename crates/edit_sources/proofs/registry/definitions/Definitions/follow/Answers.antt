@@ -25,10 +25,10 @@ loop-source-preserved c = λ configs defines.
     let more : texts c.push.new.self.items ≡ texts c.loop-source.passed.items
     ++ c.in-Some-replace_with.key.now ∷ [] = ap texts c.in_ok-push.ensures.items
     ∙ map_push (λ (x : Bor (List ℕ)). x.now) c.loop-source.passed.items c.in-Some-replace_with.key in
-    subst (λ ks. IsWalk configs (given c.args.registry) c.take_out.new.self ks
+    subst (λ ks. IsWalk configs (given c.args.registry) c.remove_source.new.self ks
     (source_texts c.in_ok-source.source)) (sym more)
     (walk_next configs (given c.args.registry) c.head_key-first.result.now c.in-Some-replace_with.key.now
-    c.loop-source.self c.take_out.new.self (texts c.loop-source.passed.items)
+    c.loop-source.self c.remove_source.new.self (texts c.loop-source.passed.items)
     (source_texts c.loop-source.source) (source_texts c.in_ok-source.source) c.head_key-first.ensures
     (c.loop-source.invariant configs defines) names (sym c.in_default-end_of.ensures)
     c.in_ok-source.ensures.takes)
@@ -59,10 +59,10 @@ returns-in-Some-end_of-clause-defines c = λ configs defines.
     let keys = texts c.loop-source.passed.items in
     let s = source_texts c.loop-source.source in
     let address = c.in-Some-end_of.address.now in
-    walk_keeps configs (given c.args.registry) address c.loop-source.self c.keep.new.self keys s walk
+    walk_keeps configs (given c.args.registry) address c.loop-source.self c.insert_ends.new.self keys s walk
     (walk_meets configs (given c.args.registry) c.in-Some-replace_with.key.now address c.loop-source.self keys
-    s walk names (sym c.in-Some-end_of.ensures)) c.in_ok-keep.ensures.left
-    (λ q. c.in_ok-keep.ensures.ends q ∙ ap (λ xs. cond (is_used (texts xs) q) (Some address)
+    s walk names (sym c.in-Some-end_of.ensures)) c.in_ok-insert_ends.ensures.left
+    (λ q. c.in_ok-insert_ends.ensures.ends q ∙ ap (λ xs. cond (is_used (texts xs) q) (Some address)
     (end_at c.loop-source.self q)) c.deref.ensures.value)
 
 pub returns-in_err-source-clause-error : goal.returns-in_err-source-clause-error
@@ -92,10 +92,10 @@ pub returns-clause-defines : goal.returns-clause-defines
 returns-clause-defines c = λ configs defines.
     let now = λ (t : Bor (List ℕ)). t.now in
     let address = c.in-Some-registry.address.now in
-    walk_keeps configs (given c.args.registry) address c.loop-source.self c.keep-2.new.self
+    walk_keeps configs (given c.args.registry) address c.loop-source.self c.insert_ends-2.new.self
     (texts c.loop-source.passed.items) (source_texts c.loop-source.source)
     (c.loop-source.invariant configs defines)
     (zero, (ap (option_map now) c.in_default-replace_with.is, ap (option_map now) c.in-Some-registry.is))
-    c.in_ok-keep-2.ensures.left
-    (λ q. c.in_ok-keep-2.ensures.ends q ∙ ap (λ xs. cond (is_used (texts xs) q) (Some address)
+    c.in_ok-insert_ends-2.ensures.left
+    (λ q. c.in_ok-insert_ends-2.ensures.ends q ∙ ap (λ xs. cond (is_used (texts xs) q) (Some address)
     (end_at c.loop-source.self q)) c.deref-2.ensures.value)

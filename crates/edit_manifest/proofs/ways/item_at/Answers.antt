@@ -1,6 +1,0 @@
-use Rattle.std.proofs.Common.{[]}
-use Rattle.edit_manifest.proofs.ways.item_at.Goals as goal
-
-pub returns : goal.returns
-returns c = c.item_below.ensures _ (c.item_below-table.ensures _
-    (c.item_below-upper.ensures [] c.item-root.ensures))

@@ -1,0 +1,9 @@
+use Rattle.std.proofs.Common.{◌≡◌, map, take}
+use Rattle.std.specs.Prelude.{string_bytes}
+use Rattle.edit_metadata.specs.Reading.{holds}
+use Rattle.edit_program.specs.Absent.{absent_names}
+use Rattle.edit_program.proofs.upgrade_output.absent_crates.absent_names.Given as goal
+
+-- the names so far
+abbrev pub invariant-loop-look : goal.invariant-loop-look
+invariant-loop-look l = map string_bytes l.names.items ≡ absent_names (holds l.excluded) (take l.look-index l.looks)

@@ -1,6 +1,0 @@
-use Rattle.std.proofs.Common.{◌≡◌, map, take}
-use Rattle.edit_program.specs.Said.{hidden}
-use Rattle.edit_program.proofs.upgrade_output.hidden.hidden_rows.Given as goal
-
-abbrev pub invariant-loop-row : goal.invariant-loop-row
-invariant-loop-row l = map (λ r. r.now) l.hidden.items ≡ hidden l.verbosity (take l.row-index l.rows)

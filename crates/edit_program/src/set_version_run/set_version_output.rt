@@ -1,0 +1,103 @@
+//! What `set-version` prints.
+ghost use Rattle.std.specs.Prelude.{◌≡◌, ◌⊎◌, IfErr, OnOk, map};
+ghost use Rattle.std.specs.Io.KnownBytes.{Appends};
+ghost use Rattle.edit_base.specs.Errors.{IsMemory};
+ghost use Rattle.edit_base.specs.declared.errors.Error.TheVariants.{Output};
+ghost use Rattle.edit_set_version.specs.Planned.{plan_lines_view};
+ghost use Rattle.edit_set_version.specs.ToldLines.{report_line_view};
+ghost use Rattle.edit_program.specs.Printed.{diffs_if, messages_in, set_version_stdout_text, statuses, statuses_in, warning_if};
+
+use crate::set_version_run::set_version_args::SetVersionArgs;
+use edit_base::CargoResult;
+use edit_metadata::Input;
+use edit_report::{shell_status, shell_warn};
+use edit_set_version::SetVersionPlan;
+use edit_shown::{MessageFormat, print_changes, print_diffs};
+use std::alloc::Global;
+use std::io;
+
+/// Prints a warning, where `due` is set.
+pub(crate) fn warn_if<E: io::Write>(due: bool, message: &str, err: &mut E) -> CargoResult<()>
+    ensures text { OnOk result (Appends (E.contents err.old) (E.contents err.new)
+        (warning_if due message.now)) }
+    ensures error { IfErr result (λ e. e ≡ Output) }
+{
+    if due {
+        shell_warn(err, message)
+    } else {
+        Ok(())
+    }
+}
+
+/// Prints the lines of a plan as status lines.
+fn print_lines<E: io::Write>(lines: &[(String, String)], err: &mut E) -> CargoResult<()>
+    ensures text { OnOk result (Appends (E.contents err.old) (E.contents err.new)
+        (statuses (map report_line_view lines.now))) }
+    ensures error { IfErr result (λ e. e ≡ Output) }
+{
+    for line in lines {
+        shell_status(err, line.0.as_str(), line.1.as_str())?;
+    }
+    Ok(())
+}
+
+/// Prints the lines of a plan: as status lines, or as JSON messages on standard output.
+fn print_lines_in<O: io::Write, E: io::Write>(
+    alloc: Global,
+    format: MessageFormat,
+    lines: &[(String, String)],
+    out: &mut O,
+    err: &mut E,
+) -> CargoResult<()>
+    ensures shown { OnOk result (Appends (O.contents out.old) (O.contents out.new)
+        (messages_in format (map report_line_view lines.now))) }
+    ensures outcome { OnOk result (Appends (E.contents err.old) (E.contents err.new)
+        (statuses_in format (map report_line_view lines.now))) }
+    ensures error { IfErr result (λ e. IsMemory e ⊎ (e ≡ Output)) }
+{
+    match format {
+        MessageFormat::Human | MessageFormat::Markdown => print_lines(lines, err),
+        MessageFormat::Json => print_changes(alloc, lines, out),
+    }
+}
+
+/// Prints the diffs of the manifests, where they are requested.
+fn print_diffs_if<O: io::Write>(
+    alloc: Global,
+    asked: bool,
+    root: &str,
+    inputs: &[Input],
+    plan: &SetVersionPlan,
+    out: &mut O,
+) -> CargoResult<()>
+    ensures text { OnOk result (Appends (O.contents out.old) (O.contents out.new)
+        (diffs_if asked root.now inputs.now plan.now.outputs.items)) }
+    ensures error { IfErr result (λ e. IsMemory e ⊎ (e ≡ Output)) }
+{
+    if asked {
+        print_diffs(alloc, root, inputs, plan.outputs.as_slice(), out)
+    } else {
+        Ok(())
+    }
+}
+
+/// Prints a plan in the requested format: its lines, and the diffs of the manifests.
+pub(crate) fn print_plan<O: io::Write, E: io::Write>(
+    alloc: Global,
+    words: &SetVersionArgs<'_>,
+    root: &str,
+    inputs: &[Input],
+    plan: &SetVersionPlan,
+    out: &mut O,
+    err: &mut E,
+) -> CargoResult<()>
+    ensures shown { OnOk result (Appends (O.contents out.old) (O.contents out.new)
+        (set_version_stdout_text words.now root.now inputs.now plan.now)) }
+    ensures outcome { OnOk result (Appends (E.contents err.old) (E.contents err.new)
+        (statuses_in words.now.presentation.format (plan_lines_view plan.now))) }
+    ensures error { IfErr result (λ e. IsMemory e ⊎ (e ≡ Output)) }
+{
+    let format = words.presentation.format;
+    print_lines_in(alloc, format, plan.lines.as_slice(), out, err)?;
+    print_diffs_if(alloc, words.presentation.diff, root, inputs, plan, out)
+}

@@ -1,0 +1,135 @@
+//! The crates that an index does not have.
+ghost use Rattle.std.specs.Prelude.{◌≡◌, ◌⊎◌, ◌++◌, IfErr, IfOk, OnOk, codes, map, string_bytes};
+ghost use Rattle.std.specs.Io.KnownBytes.{Appends};
+ghost use Rattle.std.specs.List.{join_by};
+ghost use Rattle.edit_base.specs.Errors.{IsMemory};
+ghost use Rattle.edit_base.specs.declared.errors.Error.TheVariants.{Output};
+ghost use Rattle.edit_metadata.specs.Reading.{holds};
+ghost use Rattle.edit_upgrade.specs.Names.{HasNames};
+ghost use Rattle.edit_upgrade.specs.UpdateCalls.{is_among};
+ghost use Rattle.edit_program.specs.Absent as spec;
+
+use edit_base::CargoResult;
+use edit_report::shell_note;
+use edit_upgrade::{Look, Options, UpgradePlan};
+use std::alloc::{AllocError, Global};
+use std::collections::BTreeSet;
+use std::io;
+
+/// The greatest number of names in a note.
+const MOST_NAMES: usize = 5;
+
+/// Collects names into a set.
+fn set_of<'a>(alloc: Global, names: &'a [String]) -> Result<BTreeSet<&'a str>, AllocError>
+    ensures { IfOk result (λ s. HasNames s (map string_bytes names.now)) }
+{
+    let mut set = BTreeSet::new(alloc);
+    'names: for name in names {
+        set.insert(name.as_str())?;
+    }
+    Ok(set)
+}
+
+/// Whether a crate that is not excluded was not found in the index.
+fn is_absent(excluded: &BTreeSet<&str>, look: &Look) -> bool
+    ensures { result ≡ spec.is_absent (holds excluded.now) look.now }
+{
+    look.answer.is_none() && !excluded.contains(look.name.as_str())
+}
+
+/// Appends the name of a crate, where it was not found in the index and is not excluded.
+fn push_absent(
+    alloc: Global,
+    excluded: &BTreeSet<&str>,
+    look: &Look,
+    names: &mut Vec<String>,
+) -> Result<(), AllocError>
+    ensures { OnOk result (map string_bytes names.new.items
+        ≡ map string_bytes names.old.items ++ spec.absent_at (holds excluded.now) look.now) }
+{
+    if is_absent(excluded, look) {
+        names.push(String::from_str(alloc, look.name.as_str())?)?;
+    }
+    Ok(())
+}
+
+/// The names of the crates that were not found in the index and are not excluded, in the order of the
+/// lookups.
+fn absent_names(
+    alloc: Global,
+    exclude: &[String],
+    looks: &[Look],
+) -> Result<Vec<String>, AllocError>
+    ensures { IfOk result (λ v. map string_bytes v.items
+        ≡ spec.absent_names (is_among (map string_bytes exclude.now)) looks.now) }
+{
+    let excluded = set_of(alloc, exclude)?;
+    let mut names = Vec::new(alloc);
+    for look in looks {
+        push_absent(alloc, &excluded, look, &mut names)?;
+    }
+    Ok(names)
+}
+
+/// Names, joined by commas.
+fn join_names(alloc: Global, names: &[String]) -> Result<String, AllocError>
+    ensures { IfOk result (λ s. string_bytes s
+        ≡ join_by (λ name. name) (codes ", ") (map string_bytes names.now)) }
+{
+    names.join(alloc, ", ")
+}
+
+/// Names as a note lists them: at most five, and the number of the others.
+fn abbreviate_names(alloc: Global, names: &[String]) -> Result<String, AllocError>
+    ensures { IfOk result (λ s. string_bytes s ≡ spec.abbreviate_names (map string_bytes names.now)) }
+{
+    if names.len() <= MOST_NAMES {
+        return join_names(alloc, names);
+    }
+    let first = join_names(alloc, &names[..MOST_NAMES])?;
+    let rest = names.len() - MOST_NAMES;
+    format!(in alloc; "{first} and {rest} more")
+}
+
+/// `crate` or `crates`, by their number.
+fn crate_or_crates(count: usize) -> &'static str
+    ensures { result.now ≡ spec.crate_or_crates count }
+{
+    if count == 1 { "crate" } else { "crates" }
+}
+
+/// The note about crates that were not found in the index.
+fn absent_text(alloc: Global, names: &[String]) -> Result<String, AllocError>
+    ensures { IfOk result (λ s. string_bytes s ≡ spec.absent_text (map string_bytes names.now)) }
+{
+    let count = names.len();
+    let word = crate_or_crates(count);
+    let list = abbreviate_names(alloc, names)?;
+    format!(in alloc; "no index entry was found for {count} {word}: {list}")
+}
+
+/// Prints the note about crates that were not found in the index, where there are any. Offline nothing is
+/// printed: the tool that fills the index reports the missing entries then.
+pub(crate) fn print_absent<E: io::Write>(
+    alloc: Global,
+    plan: &UpgradePlan,
+    options: &Options,
+    offline: bool,
+    err: &mut E,
+) -> CargoResult<()>
+    ensures text { OnOk result (Appends (E.contents err.old) (E.contents err.new)
+        (spec.absent_note plan.now options.now offline)) }
+    ensures error { IfErr result (λ e. IsMemory e ⊎ (e ≡ Output)) }
+{
+    if offline {
+        return Ok(());
+    }
+    let exclude = options.exclude.as_slice();
+    let looks = plan.looks.as_slice();
+    let names = absent_names(alloc, exclude, looks)?;
+    if names.is_empty() {
+        return Ok(());
+    }
+    let text = absent_text(alloc, names.as_slice())?;
+    shell_note(err, text.as_str())
+}

@@ -1,0 +1,92 @@
+//! Prints a plan before a file is written.
+ghost use Rattle.std.specs.Prelude.{◌≡◌, ◌++◌, ◌⊎◌, IfErr, OnOk, length};
+ghost use Rattle.std.specs.Io.KnownBytes.{Appends};
+ghost use Rattle.edit_base.specs.Errors.{IsMemory};
+ghost use Rattle.edit_base.specs.declared.errors.Error.TheVariants.{Output as Unwritten};
+ghost use Rattle.edit_upgrade.specs.Views.{calls_view};
+ghost use Rattle.edit_program.specs.StderrText.{AreWarningsInOrder, input_reports};
+ghost use Rattle.edit_program.specs.PrintedPlan.{diffs_if, messages_as};
+ghost use Rattle.edit_program.specs.Tables.{AreInOrder, tables};
+
+use crate::upgrade_output::reports::print_reports;
+use crate::upgrade_output::task::DeliveryTask;
+use edit_base::CargoResult;
+use edit_metadata::Input;
+use edit_report::Output;
+use edit_shown::{MessageFormat, print_diffs, print_markdown, print_messages};
+use edit_upgrade::{Options, UpgradePlan};
+use std::alloc::Global;
+use std::io;
+
+/// Prints a plan as JSON or as one table of Markdown, where that is requested.
+fn print_as<O: io::Write>(
+    alloc: Global,
+    format: MessageFormat,
+    plan: &UpgradePlan,
+    inputs: &[Input],
+    options: &Options,
+    calls: &[Vec<String>],
+    out: &mut O,
+) -> CargoResult<()>
+    ensures text { OnOk result (Appends (O.contents out.old) (O.contents out.new)
+        (messages_as format plan.now inputs.now options.now (calls_view calls.now))) }
+    ensures error { IfErr result (λ e. IsMemory e ⊎ (e ≡ Unwritten)) }
+{
+    match format {
+        MessageFormat::Human => Ok(()),
+        MessageFormat::Json => print_messages(alloc, plan, inputs, options, calls, out),
+        MessageFormat::Markdown => {
+            print_markdown(alloc, plan.rows.as_slice(), options.verbosity, inputs, out)
+        }
+    }
+}
+
+/// Prints the diffs of manifests, where they are requested.
+fn print_diffs_if<O: io::Write>(
+    alloc: Global,
+    due: bool,
+    current: &str,
+    inputs: &[Input],
+    outputs: &[Output],
+    out: &mut O,
+) -> CargoResult<()>
+    ensures text { OnOk result (Appends (O.contents out.old) (O.contents out.new)
+        (diffs_if due current.now inputs.now outputs.now)) }
+    ensures error { IfErr result (λ e. IsMemory e ⊎ (e ≡ Unwritten)) }
+{
+    if due {
+        print_diffs(alloc, current, inputs, outputs, out)
+    } else {
+        Ok(())
+    }
+}
+
+/// Prints a plan: the report on each input, the plan as JSON or as one table, and the diffs of manifests, as
+/// requested.
+pub(crate) fn print_plan<O: io::Write, E: io::Write>(
+    alloc: Global,
+    task: &DeliveryTask<'_>,
+    calls: &[Vec<String>],
+    out: &mut O,
+    err: &mut E,
+) -> CargoResult<()>
+    requires rows { AreInOrder task.now.plan.now.rows.items }
+    requires warnings { AreWarningsInOrder task.now.plan.now.warnings.items }
+    ensures shows { OnOk result (Appends (O.contents out.old) (O.contents out.new)
+        (tables task.now.presentation.format task.now.options.now.verbosity task.now.plan.now.rows.items
+        (length task.now.inputs.now)
+        ++ (messages_as task.now.presentation.format task.now.plan.now task.now.inputs.now
+        task.now.options.now (calls_view calls.now)
+        ++ diffs_if task.now.presentation.diff task.now.root.now task.now.inputs.now
+        task.now.plan.now.outputs.items))) }
+    ensures checks { OnOk result (Appends (E.contents err.old) (E.contents err.new)
+        (input_reports task.now.options.now.verbosity task.now.plan.now.warnings.items task.now.inputs.now
+        (length task.now.inputs.now))) }
+    ensures error { IfErr result (λ e. IsMemory e ⊎ (e ≡ Unwritten)) }
+{
+    let (plan, inputs, options) = (task.plan, task.inputs, task.options);
+    let (format, diff) = (task.presentation.format, task.presentation.diff);
+    print_reports(alloc, plan, inputs, options.verbosity, format, out, err)?;
+    print_as(alloc, format, plan, inputs, options, calls, out)?;
+    print_diffs_if(alloc, diff, task.root, inputs, plan.outputs.as_slice(), out)
+}

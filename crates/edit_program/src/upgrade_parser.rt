@@ -1,0 +1,158 @@
+//! The options and paths that parsed arguments of `upgrade` give.
+ghost use Rattle.std.specs.Prelude.{◌≡◌, ◌≢◌, IfErr, IfOk, None, Some, codes, false, map, option_map, string_bytes};
+ghost use Rattle.std.specs.Str.{bytes_eq};
+ghost use Rattle.clap.specs.Words.{first_of, found_of, rows_of};
+ghost use Rattle.edit_program.specs.declared.args_error.ArgsError.TheVariants as words;
+ghost use Rattle.edit_program.specs.ParsedOptions.{HasOptions, HasBadStatus, status_of, status_of_value, verbosity_of};
+ghost use Rattle.edit_program.specs.ParsedUpgrade.{HasUpgradeArgs, HasNoRust, HaveUpgradeFault, IsRust, has_two_indexes};
+
+use crate::args_error::{ArgsError, ArgsFault};
+use crate::lookups::{is_given, values_of};
+use crate::output_format::{PlanCommand, is_dry, presentation};
+use crate::upgrade_run::UpgradeArgs;
+use clap::ArgMatches;
+use edit_base::Error;
+use edit_steps::upgrade_read::RustChoice;
+use edit_upgrade::Options;
+use edit_version::RustVersion;
+use std::alloc::Global;
+
+/// Whether a value allows or ignores a kind of upgrade; `None` for any other value.
+fn status_of_value(value: &str) -> Option<bool>
+    ensures { result ≡ status_of_value value.now }
+{
+    match value {
+        "allow" | "true" => Some(true),
+        "ignore" | "false" => Some(false),
+        _ => None,
+    }
+}
+
+/// Whether the value of an option allows or ignores a kind of upgrade; any other value is an error.
+fn status_of<'a>(matches: &ArgMatches<'a>, option: &'static str) -> Result<bool, ArgsError<'a>>
+    ensures ok { IfOk result (λ s. status_of option.now (rows_of (found_of matches.now)) ≡ Some s) }
+    ensures error { IfErr result (λ _. status_of option.now (rows_of (found_of matches.now)) ≡ None) }
+{
+    let value = matches.get_str(option).unwrap_or("");
+    match status_of_value(value) {
+        Some(status) => Ok(status),
+        None => Err(ArgsError::Fault(ArgsFault::Value(option, "allow|ignore", value))),
+    }
+}
+
+/// Whether locked dependencies are updated recursively, where `--recursive` is given.
+fn recursive_option(matches: &ArgMatches<'_>) -> Option<bool>
+    ensures { result ≡ option_map (λ v. bytes_eq v (codes "true"))
+        (first_of (codes "recursive") (rows_of (found_of matches.now))) }
+{
+    match matches.get_str("recursive") {
+        Some(value) => Some(value == "true"),
+        None => None,
+    }
+}
+
+/// The verbosity, from the numbers of `--verbose` and `--quiet`.
+fn verbosity(more: u8, less: u8) -> i8
+    ensures { result ≡ verbosity_of more less }
+{
+    if more < less {
+        -1
+    } else {
+        (more - less).min(4) as i8
+    }
+}
+
+/// Parses a version of Rust.
+fn named_rust<'a>(alloc: Global, text: &'a str) -> Result<RustChoice, ArgsError<'a>>
+    ensures ok { IfOk result (IsRust (Some text.now) false) }
+    ensures error { IfErr result (λ e. e ≢ words.Memory → HasNoRust (Some text.now) false) }
+{
+    match RustVersion::from_str(alloc, text) {
+        Ok(version) => Ok(RustChoice::Given(version)),
+        Err(Error::Memory) => Err(ArgsError::Memory),
+        Err(error) => Err(ArgsError::Fault(ArgsFault::Rust(text, error))),
+    }
+}
+
+/// The Rust versions to plan for, from `--rust-version` and `--ignore-rust-version`.
+fn rust_choice<'a>(
+    alloc: Global,
+    named: Option<&'a str>,
+    ignored: bool,
+) -> Result<RustChoice, ArgsError<'a>>
+    ensures ok { IfOk result (IsRust (option_map (λ s. s.now) named.entry) ignored) }
+    ensures error { IfErr result (λ e. e ≢ words.Memory
+        → HasNoRust (option_map (λ s. s.now) named.entry) ignored) }
+{
+    match (named, ignored) {
+        (None, false) => Ok(RustChoice::Own),
+        (None, true) => Ok(RustChoice::Ignored),
+        (Some(text), false) => named_rust(alloc, text),
+        (Some(_), true) => Err(ArgsError::Fault(ArgsFault::Together(
+            "--rust-version <VER>",
+            "--ignore-rust-version",
+        ))),
+    }
+}
+
+/// The options of an upgrade, from parsed arguments of `upgrade`.
+fn options_of<'a>(alloc: Global, matches: &ArgMatches<'a>) -> Result<Options, ArgsError<'a>>
+    ensures options { IfOk result (HasOptions (rows_of (found_of matches.now))) }
+    ensures error { IfErr result (λ e. e ≢ words.Memory → HasBadStatus (rows_of (found_of matches.now))) }
+{
+    Ok(Options {
+        compatible: status_of(matches, "compatible")?,
+        incompatible: status_of(matches, "incompatible")?,
+        pinned: status_of(matches, "pinned")?,
+        package: values_of(alloc, matches, "package")?,
+        exclude: values_of(alloc, matches, "exclude")?,
+        dry_run: is_dry(matches),
+        locked: is_given(matches, "locked"),
+        recursive: recursive_option(matches),
+        verbosity: verbosity(matches.get_count("verbose"), matches.get_count("quiet")),
+        never_lower: is_given(matches, "never-lower"),
+    })
+}
+
+/// Whether both an index file and an index folder are given.
+fn has_two_indexes(matches: &ArgMatches<'_>) -> bool
+    ensures { result ≡ has_two_indexes (rows_of (found_of matches.now)) }
+{
+    let file = matches.get_str("index-file").is_some();
+    let folder = matches.get_str("index-dir").is_some();
+    file && folder
+}
+
+/// The options and paths that parsed arguments of `upgrade` give.
+pub(crate) fn parse_upgrade_args<'a>(
+    alloc: Global,
+    matches: &ArgMatches<'a>,
+) -> Result<UpgradeArgs<'a>, ArgsError<'a>>
+    ensures asks { IfOk result (HasUpgradeArgs (rows_of (found_of matches.now))) }
+    ensures error { IfErr result (λ e. e ≢ words.Memory
+        → HaveUpgradeFault (rows_of (found_of matches.now))) }
+{
+    if has_two_indexes(matches) {
+        return Err(ArgsError::Fault(ArgsFault::Together(
+            "--index-file <FILE>",
+            "--index-dir <DIR>",
+        )));
+    }
+    let ignored = is_given(matches, "ignore-rust-version");
+    let rust = rust_choice(alloc, matches.get_str("rust-version"), ignored)?;
+    let presentation = presentation(matches, PlanCommand::Upgrade)?;
+    Ok(UpgradeArgs {
+        manifest_path: matches.get_str("manifest-path"),
+        metadata_json: matches.get_str("metadata-json"),
+        index_file: matches.get_str("index-file"),
+        index_dir: matches.get_str("index-dir"),
+        config: matches.get_str("config"),
+        default_config: matches.get_str("default-config"),
+        rust,
+        options: options_of(alloc, matches)?,
+        presentation,
+        update_calls: matches.get_str("update-calls"),
+        lock_file: matches.get_str("lock-file"),
+        offline: is_given(matches, "offline"),
+    })
+}

@@ -1,0 +1,64 @@
+//! The arguments of `upgrade`.
+ghost use Rattle.std.specs.Prelude.{◌≡◌};
+ghost use Rattle.edit_steps.specs.RequestView.{request_view};
+ghost use Rattle.edit_program.specs.Planned.{to_request, to_lookup_request};
+
+use edit_shown::Presentation;
+use edit_steps::upgrade_read::{SourceRequest, RustChoice};
+use edit_upgrade::Options;
+
+/// The arguments of `upgrade`.
+#[derive(Debug, Drop)]
+pub struct UpgradeArgs<'a> {
+    pub manifest_path: Option<&'a str>,
+    /// The file with the metadata of a workspace, all of whose manifests are upgraded.
+    pub metadata_json: Option<&'a str>,
+    /// The file with the lines of an index, which replaces the index in `index_files`.
+    pub index_file: Option<&'a str>,
+    /// A folder with a folder for each registry, which replaces the index in `index_files`. Ignored where
+    /// an index file is given.
+    pub index_dir: Option<&'a str>,
+    /// A configuration file with the highest precedence.
+    pub config: Option<&'a str>,
+    /// A configuration file with the lowest precedence.
+    pub default_config: Option<&'a str>,
+    pub rust: RustChoice,
+    pub options: Options,
+    pub presentation: Presentation,
+    /// The file to which the calls of `cargo update` are written.
+    pub update_calls: Option<&'a str>,
+    /// The lock file that the calls must be valid for; without it all calls are made.
+    pub lock_file: Option<&'a str>,
+    /// Whether calls that are valid for a lock file must not fetch anything.
+    pub offline: bool,
+}
+
+impl<'a> UpgradeArgs<'a> {
+    /// The files to read.
+    pub(crate) fn to_request(&self) -> SourceRequest<'a>
+        ensures { request_view result ≡ to_request self.now }
+    {
+        SourceRequest {
+            manifest_path: self.manifest_path,
+            metadata_json: self.metadata_json,
+            index_file: self.index_file,
+            index_dir: self.index_dir,
+            config: self.config,
+            default_config: self.default_config,
+            rust: self.rust,
+            writes: !self.options.dry_run && !self.options.locked,
+        }
+    }
+
+    /// The files to read where only the lookups are requested: no index.
+    pub(crate) fn to_lookup_request(&self) -> SourceRequest<'a>
+        ensures { request_view result ≡ to_lookup_request self.now }
+    {
+        SourceRequest {
+            index_file: None,
+            index_dir: None,
+            writes: false,
+            ..self.to_request()
+        }
+    }
+}

@@ -1,5 +1,0 @@
-use Rattle.std.proofs.Common.{length}
-use Rattle.edit_rewrite.proofs.way.+follow_key.Given as goal
-
-abbrev pub decreases-follow_key : goal.decreases-follow_key
-decreases-follow_key l = length l.marks.now

@@ -1,5 +1,0 @@
-use Rattle.std.proofs.Common.{inr, refl}
-use Rattle.edit_sources.proofs.config.unreadable.Goals as goal
-
-pub returns-in-Ok : goal.returns-in-Ok
-returns-in-Ok c = inr (c.in-Ok.path, refl, c.in-Ok.ensures.ok)

@@ -1,7 +1,0 @@
-use Rattle.std.proofs.Common.{map, take}
-use Rattle.std.specs.Prelude.{string_bytes}
-use Rattle.edit_upgrade.specs.PackageSelection.{ArePackageArgs}
-use Rattle.edit_upgrade.proofs.picks.parse_package_args.Given as goal
-
-abbrev pub invariant-words : goal.invariant-words
-invariant-words l = ArePackageArgs (map string_bytes (take l.word-index l.words)) l.read

@@ -1,7 +1,0 @@
-use Rattle.std.proofs.Common.{arith}
-use Rattle.std.proofs.lemmas.Grind.{text_groups}
-use Rattle.std.proofs.lemmas.List.{map-append}
-use Rattle.edit_upgrade.proofs.update.groups.grouped.Goals as goal
-
-pub packages-preserved : goal.packages-preserved
-packages-preserved c = grind (arith, text_groups, map-append)

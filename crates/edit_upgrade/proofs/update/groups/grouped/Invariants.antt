@@ -1,6 +1,0 @@
-use Rattle.std.proofs.Common.{take}
-use Rattle.edit_upgrade.specs.Groups.{AreGroups}
-use Rattle.edit_upgrade.proofs.update.groups.grouped.Given as goal
-
-abbrev pub invariant-packages : goal.invariant-packages
-invariant-packages l = AreGroups l.groups (take l.package-index l.packages)

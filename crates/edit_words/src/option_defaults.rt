@@ -1,0 +1,93 @@
+//! Words with the values that are left out of them.
+ghost use Rattle.std.specs.Prelude.{◌≡◌, ◌++◌, ◌∷◌, ◌||◌, IfOk, codes, false, OnOk, map, option_map};
+ghost use Rattle.std.specs.List.{list_any};
+ghost use Rattle.std.specs.Option.{option_map_or};
+ghost use Rattle.std.specs.Str.{bytes_eq};
+ghost use Rattle.edit_words.specs.Filled.{inserted_values, insert_defaults, is_one, missing_value, values_behind};
+
+use std::alloc::{AllocError, Global};
+
+/// The values of an option that may stand without one; the first of them is the one that it then has.
+fn values_behind(word: &str) -> &'static [&'static str]
+    ensures { map (λ v. v.now) result.now ≡ values_behind word.now }
+{
+    match word {
+        "--compatible" | "-i" | "--incompatible" | "--pinned" => {
+            &["allow", "true", "ignore", "false"]
+        }
+        "--recursive" => &["true", "false"],
+        _ => &[],
+    }
+}
+
+/// Whether a text is one of these.
+fn is_one(texts: &[&str], text: &str) -> bool
+    ensures { result ≡ list_any (λ other. bytes_eq text.now other.now) texts.now }
+{
+    texts.iter().any(|other| text == *other)
+}
+
+/// Whether the next word is one of these values.
+fn has_value(values: &[&str], next: Option<&&str>) -> bool
+    ensures { result ≡ option_map_or (is_one (map (λ v. v.now) values.now))
+        (option_map (λ w. w.now.now) next.entry) false }
+{
+    match next {
+        Some(next) => is_one(values, next),
+        None => false,
+    }
+}
+
+/// The value that a word gets where the next one is none of its values.
+fn missing_value(word: &str, next: Option<&&str>) -> Option<&'static str>
+    ensures { option_map (λ v. v.now) result
+        ≡ missing_value (values_behind word.now) (option_map (λ w. w.now.now) next.entry) }
+{
+    let values = values_behind(word);
+    if has_value(values, next) {
+        None
+    } else {
+        values.first().copied()
+    }
+}
+
+/// Whether words have ended at a word `--` before this one, or end here.
+fn has_ended(ended: bool, word: &str) -> bool
+    ensures { result ≡ (ended || bytes_eq word.now (codes "--")) }
+{
+    ended || word == "--"
+}
+
+/// Adds a word, and the value that it gets, where words have not ended.
+fn push_with_default<'a>(
+    words: &mut Vec<&'a str>,
+    word: &'a str,
+    next: Option<&&'a str>,
+    ended: bool,
+) -> Result<(), AllocError>
+    ensures { OnOk result (map (λ w. w.now) words.new.items ≡ map (λ w. w.now) words.old.items
+        ++ word.entry.now ∷ inserted_values ended word.entry.now (option_map (λ w. w.now.now) next.entry)) }
+{
+    words.push(word)?;
+    if ended {
+        return Ok(());
+    }
+    if let Some(value) = missing_value(word, next) {
+        words.push(value)?;
+    }
+    Ok(())
+}
+
+/// The words, with a value behind each option that stands without one, before a word `--`: such an option
+/// then says yes. Only the list is new, the words are lent; it is refused for want of memory alone.
+pub fn insert_defaults<'a>(alloc: Global, words: &[&'a str]) -> Result<Vec<&'a str>, AllocError>
+    ensures { IfOk result (λ v. map (λ w. w.now) v.items ≡ insert_defaults (map (λ w. w.now) words.now)) }
+{
+    let mut all = Vec::new(alloc);
+    let mut ended = false;
+    for at in 0..words.len() {
+        ended = has_ended(ended, words[at]);
+        push_with_default(&mut all, words[at], words.get(at + 1), ended)?;
+    }
+    Ok(all)
+}
