@@ -3,6 +3,6 @@
 pub use edit_record::{find_compatible_version, find_latest_version};
 pub use edit_version::{
     Candidate, CrateSpec, IndexVersion, Requirement, RustVersion, VersionExt, admits,
-    allows_prerelease, cut, greatest_entry, is_for, is_selectable, read_candidate, read_requirement,
-    read_rust_version, read_version, upgrade_requirement,
+    allows_prerelease, cut, greatest_entry, is_for, is_selectable, read_candidate,
+    read_requirement, read_rust_version, read_version, upgrade_requirement,
 };

@@ -52,7 +52,11 @@ fn copy_of(alloc: Global, aged: &AgedFile) -> Result<AgedFile, AllocError>
 }
 
 /// Returns copies of these files, without one of them.
-fn files_without(alloc: Global, files: &[AgedFile], aged: &AgedFile) -> Result<Vec<AgedFile>, AllocError>
+fn files_without(
+    alloc: Global,
+    files: &[AgedFile],
+    aged: &AgedFile,
+) -> Result<Vec<AgedFile>, AllocError>
     ensures { IfOk result (λ v. map aged_text v.items
         ≡ filter (λ b. not (is_same (aged_text aged.now) b)) (map aged_text files.now)) }
 {

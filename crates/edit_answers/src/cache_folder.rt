@@ -89,7 +89,10 @@ fn files_below<R: Files<File = File> + Alloc<A = Global> + Clock + Clone + Drop>
 }
 
 /// Removes a file, or the working folder of a run.
-fn remove<R: Files<File = File> + Alloc<A = Global> + Drop>(rt: &R, aged: &AgedFile) -> io::Result<()> {
+fn remove<R: Files<File = File> + Alloc<A = Global> + Drop>(
+    rt: &R,
+    aged: &AgedFile,
+) -> io::Result<()> {
     let path = aged.path.as_str();
     if aged.is_run {
         fs::remove_dir_all(rt, path)

@@ -9,7 +9,7 @@ ghost use Rattle.edit_store.specs.Store.{OnlyReads};
 use crate::answers::read_answers;
 use crate::link_store::LinkStore;
 use crate::lookups::settle_all;
-use crate::messages::{Report, StoreOptions, report_of, malformed_report};
+use crate::messages::{Report, StoreOptions, malformed_report, report_of};
 use crate::places::Places;
 use edit_base::CargoResult;
 use edit_lookups::{Lookup, read_lookups};

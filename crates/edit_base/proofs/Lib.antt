@@ -1,1 +1,2 @@
+pub mod FirstCauseLemmas
 pub mod PathParts

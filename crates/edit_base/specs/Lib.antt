@@ -1,3 +1,4 @@
 pub mod Errors
 pub mod ExitCodes
+pub mod FirstCauses
 pub mod Paths

@@ -2,8 +2,8 @@
 #![tactic(auto)]
 
 pub mod cache;
-mod choices;
 mod cached_result;
+mod choices;
 mod rank;
 pub mod ranking;
 

@@ -101,9 +101,7 @@ pub(crate) fn first_wanted<'a>(
         ≡ find (λ r. passes (numbers_in rust_version) (wants allow_prerelease req.entry) (rank_of r))
         ranks.now }
 {
-    ranks
-        .iter()
-        .find(|rank| is_matching_rank(rank, allow_prerelease, req, rust_version))
+    ranks.iter().find(|rank| is_matching_rank(rank, allow_prerelease, req, rust_version))
 }
 
 /// Whether a rank supports a Rust version and its version matches.
@@ -129,9 +127,7 @@ fn first_place(
     ensures { result ≡ position (λ r. passes (numbers_in rust_version) (wants allow_prerelease req.entry)
         (rank_of r)) ranks.now }
 {
-    ranks
-        .iter()
-        .position(|rank| is_matching_rank(rank, allow_prerelease, req, rust_version))
+    ranks.iter().position(|rank| is_matching_rank(rank, allow_prerelease, req, rust_version))
 }
 
 /// The index of the first rank that supports a Rust version and that a requirement admits.

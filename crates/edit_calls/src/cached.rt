@@ -13,7 +13,7 @@ use edit_metadata::Input;
 use edit_sources::FileIndex;
 use edit_sources::registry::resolve;
 use edit_steps::upgrade_read::{
-    SourceRequest, IndexSource, RustChoice, SharedConfigs, Sources, read_sources,
+    IndexSource, RustChoice, SharedConfigs, SourceRequest, Sources, read_sources,
 };
 use edit_store::HostStore;
 use edit_upgrade::{Options, plan_shared};

@@ -1,6 +1,6 @@
 //! Prints the item at a place of a document, or of a new entry.
-use crate::print_helpers::print_text;
 use crate::arg_cursor::ArgCursor;
+use crate::print_helpers::print_text;
 use edit_document::{CargoResult, Document, Item, Step};
 
 /// `true` or `false`.

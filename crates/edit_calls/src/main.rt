@@ -48,23 +48,23 @@
 //! then `done`, or `print_edit_error`, a number and a text.
 #![tactic(auto)]
 
+mod arg_cursor;
 mod cached;
 mod calls;
 mod counted;
-mod plans;
-mod readers;
-mod print_helpers;
 mod item_views;
+mod plans;
+mod print_helpers;
+mod readers;
 mod views;
-mod arg_cursor;
 
 use calls::edits;
 use edit_document::{CargoResult, Error};
 use edit_manifest::Manifest;
 use edit_store::{HostStore, Store};
-use readers::planned_call;
-use print_helpers::print_text;
 use item_views::{show_words, show_written};
+use print_helpers::print_text;
+use readers::planned_call;
 use std::env;
 use std::io::Write;
 use std::process::ExitCode;

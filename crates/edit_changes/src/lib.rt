@@ -2,8 +2,8 @@
 //! set. `edit_rewrite` gives the new text, and `edit_compare` checks that its tree is the intended one.
 #![tactic(auto)]
 
-mod document_ext;
 mod accept_edit;
+mod document_ext;
 mod set_value;
 
 pub use document_ext::DocumentExt;

@@ -2,8 +2,8 @@
 
 mod configurations;
 mod environment;
-mod tokens;
 mod registry_errors;
+mod tokens;
 
 use crate::fetch_arguments::{
     FetchArguments, excluded_names, metadata_file, print_usage, read_arguments, upgrade_matches,
@@ -19,10 +19,10 @@ use edit_program::run;
 use edit_sources::Config;
 use edit_sources::config::read_configs;
 use edit_store::HostStore;
+use registry_errors::unfetchable_error;
 use std::io::Write;
 use std::str;
 use tokens::registry_tokens;
-use registry_errors::unfetchable_error;
 
 /// Runs `fetch-plan`, and returns the exit status: that of `looks` where that is not 0, 1 for registries
 /// whose entries cannot be fetched, and 2 for a usage error.

@@ -6,7 +6,7 @@ use crate::parsing::print_parse_error;
 use clap::builder::ValueParser;
 use clap::{Arg, ArgAction, ArgMatches, Command};
 use edit_base::Error;
-use edit_lock::{Lock, read_calls, adapt_calls};
+use edit_lock::{Lock, adapt_calls, read_calls};
 use edit_report::shell_status;
 use edit_shell::{push_arguments, push_assignment};
 use edit_steps::{RunError, RunResult, absolute_path, at_path, print_error};

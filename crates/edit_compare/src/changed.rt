@@ -8,8 +8,8 @@ ghost use Rattle.edit_tree.specs.IntendedTrees.{above, is_inline_table, HasRepla
 ghost use Rattle.edit_document.specs.NewItemViews.{new_value_view, new_pair_views, new_item_view};
 ghost use Rattle.edit_tree.specs.DocumentViews.{tree_of};
 
-use crate::equal_around::find_equal_around;
 use crate::compare::is_same_text;
+use crate::equal_around::find_equal_around;
 use crate::new_content::shows_value;
 use edit_document::{Document, NewItem, NewValue, Step};
 

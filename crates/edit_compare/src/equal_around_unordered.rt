@@ -7,8 +7,8 @@ ghost use Rattle.edit_document.specs.Items.{node_place, place_view, step_view};
 ghost use Rattle.edit_document.specs.ItemRemoval.{UnorderedPart, UnorderedPartsBut, SameButOrderBeside, FindsUnordered};
 ghost use Rattle.edit_tree.specs.DocumentViews.{tree_of};
 
-use crate::equal_around::{counterpart, is_step_to_child, child_by_step};
 use crate::compare::part_at;
+use crate::equal_around::{child_by_step, counterpart, is_step_to_child};
 use crate::unordered::{same_but_order, same_unordered};
 use edit_document::{Document, Step};
 

@@ -8,8 +8,8 @@ ghost use Rattle.edit_tree.specs.IntendedTrees.{Grown, Inserted};
 ghost use Rattle.edit_document.specs.NewItemViews.{new_value_view};
 ghost use Rattle.edit_tree.specs.DocumentViews.{tree_of};
 
-use crate::equal_around::{find_equal_around, same_parts};
 use crate::compare::is_same_text;
+use crate::equal_around::{find_equal_around, same_parts};
 use crate::new_content::shows_value;
 use edit_document::{Document, NewValue, Step};
 

@@ -1,13 +1,13 @@
 //! Comparison of two documents: whether the second is the first after one given edit.
 #![tactic(auto)]
 
-mod equal_around;
 mod changed;
 mod compare;
+mod equal_around;
 mod equal_around_unordered;
 mod grown;
-mod remaining_parts;
 mod new_content;
+mod remaining_parts;
 mod removed;
 mod unordered;
 

@@ -8,8 +8,8 @@ ghost use Rattle.edit_document.specs.ItemRemoval.{is_named, IsKept, IsInnermost}
 ghost use Rattle.edit_tree.specs.DocumentViews.{tree_of};
 ghost use Rattle.edit_tree.specs.Redefinition as taking;
 
-use crate::equal_around::child_by_step;
 use crate::changed::lemma_unique_names;
+use crate::equal_around::child_by_step;
 use edit_document::{Document, Step};
 use edit_tree::nodes::DefinedBy;
 

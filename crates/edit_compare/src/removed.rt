@@ -10,8 +10,8 @@ ghost use Rattle.edit_document.specs.ItemRemoval as lost;
 ghost use Rattle.edit_tree.specs.IntendedTrees.{Loses, Removed};
 ghost use Rattle.edit_tree.specs.DocumentViews.{tree_of};
 
-use crate::equal_around::{is_step_to_child, child_by_step};
 use crate::compare::part_at;
+use crate::equal_around::{child_by_step, is_step_to_child};
 use crate::equal_around_unordered::equal_around_unordered;
 use crate::remaining_parts::steps_to_remaining;
 use crate::unordered::{has_names_of, same_unordered};

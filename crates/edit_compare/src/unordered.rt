@@ -5,8 +5,8 @@ ghost use Rattle.edit_document.specs.Compared.{HasNamesOf, SameButOrderBelow};
 ghost use Rattle.edit_document.specs.Items.{node_place, node_view};
 ghost use Rattle.edit_tree.specs.IntendedTrees.{SameButOrder};
 
-use crate::equal_around::counterpart;
 use crate::compare::{part_at, same_view};
+use crate::equal_around::counterpart;
 use edit_document::Document;
 
 /// Whether each member name of a node is a member name of another node.

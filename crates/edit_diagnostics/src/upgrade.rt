@@ -7,7 +7,7 @@ use crate::registries::first_fault;
 use crate::sources::registry_help;
 use edit_base::Error;
 use edit_metadata::Input;
-use edit_steps::upgrade_read::{SourceRequest, SharedConfigs};
+use edit_steps::upgrade_read::{SharedConfigs, SourceRequest};
 use edit_steps::{RunError, absolute_path, at_first, at_input};
 use edit_store::Store;
 use std::alloc::Global;

@@ -136,7 +136,9 @@ impl<'a> EntryPart<'a> {
             Part::Whole => PartValue::entry(self.item),
             Part::Member(member) => PartValue::value(&member.1),
             Part::Element(value, index) => PartValue::Text(PartValue::text(value, index).unwrap()),
-            Part::MemberElement(member, index) => PartValue::Text(PartValue::text(&member.1, index).unwrap()),
+            Part::MemberElement(member, index) => PartValue::Text(PartValue::text(
+                &member.1, index,
+            ).unwrap()),
         }
     }
 

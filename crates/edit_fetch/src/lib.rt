@@ -11,7 +11,7 @@ mod toml_text;
 pub mod transfers;
 pub mod variables;
 
-pub use addressless::{AddresslessSource, addressless_sources, sources_text, placeholder_address};
+pub use addressless::{AddresslessSource, addressless_sources, placeholder_address, sources_text};
 pub use plan::{FetchPlan, fetch_plan};
 pub use settings::{Environment, NetSettings, net_settings};
 pub use tokens::{Token, registry_address, token_variable};

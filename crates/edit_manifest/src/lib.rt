@@ -3,12 +3,12 @@
 
 pub mod dep_table;
 pub mod entries;
+pub mod key_places;
 pub mod local_manifest;
 pub mod locate;
 pub mod manifest;
 pub mod tables;
 pub mod versions;
-pub mod key_places;
 
 pub use dep_table::{DepKind, DepTable};
 pub use edit_base::{

@@ -8,8 +8,8 @@ ghost use Rattle.edit_manifest.specs.Places.{places_view};
 ghost use Rattle.edit_manifest.specs.Tables.{dependency_tables, workspace_table_keys, table_at, tables_at, tables_of_target, tables_under, target_tables};
 
 use crate::dep_table::{NORMAL, is_kind};
-use crate::manifest::Manifest;
 use crate::key_places::place_of;
+use crate::manifest::Manifest;
 use edit_base::errors::CargoResult;
 use edit_document::{Document, Place};
 use std::alloc::{AllocError, Global};

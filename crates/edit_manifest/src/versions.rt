@@ -9,8 +9,8 @@ ghost use Rattle.edit_manifest.specs.Tables.{place_of_keys};
 ghost use Rattle.edit_manifest.specs.Versions.{IsUnset, IsUnsetDependency, SetsDependency, SetsVersion, dep_version, is_inherited, package_version, shared_version, version_place, workspace_version};
 ghost use Rattle.semver.specs.Identifiers.{parts_of, version_text};
 
-use crate::manifest::Manifest;
 use crate::key_places::{bool_at_keys, place_of, string_at};
+use crate::manifest::Manifest;
 use edit_base::errors::{CargoResult, Error};
 use edit_document::{Document, Item, Place, Step, clone_place, member_place};
 use edit_version::read_version;

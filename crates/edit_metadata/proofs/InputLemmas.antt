@@ -4,12 +4,13 @@ use Rattle.std.specs.Prelude.{Contains, All}
 use Rattle.std.proofs.Math.Nat.{eq-or-lt_of_le}
 use Rattle.std.proofs.lemmas.List.{append-nil, map-append, map_more, take-append-drop}
 use Rattle.std.proofs.lemmas.List.Elements.{All-append, All-push, Contains-append_cases, Contains-append_left, Contains-append_right, filter-append}
+use Rattle.edit_base.proofs.FirstCauseLemmas.{first_before, first_behind}
 use Rattle.std.proofs.lemmas.List.Sums.{fold-append}
 use Rattle.edit_base.specs.declared.errors.DeviceCall.TheVariants as call
 use Rattle.edit_base.specs.declared.errors.Error.{Error}
-use Rattle.edit_store.specs.Store.{IsCallError, StoreView, OnlyReads, IsRaisedCount}
+use Rattle.edit_store.specs.Store.{Files, IsCallError, StoreView, OnlyReads, IsRaisedCount}
 use Rattle.edit_version.specs.RustVersions.{Numbers, numbers_of}
-use Rattle.edit_metadata.specs.Inputs.{IsNoInput, ManifestModel, input_paths, least, min_rust_version, manifest_of, member_manifests}
+use Rattle.edit_metadata.specs.Inputs.{HasFile, HaveMissingFile, IsNoInput, LacksFile, ManifestModel, input_paths, least, min_rust_version, manifest_of, member_manifests}
 use Rattle.edit_metadata.specs.Metadata.{PackageModel, members}
 use Rattle.edit_metadata.specs.Workspaces.{package_view, packages_view}
 use Rattle.edit_metadata.specs.declared.input.Input.{Input}
@@ -73,19 +74,21 @@ manifests-append ps qs =
     (packages_view qs))
     ∙ map-append manifest_of (members (packages_view ps)) (members (packages_view qs))
 
--- the manifest of a member is among them
-pub among-members : (ps : List Package) (i : ℕ) (p : Package) → i < length ps → p ≡ get_or ps i p
-    → p.member ≡ true → (m : ManifestModel) → Contains (manifest_of (package_view p) ∷ []) m
-    → Contains (member_manifests (packages_view ps)) m
-among-members ps i p within is member m here =
+-- a missing file of a member, where the members before it have theirs
+pub missing-among-members : (files : Files) (ps : List Package) (i : ℕ) (p : Package) → i < length ps
+    → p ≡ get_or ps i p → p.member ≡ true → All (HasFile files) (member_manifests (packages_view (take i ps)))
+    → HaveMissingFile files (manifest_of (package_view p) ∷ [])
+    → HaveMissingFile files (member_manifests (packages_view ps))
+missing-among-members files ps i p within is member good lack =
     let front = member_manifests (packages_view (take i ps)) in
     let back = member_manifests (packages_view (drop (i + 1) ps)) in
     let one = manifest_of (package_view p) ∷ [] in
-    subst (λ xs. Contains xs m)
+    subst (HaveMissingFile files)
     (sym (ap (λ xs. member_manifests (packages_view xs)) (sym (take-append-drop (i + 1) ps))
     ∙ manifests-append (take (i + 1) ps) (drop (i + 1) ps)
     ∙ ap (λ xs. xs ++ back) (manifests-more ps i p within is member)))
-    (Contains-append_left (front ++ one) back m (Contains-append_right front one m here))
+    (first_before (HasFile files) (LacksFile files) (front ++ one) back
+    (first_behind (HasFile files) (LacksFile files) front one good lack))
 
 -- ---- paths of inputs
 
@@ -132,23 +135,39 @@ refused-later first old new e reads (inl memory) = inl memory
 refused-later first old new e reads (inr failed) =
     inr (failed.0, raised_later _ _ _ reads.later failed.1)
 
--- what is not there among some manifests is not there among more, and was not there earlier on
-pub no-input-later : (first old new : StoreView) (ms ns : List ManifestModel) (e : Error)
-    → OnlyReads first old → ((m : ManifestModel) → Contains ms m → Contains ns m)
-    → IsNoInput old new ms e → IsNoInput first new ns e
-no-input-later first old new ms ns e reads within (inl refused) =
-    inl (refused-later first old new e reads refused)
-no-input-later first old new ms ns e reads within (inr none) = inr (
-  none.0,
-  λ tells.
-      let lack = none.1 (reads.tells ∙ tells) in
+-- a file that is missing after reading was missing before it
+missing-before : (first old : StoreView) (ms : List ManifestModel) → OnlyReads first old
+    → HaveMissingFile old.file_at ms → HaveMissingFile first.file_at ms
+missing-before first old ms reads lack = record {
+  before = lack.before;
+  first = lack.first;
+  behind = lack.behind;
+  within = lack.within;
+  good = λ k d within.
+      let has = lack.good k d within in
       record {
-        manifest = lack.manifest;
-        among = within lack.manifest lack.among;
-        path = lack.path;
-        is_normal = lack.is_normal;
-        absent = sym (reads.files lack.path) ∙ lack.absent;
-      },
+        path = has.path;
+        is_normal = has.is_normal;
+        bytes = has.bytes;
+        present = sym (reads.files has.path) ∙ has.present;
+      };
+  cause = record {
+    path = lack.cause.path;
+    is_normal = lack.cause.is_normal;
+    absent = sym (reads.files lack.cause.path) ∙ lack.cause.absent;
+  };
+}
+
+-- an error of reading some manifests is one of reading others, from an earlier state on
+pub no-input-later : (first old new : StoreView) (ms ns : List ManifestModel) (e : Error)
+    → OnlyReads first old
+    → (first.tells ≡ true → HaveMissingFile first.file_at ms → HaveMissingFile first.file_at ns)
+    → IsNoInput old new ms e → IsNoInput first new ns e
+no-input-later first old new ms ns e reads among (inl refused) =
+    inl (refused-later first old new e reads refused)
+no-input-later first old new ms ns e reads among (inr none) = inr (
+  none.0,
+  λ tells. among tells (missing-before first old ms reads (none.1 (reads.tells ∙ tells))),
 )
 
 -- one input more before others
@@ -156,12 +175,13 @@ pub all-before : (P : Input → Type 0) (i : Input) (is : List Input) → P i �
 all-before P i is one others =
     All-append P (i ∷ []) is (All-push P [] i (λ k d within. absurd (omega (arith, within))) one) others
 
--- what is there among some manifests is there among more
+-- an error of reading some manifests is one of reading others
 pub no-input-among : (old new : StoreView) (ms ns : List ManifestModel) (e : Error)
-    → ((m : ManifestModel) → Contains ms m → Contains ns m) → IsNoInput old new ms e → IsNoInput old new ns e
-no-input-among old new ms ns e =
+    → (HaveMissingFile old.file_at ms → HaveMissingFile old.file_at ns) → IsNoInput old new ms e
+    → IsNoInput old new ns e
+no-input-among old new ms ns e among =
     no-input-later old old new ms ns e
-    (record { tells = refl; files = λ path. refl; writes = refl; later = omega arith })
+    (record { tells = refl; files = λ path. refl; writes = refl; later = omega arith }) (λ tells. among)
 
 -- reading on
 pub reads-on : (first old new : StoreView) → OnlyReads first old → OnlyReads old new → OnlyReads first new

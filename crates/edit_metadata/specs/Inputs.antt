@@ -1,7 +1,8 @@
 -- The manifests of a workspace to plan for (own).
-use Rattle.std.specs.Prelude.{◌≡◌, ◌≢◌, ◌⊎◌, ℕ, List, ◌∷◌, AllPairs, Bool, true, Option, Some, None, codes, Contains, if◌then◌else◌, map, option_map, string_bytes}
+use Rattle.std.specs.Prelude.{◌≡◌, ◌≢◌, ◌⊎◌, ℕ, List, [], ◌∷◌, ◌++◌, AllPairs, Bool, true, Option, Some, None, codes, Contains, if◌then◌else◌, map, option_map, string_bytes}
 use Rattle.std.specs.List.{AllZip, fold}
 use Rattle.std.specs.Option.{option_or}
+use Rattle.edit_base.specs.FirstCauses.{HasFirstCause}
 use Rattle.edit_base.specs.Paths.{IsNormalOf, joined}
 use Rattle.edit_base.specs.declared.errors.DeviceCall.TheVariants as call
 use Rattle.edit_base.specs.declared.errors.Error.{Error}
@@ -56,9 +57,9 @@ root_manifest w = record {
   rust_version = least (map (λ p. p.rust_version) (members w.packages));
 }
 
--- the manifests of a workspace, the root's first
+-- the manifests of a workspace in the order in which they are read: the members', and then the root's
 abbrev pub manifests : WorkspaceModel → List ManifestModel
-manifests w = root_manifest w ∷ member_manifests w.packages
+manifests w = member_manifests w.packages ++ root_manifest w ∷ []
 
 -- ---- inputs
 
@@ -95,13 +96,22 @@ IsReadFrom files i = files (string_bytes i.path) ≡ Some i.bytes.items
 
 -- ---- errors
 
--- no file exists at the normalised path of one of these manifests
-pub record HaveMissingFile (files : Files) (ms : List ManifestModel) : Type 0 where
-  pub manifest : ManifestModel
-  pub among : Contains ms manifest
+-- a file exists at the normalised path of a manifest
+pub record HasFile (files : Files) (m : ManifestModel) : Type 0 where
   pub path : List ℕ
-  pub is_normal : IsNormalOf manifest.path path
+  pub is_normal : IsNormalOf m.path path
+  pub bytes : List ℕ
+  pub present : files path ≡ Some bytes
+
+-- no file exists at the normalised path of a manifest
+pub record LacksFile (files : Files) (m : ManifestModel) : Type 0 where
+  pub path : List ℕ
+  pub is_normal : IsNormalOf m.path path
   pub absent : files path ≡ None
+
+-- no file exists for one of these manifests, and one exists for each manifest before it
+abbrev pub HaveMissingFile : Files → List ManifestModel → Type 0
+HaveMissingFile files ms = HasFirstCause (HasFile files) (LacksFile files) ms
 
 -- the errors of reading manifests: lack of memory, a fault of the device, or a missing file
 abbrev pub IsNoInput : StoreView → StoreView → List ManifestModel → Error → Type 0

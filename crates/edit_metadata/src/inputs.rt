@@ -5,7 +5,7 @@ ghost use Rattle.edit_base.specs.Errors.{IsMemory};
 ghost use Rattle.edit_base.specs.Paths.{IsNormalOf};
 ghost use Rattle.edit_base.specs.declared.errors.DeviceCall.TheVariants as call;
 ghost use Rattle.edit_base.specs.declared.errors.Error.TheVariants.{NoManifest};
-ghost use Rattle.edit_metadata.specs.Inputs.{AreInputs, IsInputOf, IsNoInput, IsReadFrom, input_paths, least, min_rust_version, manifest_of, manifests, member_manifests, root_manifest, rust_version_for};
+ghost use Rattle.edit_metadata.specs.Inputs.{AreInputs, HasFile, IsInputOf, IsNoInput, IsReadFrom, input_paths, least, min_rust_version, manifest_of, manifests, member_manifests, root_manifest, rust_version_for};
 ghost use Rattle.edit_metadata.specs.Metadata.{members};
 ghost use Rattle.edit_metadata.specs.Workspaces.{package_view, packages_view, workspace_view};
 ghost use Rattle.edit_store.specs.Store.{OnlyReads, IsCallError};
@@ -119,6 +119,8 @@ fn member_inputs<S: Store>(
         (member_manifests (packages_view packages.now)) v.items) }
     ensures bytes { IfOk result (λ v. (S.view store.old).tells ≡ true
         → All (IsReadFrom (S.view store.old).file_at) v.items) }
+    ensures files { IfOk result (λ _. (S.view store.old).tells ≡ true
+        → All (HasFile (S.view store.old).file_at) (member_manifests (packages_view packages.now))) }
     ensures error { IfErr result (IsNoInput (S.view store.old) (S.view store.new)
         (member_manifests (packages_view packages.now))) }
 {
@@ -186,7 +188,8 @@ fn root_input<S: Store>(
 /// Paths are normalised. The members are in their order; if none of them is the `Cargo.toml` of the root,
 /// that comes before them, with the name `virtual workspace`. The Rust version of each is `rust_version`;
 /// else none with `ignore`; else the member's own, and for the root the smallest of the members'.
-/// `Error::Device` where the device fails, and `Error::NoManifest` where no file exists at a path.
+/// `Error::Device` where the device fails, and `Error::NoManifest` where no file exists at a path. The members
+/// are read first, in their order, and the first error ends the call.
 pub fn workspace_inputs<S: Store>(
     alloc: Global,
     store: &mut S,

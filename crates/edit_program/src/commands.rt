@@ -14,13 +14,13 @@ ghost use Rattle.edit_program.specs.ParsedUpgrade.{HaveUpgradeFault};
 ghost use Rattle.edit_program.specs.ParsedSetVersion.{HaveVersionFault};
 
 use crate::args_error::ArgsError;
-use crate::upgrade_parser::parse_upgrade_args;
 use crate::faults::print_args_error;
 use crate::output_format::status_after;
 use crate::run_folders::RunFolders;
-use crate::set_version_run::set_version;
-use crate::upgrade_run::{print_lookups, upgrade};
 use crate::set_version_parser::parse_set_version_args;
+use crate::set_version_run::set_version;
+use crate::upgrade_parser::parse_upgrade_args;
+use crate::upgrade_run::{print_lookups, upgrade};
 use clap::ArgMatches;
 use edit_base::Error;
 use edit_steps::{RunError, RunResult};

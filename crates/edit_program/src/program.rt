@@ -11,7 +11,7 @@ ghost use Rattle.edit_program.specs.Runs.{HasUsageError, HasCheckFlag, HasFailed
 
 use crate::cargo_builtin::first_builtin;
 use crate::commands::run_subcommand;
-use crate::faults::{print_failure, print_clap_message};
+use crate::faults::{print_clap_message, print_failure};
 use crate::run_folders::RunFolders;
 use edit_base::Error;
 use edit_steps::{RunError, RunResult};

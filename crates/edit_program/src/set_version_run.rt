@@ -2,8 +2,8 @@
 
 mod command;
 mod plan;
-mod set_version_output;
 mod set_version_args;
+mod set_version_output;
 
 pub use command::set_version;
 pub use set_version_args::SetVersionArgs;

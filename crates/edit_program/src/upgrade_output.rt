@@ -3,14 +3,14 @@
 mod absent_crates;
 mod calls;
 mod calls_file;
-mod plan_execution;
 mod delivery;
-mod plan_checks;
 mod hidden_rows_note;
 mod notes;
+mod plan_checks;
+mod plan_execution;
+mod plan_output;
 mod reports;
 mod rows;
-mod plan_output;
 mod task;
 mod warnings;
 

@@ -4,9 +4,9 @@ mod delivering;
 mod looking;
 mod plan;
 mod reading;
-mod upgrading;
 pub mod upgrade_args;
+mod upgrading;
 
 pub use looking::print_lookups;
-pub use upgrading::upgrade;
 pub use upgrade_args::UpgradeArgs;
+pub use upgrading::upgrade;

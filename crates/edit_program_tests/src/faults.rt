@@ -110,7 +110,13 @@ fn has_failed(
     let (status, err) = (done.status, done.err.as_str());
     // (the run consumed the index)
     let failed = files.faults() > 0 || of_index && status != 0;
-    let stands = are_files_in_states(rt, alloc, &mut files.inner, example, possible_states(example, err));
+    let stands = are_files_in_states(
+        rt,
+        alloc,
+        &mut files.inner,
+        example,
+        possible_states(example, err),
+    );
     assert!(rt; stands, "manifests behind {err:?}");
     assert!(rt;
         is_fault_reported(status, err, failed),

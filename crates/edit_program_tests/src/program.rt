@@ -1,6 +1,8 @@
 //! Tests of the program where a call of the files fails, or where standard output is full. Other tests are
 //! in tests/cases.
-use crate::rows::{ROOM, check_result, faultless_store, field, run_args_in, unwrap_alloc, unwrap_ok};
+use crate::rows::{
+    ROOM, check_result, faultless_store, field, run_args_in, unwrap_alloc, unwrap_ok,
+};
 use edit_store::{FaultStore, MemoryStore, Store};
 use std::alloc::Global;
 use std::process::Abort;

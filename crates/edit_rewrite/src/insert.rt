@@ -122,7 +122,12 @@ fn with_first(alloc: Global, text: &str, pair: &str) -> CargoResult<String>
 {
     let mut line = String::from_str(alloc, pair)?;
     line.push_str("\n")?;
-    with_text(alloc, text, skip_byte_order_mark(text.as_bytes()).len(), line.as_str())
+    with_text(
+        alloc,
+        text,
+        skip_byte_order_mark(text.as_bytes()).len(),
+        line.as_str(),
+    )
 }
 
 /// The text with a new pair in a table that is not written as a value; `inner` is the last pair of an inline

@@ -8,10 +8,10 @@ mod insert;
 mod inside;
 mod locate;
 mod members;
+mod path_matching;
 mod remove_text;
 mod replace_entry;
 mod splices;
-mod path_matching;
 
 pub use insert::with_member;
 pub use remove_text::without_item;

@@ -23,7 +23,12 @@ use edit_syntax::read::steps::{past_name, past_value};
 use std::alloc::Global;
 
 /// The offset behind the part of a key that names the place, where the key does.
-fn part_end(named: PathMatch, front: Option<usize>, marks: &[SyntaxToken], place: &[Step]) -> Option<usize>
+fn part_end(
+    named: PathMatch,
+    front: Option<usize>,
+    marks: &[SyntaxToken],
+    place: &[Step],
+) -> Option<usize>
     ensures { result ≡ part_offset (length (place_view place.now)) named front marks.now }
 {
     if front.is_some() {

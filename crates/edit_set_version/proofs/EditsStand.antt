@@ -27,7 +27,7 @@ use Rattle.edit_set_version.specs.PlanRefused.{IsInputClearBy}
 use Rattle.edit_set_version.specs.Projects.{IsManifestAmong}
 use Rattle.edit_metadata.specs.Inputs.{path_of}
 use Rattle.edit_set_version.specs.SetVersioned.{Bump, Dependent, dependents, writes_own}
-use Rattle.edit_set_version.proofs.FirstCauseLemmas.{first_good}
+use Rattle.edit_base.proofs.FirstCauseLemmas.{first_good}
 
 -- a requirement that can be raised causes no other error than a lack of memory
 rise_memory : (r : UpgradeResult) (text : List ℕ) (e : Error) → CanRise r → IsUpgradeError r text e → IsMemory e

@@ -1,5 +1,4 @@
 pub mod Greater
-pub mod FirstCauseLemmas
 pub mod FolderLemmas
 pub mod TablePlaces
 pub mod Clear

@@ -15,7 +15,7 @@ use Rattle.edit_set_version.specs.PlanCauses.{AllRiseIn, AreUnraised, IsUnraised
 use Rattle.edit_set_version.specs.PlanLines.{Named, ReportLine}
 use Rattle.edit_set_version.specs.SetVersioned.{Bump}
 use Rattle.edit_set_version.specs.ToldLines.{manifest_lines_view, named_member, other_manifests, update_lines_view, with_manifests, with_more, with_updates}
-use Rattle.edit_set_version.proofs.FirstCauseLemmas.{first_before, first_behind, split_at}
+use Rattle.edit_base.proofs.FirstCauseLemmas.{first_before, first_behind, split_at}
 
 -- lines in two parts
 more_in_parts : (f g h : ℕ → List ReportLine) → ((k : ℕ) → h k ≡ f k ++ g k)

@@ -15,7 +15,7 @@ use Rattle.edit_set_version.specs.PlanCauses.{AreUnbumped, currents}
 use Rattle.edit_set_version.specs.SetVersioned.{Project, workspace_current}
 use Rattle.edit_set_version.specs.Written.{shared_version_view}
 use Rattle.edit_set_version.specs.declared.crates.Crate.{Crate}
-use Rattle.edit_set_version.proofs.FirstCauseLemmas.{first_behind, first_here, first_mapped, split_at}
+use Rattle.edit_base.proofs.FirstCauseLemmas.{first_behind, first_here, first_mapped, split_at}
 
 -- ---- what holds of them
 

@@ -15,7 +15,6 @@ pub mod PathDependency
 pub mod PlanLines
 pub mod ToldLines
 pub mod Admitted
-pub mod FirstCauses
 pub mod PlanCauses
 pub mod Selections
 pub mod Missing

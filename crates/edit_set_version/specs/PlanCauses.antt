@@ -18,7 +18,7 @@ use Rattle.edit_set_version.specs.Admitted.{AllRise, CanRise}
 use Rattle.edit_set_version.specs.BumpCauses.{IsBumpable, IsUnbumped}
 use Rattle.edit_set_version.specs.Bumps.{Target, bump}
 use Rattle.edit_set_version.specs.Chosen.{SelectionView, Member, chosen_members, excluded_inheriting, inheriting_members}
-use Rattle.edit_set_version.specs.FirstCauses.{HasFirstCause}
+use Rattle.edit_base.specs.FirstCauses.{HasFirstCause}
 use Rattle.edit_set_version.specs.PlanLines.{Named, manifests}
 use Rattle.edit_set_version.specs.SetVersioned.{Bump, Project, dependents, workspace_current, writes_own}
 

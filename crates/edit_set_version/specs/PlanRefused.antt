@@ -15,7 +15,7 @@ use Rattle.edit_set_version.specs.BumpCauses.{IsBumpable}
 use Rattle.edit_set_version.specs.Bumps.{Target, bump}
 use Rattle.edit_set_version.specs.Chosen.{SelectionView, excluded_inheriting, missing}
 use Rattle.edit_set_version.specs.Admitted.{AllRise}
-use Rattle.edit_set_version.specs.FirstCauses.{HasFirstCause}
+use Rattle.edit_base.specs.FirstCauses.{HasFirstCause}
 use Rattle.edit_set_version.specs.PlanCauses.{IsManifestError, IsMissing, IsVersionError, currents}
 use Rattle.edit_metadata.specs.Inputs.{path_of}
 use Rattle.edit_set_version.specs.Projects.{IsProject}

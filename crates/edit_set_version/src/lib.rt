@@ -2,6 +2,7 @@
 #![tactic(auto)]
 
 mod bump;
+mod bump_lines;
 mod bumps;
 mod choose;
 mod crates;
@@ -13,19 +14,18 @@ mod manifests;
 mod names;
 mod numbers;
 mod outputs;
+pub mod path_deps;
 pub mod plan;
 mod planned;
-pub mod path_deps;
 mod project;
 mod reach;
 mod rows;
 pub mod set_version;
 mod shared;
-mod bump_lines;
 mod walk;
 mod writes;
 
+pub use path_deps::{PathEntry, path_entries};
 pub use plan::{Selection, SetVersionPlan};
 pub use planned::plan_set_version;
-pub use path_deps::{PathEntry, path_entries};
 pub use set_version::{BumpLevel, TargetVersion};

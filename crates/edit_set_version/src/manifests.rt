@@ -4,7 +4,7 @@ ghost use Rattle.std.specs.List.{AllZip};
 ghost use Rattle.edit_base.specs.Errors.{IsMemory};
 ghost use Rattle.edit_manifest.specs.Loaded.{IsBadManifest};
 ghost use Rattle.edit_set_version.specs.Crates.{IsReadOf};
-ghost use Rattle.edit_set_version.specs.FirstCauses.{HasFirstCause};
+ghost use Rattle.edit_base.specs.FirstCauses.{HasFirstCause};
 ghost use Rattle.edit_set_version.specs.PlanRefused.{IsManifest};
 
 use edit_base::CargoResult;

@@ -10,7 +10,7 @@ ghost use Rattle.edit_set_version.specs.Levels.{IsLevel};
 ghost use Rattle.edit_set_version.specs.declared.set_version.BumpLevel.TheVariants.{Release};
 ghost use Rattle.edit_set_version.specs.declared.set_version.TargetVersion.TheVariants.{Relative};
 
-use crate::bump::{bump_to_version, bump_by_level};
+use crate::bump::{bump_by_level, bump_to_version};
 use edit_base::errors::CargoResult;
 use semver::Version;
 use std::alloc::Global;

@@ -11,12 +11,12 @@ ghost use Rattle.edit_set_version.specs.SetVersioned.{Bump as Bumped};
 ghost use Rattle.edit_set_version.specs.ToldLines.{bump_line_view, line_lists_view, other_manifests, with_manifests};
 ghost use Rattle.edit_tree.specs.DocumentViews.{tree_of};
 
+use crate::bump_lines::{bump_lists, push_updates};
 use crate::crates::{Bump, Crate};
 use crate::dependents::dependents_of;
 use crate::lines::Line;
 use crate::numbers::BumpsByFolder;
 use crate::project::ProjectRead;
-use crate::bump_lines::{bump_lists, push_updates};
 use edit_base::CargoResult;
 use edit_manifest::Manifest;
 use edit_metadata::Input;

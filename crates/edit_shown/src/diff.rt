@@ -1,10 +1,10 @@
 //! The change of a file as a unified diff.
 
-mod hunks;
-mod lines;
-mod line_diff;
-mod names;
 mod context_lines;
+mod hunks;
+mod line_diff;
+mod lines;
+mod names;
 pub mod unified;
 
 pub use unified::{diff_text, write_diff};

@@ -1,9 +1,9 @@
 //! JSON output, one object a line.
 
 mod fields;
-pub mod messages;
-mod message_names;
 mod message_encoding;
+mod message_names;
+pub mod messages;
 
 pub use messages::{
     Summary, change_message, file_message, row_message, summary_message, warning_message,

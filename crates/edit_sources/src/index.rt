@@ -28,7 +28,10 @@ impl IndexKrate {
 }
 
 /// Returns deep copies of the entries.
-pub(crate) fn clone_versions(alloc: Global, entries: &[IndexVersion]) -> CargoResult<Vec<IndexVersion>>
+pub(crate) fn clone_versions(
+    alloc: Global,
+    entries: &[IndexVersion],
+) -> CargoResult<Vec<IndexVersion>>
     ensures ok { IfOk result (λ v. map entry_of v.items ≡ map entry_of entries.now) }
     ensures error { IfErr result IsMemory }
 {

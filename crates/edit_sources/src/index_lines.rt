@@ -56,7 +56,10 @@ fn rust_version<'a>(value: Option<&'a Value>) -> Option<Option<&'a str>>
 }
 
 /// Returns an owned copy of a string, if there is one.
-pub(crate) fn clone_optional_str(alloc: Global, text: Option<&str>) -> Result<Option<String>, AllocError>
+pub(crate) fn clone_optional_str(
+    alloc: Global,
+    text: Option<&str>,
+) -> Result<Option<String>, AllocError>
     ensures { IfOk result (λ t. option_map string_bytes t ≡ option_map (λ s. s.now) text.entry) }
 {
     match text {

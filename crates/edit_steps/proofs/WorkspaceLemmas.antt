@@ -125,7 +125,7 @@ pub manifest_cause : (old mid new : StoreView) (current named : List ℕ) (w : W
     → IsNoInput mid new (manifests w) e
     → IsCallError call.Read old new e ⊎ (old.tells ≡ true → HasNoWorkspace old.file_at current named e)
 manifest_cause old mid new current named w e reads metadata cause =
-    told (no-input-later old mid new (manifests w) (manifests w) e reads (λ m has. has) cause)
+    told (no-input-later old mid new (manifests w) (manifests w) e reads (λ tells lack. lack) cause)
   where
     told : IsNoInput old new (manifests w) e
         → IsCallError call.Read old new e ⊎ (old.tells ≡ true → HasNoWorkspace old.file_at current named e)

@@ -13,8 +13,8 @@ ghost use Rattle.edit_steps.specs.Workspaces.{AreMetadataRead, HasNoMetadata, Ha
 
 use crate::metadata_fault::at_metadata;
 use crate::paths::absolute_path;
-use crate::run_error::{RunError, RunResult, at_file, at_path};
 use crate::reread::at_first;
+use crate::run_error::{RunError, RunResult, at_file, at_path};
 use edit_base::paths::normal;
 use edit_base::{CargoResult, Error};
 use edit_metadata::{Input, Workspace, workspace_inputs};

@@ -1,5 +1,5 @@
 //! How a write that is ready is made.
-use crate::reason::{StoreResult, Reason};
+use crate::reason::{Reason, StoreResult};
 use crate::staged::{Staged, WriteMethod, make_backup};
 use crate::temporary::Temporary;
 use std::alloc::Global;

@@ -4,7 +4,7 @@ ghost use Rattle.edit_store.specs.Host.{IsHostError, host_faults, host_stage_err
 ghost use Rattle.edit_store.specs.Store.{IsRaisedCount};
 
 use crate::reading::{read_regular, read_stream};
-use crate::reason::{StoreResult, Reason};
+use crate::reason::{Reason, StoreResult};
 use crate::store::{Kind, Store};
 use crate::temporary::remove_abandoned_files;
 use crate::work::Work;

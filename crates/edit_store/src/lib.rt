@@ -7,10 +7,10 @@ pub mod host_store;
 pub mod memory_store;
 mod reading;
 mod reason;
+mod replaced_file;
 mod staged;
 pub mod store;
 mod temporary;
-mod replaced_file;
 mod work;
 
 pub use fault_store::FaultStore;

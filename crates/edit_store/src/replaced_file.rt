@@ -1,7 +1,7 @@
 //! Files that were replaced, watched until the replacement is on the disk.
 use crate::commit::commit;
 use crate::reading::Fingerprint;
-use crate::reason::{StoreResult, Reason};
+use crate::reason::{Reason, StoreResult};
 use crate::staged::prepare;
 use std::alloc::Global;
 use std::env::Env;

@@ -1,6 +1,6 @@
 //! A write that is ready: the file that takes a manifest's place, or a copy of the manifest's text.
 use crate::reading::Fingerprint;
-use crate::reason::{StoreResult, Reason, found_reason};
+use crate::reason::{Reason, StoreResult, found_reason};
 use crate::temporary::{Temporary, make_temporary};
 use edit_base::paths::folder;
 use std::alloc::Global;

@@ -1,5 +1,5 @@
 //! New files of a run beside a manifest, under names that no other program has.
-use crate::reason::{StoreResult, Reason};
+use crate::reason::{Reason, StoreResult};
 use edit_base::paths::folder;
 use std::alloc::Global;
 use std::fs::{DirEntry, File, Files, OpenOptions};

@@ -1,9 +1,9 @@
 //! What a store of the machine's files has read, made ready and written in a run.
 use crate::commit::commit;
 use crate::reading::Fingerprint;
-use crate::reason::{StoreResult, Reason, found_reason};
-use crate::staged::{Staged, WriteMethod, prepare};
+use crate::reason::{Reason, StoreResult, found_reason};
 use crate::replaced_file::{ReplacedFile, WATCHED, check_replaced_files};
+use crate::staged::{Staged, WriteMethod, prepare};
 use edit_base::paths::folder;
 use std::alloc::{AllocError, Global};
 use std::collections::BTreeMap;

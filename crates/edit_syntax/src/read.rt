@@ -12,21 +12,21 @@ pub mod decode;
 pub mod gaps;
 mod line_by_line;
 mod lines;
-pub mod syntax_tokens;
 mod multi;
 mod numbers;
 pub mod steps;
+pub mod syntax_tokens;
 mod tokens;
 mod values;
 
 use bytes::{byte_at, first, skip};
-pub use decode::{content, content_span, is_plain, decoded_text};
+pub use decode::{content, content_span, decoded_text, is_plain};
 use edit_base::errors::{CargoResult, Error};
 pub use line_by_line::{first_line, next_line};
 use lines::lines;
+use std::alloc::Global;
 use syntax_tokens::ReadError;
 pub use syntax_tokens::{SyntaxToken, TokenKind};
-use std::alloc::Global;
 
 /// Skips the UTF-8 byte order mark at the start of a text, if there is one.
 pub fn skip_byte_order_mark(text: &[u8]) -> &[u8]

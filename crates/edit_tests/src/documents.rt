@@ -1,7 +1,7 @@
 //! Tests of what `Debug` prints of documents and of views of their items: what Rust's derive prints of structs
 //! and enums with these names and fields. A document is printed as a struct with one field, its text, that has
 //! no name.
-use crate::assertion_helpers::{unwrap_alloc, push, text, unwrap_ok};
+use crate::assertion_helpers::{push, text, unwrap_alloc, unwrap_ok};
 use crate::rows::{LINES, check_rows};
 use edit_document::{Document, Item, NewItem, NewValue};
 use std::alloc::Global;
@@ -50,7 +50,13 @@ fn child_item<'a>(rt: &impl Abort, item: Item<'a>, step: &str) -> Item<'a> {
 }
 
 /// The `Debug` text of the item that these steps lead to.
-fn debug_text_at(rt: &impl Abort, alloc: Global, root: Item<'_>, steps: &str, part: &str) -> String {
+fn debug_text_at(
+    rt: &impl Abort,
+    alloc: Global,
+    root: Item<'_>,
+    steps: &str,
+    part: &str,
+) -> String {
     let mut item = root;
     'steps: for step in steps.split_whitespace() {
         item = child_item(rt, item, step);

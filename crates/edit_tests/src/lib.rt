@@ -12,6 +12,8 @@ mod diffs;
 #[cfg(test)]
 mod documents;
 #[cfg(test)]
+mod error_tests;
+#[cfg(test)]
 mod examples;
 #[cfg(test)]
 mod manifests;
@@ -21,8 +23,6 @@ mod paths;
 mod plans;
 #[cfg(test)]
 mod records;
-#[cfg(test)]
-mod error_tests;
 #[cfg(test)]
 mod reports;
 #[cfg(test)]

@@ -1,5 +1,5 @@
 //! Tests of paths.
-use crate::assertion_helpers::{text_or_error, text};
+use crate::assertion_helpers::{text, text_or_error};
 use crate::rows::{LINES, check_rows};
 use edit_base::paths::{folder, join, normal, relative};
 use std::alloc::Global;

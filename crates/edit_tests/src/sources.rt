@@ -1,7 +1,7 @@
 //! Tests of sources.
 mod addresses;
-mod calls;
 mod cached_answers;
+mod calls;
 mod index_texts;
 mod steps;
 mod stores;

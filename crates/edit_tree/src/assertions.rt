@@ -8,7 +8,7 @@ ghost use Rattle.edit_tree.specs.Walk.{child, last_table, target_of, node_extend
 ghost use Rattle.edit_tree.specs.WalkState.{HasNodes, HasNodeAt};
 
 use crate::members::Members;
-use crate::nodes::{Content, DefinedBy, Node, DecodedText, clone_decoded, decoded_str};
+use crate::nodes::{Content, DecodedText, DefinedBy, Node, clone_decoded, decoded_str};
 use edit_syntax::Span;
 use std::alloc::{AllocError, Global};
 

@@ -8,7 +8,7 @@ mod header_walk;
 pub mod members;
 pub mod nodes;
 pub mod place;
-pub mod walk;
 pub mod token_content;
+pub mod walk;
 
 pub use place::{Place, Step};

@@ -2,7 +2,7 @@
 ghost use Rattle.std.specs.Prelude.{◌≡◌, ℕ, List, [], ◌∷◌, ◌++◌, None, IfOk, length, option_map, slice_get};
 ghost use Rattle.edit_tree.specs.Nodes.{bytes_of, entries_listed, entries_of, elements_of, names_in, number_in, IsListIndexed, IsIndexed};
 
-use crate::nodes::{MemberList, DecodedText};
+use crate::nodes::{DecodedText, MemberList};
 use std::alloc::{AllocError, Global};
 use std::mem;
 

@@ -6,7 +6,7 @@ ghost use Rattle.edit_tree.specs.WalkState.{IsDecodedAt};
 
 use crate::nodes::{Content, DecodedText};
 use edit_base::errors::CargoResult;
-use edit_syntax::read::decode::{content, content_span, is_plain, decoded_text};
+use edit_syntax::read::decode::{content, content_span, decoded_text, is_plain};
 use edit_syntax::read::{SyntaxToken, TokenKind};
 use std::alloc::Global;
 

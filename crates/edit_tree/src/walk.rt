@@ -9,7 +9,7 @@ ghost use Rattle.std.specs.List.{AllByRecursion};
 
 use crate::assertions::{Definition, add_element, assert_member, follow_fronts};
 use crate::members::Members;
-use crate::nodes::{Content, DefinedBy, Node, DecodedText};
+use crate::nodes::{Content, DecodedText, DefinedBy, Node};
 use crate::token_content::{decode_token, scalar_content};
 use edit_base::errors::{CargoResult, Error};
 use edit_syntax::Span;

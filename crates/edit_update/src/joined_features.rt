@@ -9,7 +9,7 @@ ghost use Rattle.edit_update.specs.EntryUpdates.{joined_features, texts_or_none}
 
 use edit_base::errors::{CargoResult, Error};
 use edit_document::{Item, NewValue};
-use edit_record::dependency::{features_at, append_texts};
+use edit_record::dependency::{append_texts, features_at};
 use std::alloc::{AllocError, Global};
 use std::collections::BTreeSet;
 

@@ -1,8 +1,8 @@
 //! Updates entries from dependencies, and removes entries and features from a manifest.
 #![tactic(auto)]
 
-mod final_values;
 mod features;
+mod final_values;
 mod joined_features;
 mod manifest_ext;
 mod remove;

@@ -48,7 +48,12 @@ impl<'a> Addresses<'a> {
     }
 
     /// Stores the resolved address of a registry.
-    fn store_url(&mut self, alloc: Global, registry: Option<&str>, url: Url) -> Result<(), AllocError>
+    fn store_url(
+        &mut self,
+        alloc: Global,
+        registry: Option<&str>,
+        url: Url,
+    ) -> Result<(), AllocError>
         ensures preserved { OnOk result ((named : Option (List ℕ)) → url_at self.new named
             ≡ (if is_same_registry (given registry.entry) named then Some url else url_at self.old named)) }
         ensures configs { self.new.configs ≡ self.old.configs }
@@ -83,7 +88,11 @@ impl<'a> Addresses<'a> {
     }
 
     /// Resolves the address of a registry, unless it is resolved already.
-    pub(crate) fn ensure_resolved(&mut self, alloc: Global, registry: Option<&str>) -> CargoResult<()>
+    pub(crate) fn ensure_resolved(
+        &mut self,
+        alloc: Global,
+        registry: Option<&str>,
+    ) -> CargoResult<()>
         ensures there { OnOk result (IsSome (url_at self.new (given registry.entry))) }
         ensures are { OnOk result
             ((configs : List Config) → AreAddresses configs self.old → AreAddresses configs self.new) }

@@ -3,19 +3,19 @@
 
 mod address_caches;
 mod addresses;
-mod parsed_options;
 mod config_lists;
 pub mod decision;
 mod draft;
+mod entries_with_rows;
 mod lists;
 mod lookup_log;
 mod missing;
 mod names;
 mod package_selection;
+mod parsed_options;
 mod plan;
 mod planned;
 mod rows;
-mod entries_with_rows;
 pub mod update;
 pub mod upgrade;
 mod walk;

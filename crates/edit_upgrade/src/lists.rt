@@ -11,10 +11,10 @@ ghost use Rattle.edit_upgrade.specs.Lines.{line_of};
 ghost use Rattle.edit_upgrade.specs.Lists.{AreNames, AreWarnings, IsWarningOn, changed_names, git_names, ignored_text, is_git, is_held_incompatible, is_held_pinned, is_unparsed, unparsed_requirement, unreadable_text, warning_record, warning_by, warning_view, workspace_text};
 ghost use Rattle.edit_upgrade.specs.Records.{source_of};
 
-use crate::parsed_options::{ParsedOptions, is_excluded, requirement_for};
 use crate::decision::options::Options;
 use crate::decision::requirement::{PinStatus, read_pin};
 use crate::names::{Names, add_name};
+use crate::parsed_options::{ParsedOptions, is_excluded, requirement_for};
 use crate::upgrade::Warning;
 use edit_base::{CargoResult, Error};
 use edit_manifest::entries::{Entry, ReadEntry};
@@ -133,7 +133,12 @@ fn unreadable_text(alloc: Global, key: &str, old: &str) -> Result<String, AllocE
 
 /// Whether an entry is left unchanged because its requirement cannot be parsed: it is not excluded, and no
 /// `--package` argument replaces the requirement.
-fn is_left_unparsed(options: &Options, excluded: bool, selected: Option<&str>, pin: PinStatus) -> bool
+fn is_left_unparsed(
+    options: &Options,
+    excluded: bool,
+    selected: Option<&str>,
+    pin: PinStatus,
+) -> bool
     ensures { (far near : Option (List ℕ)) → result ≡ is_unparsed (first_row excluded
         (unless (is_some (option_copied selected.entry) && pin.pinned && not options.now.pinned)
         (option_copied selected.entry)) pin.readable far near) }

@@ -8,8 +8,8 @@ ghost use Rattle.edit_manifest.specs.EntryViews.{entry_view};
 ghost use Rattle.edit_upgrade.specs.Missing.{names_in};
 ghost use Rattle.edit_upgrade.specs.Words.{is_named, package_args_of};
 
-use crate::parsed_options::{ParsedOptions, is_named};
 use crate::names::{Names, add_name};
+use crate::parsed_options::{ParsedOptions, is_named};
 use edit_base::CargoResult;
 use edit_manifest::entries::{Entry, ReadEntry};
 use std::alloc::{AllocError, Global};
@@ -71,7 +71,11 @@ fn push_unknown(
 }
 
 /// The names of this list that are not known, in the order of the list.
-pub(crate) fn unknown_names(alloc: Global, names: &[String], known: &Names) -> CargoResult<Vec<String>>
+pub(crate) fn unknown_names(
+    alloc: Global,
+    names: &[String],
+    known: &Names,
+) -> CargoResult<Vec<String>>
     ensures ok { IfOk result (λ v. map string_bytes v.items
         ≡ filter (λ name. not (contains_text known.now name)) (map string_bytes names.now)) }
     ensures error { IfErr result (λ e. (e ≡ error.Memory) × (names.now ≢ [])) }

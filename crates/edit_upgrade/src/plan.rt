@@ -18,12 +18,12 @@ ghost use Rattle.edit_upgrade.specs.WordCauses.{IsPlanError};
 ghost use Rattle.edit_upgrade.specs.Upgraded.{HasItsOutputs, HasItsRows, HasItsWarnings, IsNeeded};
 
 use crate::address_caches::{AddressCaches, keep_addresses, take_addresses};
-use crate::parsed_options::ParsedOptions;
 use crate::config_lists::{ConfigLists, list_index};
 use crate::decision::options::Options;
 use crate::draft::{Draft, add_read, finish_plan};
 use crate::missing::unknown_names;
 use crate::package_selection::parse_selection;
+use crate::parsed_options::ParsedOptions;
 use crate::rows::Job;
 use crate::upgrade::UpgradePlan;
 use edit_base::CargoResult;

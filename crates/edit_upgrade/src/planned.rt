@@ -15,11 +15,11 @@ ghost use Rattle.edit_upgrade.specs.PlannedView.{IsPlannedView, IsWalked};
 ghost use Rattle.edit_upgrade.specs.Upgraded.{HasWarnings, IsNeededBy};
 
 use crate::addresses::Addresses;
+use crate::entries_with_rows::{Entry, with_rows};
 use crate::lists::warnings_on;
 use crate::missing::add_names;
 use crate::names::Names;
 use crate::rows::Job;
-use crate::entries_with_rows::{Entry, with_rows};
 use crate::upgrade::Warning;
 use crate::walk::{LookupLog, walk};
 use edit_base::CargoResult;

@@ -15,10 +15,10 @@ ghost use Rattle.edit_upgrade.specs.Offers.{offered_version};
 ghost use Rattle.edit_upgrade.specs.Rankings.{IsRankingOf};
 ghost use Rattle.edit_upgrade.specs.Rows.{IsDecided, IsRowOver, case_for, dash_reason, dashes, line_for};
 
-use crate::parsed_options::{ParsedOptions, is_excluded, requirement_for};
 use crate::decision::decide::{EntryCase, decide};
 use crate::decision::offers::{Offer, offer_of};
 use crate::entries_with_rows::{Entry, Source};
+use crate::parsed_options::{ParsedOptions, is_excluded, requirement_for};
 use edit_base::CargoResult;
 use edit_cache::cache::IndexCache;
 use edit_cache::ranking::{Ranked, VersionPair};

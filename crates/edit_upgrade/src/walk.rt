@@ -18,9 +18,9 @@ ghost use Rattle.edit_upgrade.specs.Rows.{AreDecided, IsRowBy};
 ghost use Rattle.edit_upgrade.specs.Upgraded.{IsNeededFor, IsNeededIn};
 
 use crate::addresses::Addresses;
+use crate::entries_with_rows::{Entry, Source};
 use crate::lookup_log::{PairSet, lookup_once};
 use crate::rows::{Job, cached_row, row_for};
-use crate::entries_with_rows::{Entry, Source};
 use crate::upgrade::Look;
 use edit_base::CargoResult;
 use edit_cache::cache::IndexCache;

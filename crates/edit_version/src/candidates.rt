@@ -99,7 +99,9 @@ fn qualifying_version(
     let Some(candidate) = read_candidate(alloc, told)? else {
         return Ok(None);
     };
-    if !candidate.is_for(rust_version) || !is_selectable(&candidate.version, allow_prerelease, req) {
+    if !candidate.is_for(rust_version)
+        || !is_selectable(&candidate.version, allow_prerelease, req)
+    {
         return Ok(None);
     }
     Ok(Some(candidate.version))

@@ -6,7 +6,7 @@ ghost use Rattle.edit_version.specs.Requirement.{comparators_of};
 ghost use Rattle.edit_version.specs.RustVersions.{numbers_of, rust_numbers, rust_of};
 ghost use Rattle.semver.specs.Identifiers.{comparator_view};
 
-use crate::requirement::{read_requirement, parse_requirement};
+use crate::requirement::{parse_requirement, read_requirement};
 use edit_base::errors::{CargoResult, Error};
 use semver::{Comparator, Op, Version, VersionReq};
 use std::alloc::Global;

@@ -1,7 +1,7 @@
 //! Registries whose index entries cannot be fetched: those that are neither sparse nor a local folder.
 
 use edit_base::CargoResult;
-use edit_fetch::{AddresslessSource, addressless_sources, registry_address, placeholder_address};
+use edit_fetch::{AddresslessSource, addressless_sources, placeholder_address, registry_address};
 use edit_lookups::{Lookup, push_escaped, read_lookups, strip_userinfo};
 use edit_sources::Config;
 use std::alloc::AllocError;

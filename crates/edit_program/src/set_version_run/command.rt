@@ -6,9 +6,9 @@ ghost use Rattle.edit_store.specs.Store.{SameFiles};
 ghost use Rattle.edit_program.specs.SetVersionCauses.{IsSetVersionCause};
 ghost use Rattle.edit_program.specs.SetVersions.{AreVersionsSet, IsSettingInterrupted};
 
-use crate::set_version_run::plan::{has_some, plan_for, outputs_to_write};
-use crate::set_version_run::set_version_output::{print_plan, warn_if};
+use crate::set_version_run::plan::{has_some, outputs_to_write, plan_for};
 use crate::set_version_run::set_version_args::SetVersionArgs;
+use crate::set_version_run::set_version_output::{print_plan, warn_if};
 use edit_steps::{RunResult, read_workspace, write_outputs};
 use edit_store::Store;
 use std::alloc::Global;

@@ -57,7 +57,10 @@ pub(crate) fn plan_for(
 }
 
 /// The outputs to write: none with a dry run.
-pub(crate) fn outputs_to_write<'a>(words: &SetVersionArgs<'_>, plan: &'a SetVersionPlan) -> &'a [Output]
+pub(crate) fn outputs_to_write<'a>(
+    words: &SetVersionArgs<'_>,
+    plan: &'a SetVersionPlan,
+) -> &'a [Output]
     ensures { result.now ≡ outputs_to_write words.now plan.entry.now.outputs.items }
 {
     if words.dry_run {

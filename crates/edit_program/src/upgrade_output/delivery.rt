@@ -11,8 +11,8 @@ ghost use Rattle.edit_program.specs.Tables.{AreInOrder};
 
 use crate::upgrade_output::calls::{calls_against, calls_of};
 use crate::upgrade_output::calls_file::calls_outputs;
-use crate::upgrade_output::plan_execution::{carry_out, conclude};
 use crate::upgrade_output::plan_checks::{check_lock, upgrade_outputs_to_write};
+use crate::upgrade_output::plan_execution::{carry_out, conclude};
 use crate::upgrade_output::plan_output::print_plan;
 use crate::upgrade_output::task::DeliveryTask;
 use edit_steps::RunResult;

@@ -4,7 +4,7 @@ ghost use Rattle.edit_base.specs.Errors.{IsMemory};
 ghost use Rattle.edit_program.specs.StderrText.{add_name, hidden_rows, hidden_text, names_of, names_text, or_latest, reason_line, reason_in_notes, rerun, with_name};
 
 use edit_base::CargoResult;
-use edit_report::{Row, name_text, reason_text, is_row_shown};
+use edit_report::{Row, is_row_shown, name_text, reason_text};
 use std::alloc::{AllocError, Global};
 use std::collections::BTreeSet;
 

@@ -12,8 +12,8 @@ ghost use Rattle.edit_program.specs.Delivered.{AreBothWritten, HaveStopped};
 ghost use Rattle.edit_program.specs.StderrText.{notes, call_statuses};
 
 use crate::upgrade_output::calls::print_calls;
-use crate::upgrade_output::plan_checks::check_names;
 use crate::upgrade_output::notes::print_notes;
+use crate::upgrade_output::plan_checks::check_names;
 use edit_report::Output;
 use edit_steps::{RunError, RunResult, stage_outputs, write_outputs};
 use edit_store::Store;

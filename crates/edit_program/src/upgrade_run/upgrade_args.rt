@@ -4,7 +4,7 @@ ghost use Rattle.edit_steps.specs.RequestView.{request_view};
 ghost use Rattle.edit_program.specs.Planned.{to_request, to_lookup_request};
 
 use edit_shown::Presentation;
-use edit_steps::upgrade_read::{SourceRequest, RustChoice};
+use edit_steps::upgrade_read::{RustChoice, SourceRequest};
 use edit_upgrade::Options;
 
 /// The arguments of `upgrade`.

@@ -63,7 +63,10 @@ pub(crate) fn copied_lists(
 }
 
 /// Appends `new` to `old`, if there is one.
-pub fn append_texts(old: Option<Vec<String>>, mut new: Vec<String>) -> Result<Vec<String>, AllocError>
+pub fn append_texts(
+    old: Option<Vec<String>>,
+    mut new: Vec<String>,
+) -> Result<Vec<String>, AllocError>
     ensures { IfOk result (λ v. texts_view v
         ≡ unwrap_or (option_map texts_view old) [] ++ texts_view new) }
 {

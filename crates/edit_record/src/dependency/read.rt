@@ -11,7 +11,7 @@ ghost use Rattle.edit_record.specs.RecordViews.{IsErrorOfResult, path_view, reco
 use super::Dependency;
 use super::copies::to_owned_text;
 use super::members::{
-    check_spelling, features_at, text_at, text_of, bool_at, version_at, wrong_type,
+    bool_at, check_spelling, features_at, text_at, text_of, version_at, wrong_type,
 };
 use super::sources::{GitSource, PathSource, RegistrySource, Source, WorkspaceSource};
 use edit_base::errors::{CargoResult, Error};

@@ -4,8 +4,8 @@ ghost use Rattle.edit_shown.specs.Hunks as spec;
 ghost use Rattle.edit_shown.specs.Hunks.{AreCounted};
 ghost use Rattle.edit_shown.specs.ShownLines.{is_new, is_old};
 
-use crate::diff::line_diff::LineKind;
 use crate::diff::context_lines::{count_new, count_old, is_shown, part_length};
+use crate::diff::line_diff::LineKind;
 use std::alloc::{AllocError, Global};
 
 /// Whether a line ends with a line feed.

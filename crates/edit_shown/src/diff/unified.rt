@@ -8,8 +8,8 @@ ghost use Rattle.edit_shown.specs.LineKinds.{compare_lines};
 ghost use Rattle.edit_shown.specs.Unified as spec;
 
 use crate::diff::hunks::push_parts;
-use crate::diff::lines::lines_of;
 use crate::diff::line_diff::compare_lines;
+use crate::diff::lines::lines_of;
 use crate::diff::names::push_name;
 use edit_base::{CargoResult, Error};
 use std::alloc::{AllocError, Global};

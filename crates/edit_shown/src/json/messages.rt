@@ -4,8 +4,8 @@ ghost use Rattle.edit_base.specs.Errors.{IsMemory};
 ghost use Rattle.edit_shown.specs.JsonMessages.{change_members, file_members, message_text, row_members, summary_members, warning_members};
 
 use crate::json::fields::{Field, Member};
-use crate::json::message_names::{borrow_optional_text, change_name, reason_name};
 use crate::json::message_encoding::message;
+use crate::json::message_names::{borrow_optional_text, change_name, reason_name};
 use edit_base::CargoResult;
 use edit_report::Row;
 use std::alloc::Global;

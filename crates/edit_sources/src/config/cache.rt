@@ -32,7 +32,12 @@ impl ConfigCache {
     }
 
     /// Stores the configuration that was found in a folder.
-    fn insert_config(&mut self, alloc: Global, place: &str, found: Option<Config>) -> Result<(), AllocError>
+    fn insert_config(
+        &mut self,
+        alloc: Global,
+        place: &str,
+        found: Option<Config>,
+    ) -> Result<(), AllocError>
         ensures cached { (seen : StoreView) → AreCached seen self.old
             → (seen.tells ≡ true → IsReadOf (file_in seen.file_at place.now) found)
             → AreCached seen self.new }

@@ -150,7 +150,10 @@ pub(crate) fn head_key<'a>(registry: Option<&'a str>) -> &'a str
 }
 
 /// The source that a registry starts at, given the definition of its key.
-pub(crate) fn chain_start_source<'a>(found: Option<Source<'a>>, registry: Option<&str>) -> Option<Source<'a>>
+pub(crate) fn chain_start_source<'a>(
+    found: Option<Source<'a>>,
+    registry: Option<&str>,
+) -> Option<Source<'a>>
     ensures { option_map source_texts result
         ≡ spec.head_source_of (given registry.entry) (option_map source_texts found.entry) }
 {

@@ -14,7 +14,8 @@ ghost use Rattle.edit_sources.specs.Sources.{source_texts};
 ghost use Rattle.edit_sources.specs.declared.config.Config.{Config};
 
 use super::chain::{
-    Source, first_definitions, chain_start_source, head_key, registry_not_found, source_not_found, with_address,
+    Source, chain_start_source, first_definitions, head_key, registry_not_found, source_not_found,
+    with_address,
 };
 use crate::config::Config;
 use edit_base::{CargoResult, Error};
@@ -66,7 +67,12 @@ impl<'a> Definitions<'a> {
 
     /// Removes and returns the source of a key, so that no key is used twice. The first key of the chain
     /// counts as used, and its source stays.
-    fn remove_source(&mut self, alloc: Global, beginning: &str, key: &'a str) -> CargoResult<Source<'a>>
+    fn remove_source(
+        &mut self,
+        alloc: Global,
+        beginning: &str,
+        key: &'a str,
+    ) -> CargoResult<Source<'a>>
         ensures takes { IfOk result
             (λ s. RemovesSource beginning.now key.entry.now self.old self.new (source_texts s)) }
         ensures shorter { OnOk result (btree_map_len self.new.left < btree_map_len self.old.left) }

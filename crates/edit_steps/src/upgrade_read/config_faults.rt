@@ -2,8 +2,8 @@
 ghost use Rattle.std.specs.Prelude.{◌≡◌, ◌<◌, ◌^◌};
 ghost use Rattle.edit_store.specs.Store.{OnlyReads};
 
-use crate::run_error::{RunError, shown_position};
 use crate::reread::at_first;
+use crate::run_error::{RunError, shown_position};
 use crate::toml_fault::toml_fault;
 use edit_base::paths::{folder, join};
 use edit_base::{CargoResult, Error};

@@ -9,9 +9,9 @@ ghost use Rattle.edit_steps.specs.Errors.{IsManifestError};
 ghost use Rattle.edit_steps.specs.Faults.{CountsFault};
 ghost use Rattle.edit_steps.specs.Own.{IsManifestRead, HasOwnNameAndRust};
 
-use crate::upgrade_read::source_request::RustChoice;
 use crate::upgrade_read::locate::manifest_path;
 use crate::upgrade_read::manifest_fields::{report_name, rust_version_for};
+use crate::upgrade_read::source_request::RustChoice;
 use crate::{RunResult, at_byte, at_file, at_path};
 use edit_base::Error;
 use edit_document::Document;

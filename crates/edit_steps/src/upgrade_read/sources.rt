@@ -9,11 +9,11 @@ ghost use Rattle.edit_steps.specs.Faults.{CountsFault};
 ghost use Rattle.edit_steps.specs.Sources.{AreRead, MayBePlanned};
 
 use crate::RunResult;
-use crate::upgrade_read::source_request::SourceRequest;
 use crate::upgrade_read::configs::read_configurations;
 use crate::upgrade_read::index::{IndexSource, read_index};
 use crate::upgrade_read::named::read_named;
 use crate::upgrade_read::shared::SharedConfigs;
+use crate::upgrade_read::source_request::SourceRequest;
 use crate::upgrade_read::target::{Target, read_target};
 use edit_store::Store;
 use std::alloc::Global;

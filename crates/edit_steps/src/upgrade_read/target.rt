@@ -8,8 +8,8 @@ ghost use Rattle.edit_steps.specs.Errors.{IsTargetError};
 ghost use Rattle.edit_steps.specs.Faults.{CountsFault};
 ghost use Rattle.edit_steps.specs.Sources.{AreDocuments, IsTargetRead};
 
-use crate::upgrade_read::source_request::SourceRequest;
 use crate::upgrade_read::found::{ReadManifest, read_manifest};
+use crate::upgrade_read::source_request::SourceRequest;
 use crate::{ReadWorkspace, RunResult, read_workspace};
 use edit_document::Document;
 use edit_metadata::{Input, Workspace};

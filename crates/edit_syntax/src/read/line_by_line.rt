@@ -8,7 +8,7 @@ ghost use Rattle.edit_syntax.specs.FirstLine.{after_first, tokens_of_first_line}
 
 use super::gaps::past_line_end;
 use super::lines::line;
-use super::syntax_tokens::{SyntaxToken, ReadError};
+use super::syntax_tokens::{ReadError, SyntaxToken};
 use edit_base::errors::{CargoResult, Error};
 
 /// Appends the tokens of the first line, with arrays and inline tables nested at most 80 deep, and returns

@@ -10,8 +10,8 @@ ghost use Rattle.edit_syntax.specs.AppendedTokens.{AppendsTokens};
 
 use super::bytes::{Class, byte_at, first, past, past_run, skip};
 use super::gaps::past_line_end;
-use super::syntax_tokens::{SyntaxToken, TokenKind, ReadError};
-use super::values::{key, append_token, pair};
+use super::syntax_tokens::{ReadError, SyntaxToken, TokenKind};
+use super::values::{append_token, key, pair};
 use std::alloc::Global;
 
 /// Reads the header of a table, `[key]`.
@@ -50,7 +50,11 @@ fn element_header<'a>(out: &mut Vec<SyntaxToken>, s: &'a [u8]) -> Result<&'a [u8
 
 /// Reads a statement: a key/value pair, a `[key]` header or a `[[key]]` header.
 #[tactic(auto, unfolding(crate::specs::Reading::statement_at))]
-fn statement<'a>(out: &mut Vec<SyntaxToken>, s: &'a [u8], depth: usize) -> Result<&'a [u8], ReadError>
+fn statement<'a>(
+    out: &mut Vec<SyntaxToken>,
+    s: &'a [u8],
+    depth: usize,
+) -> Result<&'a [u8], ReadError>
     requires { depth < 1000 }
     ensures { AppendsTokens tokens_of_statement out.old out.new result (reading.statement_at depth s.now) }
 {

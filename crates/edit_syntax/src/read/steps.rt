@@ -10,7 +10,7 @@ ghost use Rattle.edit_syntax.specs.Reading as reading;
 ghost use Rattle.edit_syntax.specs.Steps.{IsItem, IsKeyAndSign};
 
 use super::bytes::{Class, past, past_run};
-use super::syntax_tokens::{SyntaxToken, ReadError};
+use super::syntax_tokens::{ReadError, SyntaxToken};
 use super::values::{key, value};
 use edit_base::errors::{CargoResult, Error};
 use std::alloc::Global;

@@ -6,9 +6,9 @@ ghost use Rattle.edit_syntax.specs.AppendedTokens.{Skips, token_view, parsed_tok
 ghost use Rattle.edit_syntax.specs.SyntaxTokens.{part_kind};
 
 use super::bytes::{Class, byte_at, first, is_bare, is_basic_ch, past, past_run, skip};
-use super::syntax_tokens::TokenKind;
 use super::multi::past_multi;
 use super::numbers::{begins, past_number};
+use super::syntax_tokens::TokenKind;
 
 /// The Unicode scalar value with these hexadecimal digits.
 pub(crate) fn scalar(digits: &[u8]) -> Option<char>

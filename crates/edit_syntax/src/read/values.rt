@@ -8,7 +8,7 @@ ghost use Rattle.edit_syntax.specs.AppendedTokens.{AppendsTokens, AppendsToken, 
 
 use super::bytes::{Class, first, past, past_run, skip};
 use super::gaps::past_gap;
-use super::syntax_tokens::{SyntaxToken, TokenKind, ReadError};
+use super::syntax_tokens::{ReadError, SyntaxToken, TokenKind};
 use super::tokens::{past_part, past_scalar};
 
 /// The number of bytes left, as a token stores it. `ReadError::Memory` where it exceeds 32 bits.
@@ -179,7 +179,11 @@ fn array<'a>(out: &mut Vec<SyntaxToken>, s: &'a [u8], depth: usize) -> Result<&'
 
 /// Reads an inline table whose values nest at most `depth` deep.
 #[cycle(values)]
-fn inline_table<'a>(out: &mut Vec<SyntaxToken>, s: &'a [u8], depth: usize) -> Result<&'a [u8], ReadError>
+fn inline_table<'a>(
+    out: &mut Vec<SyntaxToken>,
+    s: &'a [u8],
+    depth: usize,
+) -> Result<&'a [u8], ReadError>
     requires shallow { depth < 1000 }
     requires opened { reading.first s.now ≡ left_brace }
     ensures { AppendsTokens tokens_of_value out.old out.new result (reading.value_at (depth + 1) s.now) }

@@ -1,5 +1,7 @@
 //! Tests of finding, reading and writing manifests.
-use crate::assertion_helpers::{check_result, unwrap_alloc, text_or_error, error_number_and_text, unwrap_ok};
+use crate::assertion_helpers::{
+    check_result, error_number_and_text, text_or_error, unwrap_alloc, unwrap_ok,
+};
 use crate::rows::field;
 use edit_base::CargoResult;
 use edit_manifest::{LocalManifest, find};
@@ -33,7 +35,12 @@ fn store_of(rt: &impl Abort, alloc: Global, at: u64) -> FaultStore {
 }
 
 /// The text of a manifest, after its path where it is loaded; or the error.
-fn manifest_or_error(rt: &impl Abort, alloc: Global, call: &str, local: CargoResult<LocalManifest>) -> String {
+fn manifest_or_error(
+    rt: &impl Abort,
+    alloc: Global,
+    call: &str,
+    local: CargoResult<LocalManifest>,
+) -> String {
     match local {
         Ok(local) if call == "load" => {
             unwrap_alloc(rt, format!(in alloc; "{} {}", local.path, local.manifest))

@@ -1,5 +1,5 @@
 //! Kinds of dependencies and their tables.
-use crate::assertion_helpers::{unwrap_alloc, text, unwrap_ok};
+use crate::assertion_helpers::{text, unwrap_alloc, unwrap_ok};
 use crate::rows::{LINES, check_rows};
 use edit_manifest::{DepKind, DepTable};
 use std::alloc::Global;

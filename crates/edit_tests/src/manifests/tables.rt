@@ -1,5 +1,5 @@
 //! Tests of dependency tables, by calls that no program makes.
-use crate::assertion_helpers::{check_result, unwrap_alloc, push, text, unwrap_ok};
+use crate::assertion_helpers::{check_result, push, text, unwrap_alloc, unwrap_ok};
 use crate::rows::{TILDES, check_rows};
 use edit_document::{Step, clone_place};
 use edit_manifest::Manifest;

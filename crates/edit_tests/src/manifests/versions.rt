@@ -1,5 +1,5 @@
 //! Tests of the versions in manifests, by calls that no program makes.
-use crate::assertion_helpers::{push, text, error_number_and_text, unwrap_ok, word_or_error};
+use crate::assertion_helpers::{error_number_and_text, push, text, unwrap_ok, word_or_error};
 use crate::rows::{TILDES, check_rows};
 use edit_document::{Document, Place, Step};
 use edit_manifest::{Manifest, get_dep_version, set_dep_version};

@@ -1,7 +1,7 @@
 //! A plan of two manifests in distinct folders.
 ghost use Rattle.std.specs.Prelude.{◌≡◌, string_bytes};
 
-use crate::assertion_helpers::{check_result, unwrap_alloc, push, text, unwrap_ok};
+use crate::assertion_helpers::{check_result, push, text, unwrap_alloc, unwrap_ok};
 use cargo_edit::upgrade::{Options, UpgradePlan, plan_shared, plan_upgrade};
 use cargo_edit::workspace::Input;
 use edit_cache::IndexCache;
@@ -46,7 +46,11 @@ fn default_options(alloc: Global) -> Options {
 }
 
 /// The plan of the manifests of two folders.
-fn plan_of_two_folders(rt: &impl Abort, alloc: Global, index: &mut IndexCache<FileIndex>) -> UpgradePlan {
+fn plan_of_two_folders(
+    rt: &impl Abort,
+    alloc: Global,
+    index: &mut IndexCache<FileIndex>,
+) -> UpgradePlan {
     let first = b"[dependencies]\nx = \"1.0\"\n";
     let second = b"[dependencies]\ny = \"1.2\"\nx = \"1.1\"\n";
     let inputs = [

@@ -2,7 +2,7 @@
 use super::entry_rows::dependency_fields;
 use super::parts::comparison_text;
 use super::written_rows::record_of;
-use crate::assertion_helpers::{unwrap_alloc, text, unwrap_ok};
+use crate::assertion_helpers::{text, unwrap_alloc, unwrap_ok};
 use crate::rows::{LINES, check_rows};
 use edit_record::{Dependency, Source};
 use std::alloc::Global;

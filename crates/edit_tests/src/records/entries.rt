@@ -1,6 +1,6 @@
 //! Tests of calls of index entries and of Rust versions that no program makes.
 use super::parts::{choice_text, comparison_text, dependency_text};
-use crate::assertion_helpers::{unwrap_alloc, push, text, unwrap_ok};
+use crate::assertion_helpers::{push, text, unwrap_alloc, unwrap_ok};
 use crate::rows::{LINES, check_rows};
 use edit_record::{
     IndexVersion, RustVersion, dependency_on, find_compatible_version, find_latest_version,

@@ -1,6 +1,6 @@
 //! Tests of entries of a dependency table, each read as a `Dependency`.
 use super::parts::record_at;
-use crate::assertion_helpers::{unwrap_alloc, text, unfold_lines};
+use crate::assertion_helpers::{text, unfold_lines, unwrap_alloc};
 use crate::rows::{LINES, check_rows};
 use edit_record::Dependency;
 use std::alloc::Global;

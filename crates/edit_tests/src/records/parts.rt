@@ -1,5 +1,5 @@
 //! What the tests of records make and tell.
-use crate::assertion_helpers::{unwrap_alloc, text, error_number_and_text, unwrap_ok};
+use crate::assertion_helpers::{error_number_and_text, text, unwrap_alloc, unwrap_ok};
 use edit_base::CargoResult;
 use edit_document::{Document, Item};
 use edit_record::Dependency;

@@ -1,7 +1,7 @@
 //! Rows of entries that come to say what a record says: the manifest that is left, the manifest, and the
 //! record, its parts between semicolons. Lines end with `@`; a manifest without a header is one of entries.
 use super::written_rows::record;
-use crate::assertion_helpers::{unwrap_alloc, push, text, unfold_lines, unwrap_ok, word_or_error};
+use crate::assertion_helpers::{push, text, unfold_lines, unwrap_alloc, unwrap_ok, word_or_error};
 use crate::rows::{LINES, check_rows};
 use edit_base::CargoResult;
 use edit_document::{Document, Place, Step};
@@ -135,7 +135,12 @@ fn update(
 }
 
 /// The manifest after the update, and the error where there is one.
-fn manifest_and_error(rt: &impl Abort, alloc: Global, document: &Document, refusal: &str) -> String {
+fn manifest_and_error(
+    rt: &impl Abort,
+    alloc: Global,
+    document: &Document,
+    refusal: &str,
+) -> String {
     let text = document.as_str();
     let text = text.strip_prefix(HEADER).unwrap_or(text);
     let left = unwrap_alloc(rt, text.replace(alloc, '\n', "@"));

@@ -1,5 +1,5 @@
 //! Tests of calls of versions and of `NAME@REQUIREMENT` arguments that no program makes.
-use crate::assertion_helpers::{unwrap_alloc, text, unwrap_ok};
+use crate::assertion_helpers::{text, unwrap_alloc, unwrap_ok};
 use crate::rows::{LINES, check_rows};
 use edit_version::{CrateSpec, VersionExt, cut};
 use semver::Version;

@@ -1,7 +1,7 @@
 //! Rows of records and their new entries: what is written, the folder of the manifest, and what the record
 //! says, its parts between semicolons.
 use super::parts::record_at;
-use crate::assertion_helpers::{unwrap_alloc, text_or_error, push, text, unwrap_ok};
+use crate::assertion_helpers::{push, text, text_or_error, unwrap_alloc, unwrap_ok};
 use crate::rows::{LINES, check_rows};
 use edit_document::NewItem;
 use edit_record::{Dependency, GitSource, PathSource, RegistrySource, Source, WorkspaceSource};
@@ -70,7 +70,13 @@ fn repository(rt: &impl Abort, alloc: Global, part: &str, text: &str) -> GitSour
 }
 
 /// A git source with one part more, or with a version.
-fn versioned_git_source(rt: &impl Abort, alloc: Global, git: GitSource, part: &str, text: &str) -> GitSource {
+fn versioned_git_source(
+    rt: &impl Abort,
+    alloc: Global,
+    git: GitSource,
+    part: &str,
+    text: &str,
+) -> GitSource {
     match part {
         "branch" => {
             let git = unwrap_ok(rt, git.set_tag(alloc, "t"));

@@ -1,7 +1,9 @@
 //! Tests of outputs written to files in memory, where a write may fail.
 ghost use Rattle.std.specs.Prelude.{◌≡◌, string_bytes};
 
-use crate::assertion_helpers::{check_result, unwrap_alloc, text, error_number_and_text, unwrap_ok};
+use crate::assertion_helpers::{
+    check_result, error_number_and_text, text, unwrap_alloc, unwrap_ok,
+};
 use edit_base::CargoResult;
 use edit_report::{Output, apply};
 use edit_store::{FaultStore, MemoryStore, Store};

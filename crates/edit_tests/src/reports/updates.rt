@@ -1,6 +1,6 @@
 //! Rows of calls that follow an upgrade: words that are refused, and that are not read at a dry run. The
 //! program reads each word before.
-use crate::assertion_helpers::{unwrap_alloc, push, text, error_number_and_text, unwrap_ok};
+use crate::assertion_helpers::{error_number_and_text, push, text, unwrap_alloc, unwrap_ok};
 use crate::rows::{LINES, check_rows};
 use edit_metadata::Workspace;
 use edit_upgrade::update::update_calls;

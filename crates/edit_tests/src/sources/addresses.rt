@@ -1,6 +1,8 @@
 //! Addresses under configuration files.
 use super::index_texts::files_of;
-use crate::assertion_helpers::{check_result, unwrap_alloc, text, error_number_and_text, unwrap_ok};
+use crate::assertion_helpers::{
+    check_result, error_number_and_text, text, unwrap_alloc, unwrap_ok,
+};
 use crate::rows::field;
 use edit_sources::config::{Config, ConfigCache, read_configs};
 use edit_sources::registry::{registry_url, resolve};

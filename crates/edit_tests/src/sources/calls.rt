@@ -1,6 +1,8 @@
 //! Calls of an index and of its cache, as texts.
 use super::index_texts::entries;
-use crate::assertion_helpers::{check_result, unwrap_alloc, text, error_number_and_text, word_or_error};
+use crate::assertion_helpers::{
+    check_result, error_number_and_text, text, unwrap_alloc, word_or_error,
+};
 use crate::records::parts::choice_text;
 use crate::rows::field;
 use edit_cache::{IndexCache, Ranked};

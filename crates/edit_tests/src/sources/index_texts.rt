@@ -1,5 +1,5 @@
 //! Files of indexes, and the entries of an answer.
-use crate::assertion_helpers::{unwrap_alloc, unfold_lines, unwrap_ok};
+use crate::assertion_helpers::{unfold_lines, unwrap_alloc, unwrap_ok};
 use crate::rows::field;
 use edit_sources::IndexKrate;
 use edit_store::{MemoryStore, Store};

@@ -1,5 +1,7 @@
 //! Calls of a store, as texts.
-use crate::assertion_helpers::{check_result, unwrap_alloc, text, error_number_and_text, word_or_error};
+use crate::assertion_helpers::{
+    check_result, error_number_and_text, text, unwrap_alloc, word_or_error,
+};
 use crate::rows::field;
 use edit_store::{Kind, Store};
 use std::alloc::Global;

@@ -1,6 +1,6 @@
 //! Tests of errors in an input other than the first. The others are in
 //! `tests/cases/upgrade/error_places.toml`.
-use crate::assertion_helpers::{unwrap_alloc, push, text};
+use crate::assertion_helpers::{push, text, unwrap_alloc};
 use crate::rows::{TILDES, check_rows};
 use edit_base::Error;
 use edit_metadata::Input;

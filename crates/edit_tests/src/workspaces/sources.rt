@@ -1,9 +1,9 @@
 //! Tests of the files that an upgrade reads. Errors are in `tests/cases/upgrade/inputs_rejected.toml`.
-use super::workspaces::{with_quotation_marks, rust_text};
-use crate::assertion_helpers::{unwrap_alloc, error_number_and_text, unfold_lines, unwrap_ok};
+use super::workspaces::{rust_text, with_quotation_marks};
+use crate::assertion_helpers::{error_number_and_text, unfold_lines, unwrap_alloc, unwrap_ok};
 use crate::rows::{TILDES, check_rows};
 use edit_sources::Config;
-use edit_steps::upgrade_read::{SourceRequest, IndexSource, RustChoice, Sources, read_sources};
+use edit_steps::upgrade_read::{IndexSource, RustChoice, SourceRequest, Sources, read_sources};
 use edit_store::{MemoryStore, Store};
 use edit_version::RustVersion;
 use std::alloc::Global;
@@ -97,7 +97,12 @@ fn choice(rt: &impl Abort, alloc: Global, word: Option<&str>) -> RustChoice {
 
 /// What is asked for: the words name a manifest and metadata; and an index, the choice of a Rust version, a
 /// folder of registries, and the configuration files that count before and after all others.
-fn request_of_row<'a>(rt: &impl Abort, alloc: Global, target: &'a str, more: &'a str) -> SourceRequest<'a> {
+fn request_of_row<'a>(
+    rt: &impl Abort,
+    alloc: Global,
+    target: &'a str,
+    more: &'a str,
+) -> SourceRequest<'a> {
     SourceRequest {
         manifest_path: nth(target, 0),
         metadata_json: nth(target, 1),
@@ -111,7 +116,12 @@ fn request_of_row<'a>(rt: &impl Abort, alloc: Global, target: &'a str, more: &'a
 }
 
 /// Reads the requested files in `/w/a/src`, with the home folder `/h`.
-fn read_result(rt: &impl Abort, alloc: Global, asked: &SourceRequest, store: &mut MemoryStore) -> String {
+fn read_result(
+    rt: &impl Abort,
+    alloc: Global,
+    asked: &SourceRequest,
+    store: &mut MemoryStore,
+) -> String {
     match read_sources(alloc, asked, "/w/a/src", Some("/h"), store) {
         Ok(sources) => sources_text(rt, alloc, &sources),
         Err(refusal) => error_number_and_text(rt, alloc, refusal.error),

@@ -1,5 +1,5 @@
 //! Tests of workspaces read from metadata. Errors are in `tests/cases/upgrade/metadata_rejected.toml`.
-use crate::assertion_helpers::{unwrap_alloc, text, error_number_and_text, unwrap_ok};
+use crate::assertion_helpers::{error_number_and_text, text, unwrap_alloc, unwrap_ok};
 use crate::rows::{TILDES, check_rows};
 use edit_metadata::{Package, Workspace, manifest_from_pkgid};
 use edit_version::RustVersion;

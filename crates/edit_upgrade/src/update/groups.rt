@@ -10,7 +10,10 @@ use std::collections::BTreeMap;
 pub(crate) type Groups<'a> = BTreeMap<&'a str, Vec<&'a Package>>;
 
 /// Groups packages by name.
-pub(crate) fn group_by_name<'a>(alloc: Global, packages: &'a [Package]) -> Result<Groups<'a>, AllocError>
+pub(crate) fn group_by_name<'a>(
+    alloc: Global,
+    packages: &'a [Package],
+) -> Result<Groups<'a>, AllocError>
     ensures { IfOk result (λ m. AreGroups m packages.now) }
 {
     let mut groups: BTreeMap<&'a str, Vec<&'a Package>> = BTreeMap::new(alloc);

@@ -5,9 +5,9 @@ use Rattle.std.proofs.lemmas.List.Elements.{All-push}
 use Rattle.std.proofs.lemmas.Slice.Zip.{all_zipped_more}
 use Rattle.edit_store.specs.Store.{OnlyReads}
 use Rattle.edit_version.specs.RustVersions.{numbers_of}
-use Rattle.edit_metadata.specs.Inputs.{IsInputOf, IsNoInput, IsReadFrom, RustOptions, manifest_of, member_manifests}
+use Rattle.edit_metadata.specs.Inputs.{HasFile, IsInputOf, IsNoInput, IsReadFrom, RustOptions, manifest_of, member_manifests}
 use Rattle.edit_metadata.specs.Workspaces.{package_view, packages_view}
-use Rattle.edit_metadata.proofs.InputLemmas.{among-members, manifests-kept, manifests-more, no-input-later, reads-on}
+use Rattle.edit_metadata.proofs.InputLemmas.{manifests-kept, manifests-more, missing-among-members, no-input-later, reads-on}
 use Rattle.edit_metadata.proofs.inputs.member_inputs.Goals as goal
 use Rattle.edit_metadata.proofs.inputs.member_inputs.Goals.{then-package+in_ok-input+in_ok-push, else-package}
 
@@ -17,8 +17,9 @@ returns-in_err-input-clause-error g c =
     (member_manifests (packages_view c.args.packages.now)) c.in_err-input.field-0.0
     = no-input-later (g.S.Store.view c.args.store.now) (g.S.Store.view c.packages.store)
     (g.S.Store.view c.member_input.new.store) _ _ _ c.packages.invariant.store
-    (among-members c.args.packages.now c.packages.package-index c.package-item.result c.packages-test.true
-    c.package-item.is c.if-package.true) c.in_err-input.ensures.error in
+    (λ tells. missing-among-members (g.S.Store.view c.args.store.now).file_at c.args.packages.now
+    c.packages.package-index c.package-item.result c.packages-test.true c.package-item.is c.if-package.true
+    (c.packages.invariant.files tells)) c.in_err-input.ensures.error in
     search (rules, why)
 
 pub packages-preserved : goal.packages-preserved
@@ -48,6 +49,15 @@ packages-preserved g c =
                 (All-push (IsReadFrom first.file_at) old input (before.bytes tells)
                 (sym (before.store.files (string_bytes input.path))
                 ∙ w.in_ok-input.ensures.bytes (before.store.tells ∙ tells)));
+            files = λ tells. subst (All (HasFile first.file_at)) (sym more)
+                (All-push (HasFile first.file_at) (member_manifests (packages_view (take i ps)))
+                (manifest_of (package_view p)) (before.files tells) (record {
+                  path = string_bytes input.path;
+                  is_normal = w.in_ok-input.ensures.input.path;
+                  bytes = input.bytes.items;
+                  present = sym (before.store.files (string_bytes input.path))
+                      ∙ w.in_ok-input.ensures.bytes (before.store.tells ∙ tells);
+                }));
           }
       | else-package w ↦
           let kept : c.if-package.inputs.items ≡ old = ap (λ v. v.items) w.inputs-is in
@@ -57,5 +67,6 @@ packages-preserved g c =
             inputs = subst (AllZip (IsInputOf asked) (member_manifests (packages_view (take (i + 1) ps))))
                 (sym kept) (subst (λ ms. AllZip (IsInputOf asked) ms old) (sym same) before.inputs);
             bytes = λ tells. subst (All (IsReadFrom first.file_at)) (sym kept) (before.bytes tells);
+            files = λ tells. subst (All (HasFile first.file_at)) (sym same) (before.files tells);
           }
     ]

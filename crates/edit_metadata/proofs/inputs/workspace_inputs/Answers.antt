@@ -1,10 +1,10 @@
-use Rattle.std.proofs.Common.{List, ◌∷◌, [], ap, arith, inl, inr, ⊎_elim, option_map, refl, rules, string_bytes, subst, sym, ◌∙◌, zero}
-use Rattle.std.specs.Prelude.{Contains}
+use Rattle.std.proofs.Common.{List, ◌∷◌, [], ap, inl, inr, ⊎_elim, option_map, rules, string_bytes, subst, sym, ◌∙◌}
+use Rattle.std.specs.Prelude.{All, Contains}
 use Rattle.std.specs.List.{AllZip}
-use Rattle.std.proofs.lemmas.List.Elements.{Contains-append_right}
+use Rattle.edit_base.proofs.FirstCauseLemmas.{first_before, first_behind, first_here}
 use Rattle.edit_base.specs.Paths.{IsNormalOf}
 use Rattle.edit_version.specs.RustVersions.{numbers_of}
-use Rattle.edit_metadata.specs.Inputs.{AreInputs, IsInputOf, IsNoInput, RustOptions, input_paths, least, manifests, member_manifests, root_manifest, rust_version_for}
+use Rattle.edit_metadata.specs.Inputs.{AreInputs, HasFile, HaveMissingFile, IsInputOf, IsNoInput, LacksFile, RustOptions, input_paths, least, manifests, member_manifests, root_manifest, rust_version_for}
 use Rattle.edit_metadata.specs.Inputs.AreInputs.{of_members, with_root}
 use Rattle.edit_metadata.specs.Workspaces.{packages_view, workspace_view}
 use Rattle.edit_metadata.specs.declared.input.Input.{Input}
@@ -18,9 +18,11 @@ returns-in_err-inputs-clause-error g c =
     (manifests said) c.in_err-inputs.field-0.0
     = no-input-among (g.S.Store.view c.args.store.now) (g.S.Store.view c.member_inputs.new.store)
     (member_manifests (packages_view c.deref.result.now)) _ _
-    (λ m has. Contains-append_right (root_manifest said ∷ [])
-    (member_manifests said.packages) m
-    (subst (λ ps. Contains (member_manifests (packages_view ps)) m) c.deref.ensures.value has))
+    (λ lack. first_before (HasFile (g.S.Store.view c.args.store.now).file_at)
+    (LacksFile (g.S.Store.view c.args.store.now).file_at) (member_manifests said.packages)
+    (root_manifest said ∷ [])
+    (subst (λ ps. HaveMissingFile (g.S.Store.view c.args.store.now).file_at
+    (member_manifests (packages_view ps))) c.deref.ensures.value lack))
     c.in_err-inputs.ensures.error in
     search (rules, why)
 
@@ -47,13 +49,17 @@ returns-in_err-input-clause-error g c =
     (g.S.Store.view c.member_inputs.new.store) (g.S.Store.view c.root_input.new.store) _ before refused))
     (λ none. inr (
       none.0,
-      λ tells. record {
-        manifest = root_manifest said;
-        among = (zero, omega arith, refl);
-        path = string_bytes c.in_ok-root.root;
-        is_normal = c.in_ok-root.ensures.path;
-        absent = sym (before.files (string_bytes c.in_ok-root.root)) ∙ none.1 (before.tells ∙ tells);
-      },
+      λ tells. first_behind (HasFile (g.S.Store.view c.args.store.now).file_at)
+          (LacksFile (g.S.Store.view c.args.store.now).file_at) (member_manifests said.packages)
+          (root_manifest said ∷ [])
+          (subst (λ ps. All (HasFile (g.S.Store.view c.args.store.now).file_at)
+          (member_manifests (packages_view ps))) c.deref.ensures.value (c.in_ok-inputs.ensures.files tells))
+          (first_here (HasFile (g.S.Store.view c.args.store.now).file_at)
+          (LacksFile (g.S.Store.view c.args.store.now).file_at) (root_manifest said) [] (record {
+            path = string_bytes c.in_ok-root.root;
+            is_normal = c.in_ok-root.ensures.path;
+            absent = sym (before.files (string_bytes c.in_ok-root.root)) ∙ none.1 (before.tells ∙ tells);
+          })),
     )) c.in_err-input.ensures.error in
     search (rules, why)
 

@@ -5,7 +5,7 @@ use Rattle.std.proofs.lemmas.Result.{err_from_is_err_and}
 use Rattle.std.proofs.lemmas.Slice.Zip.{AllZip-long}
 use Rattle.edit_set_version.specs.Crates.{IsReadOf, bumps_view}
 use Rattle.edit_set_version.specs.PlanCauses.{HasLiteral, LacksLiteral}
-use Rattle.edit_set_version.proofs.FirstCauseLemmas.{first_at}
+use Rattle.edit_base.proofs.FirstCauseLemmas.{first_at}
 use Rattle.edit_set_version.proofs.ProjectRoot.{read_beside}
 use Rattle.edit_set_version.proofs.literals.check_literals.Goals as goal
 

@@ -8,7 +8,7 @@ use Rattle.std.proofs.lemmas.Result.{err_from_is_err_and}
 use Rattle.edit_manifest.specs.Loaded.{IsBadManifest}
 use Rattle.edit_metadata.specs.declared.input.Input.{Input}
 use Rattle.edit_set_version.specs.PlanRefused.{IsManifest}
-use Rattle.edit_set_version.proofs.FirstCauseLemmas.{first_at}
+use Rattle.edit_base.proofs.FirstCauseLemmas.{first_at}
 use Rattle.edit_set_version.proofs.ProjectRoot.{all_manifests}
 use Rattle.edit_set_version.proofs.manifests.manifests_of.Goals as goal
 

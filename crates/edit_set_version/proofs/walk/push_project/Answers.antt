@@ -9,7 +9,7 @@ use Rattle.edit_set_version.specs.ToldLines.{line_lists_view, other_manifests, w
 use Rattle.edit_set_version.specs.declared.crates.Crate.{Crate}
 use Rattle.edit_set_version.specs.declared.project.ProjectRead.{ProjectRead}
 use Rattle.edit_tree.specs.DocumentViews.{tree_of}
-use Rattle.edit_set_version.proofs.FirstCauseLemmas.{first_behind, first_here}
+use Rattle.edit_base.proofs.FirstCauseLemmas.{first_behind, first_here}
 use Rattle.edit_set_version.proofs.ManifestLines.{manifests_in_parts}
 use Rattle.edit_set_version.proofs.walk.push_project.Goals as goal
 

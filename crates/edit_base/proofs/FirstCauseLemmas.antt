@@ -3,7 +3,7 @@ use Rattle.std.proofs.Common.{◌≡◌, ◌∙◌, ◌+◌, ◌<◌, ◌++◌, 
 use Rattle.std.specs.Prelude.{All}
 use Rattle.std.proofs.lemmas.List.{append_assoc, drop_more, map-append, take-append-drop}
 use Rattle.std.proofs.lemmas.List.Elements.{All-append, All-contains, All-map, All-nil, Contains-append_right}
-use Rattle.edit_set_version.specs.FirstCauses.{HasFirstCause}
+use Rattle.edit_base.specs.FirstCauses.{HasFirstCause}
 
 -- a list is what precedes an index, the element there, and what follows
 pub split_at : {X : Type 0} (xs : List X) (i : ℕ) (x : X) → i < length xs → x ≡ get_or xs i x
