@@ -1,5 +1,5 @@
-//! `cargo-edit` as a library: each public name, from the crate that proves it. At the root are the names that the
-//! library of cargo-edit 0.13.14 has there; the modules have all.
+//! `cargo-edit` as a library: each public name, from the crate that proves it. At the root are the names that
+//! the library of cargo-edit 0.13.14 has there; the modules have all.
 #![tactic(auto)]
 
 pub mod dependency;

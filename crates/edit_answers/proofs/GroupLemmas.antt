@@ -86,7 +86,8 @@ module _ (s : Consequence) (offline : Bool) (pairs : List (Lookup × Outcome)) (
 
   -- a lookup with another consequence
   pub missed-same : (found : List (Lookup × Failure)) (r : Option Failure)
-      → r ≡ failure_with s offline (get_or pairs i d).1 → r ≡ None → found ≡ failed_lookups s offline (take i pairs)
+      → r ≡ failure_with s offline (get_or pairs i d).1 → r ≡ None
+      → found ≡ failed_lookups s offline (take i pairs)
       → found ≡ failed_lookups s offline (take (i + 1) pairs)
   missed-same found r is none e =
       e ∙ sym (append-nil (failed_lookups s offline (take i pairs))) ∙ missed-taken None (sym none ∙ is)

@@ -134,7 +134,8 @@ mapped-more f xs i x within is =
     ∙ map-append f (take i xs) (x ∷ [])
 
 -- a listed file is at its index
-pub at-place : (items : List AgedFile) (files : List AgedText) (i : ℕ) (a : AgedFile) → map aged_text items ≡ files
+pub at-place : (items : List AgedFile) (files : List AgedText) (i : ℕ) (a : AgedFile)
+    → map aged_text items ≡ files
     → i < length items → a ≡ get_or items i a
     → (i < length files) × (aged_text a ≡ get_or files i (aged_text a))
 at-place items files i a listed within is = (

@@ -8,7 +8,8 @@ use Rattle.edit_store.specs.Store.{Files, StoreView, IsRaisedCount}
 
 -- the path has the same bytes as before, or new bytes that are allowed there
 abbrev pub IsAllowedAt : (List ℕ → List ℕ → Type 0) → Files → Files → List ℕ → Type 0
-IsAllowedAt P old new path = (new path ≡ old path) ⊎ ((bytes : List ℕ) × (new path ≡ Some bytes) × P path bytes)
+IsAllowedAt P old new path = (new path ≡ old path)
+    ⊎ ((bytes : List ℕ) × (new path ≡ Some bytes) × P path bytes)
 
 -- every path has the same bytes as before, or new bytes that are allowed there
 abbrev pub AllowsChanges : (List ℕ → List ℕ → Type 0) → Files → Files → Type 0

@@ -214,7 +214,8 @@ pub(crate) fn groups_with<'a>(
     offline: bool,
     pairs: &[(Lookup<'a>, Outcome<'_>)],
 ) -> Result<Vec<Group<'a>>, AllocError>
-    ensures { IfOk result (λ v. AreGroups (failed_lookups standing offline pairs.now) (map group_text v.items)) }
+    ensures { IfOk result (λ v. AreGroups (failed_lookups standing offline pairs.now)
+        (map group_text v.items)) }
 {
     let found = failed_lookups(alloc, standing, offline, pairs)?;
     groups_of(alloc, &found)

@@ -15,7 +15,8 @@ use Rattle.std.specs.declared.string.String.{String}
 -- the indices of the greatest version that a requirement admits and of the latest version, among the ranks
 -- that support a Rust version (own)
 pub record IsChoice (ranks : List Ranking) (text : List ℕ) (c : Choice) : Type 0 where
-  pub compatible : c.compatible ≡ position_from (passes (numbers_in c.rust_version) (is_admitted text)) 0 ranks
+  pub compatible : c.compatible
+      ≡ position_from (passes (numbers_in c.rust_version) (is_admitted text)) 0 ranks
   pub latest : c.latest ≡ position_from (passes (numbers_in c.rust_version) (is_offered text)) 0 ranks
 
 -- each cached choice is that of its requirement (own)

@@ -33,7 +33,8 @@ krate_at cache address name = option_and_then (λ krate. krate) (cached_answer_a
 
 -- the cached results are the same for every address and name (own)
 abbrev pub HasSameCache : {I : Type 0} → IndexCache I → IndexCache I → Type 0
-HasSameCache old new = (address name : List ℕ) → cached_answer_at new address name ≡ cached_answer_at old address name
+HasSameCache old new = (address name : List ℕ)
+    → cached_answer_at new address name ≡ cached_answer_at old address name
 
 -- the cached results are the same for every address and name except this one (own)
 abbrev pub HasSameCacheBut : {I : Type 0} → List ℕ → List ℕ → IndexCache I → IndexCache I → Type 0

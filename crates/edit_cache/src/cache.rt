@@ -132,8 +132,8 @@ impl<I: Index> IndexCache<I> {
     }
 
     /// Returns the entries of a crate; `None` where the index has no crate of that name. It is `fetch` and
-    /// then `cached_krate`: errors are not cached, so that a later call makes the lookup again. The contract of
-    /// `fetch` describes the cache afterwards; for this call, whose result borrows from the cache, tests
+    /// then `cached_krate`: errors are not cached, so that a later call makes the lookup again. The contract
+    /// of `fetch` describes the cache afterwards; for this call, whose result borrows from the cache, tests
     /// show it.
     pub fn krate(
         &mut self,
@@ -141,13 +141,15 @@ impl<I: Index> IndexCache<I> {
         registry: &Url,
         name: &str,
     ) -> CargoResult<Option<&IndexKrate>>
-        ensures preserved { IfOk result (λ o. IfSome (cached_answer_at self.old (serialize registry.now) name.now)
+        ensures preserved { IfOk result (λ o. IfSome (cached_answer_at self.old
+            (serialize registry.now) name.now)
             (λ k. option_copied o ≡ k)) }
         ensures given { cached_answer_at self.old (serialize registry.now) name.now ≡ None → IfOk result
             (λ o. (I.view (index_of self.old)).gives registry.now name.now (Ok (answer_of
             (option_copied o)))) }
         // a cached result is returned without an error
-        ensures kept_answers { IsSome (cached_answer_at self.old (serialize registry.now) name.now) → IsOk result }
+        ensures kept_answers { IsSome (cached_answer_at self.old (serialize registry.now) name.now)
+            → IsOk result }
         ensures error { IfErr result (IsMissError (I.view (index_of self.old)).gives registry.now name.now
             (cached_answer_at self.old (serialize registry.now) name.now)) }
     {
@@ -257,7 +259,8 @@ impl<I: Index> IndexCache<I> {
         registry: &Url,
         name: &str,
     ) -> CargoResult<Option<&Ranked>>
-        ensures preserved { IfOk result (λ o. IfSome (cached_answer_at self.old (serialize registry.now) name.now)
+        ensures preserved { IfOk result (λ o. IfSome (cached_answer_at self.old
+            (serialize registry.now) name.now)
             (λ k. IsRanked k (option_copied o))) }
         ensures given { cached_answer_at self.old (serialize registry.now) name.now ≡ None → IfOk result
             (λ o. (k : Option IndexKrate)

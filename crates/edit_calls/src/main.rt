@@ -19,15 +19,15 @@
 //!     edit_calls FILE show STEP.. = ENTRY
 //!     edit_calls FILE written ENTRY
 //!
-//! A step is `.NAME` or `#INDEX`. VALUE is `text TEXT`, `zeros TEXT` (with `␀` for each byte 0, which no
-//! word holds), `truth true`, `truth false` or `list N TEXT ..`; ENTRY is a VALUE, `table N NAME VALUE ..`
-//! or `dotted`. `set_string` is `set_literal` of a VALUE; `copy` puts a copy in the place of the document;
+//! A step is `.NAME` or `#INDEX`. VALUE is `text TEXT`, `zeros TEXT` (with `␀` for each byte 0, which no word
+//! holds), `truth true`, `truth false` or `list N TEXT ..`; ENTRY is a VALUE, `table N NAME VALUE ..` or
+//! `dotted`. `set_string` is `set_literal` of a VALUE; `copy` puts a copy in the place of the document;
 //! `rewrite` reads an entry's record and replaces the entry by it; `update` gives the record another version
 //! and more features, makes it optional, and updates the entry with it. Edits with a word `&` between them
 //! are made one behind the other, up to the first that is not made. It prints `done`, `no such place`, or
-//! `print_edit_error`, a number and a text, and below it the text of the document. Where memory ran out it then
-//! prints the kinds of what the document shows, makes the edits once more, and prints the answer to that.
-//! `pieces` also prints how many pieces the document keeps its text in, the text, and each piece, each
+//! `print_edit_error`, a number and a text, and below it the text of the document. Where memory ran out it
+//! then prints the kinds of what the document shows, makes the edits once more, and prints the answer to
+//! that. `pieces` also prints how many pieces the document keeps its text in, the text, and each piece, each
 //! behind a byte 0. `show` prints what stands at a place of the document, or of a new entry: its type, how
 //! many members or elements, its truth, which views it has, its keys, and last its string; of the document
 //! also whether one statement alone names the place. `written` prints how a new entry is written.

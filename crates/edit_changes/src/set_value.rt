@@ -27,7 +27,8 @@ fn with_range(
 ) -> CargoResult<String>
     requires { AreInOrder text.now 0 ((start, end, []) ∷ []) }
     ensures text { IfOk result (λ s. string_bytes s
-        ≡ take start text.now ++ (value_text (new_value (new_value_view value.now)) [] ++ drop end text.now)) }
+        ≡ take start text.now ++ (value_text (new_value (new_value_view value.now)) []
+        ++ drop end text.now)) }
     ensures error { IfErr result IsMemory }
 {
     let mut out = String::with_capacity(alloc, text.len())?;

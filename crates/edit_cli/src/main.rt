@@ -82,8 +82,8 @@ fn print_usage_error(rt: &HostRuntime, fault: &str) -> CargoResult<u8> {
     Ok(2)
 }
 
-/// Runs the program with its arguments, and returns the exit status. Arguments that need no file, as `--help`,
-/// need no current folder and no environment.
+/// Runs the program with its arguments, and returns the exit status. Arguments that need no file, as
+/// `--help`, need no current folder and no environment.
 fn start(rt: &HostRuntime) -> CargoResult<u8> {
     let words = match env::args(rt) {
         Ok(words) => words,

@@ -44,19 +44,22 @@ moved_cons s u q t r us =
     subst (λ z. place_after_removal (s ∷ z) (u ∷ us) ≡ u ∷ (if same_step s u then place_after_removal z us else us)) (sym c.2)
     (moved_step s c.0 u c.1 us)
 
-pub moved_back : (q : Place) (t : Step) (r k : Place) → place_after_removal (q ++ t ∷ r) (q ++ k) ≡ q ++ place_after_removal (t ∷ r) k
+pub moved_back : (q : Place) (t : Step) (r k : Place)
+    → place_after_removal (q ++ t ∷ r) (q ++ k) ≡ q ++ place_after_removal (t ∷ r) k
 moved_back [] t r k = refl
 moved_back (s ∷ q) t r k =
     moved_cons s s q t r (q ++ k) ∙ ap (λ b. s ∷ (if b then place_after_removal (q ++ t ∷ r) (q ++ k) else q ++ k))
     (same_step_self s)
     ∙ ap (λ z. s ∷ z) (moved_back q t r k)
 
-pub moved_else : (q : Place) (t : Step) (r p : Place) → is_within q p ≡ false → place_after_removal (q ++ t ∷ r) p ≡ p
+pub moved_else : (q : Place) (t : Step) (r p : Place) → is_within q p ≡ false
+    → place_after_removal (q ++ t ∷ r) p ≡ p
 moved_else [] t r p e = absurd (true≢false e)
 moved_else (s ∷ q) t r [] e = refl
 moved_else (s ∷ q) t r (u ∷ us) e = moved_cons s u q t r us ∙ go (same_step s u) e (moved_else q t r us)
   where
-    go : (b : Bool) → (b && is_within q us) ≡ false → (is_within q us ≡ false → place_after_removal (q ++ t ∷ r) us ≡ us)
+    go : (b : Bool) → (b && is_within q us) ≡ false
+        → (is_within q us ≡ false → place_after_removal (q ++ t ∷ r) us ≡ us)
         → u ∷ (if b then place_after_removal (q ++ t ∷ r) us else us) ≡ u ∷ us
     go true f ih = ap (λ z. u ∷ z) (ih f)
     go false f ih = refl

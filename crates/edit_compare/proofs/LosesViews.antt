@@ -44,7 +44,8 @@ moved_number e t p s r h = subst (λ z. IsNodeIndex e z r) (sym (moved_place_is 
 -- a member is where it was
 pub key_moves : (v : View) → AreSteps v → (i : ℕ) (name : List ℕ) → slice_get (names_in v) i ≡ Some name
     → (e : DocumentViews) (t : Step) (p : Place) (r : Option ℕ)
-    → IsNodeIndex e (at p (key name)) r → (s : Step) → nth_part v i ≡ Some s → IsNodeIndex e (moved_place t p s) r
+    → IsNodeIndex e (at p (key name)) r → (s : Step) → nth_part v i ≡ Some s
+    → IsNodeIndex e (moved_place t p s) r
 key_moves v steps i name here e t p r h s part = elim (steps i s part) [
   | inl k ↦
       let same : name ≡ k.0 = same_Some name k.0 (sym here ∙ k.1) in

@@ -87,7 +87,8 @@ pub refused_is : (bytes : List ℕ) (form : Text) → IsDocument bytes form → 
     → state_after bytes (tokens_of_text form) start ≡ None → ⊥
 refused_is bytes form m u none = go (walk_of bytes form (read_of bytes form m u))
   where
-    go : Walks (assertions form) (map placed (values form)) (state_after bytes (tokens_of_text form) start) → ⊥
+    go : Walks (assertions form) (map placed (values form)) (state_after bytes (tokens_of_text form) start)
+        → ⊥
     go (ended now tables e st) = let clash : None ≡ Some (without_pending now tables) = sym none ∙ e in cc
     go (stuck e clash) = clash (record { apart = m.no_clash; short = m.short })
 
@@ -124,7 +125,8 @@ read_is inside form range w = record {
 abbrev pub Found : List ℕ → List SyntaxToken → Type 0
 Found bytes marks = (form : Text) × Spells bytes form × (text_depth form ≤ 80) × (marks ≡ tokens_of_text form)
 
-read_form : (bytes seen : List ℕ) (marks : List SyntaxToken) → IsUtf8 bytes → seen ≡ bytes → (f : Found seen marks)
+read_form : (bytes seen : List ℕ) (marks : List SyntaxToken) → IsUtf8 bytes → seen ≡ bytes
+    → (f : Found seen marks)
     → Read bytes f.0
 read_form bytes seen marks u same f =
     record { spells = subst (λ (b : List ℕ). Spells b f.0) same f.1; utf8 = u }

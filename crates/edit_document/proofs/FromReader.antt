@@ -42,7 +42,8 @@ form_spells bytes form e = go (lines_at 80 (length (skip_byte_order_mark bytes) 
     never : (f : Text) → None ≡ Some f → ⊥
     never f h = cc
 
-    go : (o : Option Lines) → lines_at 80 (length (skip_byte_order_mark bytes) + 1) (skip_byte_order_mark bytes) ≡ o
+    go : (o : Option Lines)
+        → lines_at 80 (length (skip_byte_order_mark bytes) + 1) (skip_byte_order_mark bytes) ≡ o
         → Spells bytes form
     go None h = let no : None ≡ Some form =
         sym (ap (λ (o : Option Lines). o >>= λ ls. Some (record { marked = is_marked bytes; lines = ls }))

@@ -75,7 +75,8 @@ module _ (d : DocumentViews) (nodes : List Node) (opens : Opened d nodes) (n : �
       ap (λ v. names_in v) (view_spot d opens.spots n f.spot opens.nodes_are opens.tree f.stands)
       ∙ names_seen form opens.spots n f.spot st f.stands upper name there (taken Dotted e)
 
-  pub only_answer : node.taken ≡ Dotted → (m : ℕ) → HasMember d n (Some m) → IsStatementCount form d n (AsMember m)
+  pub only_answer : node.taken ≡ Dotted → (m : ℕ) → HasMember d n (Some m)
+      → IsStatementCount form d n (AsMember m)
   only_answer e m h = (
     here_is ∙ only_states form opens.spots n f.spot st f.stands upper name there (taken Dotted e) h.0
         (sym (names_are e) ∙ h.1)

@@ -31,7 +31,8 @@ header_step : (bytes from rest : List ℕ) (st : State) → step bytes (token_be
 unfolding step
 header_step bytes from rest st = refl
 
-element_step : (bytes from rest : List ℕ) (st : State) → step bytes (token_between kinds.ElementHeader from rest) st
+element_step : (bytes from rest : List ℕ) (st : State)
+    → step bytes (token_between kinds.ElementHeader from rest) st
     ≡ array_table_opened st
 unfolding step
 element_step bytes from rest st = refl

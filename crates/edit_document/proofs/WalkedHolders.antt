@@ -41,7 +41,8 @@ abbrev pub IsStep : List ℕ → SyntaxToken → Shape → Span → Type 0
 IsStep bytes m shape span = (st : State) → step bytes m st ≡ value_added st shape (Some span)
 
 pub basic_step : (bytes : List ℕ) (ps : List Piece) (rest : List ℕ) → IsValue (basic ps) → IsUtf8 bytes
-    → Ends bytes (basic_text ps rest) → IsStep bytes (token_between kinds.BasicString (basic_text ps rest) rest)
+    → Ends bytes (basic_text ps rest)
+    → IsStep bytes (token_between kinds.BasicString (basic_text ps rest) rest)
     (scalar (string (decoded_pieces quote ps))) (span_of (basic ps) rest)
 unfolding step token_value
 basic_step bytes ps rest h u ends st =
@@ -57,12 +58,14 @@ literal_step bytes text rest h u ends st =
     ap (λ (o : Option (List ℕ)). o >>= λ x. value_added st (scalar (string x))
     (Some (span_of (literal text) rest))) (said_literal bytes text rest 0 h u ends)
 
-pub true_step : (bytes rest : List ℕ) → IsStep bytes (token_between kinds.True (value (boolean true) rest) rest)
+pub true_step : (bytes rest : List ℕ)
+    → IsStep bytes (token_between kinds.True (value (boolean true) rest) rest)
     (scalar (truth true)) (span_of (boolean true) rest)
 unfolding step
 true_step bytes rest st = refl
 
-pub false_step : (bytes rest : List ℕ) → IsStep bytes (token_between kinds.False (value (boolean false) rest) rest)
+pub false_step : (bytes rest : List ℕ)
+    → IsStep bytes (token_between kinds.False (value (boolean false) rest) rest)
     (scalar (truth false)) (span_of (boolean false) rest)
 unfolding step
 false_step bytes rest st = refl

@@ -54,7 +54,8 @@ span_at (w ∷ ws) place = if same_place w.0 place then Some w.1 else span_at ws
 
 -- the nodes that the walk over the tokens of a text builds
 abbrev pub model_nodes_of : List ℕ → Option (List ModelNode)
-model_nodes_of bytes = form_of bytes >>= λ form. state_after bytes (tokens_of_text form) start >>= λ st. Some st.spots
+model_nodes_of bytes = form_of bytes >>= λ form. state_after bytes
+    (tokens_of_text form) start >>= λ st. Some st.spots
 
 -- the places and views of these nodes; empty where there are none
 abbrev pub node_views : Option (List ModelNode) → List (Place × View)

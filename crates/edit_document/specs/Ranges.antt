@@ -34,7 +34,8 @@ pub record StartsTable (form : Text) (place : Place) (start : ℕ) : Type 0 wher
 -- the offset of the inline table at the place, or `None` where none is written there
 abbrev pub HasTable : Text → Place → Option ℕ → Type 0
 HasTable form place r =
-    MatchOption r ((w : PlacedValue) → Contains (values form) w → w.place ≡ place → is_table_value w.value ≡ false)
+    MatchOption r ((w : PlacedValue) → Contains (values form) w → w.place ≡ place
+    → is_table_value w.value ≡ false)
     (StartsTable form place)
 
 -- the model of the code's places with their new texts

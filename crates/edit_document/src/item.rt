@@ -87,7 +87,8 @@ impl<'a> Item<'a> {
 
     /// The item of a part of a new entry, if the part was found.
     fn of_found(part: Option<EntryPart<'a>>) -> Option<Item<'a>>
-        ensures { (d : DocumentViews) → (place : Place) → FindsPart d place part.entry → Finds d place result }
+        ensures { (d : DocumentViews) → (place : Place) → FindsPart d place part.entry
+            → Finds d place result }
     {
         match part {
             Some(part) => {

@@ -84,7 +84,8 @@ pub fn push_entry(out: &mut String, item: &NewItem) -> Result<(), AllocError>
 
 /// Appends an entry written as a value.
 fn push_item(out: &mut String, item: &NewItem) -> Result<(), AllocError>
-    ensures { OnOk result (string_bytes out.new ≡ string_bytes out.old ++ item_text (new_item_view item.now)) }
+    ensures { OnOk result (string_bytes out.new
+        ≡ string_bytes out.old ++ item_text (new_item_view item.now)) }
 {
     match item {
         NewItem::Value(value) => push_value(out, value),

@@ -48,7 +48,8 @@ registry_line key index = codes "registries." ++ (key ++ (codes ".index = " ++ v
 -- the line for a key and, where it contains `_`, the line for the key with `-` instead
 unfoldable pub registry_lines : List ℕ → List ℕ → List ℕ
 registry_lines key index =
-    registry_line key index ++ (if list_any (λ b. b == 95) key then registry_line (key_with_dashes key) index else [])
+    registry_line key index
+    ++ (if list_any (λ b. b == 95) key then registry_line (key_with_dashes key) index else [])
 
 -- the lines for a variable, given its name and its value
 unfoldable pub variable_lines : List ℕ × List ℕ → List ℕ

@@ -65,7 +65,8 @@ pub(crate) fn push_valued(text: &mut Vec<u8>, name: &str, value: &[u8]) -> Resul
 
 /// Appends the line `next` between transfers, unless this is the first one.
 pub(crate) fn push_separator(text: &mut Vec<u8>, before: usize) -> Result<(), AllocError>
-    ensures { OnOk result (text.new.items ≡ text.old.items ++ flat_map option_line (transfer_separator before)) }
+    ensures { OnOk result (text.new.items
+        ≡ text.old.items ++ flat_map option_line (transfer_separator before)) }
 {
     if before != 0 {
         push_bare(text, "next")?;

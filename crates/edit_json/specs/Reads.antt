@@ -19,4 +19,5 @@ ReadsItems depth before ds after =
 -- of a repeated key the last value counts
 abbrev pub ReadsMembers : ℕ → List Token → Members → List Token → Type 0
 ReadsMembers depth before ms after =
-    converted (λ ms. of_members ms no_members) (members (value depth) (length before) before) ≡ Some (ms, after)
+    converted (λ ms. of_members ms no_members) (members (value depth) (length before) before)
+    ≡ Some (ms, after)

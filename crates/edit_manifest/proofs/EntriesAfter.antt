@@ -205,7 +205,8 @@ made name place literal said = record { name = name; place = place; literal = li
 
 one-after : (ws : Edits) (t : Tree) (root : List ℕ) (base : Place) → AreStrings ws t
     → AllByRecursion (λ w. IsLiteral w.0) ws → IsTable base
-    → (name : List ℕ) → entry_at (tree_with_strings ws t) root base name ≡ entry_after ws (entry_at t root base name)
+    → (name : List ℕ)
+    → entry_at (tree_with_strings ws t) root base name ≡ entry_after ws (entry_at t root base name)
 one-after ws t root base strings l is name =
     let entry = at base (key name) in
     ap (λ (p : Place). made name entry p (record_in (tree_with_strings ws t) root entry name))

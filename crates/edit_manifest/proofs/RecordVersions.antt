@@ -29,7 +29,8 @@ ok-map-both : {A B C : Type 0} (m : Result A EntryError) (f : A → C) (g : A �
 ok-map-both (Ok x) f g h e = ap (λ y. Ok y) (e x)
 ok-map-both (Err r) f g h e = refl
 
-and-then-ok : {A B : Type 0} (m : Result A EntryError) (f : A → Result B EntryError) (y : B) → and_then m f ≡ Ok y
+and-then-ok : {A B : Type 0} (m : Result A EntryError) (f : A → Result B EntryError) (y : B)
+    → and_then m f ≡ Ok y
     → (x : A) × (m ≡ Ok x) × (f x ≡ Ok y)
 and-then-ok (Ok x) f y h = (x, refl, h)
 and-then-ok (Err r) f y h = cc h

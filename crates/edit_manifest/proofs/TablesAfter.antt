@@ -18,7 +18,8 @@ abbrev pub view_after : Option (List ℕ) → Option View → Option View
 view_after None v = v
 view_after (Some text) v = Some (string text)
 
-pub written-by : (ws : Edits) (t : Tree) (q : Place) → tree_with_strings ws t q ≡ view_after (new_text ws q) (t q)
+pub written-by : (ws : Edits) (t : Tree) (q : Place)
+    → tree_with_strings ws t q ≡ view_after (new_text ws q) (t q)
 written-by [] t q = refl
 written-by (w ∷ ws) t q = elim (cases_Bool (same_place w.0 q)) [
   | inl here ↦ rw here refl

@@ -17,11 +17,13 @@ pub record HasPackageTexts (d : Data) (p : PackageTexts) : Type 0 where
 
 -- the member `packages` of the value is an array of these packages
 abbrev pub HasPackages : Data → List PackageTexts → Type 0
-HasPackages d ps = (said : List Data) × (values_at (codes "packages") d ≡ Some said) × AllZip HasPackageTexts said ps
+HasPackages d ps = (said : List Data) × (values_at (codes "packages") d ≡ Some said)
+    × AllZip HasPackageTexts said ps
 
 -- the member `workspace_members` of the value is an array of these ids
 abbrev pub HasMemberIds : Data → List (List ℕ) → Type 0
-HasMemberIds d ids = (listed : List Data) × (values_at (codes "workspace_members") d ≡ Some listed) × AllZip IsText listed ids
+HasMemberIds d ids = (listed : List Data) × (values_at (codes "workspace_members") d ≡ Some listed)
+    × AllZip IsText listed ids
 
 -- the strings are those of the output's value, as far as they were read
 pub record HasWorkspaceTexts (d : Data) (w : WorkspaceTexts) : Type 0 where

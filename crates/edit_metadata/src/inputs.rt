@@ -21,7 +21,8 @@ use std::alloc::Global;
 
 /// The smaller of two Rust versions; if one is absent, the other.
 fn min_rust_version(a: Option<RustVersion>, b: Option<RustVersion>) -> Option<RustVersion>
-    ensures { option_map numbers_of result ≡ min_rust_version (option_map numbers_of a) (option_map numbers_of b) }
+    ensures { option_map numbers_of result
+        ≡ min_rust_version (option_map numbers_of a) (option_map numbers_of b) }
 {
     match (a, b) {
         (None, b) => b,
@@ -188,8 +189,8 @@ fn root_input<S: Store>(
 /// Paths are normalised. The members are in their order; if none of them is the `Cargo.toml` of the root,
 /// that comes before them, with the name `virtual workspace`. The Rust version of each is `rust_version`;
 /// else none with `ignore`; else the member's own, and for the root the smallest of the members'.
-/// `Error::Device` where the device fails, and `Error::NoManifest` where no file exists at a path. The members
-/// are read first, in their order, and the first error ends the call.
+/// `Error::Device` where the device fails, and `Error::NoManifest` where no file exists at a path. The
+/// members are read first, in their order, and the first error ends the call.
 pub fn workspace_inputs<S: Store>(
     alloc: Global,
     store: &mut S,

@@ -31,7 +31,8 @@ fn read_member<'a>(
 ) -> Option<PackageTexts<'a>>
     ensures shorter { IfSome result (λ _. length reader.new < length reader.old) }
     ensures value { IfSome result (λ p. (d : Data) × ReadsValue 124 reader.old d reader.new
-        × ((ms : Members) → HasPackageTexts (object ms) texts.entry → HasPackageTexts (object (put key.now d ms)) p)) }
+        × ((ms : Members) → HasPackageTexts (object ms) texts.entry
+        → HasPackageTexts (object (put key.now d ms)) p)) }
 {
     if key == "name" {
         texts.name = Some(read_text(reader)?);
@@ -90,7 +91,8 @@ pub(crate) fn read_packages<'a>(
     reader: &mut Reader<'a>,
 ) -> Result<Option<Vec<PackageTexts<'a>>>, AllocError>
     ensures shorter { IfOk result (λ o. IfSome o (λ _. length reader.new < length reader.old)) }
-    ensures value { IfOk result (λ o. IfSome o (λ v. (ds : Items) × ReadsValue 126 reader.old (array ds) reader.new
+    ensures value { IfOk result (λ o. IfSome o (λ v. (ds : Items)
+        × ReadsValue 126 reader.old (array ds) reader.new
         × AllZip HasPackageTexts (values ds) v.items)) }
 {
     let Some(Token::BeginArray) = reader.next() else {
@@ -112,7 +114,8 @@ pub(crate) fn read_texts<'a>(
     reader: &mut Reader<'a>,
 ) -> Result<Option<Vec<&'a str>>, AllocError>
     ensures shorter { IfOk result (λ o. IfSome o (λ _. length reader.new < length reader.old)) }
-    ensures value { IfOk result (λ o. IfSome o (λ v. (ds : Items) × ReadsValue 126 reader.old (array ds) reader.new
+    ensures value { IfOk result (λ o. IfSome o (λ v. (ds : Items)
+        × ReadsValue 126 reader.old (array ds) reader.new
         × AllZip IsText (values ds) (map (λ s. s.now) v.items))) }
 {
     let Some(Token::BeginArray) = reader.next() else {

@@ -72,7 +72,8 @@ fn read_members<'a>(
     alloc: Global,
     reader: &mut Reader<'a>,
 ) -> Result<Option<WorkspaceTexts<'a>>, AllocError>
-    ensures value { IfOk result (λ o. IfSome o (λ w. (ms : Members) × ReadsMembers 126 reader.old ms reader.new
+    ensures value { IfOk result (λ o. IfSome o (λ w. (ms : Members)
+        × ReadsMembers 126 reader.old ms reader.new
         × HasWorkspaceTexts (object ms) w)) }
 {
     let mut texts = WorkspaceTexts {

@@ -10,7 +10,8 @@ use Rattle.edit_program.specs.Delivered.{AreBothWritten, IsWrittenAfterPrint, up
 use Rattle.edit_program.specs.Delivery.{Delivery}
 
 -- no output is to be written
-none_written : (o : Options) (outputs : List Output) → o.dry_run ≡ true → upgrade_outputs_to_write o outputs ≡ []
+none_written : (o : Options) (outputs : List Output) → o.dry_run ≡ true
+    → upgrade_outputs_to_write o outputs ≡ []
 none_written o outputs dry = ap (λ b. if b || o.locked then [] else outputs) dry
 
 -- nor is a file of calls

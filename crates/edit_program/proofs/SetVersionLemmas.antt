@@ -38,7 +38,8 @@ pub planned_to : (Leaves : List Output → StoreView → StoreView → Type 0) (
     (words : SetVersionArgs) (current : List ℕ) (old new : StoreView) (w : WorkspaceModel) (is : List Input)
     (plan : SetVersionPlan) → (old.tells ≡ true → IsRead words current old.file_at w is)
     → IsVersionPlan (target_of words.target) (selection_view words.selection) w is plan
-    → HasFields (set_version_stdout_text words w.root is plan) → IsErrorOf (set_version_stderr_text words (plan_lines_view plan))
+    → HasFields (set_version_stdout_text words w.root is plan)
+    → IsErrorOf (set_version_stderr_text words (plan_lines_view plan))
     → Leaves plan.outputs.items old new → old.tells ≡ true
     → IsPlannedTo Leaves HasFields IsErrorOf words current old new
 planned_to Leaves HasFields IsErrorOf words current old new w is plan read planned shows tells leaves t = record {

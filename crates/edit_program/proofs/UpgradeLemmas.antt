@@ -86,7 +86,8 @@ same_delivery words current root plan target path lock inputs r from same is =
 
 -- a plan was delivered, and the answer is whether it changes a manifest
 pub answered : (due : Bool) (HasFields HasDecodedValue : List ℕ → Type 0) (old new : StoreView) (task d : Delivery) → task ≡ d
-    → due ≡ has_outputs d.plan → IsDelivered HasFields task old new → HasDecodedValue (upgrade_stderr_text task)
+    → due ≡ has_outputs d.plan → IsDelivered HasFields task old new
+    → HasDecodedValue (upgrade_stderr_text task)
     → IsUpgradeResult due HasFields HasDecodedValue old new d
 answered due HasFields HasDecodedValue old new task d same is delivered says = record {
   is = is;

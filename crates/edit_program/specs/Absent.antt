@@ -35,7 +35,8 @@ crate_or_crates count = if count == 1 then codes "crate" else codes "crates"
 abbrev pub absent_text : List (List ℕ) → List ℕ
 absent_text names =
     codes "no index entry was found for "
-    ++ (decimal (length names) ++ (codes " " ++ (crate_or_crates (length names) ++ (codes ": " ++ abbreviate_names names))))
+    ++ (decimal (length names) ++ (codes " " ++ (crate_or_crates (length names) ++ (codes ": "
+    ++ abbreviate_names names))))
 
 -- the note on crates of these names, where there are any (own)
 abbrev pub names_note : List (List ℕ) → List ℕ

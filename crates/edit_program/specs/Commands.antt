@@ -17,32 +17,34 @@ use Rattle.edit_program.specs.ParsedSetVersion.{HasSetVersionArgs, HaveVersionFa
 
 -- the selected manifests are upgraded, after the plan is printed; the status is 1 where `--check` is given
 -- and the plan has an output
-pub record HasUpgraded (rows : List Row) (status : ℕ) (HasFields HasDecodedValue : List ℕ → Type 0) (run : Run)
+pub record HasUpgraded (rows : List Row) (status : ℕ)
+    (Prints Reports : List ℕ → Type 0) (run : Run)
     : Type 0 where
   pub asked : UpgradeArgs
   pub asks : HasUpgradeArgs rows asked
   pub due : Bool
-  pub upgraded : IsUpgraded due HasFields HasDecodedValue asked run
+  pub upgraded : IsUpgraded due Prints Reports asked run
   pub ends : status ≡ status_after rows due
 
 -- the upgrade of the selected manifests failed, at a write or after all of them
-pub record HasBroken (rows : List Row) (HasFields : List ℕ → Type 0) (run : Run) : Type 0 where
+pub record HasBroken (rows : List Row) (Prints : List ℕ → Type 0) (run : Run) : Type 0 where
   pub asked : UpgradeArgs
   pub asks : HasUpgradeArgs rows asked
-  pub broken : IsBroken HasFields asked run
+  pub broken : IsBroken Prints asked run
 
 -- the cause of an error of `upgrade` with these arguments
-pub record HasUpgradeCause (rows : List Row) (HasFields : List ℕ → Type 0) (run : Run) (e : Error) : Type 0 where
+pub record HasUpgradeCause (rows : List Row) (Prints : List ℕ → Type 0) (run : Run) (e : Error) : Type 0 where
   pub asked : UpgradeArgs
   pub asks : HasUpgradeArgs rows asked
-  pub cause : IsUpgradeCause HasFields asked run e
+  pub cause : IsUpgradeCause Prints asked run e
 
 -- the lookups that the upgrade needs are printed, and each file is unchanged
-pub record HasPrintedLookups (rows : List Row) (HasFields : List ℕ → Type 0) (current : List ℕ) (home : Option (List ℕ))
+pub record HasPrintedLookups (rows : List Row)
+    (Prints : List ℕ → Type 0) (current : List ℕ) (home : Option (List ℕ))
     (old new : StoreView) : Type 0 where
   pub asked : UpgradeArgs
   pub asks : HasUpgradeArgs rows asked
-  pub looked : AreLookupsPrinted HasFields asked current home old.file_at
+  pub looked : AreLookupsPrinted Prints asked current home old.file_at
   pub unchanged : SameFiles old.file_at new.file_at
 
 -- the cause of an error of `looks` with these arguments; each file is unchanged
@@ -55,20 +57,21 @@ pub record HasLookupsCause (rows : List Row) (current : List ℕ) (home : Option
 
 -- the requested versions are set, after the plan is printed; the status is 1 where `--check` is given and
 -- the plan has an output
-pub record HasSetVersions (rows : List Row) (status : ℕ) (HasFields IsErrorOf : List ℕ → Type 0) (current : List ℕ)
+pub record HasSetVersions (rows : List Row) (status : ℕ)
+    (Prints Reports : List ℕ → Type 0) (current : List ℕ)
     (old new : StoreView) : Type 0 where
   pub asked : SetVersionArgs
   pub asks : HasSetVersionArgs rows asked
   pub due : Bool
-  pub set : AreVersionsSet HasFields IsErrorOf asked current due old new
+  pub set : AreVersionsSet Prints Reports asked current due old new
   pub ends : status ≡ status_after rows due
 
 -- the requested versions are planned and printed, but writing stopped at an output
-pub record HasStoppedSetting (rows : List Row) (HasFields IsErrorOf : List ℕ → Type 0) (current : List ℕ)
+pub record HasStoppedSetting (rows : List Row) (Prints Reports : List ℕ → Type 0) (current : List ℕ)
     (old new : StoreView) : Type 0 where
   pub asked : SetVersionArgs
   pub asks : HasSetVersionArgs rows asked
-  pub stopped : IsSettingInterrupted HasFields IsErrorOf asked current old new
+  pub stopped : IsSettingInterrupted Prints Reports asked current old new
 
 -- the cause of an error of `set-version` with these arguments
 pub record HasSetVersionCause (rows : List Row) (current : List ℕ) (old new : StoreView) (e : Error)
@@ -93,20 +96,22 @@ HasSubcommandUsageError name rows =
 
 -- a subcommand succeeded, with this exit status
 abbrev pub IsDoneBy : Text → List Row → ℕ → (List ℕ → Type 0) → (List ℕ → Type 0) → Run → Type 0
-IsDoneBy name rows status HasFields IsErrorOf run =
-    ((name ≡ codes "upgrade") × HasUpgraded rows status HasFields IsErrorOf run)
-    ⊎ (((name ≡ codes "looks") × (status ≡ 0) × HasPrintedLookups rows HasFields run.current run.home run.old run.new)
-    ⊎ ((name ≡ codes "set-version") × HasSetVersions rows status HasFields IsErrorOf run.current run.old run.new))
+IsDoneBy name rows status Prints Reports run =
+    ((name ≡ codes "upgrade") × HasUpgraded rows status Prints Reports run)
+    ⊎ (((name ≡ codes "looks") × (status ≡ 0)
+    × HasPrintedLookups rows Prints run.current run.home run.old run.new)
+    ⊎ ((name ≡ codes "set-version")
+    × HasSetVersions rows status Prints Reports run.current run.old run.new))
 
 -- a subcommand failed at a write, or after all of them
 abbrev pub IsBrokenBy : Text → List Row → (List ℕ → Type 0) → (List ℕ → Type 0) → Run → Type 0
-IsBrokenBy name rows HasFields IsErrorOf run =
-    ((name ≡ codes "upgrade") × HasBroken rows HasFields run)
-    ⊎ ((name ≡ codes "set-version") × HasStoppedSetting rows HasFields IsErrorOf run.current run.old run.new)
+IsBrokenBy name rows Prints Reports run =
+    ((name ≡ codes "upgrade") × HasBroken rows Prints run)
+    ⊎ ((name ≡ codes "set-version") × HasStoppedSetting rows Prints Reports run.current run.old run.new)
 
 -- the cause of an error of a subcommand, other than out of memory, and its effect on the files
 abbrev pub IsCauseBy : Text → List Row → (List ℕ → Type 0) → Run → Error → Type 0
-IsCauseBy name rows HasFields run e =
-    ((name ≡ codes "upgrade") × HasUpgradeCause rows HasFields run e)
+IsCauseBy name rows Prints run e =
+    ((name ≡ codes "upgrade") × HasUpgradeCause rows Prints run e)
     ⊎ (((name ≡ codes "looks") × HasLookupsCause rows run.current run.home run.old run.new e)
     ⊎ ((name ≡ codes "set-version") × HasSetVersionCause rows run.current run.old run.new e))

@@ -32,19 +32,20 @@ HaveStopped first last old new =
 -- after the plan is printed this holds of the files to write, which are the plan's outputs and then the
 -- file of the calls; a locked plan has no outputs
 pub record IsWrittenAfterPrint (Leaves : List Output → List Output → StoreView → StoreView → Type 0)
-    (HasFields : List ℕ → Type 0) (d : Delivery) (old new : StoreView) : Type 0 where
-  pub shows : HasFields (upgrade_stdout_text d)
+    (Prints : List ℕ → Type 0) (d : Delivery) (old new : StoreView) : Type 0 where
+  pub shows : Prints (upgrade_stdout_text d)
   pub unlocked : d.options.locked ≡ true → d.plan.outputs.items ≡ []
   pub calls : List Output
   pub are : map file_of calls ≡ calls_files (due_path d.options d.calls_path) d.calls
   pub leaves : Leaves (upgrade_outputs_to_write d.options d.plan.outputs.items) calls old new
 
 -- the plan is printed, its outputs and the file of the calls are written, and no name is missing
-pub record IsDelivered (HasFields : List ℕ → Type 0) (d : Delivery) (old new : StoreView) : Type 0 where
-  pub told : IsWrittenAfterPrint AreBothWritten HasFields d old new
+pub record IsDelivered (Prints : List ℕ → Type 0) (d : Delivery) (old new : StoreView) : Type 0 where
+  pub told : IsWrittenAfterPrint AreBothWritten Prints d old new
   pub complete : map string_bytes d.plan.missing.items ≡ []
 
 -- an error after the plan is printed: writing stopped, or everything is written
 abbrev pub IsDeliveryInterrupted : (List ℕ → Type 0) → Delivery → StoreView → StoreView → Type 0
-IsDeliveryInterrupted HasFields d old new =
-    IsWrittenAfterPrint HaveStopped HasFields d old new ⊎ IsWrittenAfterPrint AreBothWritten HasFields d old new
+IsDeliveryInterrupted Prints d old new =
+    IsWrittenAfterPrint HaveStopped Prints d old new
+    ⊎ IsWrittenAfterPrint AreBothWritten Prints d old new

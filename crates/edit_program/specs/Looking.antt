@@ -29,10 +29,10 @@ pub record AreLinesOf (o : Options) (inputs : List Input) (configs : List (Vec C
   pub is : text ≡ flat_map look_as_line plan.looks.items
 
 -- the given files were read, but no index, and the lines of the lookups are printed
-pub record AreLookupsPrinted (HasFields : List ℕ → Type 0) (words : UpgradeArgs) (current : List ℕ)
+pub record AreLookupsPrinted (Prints : List ℕ → Type 0) (words : UpgradeArgs) (current : List ℕ)
     (home : Option (List ℕ)) (files : Files) : Type 0 where
   pub sources : Sources
   pub text : List ℕ
   pub read : AreRead files current home (to_lookup_request words) sources
   pub lines : AreLinesOf words.options sources.target.inputs.items (lists_for sources.configs) text
-  pub shows : HasFields text
+  pub shows : Prints text

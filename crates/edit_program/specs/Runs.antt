@@ -56,15 +56,15 @@ HasUsageError words = IsAnswered words 2 ⊎ (HasNoSubcommand words ⊎ IsParsed
 
 -- a run that succeeds: help or the version is printed, or the subcommand succeeds
 abbrev pub IsDone : List (List ℕ) → (List ℕ → Type 0) → (List ℕ → Type 0) → Run → Type 0
-IsDone words HasFields IsErrorOf run =
+IsDone words Prints Reports run =
     (IsAnswered words 0 × SameFiles run.old.file_at run.new.file_at)
-    ⊎ IsParsedTo words (λ name rows. IsDoneBy name rows 0 HasFields IsErrorOf run)
+    ⊎ IsParsedTo words (λ name rows. IsDoneBy name rows 0 Prints Reports run)
 
 -- a check found a change to make: no file changes, and the exit status is 1, since `--check` is given and
 -- the plan has an output
-pub record HasFound (words : List (List ℕ)) (HasFields IsErrorOf : List ℕ → Type 0) (run : Run) : Type 0 where
+pub record HasFound (words : List (List ℕ)) (Prints Reports : List ℕ → Type 0) (run : Run) : Type 0 where
   pub kept : SameFiles run.old.file_at run.new.file_at
-  pub found : IsParsedTo words (λ name rows. IsDoneBy name rows 1 HasFields IsErrorOf run)
+  pub found : IsParsedTo words (λ name rows. IsDoneBy name rows 1 Prints Reports run)
 
 -- the arguments name a subcommand, and have `--check`
 abbrev pub HasCheckFlag : List (List ℕ) → Type 0
@@ -72,19 +72,20 @@ HasCheckFlag words = IsParsedTo words (λ name rows. is_given (codes "check") ro
 
 -- with `--check`, a change to make was found
 abbrev pub IsChecked : List (List ℕ) → (List ℕ → Type 0) → (List ℕ → Type 0) → Run → Type 0
-IsChecked words HasFields IsErrorOf run =
-    HasCheckFlag words × (run.old.tells ≡ true → HasFound words HasFields IsErrorOf run)
+IsChecked words Prints Reports run =
+    HasCheckFlag words × (run.old.tells ≡ true → HasFound words Prints Reports run)
 
 -- a run with an exit status of its own: it succeeds, or a check found a change to make
 abbrev pub IsEnded : List (List ℕ) → ℕ → (List ℕ → Type 0) → (List ℕ → Type 0) → Run → Type 0
-IsEnded words status HasFields IsErrorOf run =
-    ((status ≡ 0) × IsDone words HasFields IsErrorOf run) ⊎ ((status ≡ 1) × HasFound words HasFields IsErrorOf run)
+IsEnded words status Prints Reports run =
+    ((status ≡ 0) × IsDone words Prints Reports run)
+    ⊎ ((status ≡ 1) × HasFound words Prints Reports run)
 
 -- a run that fails: each file is unchanged, or the subcommand failed at a write or after all of them
 abbrev pub IsRunFailure : List (List ℕ) → (List ℕ → Type 0) → (List ℕ → Type 0) → Run → Type 0
-IsRunFailure words HasFields IsErrorOf run =
+IsRunFailure words Prints Reports run =
     SameFiles run.old.file_at run.new.file_at
-    ⊎ IsParsedTo words (λ name rows. IsBrokenBy name rows HasFields IsErrorOf run)
+    ⊎ IsParsedTo words (λ name rows. IsBrokenBy name rows Prints Reports run)
 
 -- the arguments name a command that cargo provides itself, and the error says so
 pub record HasBuiltinCause (words : List (List ℕ)) (e : Error) : Type 0 where
@@ -100,17 +101,17 @@ IsCauseAtOnce words e = ((e ≡ Output) × IsAnswered words 0) ⊎ HasBuiltinCau
 -- the cause of an error of a run, and its effect on the files: out of memory; no subcommand runs, and each
 -- file is unchanged; or the subcommand has a cause
 abbrev pub IsRunCause : List (List ℕ) → (List ℕ → Type 0) → Run → Error → Type 0
-IsRunCause words HasFields run e =
+IsRunCause words Prints run e =
     IsMemory e
     ⊎ ((SameFiles run.old.file_at run.new.file_at × IsCauseAtOnce words e)
-    ⊎ IsParsedTo words (λ name rows. IsCauseBy name rows HasFields run e))
+    ⊎ IsParsedTo words (λ name rows. IsCauseBy name rows Prints run e))
 
 -- a failed run: its cause, whether it is counted, and the contents of standard error and the files before
 -- the error was printed
-pub record HasFailed (words : List (List ℕ)) (HasFields : List ℕ → Type 0)
+pub record HasFailed (words : List (List ℕ)) (Prints : List ℕ → Type 0)
     (Grows : Option (List ℕ) → List ℕ → Type 0) (Counts : Error → Type 0) (run : Run) : Type 0 where
   pub error : Error
-  pub cause : IsRunCause words HasFields run error
+  pub cause : IsRunCause words Prints run error
   pub counted : Counts error
   pub printed : Option (List ℕ)
-  pub left : run.old.tells ≡ true → IsRunFailure words HasFields (Grows printed) run
+  pub left : run.old.tells ≡ true → IsRunFailure words Prints (Grows printed) run

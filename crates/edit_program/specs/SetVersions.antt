@@ -32,20 +32,22 @@ abbrev pub has_some : List Output → Bool
 has_some outputs = not (length outputs == 0)
 
 -- the workspace was read, the plan was made and printed, and this holds of its outputs
-pub record IsPlannedTo (Leaves : List Output → StoreView → StoreView → Type 0) (HasFields IsErrorOf : List ℕ → Type 0)
+pub record IsPlannedTo (Leaves : List Output → StoreView → StoreView → Type 0)
+    (Prints Reports : List ℕ → Type 0)
     (words : SetVersionArgs) (current : List ℕ) (old new : StoreView) : Type 0 where
   pub workspace : WorkspaceModel
   pub inputs : List Input
   pub plan : SetVersionPlan
   pub read : IsRead words current old.file_at workspace inputs
   pub planned : IsVersionPlan (target_of words.target) (selection_view words.selection) workspace inputs plan
-  pub shows : HasFields (set_version_stdout_text words workspace.root inputs plan)
-  pub tells : IsErrorOf (set_version_stderr_text words (plan_lines_view plan))
+  pub shows : Prints (set_version_stdout_text words workspace.root inputs plan)
+  pub tells : Reports (set_version_stderr_text words (plan_lines_view plan))
   pub leaves : Leaves plan.outputs.items old new
 
 -- the outputs are written, none with a dry run; the flag is set where there are outputs
 abbrev pub AreDelivered : SetVersionArgs → Bool → List Output → StoreView → StoreView → Type 0
-AreDelivered words due outputs old new = AreWritten (outputs_to_write words outputs) old new × (due ≡ has_some outputs)
+AreDelivered words due outputs old new = AreWritten (outputs_to_write words outputs) old new
+    × (due ≡ has_some outputs)
 
 -- the writing stopped at an output
 abbrev pub HasStoppedAt : SetVersionArgs → List Output → StoreView → StoreView → Type 0
@@ -55,11 +57,11 @@ HasStoppedAt words outputs old new = HasStopped (outputs_to_write words outputs)
 -- output
 abbrev pub AreVersionsSet : (List ℕ → Type 0) → (List ℕ → Type 0) → SetVersionArgs → List ℕ → Bool
     → StoreView → StoreView → Type 0
-AreVersionsSet HasFields IsErrorOf words current due old new =
-    IsPlannedTo (AreDelivered words due) HasFields IsErrorOf words current old new
+AreVersionsSet Prints Reports words current due old new =
+    IsPlannedTo (AreDelivered words due) Prints Reports words current old new
 
 -- writing stopped at an output: the files of those before it are whole, and those after it unchanged
 abbrev pub IsSettingInterrupted : (List ℕ → Type 0) → (List ℕ → Type 0) → SetVersionArgs → List ℕ
     → StoreView → StoreView → Type 0
-IsSettingInterrupted HasFields IsErrorOf words current old new =
-    IsPlannedTo (HasStoppedAt words) HasFields IsErrorOf words current old new
+IsSettingInterrupted Prints Reports words current old new =
+    IsPlannedTo (HasStoppedAt words) Prints Reports words current old new

@@ -55,7 +55,8 @@ input_report verbosity warnings i name =
 -- the status line and the warnings of the input at this index
 abbrev pub input_report_at : ℤ → List Warning → List Input → ℕ → List ℕ
 input_report_at verbosity warnings inputs i =
-    option_map_or (λ input. input_report verbosity warnings i (string_bytes input.name)) (slice_get inputs i) []
+    option_map_or (λ input. input_report verbosity warnings i (string_bytes input.name))
+    (slice_get inputs i) []
 
 -- the status lines and the warnings of the first inputs, as many as this number
 abbrev pub input_reports : ℤ → List Warning → List Input → ℕ → List ℕ
@@ -94,7 +95,8 @@ with_name names name = insert_key (slice_cmp nat_cmp) names name
 -- these names with that of a row, where the row has this reason
 abbrev pub add_name : List ℕ → List (List ℕ) → Row → List (List ℕ)
 add_name reason names row =
-    if bytes_eq (reason_in_notes row) reason then with_name names (name_text (string_bytes row.name) row.rename)
+    if bytes_eq (reason_in_notes row) reason then with_name names
+    (name_text (string_bytes row.name) row.rename)
     else names
 
 -- the names of the rows with a reason, as tables show them: sorted by bytes, without duplicates
@@ -138,7 +140,8 @@ hidden_note verbosity (row ∷ rows) = note (hidden_text verbosity (row ∷ rows
 -- index
 abbrev pub notes : UpgradePlan → Options → Bool → List ℕ
 notes plan options offline =
-    message_if plan.pinned_present (note (codes "Re-run with `--pinned` to upgrade pinned version requirements"))
+    message_if plan.pinned_present
+    (note (codes "Re-run with `--pinned` to upgrade pinned version requirements"))
     ++ (message_if plan.incompatible_present
     (note (codes "Re-run with `--incompatible` to upgrade incompatible version requirements"))
     ++ (hidden_note options.verbosity (hidden_rows options.verbosity plan.rows.items)

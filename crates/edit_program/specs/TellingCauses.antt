@@ -27,7 +27,8 @@ HasBadPackageArg plan options e = (is_due (call_options plan options) ≡ true)
 -- be parsed
 abbrev pub IsWriteBlocked : Delivery → Error → Type 0
 IsWriteBlocked d e =
-    ((e ≡ Locked) × (d.options.locked ≡ true) × (d.plan.outputs.items ≢ [])) ⊎ HasBadPackageArg d.plan d.options e
+    ((e ≡ Locked) × (d.options.locked ≡ true) × (d.plan.outputs.items ≢ []))
+    ⊎ HasBadPackageArg d.plan d.options e
 
 -- selected names are missing, and the error has them
 abbrev pub LacksNames : Delivery → Error → Type 0
@@ -37,12 +38,12 @@ LacksNames d e =
 -- a plan is not carried out: it must not be written, and each file is unchanged; or names are missing,
 -- which is an error after the plan is printed and everything is written
 abbrev pub IsStopped : (List ℕ → Type 0) → Delivery → StoreView → StoreView → Error → Type 0
-IsStopped HasFields d old new e =
+IsStopped Prints d old new e =
     (SameFiles old.file_at new.file_at × IsWriteBlocked d e)
-    ⊎ (IsWrittenAfterPrint AreBothWritten HasFields d old new × LacksNames d e)
+    ⊎ (IsWrittenAfterPrint AreBothWritten Prints d old new × LacksNames d e)
 
 -- the cause of an error: out of memory or a device error in a write, a failed print, or the plan is not
 -- carried out
 abbrev pub IsDeliveryCause : (List ℕ → Type 0) → Delivery → StoreView → StoreView → Error → Type 0
-IsDeliveryCause HasFields d old new e =
-    IsCallError call.Write old new e ⊎ ((e ≡ Unwritten) ⊎ IsStopped HasFields d old new e)
+IsDeliveryCause Prints d old new e =
+    IsCallError call.Write old new e ⊎ ((e ≡ Unwritten) ⊎ IsStopped Prints d old new e)

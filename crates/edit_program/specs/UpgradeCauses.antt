@@ -39,20 +39,20 @@ IsUnplanned words current home local files e =
 -- the cause in the given files: there is no plan, and each file is unchanged; or the plan is not carried
 -- out
 abbrev pub IsUnfit : (List ℕ → Type 0) → UpgradeArgs → Run → Error → Type 0
-IsUnfit HasFields words run e =
+IsUnfit Prints words run e =
     (SameFiles run.old.file_at run.new.file_at
     × IsUnplanned words run.current run.home run.index_files run.old.file_at e)
-    ⊎ IsPlannedTo (λ d. IsStopped HasFields d run.old run.new e) words run.current run.home run.index_files
+    ⊎ IsPlannedTo (λ d. IsStopped Prints d run.old run.new e) words run.current run.home run.index_files
     run.old.file_at
 
 -- the cause of an error of `upgrade`: out of memory; a device error in a read, and each file is unchanged;
 -- one in a write; a failed print; or the given files
 abbrev pub IsUpgradeCause : (List ℕ → Type 0) → UpgradeArgs → Run → Error → Type 0
-IsUpgradeCause HasFields words run e =
+IsUpgradeCause Prints words run e =
     IsMemory e
     ⊎ ((SameFiles run.old.file_at run.new.file_at × IsFailure run.old run.new e)
     ⊎ (IsCallError call.Write run.old run.new e
-    ⊎ ((e ≡ Unwritten) ⊎ (run.old.tells ≡ true → IsUnfit HasFields words run e))))
+    ⊎ ((e ≡ Unwritten) ⊎ (run.old.tells ≡ true → IsUnfit Prints words run e))))
 
 -- the cause in the given files where only lookups are requested: reading them fails, or planning over an
 -- empty index does, as for an invalid name

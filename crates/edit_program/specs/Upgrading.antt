@@ -74,22 +74,23 @@ abbrev pub has_outputs : UpgradePlan → Bool
 has_outputs plan = not (length plan.outputs.items == 0)
 
 -- a plan is printed and written, and the flag is set where it changes a manifest
-pub record IsUpgradeResult (due : Bool) (HasFields HasDecodedValue : List ℕ → Type 0) (old new : StoreView) (d : Delivery)
+pub record IsUpgradeResult (due : Bool)
+    (Prints Reports : List ℕ → Type 0) (old new : StoreView) (d : Delivery)
     : Type 0 where
   pub is : due ≡ has_outputs d.plan
-  pub delivered : IsDelivered HasFields d old new
-  pub says : HasDecodedValue (upgrade_stderr_text d)
+  pub delivered : IsDelivered Prints d old new
+  pub says : Reports (upgrade_stderr_text d)
 
 -- the given manifests are upgraded: each output of the plan is in its file, then the calls are in theirs,
 -- and no other file changed; the plan and the report on it are printed; the flag is set where the plan
 -- changes a manifest
 abbrev pub IsUpgraded : Bool → (List ℕ → Type 0) → (List ℕ → Type 0) → UpgradeArgs → Run → Type 0
-IsUpgraded due HasFields HasDecodedValue words run =
-    IsPlannedTo (IsUpgradeResult due HasFields HasDecodedValue run.old run.new) words run.current run.home run.index_files
+IsUpgraded due Prints Reports words run =
+    IsPlannedTo (IsUpgradeResult due Prints Reports run.old run.new) words run.current run.home run.index_files
     run.old.file_at
 
 -- an upgrade failed at a write, or after one
 abbrev pub IsBroken : (List ℕ → Type 0) → UpgradeArgs → Run → Type 0
-IsBroken HasFields words run =
-    IsPlannedTo (λ d. IsDeliveryInterrupted HasFields d run.old run.new) words run.current run.home run.index_files
+IsBroken Prints words run =
+    IsPlannedTo (λ d. IsDeliveryInterrupted Prints d run.old run.new) words run.current run.home run.index_files
     run.old.file_at

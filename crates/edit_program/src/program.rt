@@ -86,12 +86,14 @@ pub fn try_run<S: Store, T: Store + Drop, O: io::Write, E: io::Write>(
         → IsErr result × (files.new ≡ files.old) }
     ensures fault { IfOk result (λ s. s ≡ 2 → HasUsageError (insert_defaults (map (λ w. w.now) words.now))) }
     ensures ended { IfOk result (λ s. s ≢ 2 → (S.view files.old).tells ≡ true
-        → IsEnded (insert_defaults (map (λ w. w.now) words.now)) s (Appends (O.contents out.old) (O.contents out.new))
+        → IsEnded (insert_defaults (map (λ w. w.now) words.now)) s (Appends (O.contents out.old)
+        (O.contents out.new))
         (Appends (E.contents err.old) (E.contents err.new))
         (run_at place.now.current.now (given place.now.cargo_home)
         (T.view index_files) (S.view files.old) (S.view files.new))) }
     ensures error { OnErr result ((S.view files.old).tells ≡ true
-        → IsRunFailure (insert_defaults (map (λ w. w.now) words.now)) (Appends (O.contents out.old) (O.contents out.new))
+        → IsRunFailure (insert_defaults (map (λ w. w.now) words.now)) (Appends (O.contents out.old)
+        (O.contents out.new))
         (Appends (E.contents err.old) (E.contents err.new))
         (run_at place.now.current.now (given place.now.cargo_home)
         (T.view index_files) (S.view files.old) (S.view files.new))) }
@@ -101,7 +103,8 @@ pub fn try_run<S: Store, T: Store + Drop, O: io::Write, E: io::Write>(
         (T.view index_files) (S.view files.old) (S.view files.new)) r.error) }
     ensures counted { IfErr result (λ r. CountsEitherFault T.view index_files
         (S.view files.old) (S.view files.new) r.error) }
-    ensures requested { IfOk result (λ s. s ≡ 1 → HasCheckFlag (insert_defaults (map (λ w. w.now) words.now))) }
+    ensures requested { IfOk result (λ s. s ≡ 1
+        → HasCheckFlag (insert_defaults (map (λ w. w.now) words.now))) }
 {
     let words = insert_defaults(alloc, words)?;
     parse_and_run(alloc, words.as_slice(), place, files, index_files, out, err)
@@ -136,14 +139,16 @@ pub fn run<S: Store, T: Store + Drop, O: io::Write, E: io::Write>(
     ensures faulty { result ≡ 2 → files.new ≡ files.old }
     ensures fault { result ≡ 2 → HasUsageError (insert_defaults (map (λ w. w.now) words.now)) }
     ensures done { result ≡ 0 → (S.view files.old).tells ≡ true
-        → IsDone (insert_defaults (map (λ w. w.now) words.now)) (Appends (O.contents out.old) (O.contents out.new))
+        → IsDone (insert_defaults (map (λ w. w.now) words.now)) (Appends (O.contents out.old)
+        (O.contents out.new))
         (Appends (E.contents err.old) (E.contents err.new))
         (run_at current.now (given cargo_home.entry)
         (T.view index_files) (S.view files.old) (S.view files.new)) }
     // a check found a change to make, or there is an error, with its cause; over any stores, a device error
     // is counted
     ensures failed { result ≡ 1
-        → IsChecked (insert_defaults (map (λ w. w.now) words.now)) (Appends (O.contents out.old) (O.contents out.new))
+        → IsChecked (insert_defaults (map (λ w. w.now) words.now)) (Appends (O.contents out.old)
+        (O.contents out.new))
         (Appends (E.contents err.old) (E.contents err.new))
         (run_at current.now (given cargo_home.entry)
         (T.view index_files) (S.view files.old) (S.view files.new))

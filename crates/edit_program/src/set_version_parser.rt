@@ -16,8 +16,8 @@ use semver::Version;
 use std::alloc::{AllocError, Global};
 use std::str::FromStr;
 
-/// Two of `--package`, `--all` and `--workspace` that are both given: of several such pairs the first of `--all`
-/// and `--workspace`, `--package` and `--all`, `--package` and `--workspace`.
+/// Two of `--package`, `--all` and `--workspace` that are both given: of several such pairs the first of
+/// `--all` and `--workspace`, `--package` and `--all`, `--package` and `--workspace`.
 fn conflicting_selections(matches: &ArgMatches<'_>) -> Option<(&'static str, &'static str)>
     ensures found { is_some result ≡ has_conflicting_selections (rows_of (found_of matches.now)) }
     ensures named { option_map (λ pair. (pair.0.now, pair.1.now)) result

@@ -87,7 +87,8 @@ table-read root r origin is plain =
     (members-apart root origin) (origin-read root r (key_of r) r.registry origin plain)
 
 -- an answer that is known
-known : {A : Type 0} (P : A → Type 0) (told : Result A EntryError) (x : A) → told ≡ Ok x → P x → IsOkAnd told P
+known : {A : Type 0} (P : A → Type 0) (told : Result A EntryError) (x : A) → told ≡ Ok x → P x
+    → IsOkAnd told P
 known P told x is p = subst (λ t. IsOkAnd t P) (sym is) p
 
 -- an inline table is read back if the result of reading it is written as the same inline table

@@ -115,4 +115,5 @@ entry_error_text (unknown_source dep) = codes "Unrecognized dependency source fo
 entry_error_text (old_default_features dep) =
     codes "Use of `default_features` in `" ++ (dep
     ++ codes "` is unsupported, please switch to `default-features`")
-entry_error_text (unknown_entry dep) = codes "Unrecognized dependency entry format for `" ++ (dep ++ codes "`")
+entry_error_text (unknown_entry dep) = codes "Unrecognized dependency entry format for `" ++ (dep
+    ++ codes "`")

@@ -95,10 +95,10 @@ pub fn shell_write_stderr<W: io::Write>(out: &mut W, fragment: &str) -> CargoRes
     write_text(out, fragment)
 }
 
-/// Writes a fragment unchanged to `out`, the standard output of the caller.
-pub fn shell_write_stdout<W: io::Write>(out: &mut W, fragment: &str) -> CargoResult<()>
-    ensures bytes { OnOk result (Appends (W.contents out.old) (W.contents out.new) fragment.now) }
+/// Writes a text unchanged to `out`, the standard output of the caller.
+pub fn shell_write_stdout<W: io::Write>(out: &mut W, text: &str) -> CargoResult<()>
+    ensures bytes { OnOk result (Appends (W.contents out.old) (W.contents out.new) text.now) }
     ensures error { IfErr result (λ e. e ≡ Output) }
 {
-    write_text(out, fragment)
+    write_text(out, text)
 }

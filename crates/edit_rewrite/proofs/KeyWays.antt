@@ -80,7 +80,8 @@ no_parts bytes n ns (m ∷ ms) e h = absurd cc
 
 step_is : (target table : Place) (n : List ℕ) (start here : PathMatch) (said : List ℕ)
     → start ≡ path_match target table
-    → said ≡ n → here ≡ extend_path_match target start (key said) → here ≡ path_match target (at table (key n))
+    → said ≡ n → here ≡ extend_path_match target start (key said)
+    → here ≡ path_match target (at table (key n))
 step_is target table n start here said begins same is =
     is ∙ ap (λ (w : PathMatch). extend_path_match target w (key said)) begins ∙
     ap (λ (x : List ℕ). extend_path_match target (path_match target table) (key x)) same ∙ sym (way_at target table (key n))
@@ -100,7 +101,8 @@ last_along bytes target resolve table n (n2 ∷ ns) m (m2 ∷ ms) start here sai
 abbrev pub Promises : List ℕ → Place → List ℕ → List SyntaxToken → PathMatch → PathMatch × Option ℕ → Type 0
 Promises bytes target counts ms next r =
     (table : Place) (resolve : Place → Place) (n : Named) (ns : List Named) → AreParts bytes (n ∷ ns) ms
-    → Follows target counts resolve → next ≡ path_match target table → FollowsKey target resolve table (n ∷ ns) r
+    → Follows target counts resolve → next ≡ path_match target table
+    → FollowsKey target resolve table (n ∷ ns) r
 
 -- a part before others
 pub more_along : (bytes : List ℕ) (target : Place) (counts : List ℕ) (resolve : Place → Place) (table : Place)
@@ -217,12 +219,14 @@ header_led earlier k rest = led_header earlier [] (parts k rest) ∙
 
 -- ---- the mark behind a key
 
-pub head_turn : (marks : List SyntaxToken) (i : ℕ) (m : SyntaxToken) → slice_get marks i ≡ Some m → is_part m.kind ≡ true
+pub head_turn : (marks : List SyntaxToken) (i : ℕ) (m : SyntaxToken) → slice_get marks i ≡ Some m
+    → is_part m.kind ≡ true
     → kind_after_key (drop i marks) ≡ kind_after_key (drop (i + 1) marks)
 head_turn marks i m e p = ap kind_after_key (drop_from marks i m e) ∙
     ap (λ b. cond b (kind_after_key (drop (i + 1) marks)) (Some m.kind)) p
 
-pub head_found : (marks : List SyntaxToken) (i : ℕ) (m : SyntaxToken) → slice_get marks i ≡ Some m → is_part m.kind ≡ false
+pub head_found : (marks : List SyntaxToken) (i : ℕ) (m : SyntaxToken) → slice_get marks i ≡ Some m
+    → is_part m.kind ≡ false
     → kind_after_key (drop i marks) ≡ Some m.kind
 head_found marks i m e p = ap kind_after_key (drop_from marks i m e) ∙
     ap (λ b. cond b (kind_after_key (drop (i + 1) marks)) (Some m.kind)) p

@@ -185,9 +185,11 @@ pub record MemberFront (text : List ℕ) (place : Place) (w : PlacedValue) (i si
     pub found : (part : List ℕ) (r : ℕ × ℕ) → part_to place (placed_pair w.place k a b v (gap c behind))
         ≡ Some part
         → r.0 ≡ length part → r.1 ≡ length (gap c behind) → HasPairOffsets place (paired_value w) (Some r)
-    pub last : part_to place (placed_pair w.place k a b v (gap c behind)) ≡ None → eqb (first behind) comma ≡ false
+    pub last : part_to place (placed_pair w.place k a b v (gap c behind)) ≡ None
+        → eqb (first behind) comma ≡ false
         → HasPairOffsets place (paired_value w) None
-    pub next : part_to place (placed_pair w.place k a b v (gap c behind)) ≡ None → eqb (first behind) comma ≡ true
+    pub next : part_to place (placed_pair w.place k a b v (gap c behind)) ≡ None
+        → eqb (first behind) comma ≡ true
         → (next : List ℕ) → next ≡ past_gap (drop 1 behind) → MembersLeft text place w (i + 1) size next
 
 pub members_front : (text : List ℕ) (place : Place) (w : PlacedValue) (i size : ℕ) (rest : List ℕ)

@@ -122,7 +122,8 @@ module _ (bytes : List ℕ) (target : Place) (marks : List SyntaxToken) (s : Pla
           )
 
 element_way : (target : Place) (earlier : List Assertion) (counts : List ℕ) (q : Place)
-    → Counts target earlier counts → extend_path_match target (path_match target q) (index (count_on counts (path_match target q)))
+    → Counts target earlier counts
+    → extend_path_match target (path_match target q) (index (count_on counts (path_match target q)))
     ≡ path_match target (at q (index (elements_at earlier q)))
 element_way target earlier counts q h = go (path_match target q) refl ∙
     sym (way_at target q (index (elements_at earlier q)))
@@ -152,7 +153,8 @@ module _ (bytes : List ℕ) (target : Place) (marks : List SyntaxToken) (s : Pla
       → is_element_header s.statement ≡ true → IsTokenized bytes marks s spots
       → IsSearchState target s.earlier s.prefix standing
       → Promises bytes target standing.counts.items marks (On 0) r
-      → element ≡ extend_path_match target r.0 (index (count_on standing.counts.items r.0)) → now.prefix ≡ element
+      → element ≡ extend_path_match target r.0 (index (count_on standing.counts.items r.0))
+      → now.prefix ≡ element
       → now.counts.items ≡ counted r.0 standing.counts.items
       → own ≡ is_at (length target) element → within ≡ is_at_or_below (length target) element
       → (made own within true r.1 spots ≡ entry_of target s)

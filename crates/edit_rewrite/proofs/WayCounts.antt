@@ -89,7 +89,8 @@ way_take d (suc done) (s ∷ ss) le =
     ap (λ b. cond b (path_match_on (d + 1) ss (take done ss)) Off) (same_step_self s) ∙
     way_take (d + 1) done ss (omega arith) ∙ (let k : (d + 1) + done ≡ d + suc done = omega arith in ap On k)
 
-not_on : (target p : Place) (d : ℕ) (w : PathMatch) → d ≤ length target → path_match target p ≡ w → (On d ≡ w → ⊥)
+not_on : (target p : Place) (d : ℕ) (w : PathMatch) → d ≤ length target → path_match target p ≡ w
+    → (On d ≡ w → ⊥)
     → p ≡ take d target → ⊥
 not_on target p d w le e ne same = let k : 0 + d ≡ d = omega arith in
     ne (sym (ap On k) ∙ sym (way_take 0 d target le) ∙ ap (path_match target) (sym same) ∙ e)

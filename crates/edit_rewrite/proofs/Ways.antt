@@ -34,12 +34,14 @@ way_next full d (u ∷ us) (t ∷ ts) s e = go (same_step u t)
     (way_next full (d + 1) us ts s (λ i. let k : (d + 1) + i ≡ d + suc i = omega arith in
     ap (slice_get full) k ∙ e (suc i)))
   where
-    go : (b : Bool) → path_match_on (d + 1) us (ts ++ s ∷ []) ≡ extend_path_match full (path_match_on (d + 1) us ts) s
+    go : (b : Bool)
+        → path_match_on (d + 1) us (ts ++ s ∷ []) ≡ extend_path_match full (path_match_on (d + 1) us ts) s
         → cond b (path_match_on (d + 1) us (ts ++ s ∷ [])) Off ≡ extend_path_match full (cond b (path_match_on (d + 1) us ts) Off) s
     go true ih = ih
     go false ih = refl
 
-pub way_at : (target p : Place) (s : Step) → path_match target (at p s) ≡ extend_path_match target (path_match target p) s
+pub way_at : (target p : Place) (s : Step)
+    → path_match target (at p s) ≡ extend_path_match target (path_match target p) s
 way_at target p s = way_next target 0 target p s (λ i. let k : 0 + i ≡ i = omega arith in
     ap (slice_get target) k)
 
@@ -155,12 +157,14 @@ follows_counts target earlier counts h p = step (nat_lt 0 (elements_at earlier p
     step true = way_at target p (index (elements_at earlier p - 1))
     step false = refl
 
-    stays : (c : ℕ) (b : Bool) → extend_path_match target (path_match target p) (index (c - 1)) ≡ path_match target p
+    stays : (c : ℕ) (b : Bool)
+        → extend_path_match target (path_match target p) (index (c - 1)) ≡ path_match target p
         → cond b (extend_path_match target (path_match target p) (index (c - 1))) (path_match target p) ≡ path_match target p
     stays c true e = e
     stays c false e = refl
 
-    off : (c d : ℕ) → ((i : ℕ) → extend_path_match target (path_match target p) (index i) ≡ path_match target p)
+    off : (c d : ℕ)
+        → ((i : ℕ) → extend_path_match target (path_match target p) (index i) ≡ path_match target p)
         → cond (nat_lt 0 c) (extend_path_match target (path_match target p) (index (c - 1))) (path_match target p)
         ≡ cond (nat_lt 0 d) (extend_path_match target (path_match target p) (index (d - 1))) (path_match target p)
     off c d e = stays c (nat_lt 0 c) (e (c - 1)) ∙ sym (stays d (nat_lt 0 d) (e (d - 1)))

@@ -50,7 +50,8 @@ pub record IsAround (place : Place) (ps : List PlacedPair) (spots : ℕ × ℕ) 
 
 -- the offsets for the pair that names the place, or `None` where none of these pairs does
 abbrev pub HasPairOffsets : Place → List PlacedPair → Option (ℕ × ℕ) → Type 0
-HasPairOffsets place ps r = MatchOption r ((p : PlacedPair) → Contains ps p → part_to place p ≡ None) (IsAround place ps)
+HasPairOffsets place ps r = MatchOption r ((p : PlacedPair) → Contains ps p
+    → part_to place p ≡ None) (IsAround place ps)
 
 -- the offsets for the pair that names the place in the inline table at its first n steps, or `None` where
 -- there is none

@@ -40,7 +40,8 @@ is_element_header_next _ = false
 
 -- the token behind the key is of the kind that the statement requires
 abbrev pub HeadIs : Statement → Option TokenKind → Type 0
-HeadIs s head = (is_table_header_next head ≡ is_table_header s) × (is_element_header_next head ≡ is_element_header s)
+HeadIs s head = (is_table_header_next head ≡ is_table_header s)
+    × (is_element_header_next head ≡ is_element_header s)
 
 -- the tokens and the offsets are those of the statement
 pub record IsTokenized (bytes : List ℕ) (marks : List SyntaxToken) (s : PlacedStatement) (spots : StatementOffsets) : Type 0 where

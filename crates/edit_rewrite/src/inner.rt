@@ -58,7 +58,8 @@ fn inner_at<'a>(
     s: &'a [u8],
 ) -> CargoResult<(Option<Inner>, &'a [u8])>
     ensures { (above : Place) (it : Slot) (c : List Between) (rest : List ℕ)
-        → StandsAt text.now s.now true it c rest → table ≡ entries_seen.path_match (place_view place.now) above
+        → StandsAt text.now s.now true it c rest
+        → table ≡ entries_seen.path_match (place_view place.now) above
         → MatchResult result (λ r. (r.0 ≡ inner_seen.inner_in (place_view place.now) above it (gap c rest))
         × (r.1.now ≡ gap c rest)) IsMemory }
 {

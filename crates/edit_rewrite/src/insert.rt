@@ -82,7 +82,8 @@ fn first_through(found: &[Entry]) -> Option<Entry>
 
 /// The part of a statement's key that names the place, as written.
 fn name_of(text: &str, entry: Entry) -> &str
-    ensures { (place : Place) (s : PlacedStatement) (spot : List ℕ) → HasOffsets text.now s → entry ≡ entry_of place s
+    ensures { (place : Place) (s : PlacedStatement) (spot : List ℕ) → HasOffsets text.now s
+        → entry ≡ entry_of place s
         → front_of place s ≡ Some spot → result.now ≡ key_to s spot }
 {
     between(text, entry.key, entry.front.unwrap_or(0))

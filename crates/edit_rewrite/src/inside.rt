@@ -110,8 +110,10 @@ impl Remainder {
         stop: &[u8],
         next: &[u8],
     ) -> Result<(), AllocError>
-        ensures gone { OnOk result (is_gone ≡ true → SkipsItem self.old self.new after.now stop.now next.now) }
-        ensures preserved { OnOk result (is_gone ≡ false → AppendsItem self.old self.new rest.now stop.now next.now) }
+        ensures gone { OnOk result (is_gone ≡ true
+            → SkipsItem self.old self.new after.now stop.now next.now) }
+        ensures preserved { OnOk result (is_gone ≡ false
+            → AppendsItem self.old self.new rest.now stop.now next.now) }
     {
         if is_gone {
             self.skip_item(

@@ -123,7 +123,8 @@ impl SearchState {
         marks: &[SyntaxToken],
         spots: StatementOffsets,
     ) -> CargoResult<Entry>
-        ensures taken { (s : PlacedStatement) → is_pair s.statement ≡ true → IsTokenized text.now marks.now s spots
+        ensures taken { (s : PlacedStatement) → is_pair s.statement ≡ true
+            → IsTokenized text.now marks.now s spots
             → IsSearchState (place_view place.now) s.earlier s.prefix self.now
             → IfOk result (λ e. (e ≡ entries_seen.entry_of (place_view place.now) s)
             × IsSearchState (place_view place.now) (s.earlier ++ of_statement s.earlier s.prefix s.statement)

@@ -51,7 +51,8 @@ fn past_member<'a>(
     start: PathMatch,
 ) -> CargoResult<(Option<usize>, &'a [u8])>
     ensures outcome { (table : Place) (k : Key) (a b : List ℕ) (v : Value) (c : List Between) (rest : List ℕ)
-        → StandsAt text.now s.now true (of_pair k a b v) c rest → start ≡ path_match (place_view place.now) table
+        → StandsAt text.now s.now true (of_pair k a b v) c rest
+        → start ≡ path_match (place_view place.now) table
         → IfOk result (λ r.
         (r.0 ≡ option_map length (part_to (place_view place.now) (placed_pair table k a b v (gap c rest))))
         × (r.1.now ≡ gap c rest)) }

@@ -128,7 +128,8 @@ fn inline_offsets(
     alloc: Global,
     place: &[Step],
 ) -> CargoResult<Option<(usize, usize)>>
-    ensures outcome { IfDocument document.now.bytes (λ form. IfOk result (HasPairOffsets (place_view place.now)
+    ensures outcome { IfDocument document.now.bytes (λ form. IfOk result (HasPairOffsets
+        (place_view place.now)
         (inner_pairs form))) }
     ensures error { IfErr result IsMemory }
 {

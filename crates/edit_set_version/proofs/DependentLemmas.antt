@@ -45,7 +45,8 @@ reached_named file path = elim (cases_Bool (starts_with nat_eq path (codes "/"))
 
 -- what the map has for the folder that is reached
 pub tells_reached : (bs : List Bump) (numbers : BTreeMap (String Global) Numbered Global) (file path : List ℕ)
-    → HasFirstBumps bs numbers → numbered_at numbers (resolve_folder file path) ≡ first_in bs (resolve_folder file path)
+    → HasFirstBumps bs numbers
+    → numbered_at numbers (resolve_folder file path) ≡ first_in bs (resolve_folder file path)
 tells_reached bs numbers file path tells =
     let way = reached_named file path in
     subst (λ folder. numbered_at numbers folder ≡ first_in bs folder) way.1 (tells way.0)

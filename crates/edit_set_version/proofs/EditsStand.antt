@@ -30,7 +30,8 @@ use Rattle.edit_set_version.specs.SetVersioned.{Bump, Dependent, dependents, wri
 use Rattle.edit_base.proofs.FirstCauseLemmas.{first_good}
 
 -- a requirement that can be raised causes no other error than a lack of memory
-rise_memory : (r : UpgradeResult) (text : List ℕ) (e : Error) → CanRise r → IsUpgradeError r text e → IsMemory e
+rise_memory : (r : UpgradeResult) (text : List ℕ) (e : Error) → CanRise r → IsUpgradeError r text e
+    → IsMemory e
 rise_memory r text error.Memory can h = refl
 rise_memory r text (error.InvalidRequirement s) can h = absurd (subst CanRise h.0 can)
 rise_memory r text (error.Unsupported s) can h = absurd (subst CanRise h.1 can)

@@ -85,7 +85,8 @@ names_absolute (n ∷ ns) kept =
     ∙ along_on [] (n ∷ ns) kept ∙ append-nil (reverse (n ∷ ns))
 
 -- a folder is named by its text
-pub names_text : (folder : Folder) → AllByRecursion IsKept folder → folder_at_path (folder_text folder) ≡ folder
+pub names_text : (folder : Folder) → AllByRecursion IsKept folder
+    → folder_at_path (folder_text folder) ≡ folder
 names_text folder kept =
     names_absolute (reverse folder) (kept_reversed folder kept) ∙ reverse-reverse folder
 

@@ -51,7 +51,8 @@ readable_told is (p ∷ ps) (m ∷ ms) are all =
     (readable_told is ps ms are.1 (All-tail (λ (p : PackageModel). IsReadable p.version) p ps all))
 
 -- what holds of all members holds of those that are chosen
-pub all_chosen : (P : Member → Type 0) (a : SelectionView) (ms : List Member) → All P ms → All P (chosen_members a ms)
+pub all_chosen : (P : Member → Type 0) (a : SelectionView) (ms : List Member) → All P ms
+    → All P (chosen_members a ms)
 all_chosen P a ms all =
     All-append P (filter (is_member_selected a) ms) _ (All-filter (is_member_selected a) P ms all)
     (by (length (inheriting_members a ms) == 0))
@@ -190,7 +191,8 @@ outputs_given t a is p n bs outputs next same have =
     (subst (λ (o : Option Parts). All (HasOutputsBy p.path o bs outputs) is) next have)
 
 -- all inputs are clear, by the bumps that its code has
-pub clear_given : (t : Target) (a : SelectionView) (is : List Input) (p : Project) (bs : List Bump) → bs ≡ bumps t a p
+pub clear_given : (t : Target) (a : SelectionView) (is : List Input) (p : Project) (bs : List Bump)
+    → bs ≡ bumps t a p
     → All (IsInputClearBy bs) is → All (IsInputClear t a p) is
 clear_given t a is p bs same clear = subst (λ (cs : List Bump). All (IsInputClearBy cs) is) same clear
 

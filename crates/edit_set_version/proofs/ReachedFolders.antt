@@ -45,7 +45,8 @@ parts_more (x ∷ xs) b =
 
 -- ---- walks
 
-pub along_append : (folder : Folder) (a b : List (List ℕ)) → folder_along folder (a ++ b) ≡ folder_along (folder_along folder a) b
+pub along_append : (folder : Folder) (a b : List (List ℕ))
+    → folder_along folder (a ++ b) ≡ folder_along (folder_along folder a) b
 along_append folder [] b = refl
 along_append folder (p ∷ ps) b = along_append (folder_after folder p) ps b
 

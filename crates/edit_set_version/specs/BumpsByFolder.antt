@@ -27,4 +27,5 @@ numbered_at numbers folder = option_map numbered_view (get_by_text numbers (fold
 
 -- the map finds the first bump of the crate in each folder that a path names
 abbrev pub HasFirstBumps : List Bump → BTreeMap (String Global) Numbered Global → Type 0
-HasFirstBumps bs numbers = (path : List ℕ) → numbered_at numbers (folder_at_path path) ≡ first_in bs (folder_at_path path)
+HasFirstBumps bs numbers = (path : List ℕ)
+    → numbered_at numbers (folder_at_path path) ≡ first_in bs (folder_at_path path)

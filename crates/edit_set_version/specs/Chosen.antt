@@ -36,7 +36,8 @@ is_whole_selected a = is_all_selected a && (length a.exclude == 0)
 
 -- the member is selected: it is not excluded where all are selected, else it is named
 abbrev pub is_member_selected : SelectionView → Member → Bool
-is_member_selected a m = if is_all_selected a then not (is_among a.exclude m.name) else is_among a.packages m.name
+is_member_selected a m =
+    if is_all_selected a then not (is_among a.exclude m.name) else is_among a.packages m.name
 
 -- the selected members that inherit their version from the workspace
 abbrev pub inheriting_members : SelectionView → List Member → List Member

@@ -36,7 +36,8 @@ folder_of path = parent_folder (folder_at_path path)
 -- the normalized folder of a path, relative to the folder of a file
 abbrev pub resolve_folder : List ℕ → List ℕ → Folder
 resolve_folder file path =
-    if starts_with nat_eq path (codes "/") then folder_at_path path else folder_along (folder_of file) (parts_of path)
+    if starts_with nat_eq path (codes "/") then folder_at_path path
+    else folder_along (folder_of file) (parts_of path)
 
 -- the two folders are equal
 abbrev pub same_folder : Folder → Folder → Bool

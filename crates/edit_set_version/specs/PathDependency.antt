@@ -40,7 +40,8 @@ path_dependencies t = flat_map (path_dependencies_in t) (dependency_tables t)
 -- the requirement of an entry on a bumped crate, where its path is that of one
 abbrev pub dependent_by_path : List Bump → List ℕ → PathDependency → Option Dependent
 dependent_by_path bs file q =
-    option_map (λ v. record { place = q.place; text = q.text; next = v }) (next_in bs (resolve_folder file q.path))
+    option_map (λ v. record { place = q.place; text = q.text; next = v }) (next_in bs
+    (resolve_folder file q.path))
 
 -- an entry of the program, by its texts
 abbrev pub path_dependency_view : PathEntry → PathDependency

@@ -35,7 +35,8 @@ IsMissing names _ = ⊥
 -- the error has the excluded members that inherit, and the selected ones that do
 abbrev pub IsExcludeError : List Member → List Member → Error → Type 0
 IsExcludeError held others (error.CannotExclude excluded named) =
-    (held ≢ []) × (string_bytes excluded ≡ member_names_text held) × (string_bytes named ≡ member_names_text others)
+    (held ≢ []) × (string_bytes excluded ≡ member_names_text held)
+    × (string_bytes named ≡ member_names_text others)
 IsExcludeError held others _ = ⊥
 
 -- ---- versions
@@ -51,7 +52,8 @@ AreUnbumped t a vs e =
 
 -- the error in the choice of members, and where there is none, in bumping their versions
 pub data IsVersionError (t : Target) (a : SelectionView) (p : Project) (e : Error) : Type 0 where
-  excluded : IsExcludeError (excluded_inheriting a p.members) (inheriting_members a p.members) e → IsVersionError t a p e
+  excluded : IsExcludeError (excluded_inheriting a p.members) (inheriting_members a p.members) e
+      → IsVersionError t a p e
   version : excluded_inheriting a p.members ≡ [] → AreUnbumped t a (currents a p) e → IsVersionError t a p e
 
 -- ---- literals
@@ -78,21 +80,23 @@ LackLiterals bs inputs = HasFirstCause (HasLiteral bs) (LacksLiteral bs) inputs
 -- the error is that of the first requirement of a manifest on a bumped crate that cannot be raised
 abbrev pub IsUnraised : List Bump → List ℕ → Tree → Error → Type 0
 IsUnraised bs file t e =
-    HasFirstCause (λ f. CanRise (upgrade_of f.text f.next)) (λ f. IsUpgradeError (upgrade_of f.text f.next) f.text e)
+    HasFirstCause (λ f. CanRise (upgrade_of f.text f.next)) (λ f. IsUpgradeError
+    (upgrade_of f.text f.next) f.text e)
     (dependents bs file t)
 
 -- each requirement of a manifest on a bumped crate can be raised
 abbrev pub AllRiseIn : List Bump → Named → Type 0
 AllRiseIn bs m = AllRise bs m.path m.tree
 
--- the error is that of the first of these manifests with a requirement on a bumped crate that cannot be raised
+-- the error is that of the first of these manifests with a requirement on a bumped crate that cannot be
+-- raised
 abbrev pub AreUnraised : List Bump → List Named → Error → Type 0
 AreUnraised bs ms e = HasFirstCause (AllRiseIn bs) (λ m. IsUnraised bs m.path m.tree e) ms
 
 -- ---- manifests
 
--- the error in the manifests of a project: that of a literal; where none is missing, that of a requirement, the
--- root's before those of the other members
+-- the error in the manifests of a project: that of a literal; where none is missing, that of a requirement,
+-- the root's before those of the other members
 pub data IsManifestError (bs : List Bump) (inputs : List Input) (p : Project) (e : Error) : Type 0 where
   literal : e ≡ error.NoVersionPlace → LackLiterals bs inputs → IsManifestError bs inputs p e
   requirement : All (HasLiteral bs) inputs → AreUnraised bs (manifests p) e → IsManifestError bs inputs p e

@@ -47,7 +47,8 @@ manifests p = record { name = codes "workspace"; path = p.path; tree = p.tree }
 -- the lines of a manifest for one bump, in the order of its entries
 abbrev pub updates : Bump → Named → List ReportLine
 updates b m =
-    filter_map (λ f. option_map (updating_line m.name f.text) (raised_dependent_text f)) (dependents (b ∷ []) m.path m.tree)
+    filter_map (λ f. option_map (updating_line m.name f.text) (raised_dependent_text f)) (dependents
+    (b ∷ []) m.path m.tree)
 
 -- the note that a line appends to the two versions
 abbrev pub note_of : Member → List ℕ
@@ -56,7 +57,8 @@ note_of m = if is_inherited m.tree then codes " (inherited from workspace)" else
 -- the lines of a bump: its own, then those of the requirements on its crate
 abbrev pub lines_of : Project → Bump → List ReportLine
 lines_of p b =
-    upgrading_line b.member.name b.member.version b.next (note_of b.member) ∷ flat_map (updates b) (manifests p)
+    upgrading_line b.member.name b.member.version b.next (note_of b.member) ∷ flat_map (updates b)
+    (manifests p)
 
 -- the lines: that of the workspace's version, then those of the bumps
 abbrev pub lines : Target → SelectionView → Project → List ReportLine

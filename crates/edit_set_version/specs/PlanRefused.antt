@@ -42,7 +42,8 @@ pub data IsCauseOf
     (t : Target) (a : SelectionView) (w : WorkspaceModel) (inputs : List Input) (e : Error) : Type 0 where
   memory : IsMemory e → IsCauseOf t a w inputs e
   no_package : IsMissing (unknown a w) e → IsCauseOf t a w inputs e
-  no_manifest : unknown a w ≡ [] → HasFirstCause IsManifest (λ input. IsBadManifest input.bytes.items e) inputs
+  no_manifest : unknown a w ≡ []
+      → HasFirstCause IsManifest (λ input. IsBadManifest input.bytes.items e) inputs
       → IsCauseOf t a w inputs e
   project : unknown a w ≡ [] → (p : Project) → IsProject w inputs p → IsVersionError t a p e
       → IsCauseOf t a w inputs e

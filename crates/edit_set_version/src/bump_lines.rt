@@ -45,7 +45,8 @@ fn push_update(
     lists: &mut Vec<Vec<Line>>,
 ) -> Result<(), AllocError>
     ensures ok { OnOk result (HasRaisedText dependent.now → line_lists_view lists.new.items
-        ≡ with_updates name.now (numbered_dependent_view dependent.now ∷ []) 0 (line_lists_view lists.old.items)) }
+        ≡ with_updates name.now (numbered_dependent_view dependent.now ∷ []) 0
+        (line_lists_view lists.old.items)) }
 {
     match &dependent.risen {
         Some(new) => {
@@ -65,7 +66,8 @@ pub(crate) fn push_updates(
     lists: &mut Vec<Vec<Line>>,
 ) -> Result<(), AllocError>
     ensures ok { OnOk result (All HasRaisedText dependents.now → line_lists_view lists.new.items
-        ≡ with_updates name.now (map numbered_dependent_view dependents.now) 0 (line_lists_view lists.old.items)) }
+        ≡ with_updates name.now (map numbered_dependent_view dependents.now) 0
+        (line_lists_view lists.old.items)) }
 {
     'dependents: for dependent in dependents {
         push_update(alloc, name, dependent, lists)?;

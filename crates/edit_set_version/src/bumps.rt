@@ -110,7 +110,8 @@ pub(crate) fn bumps_of<'a>(
     crates: &[Crate<'a>],
 ) -> CargoResult<Vec<Bump<'a>>>
     ensures ok { IfOk result (λ bs. bumps_view bs.items
-        ≡ filter_map (bump_of (target_of target.now) (selection_view selection.now)) (members_of crates.now)) }
+        ≡ filter_map (bump_of (target_of target.now) (selection_view selection.now))
+        (members_of crates.now)) }
     ensures bumpable { OnOk result (All (λ m. IsBumpable (bump (target_of target.now)
         (selection_view selection.now).metadata m.version)) (members_of crates.now)) }
     ensures versions { IsReadableTarget (target_of target.now)

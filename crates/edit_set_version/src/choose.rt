@@ -138,7 +138,8 @@ fn check_excluded(
     ensures none { OnOk result (filter (λ m. is_among (selection_view selection.now).exclude m.name)
         (members_of added.now) ≡ []) }
     ensures error { IfErr result (λ e. IsMemory e
-        ⊎ IsExcludeError (filter (λ m. is_among (selection_view selection.now).exclude m.name) (members_of added.now))
+        ⊎ IsExcludeError (filter (λ m. is_among (selection_view selection.now).exclude m.name)
+        (members_of added.now))
         (members_of inheriting.now) e) }
 {
     let held = excluded_among(alloc, selection, added)?;
@@ -206,7 +207,8 @@ pub(crate) fn choose<'a>(
         ≡ chosen_members (selection_view selection.now) (members_of crates.now)) }
     ensures workspace { IfOk result (λ c. c.workspace
         ≡ bumps_workspace (selection_view selection.now) (members_of crates.now)) }
-    ensures excluded { OnOk result (excluded_inheriting (selection_view selection.now) (members_of crates.now) ≡ []) }
+    ensures excluded { OnOk result (excluded_inheriting (selection_view selection.now) (members_of crates.now)
+        ≡ []) }
     ensures error { IfErr result (λ e. IsMemory e
         ⊎ IsExcludeError (excluded_inheriting (selection_view selection.now) (members_of crates.now))
         (inheriting_members (selection_view selection.now) (members_of crates.now)) e) }

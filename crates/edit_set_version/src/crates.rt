@@ -63,7 +63,8 @@ pub(crate) fn crates_with<'a>(
 ) -> Result<Vec<Crate<'a>>, AllocError>
     requires inputs { length inputs.now ≡ length members.now }
     requires manifests { length manifests.now ≡ length members.now }
-    ensures outcome { IfOk result (λ cs. map (λ c. c.told.now) cs.items ≡ map (λ p. p.now) members.entry.now) }
+    ensures outcome { IfOk result (λ cs. map (λ c. c.told.now) cs.items
+        ≡ map (λ p. p.now) members.entry.now) }
     ensures inputs { IfOk result (λ cs. map (λ c. c.input.now) cs.items ≡ inputs.entry.now) }
     ensures manifests { IfOk result (λ cs. map (λ c. c.manifest.now) cs.items ≡ manifests.entry.now) }
 {
@@ -88,7 +89,8 @@ fn crates_last<'a>(
 ) -> Result<Vec<Crate<'a>>, AllocError>
     requires inputs { length members.now ≤ length inputs.now }
     requires manifests { length manifests.now ≡ length inputs.now }
-    ensures outcome { IfOk result (λ cs. map (λ c. c.told.now) cs.items ≡ map (λ p. p.now) members.entry.now) }
+    ensures outcome { IfOk result (λ cs. map (λ c. c.told.now) cs.items
+        ≡ map (λ p. p.now) members.entry.now) }
     ensures inputs { IfOk result (λ cs. map (λ c. c.input.now) cs.items
         ≡ drop (length inputs.entry.now - length members.entry.now) inputs.entry.now) }
     ensures manifests { IfOk result (λ cs. map (λ c. c.manifest.now) cs.items

@@ -65,7 +65,8 @@ fn push_dependent<'a>(
     ensures ok { OnOk result ((bs : List Bump) → HasFirstBumps bs numbers.now
         → map numbered_dependent_view dependents.new.items ≡ map numbered_dependent_view dependents.old.items
         ++ option_to_list (with_bump_index bs file.now (path_dependency_view entry))) }
-    ensures risen { OnOk result (All HasRaisedText dependents.old.items → All HasRaisedText dependents.new.items) }
+    ensures risen { OnOk result (All HasRaisedText dependents.old.items
+        → All HasRaisedText dependents.new.items) }
     ensures error { IfErr result (λ e. (bs : List Bump) → HasFirstBumps bs numbers.now
         → IsEntryUnraised bs file.now (path_dependency_view entry) e) }
 {

@@ -193,7 +193,8 @@ fn output_of(
     requires read { IsReadOf input.now manifest.now }
     requires shared { CanShare writing.now.root.now (shared_version_view writing.now.shared) (path_of input.now)
         (tree_of manifest.now.document) }
-    ensures output { IfOk result (λ o. AreOutputsOf writing.now.root.now (shared_version_view writing.now.shared)
+    ensures output { IfOk result (λ o. AreOutputsOf writing.now.root.now
+        (shared_version_view writing.now.shared)
         (bumps_view writing.now.bumps.now) input.now (option_to_list o)) }
     ensures clear { OnOk result (IsInputClearBy (bumps_view writing.now.bumps.now) input.now) }
     ensures error { IfErr result (λ e. IsInputClearBy (bumps_view writing.now.bumps.now) input.now

@@ -54,7 +54,8 @@ fn entry_with(
     text: Option<&str>,
     path: Option<&str>,
 ) -> Result<Option<PathEntry>, AllocError>
-    ensures ok { IfOk result (λ o. option_map path_dependency_view o ≡ path_dependency_with (place_view place.items)
+    ensures ok { IfOk result (λ o. option_map path_dependency_view o
+        ≡ path_dependency_with (place_view place.items)
         (option_map (λ s. s.now) text.entry) (option_map (λ s. s.now) path.entry)) }
 {
     let Some(text) = text else {
@@ -96,7 +97,8 @@ fn push_named(
     entries: &mut Vec<PathEntry>,
 ) -> CargoResult<()>
     requires { place_of table ≡ place_view place.now }
-    ensures ok { OnOk result (path_dependency_views entries.new.items ≡ path_dependency_views entries.old.items
+    ensures ok { OnOk result (path_dependency_views entries.new.items
+        ≡ path_dependency_views entries.old.items
         ++ path_dependency_named (tree_of (document_of table.entry)) (place_view place.now) name.now) }
     ensures error { IfErr result IsMemory }
 {
@@ -117,7 +119,8 @@ fn push_table(
     place: &[Step],
     entries: &mut Vec<PathEntry>,
 ) -> CargoResult<()>
-    ensures ok { OnOk result (path_dependency_views entries.new.items ≡ path_dependency_views entries.old.items
+    ensures ok { OnOk result (path_dependency_views entries.new.items
+        ≡ path_dependency_views entries.old.items
         ++ path_dependencies_in (tree_of document.now) (place_view place.now)) }
     ensures error { IfErr result IsMemory }
 {
@@ -132,7 +135,8 @@ fn push_table(
 
 /// The entries of a document that have both a requirement and a path.
 fn entries_of(alloc: Global, document: &Document) -> CargoResult<Vec<PathEntry>>
-    ensures ok { IfOk result (λ es. path_dependency_views es.items ≡ path_dependencies (tree_of document.now)) }
+    ensures ok { IfOk result (λ es. path_dependency_views es.items
+        ≡ path_dependencies (tree_of document.now)) }
     ensures error { IfErr result IsMemory }
 {
     let tables = dependency_tables(alloc, document)?;
@@ -146,7 +150,8 @@ fn entries_of(alloc: Global, document: &Document) -> CargoResult<Vec<PathEntry>>
 /// The entries of a manifest that have both a requirement and a path, table by table in the order of a walk
 /// down its tree: those that are tables with a string `version` and a string `path`.
 pub fn path_entries(alloc: Global, document: &Document) -> CargoResult<Vec<PathEntry>>
-    ensures entries { IfOk result (λ es. path_dependency_views es.items ≡ path_dependencies (tree_of document.now)) }
+    ensures entries { IfOk result (λ es. path_dependency_views es.items
+        ≡ path_dependencies (tree_of document.now)) }
     // whatever is bumped and wherever the manifest is, only these entries depend on a bumped crate
     ensures dependents { IfOk result (λ es. (bumps : List Bump) (file : List ℕ)
         → dependents bumps file (tree_of document.now)

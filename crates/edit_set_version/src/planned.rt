@@ -68,7 +68,8 @@ fn versions_of<'a>(
         (selection_view selection.now).metadata v))
         (currents (selection_view selection.now) (project_view project.now))) }
     ensures versions { IsReadableTarget (target_of target.now)
-        → All (λ m. IsReadable m.version) (chosen_members (selection_view selection.now) (project_view project.now).members)
+        → All (λ m. IsReadable m.version) (chosen_members (selection_view selection.now)
+        (project_view project.now).members)
         → IfOk result (λ v. AreVersions (bumps_view v.bumps.items)) }
     ensures error { IfErr result (λ e. IsMemory e
         ⊎ IsVersionError (target_of target.now) (selection_view selection.now) (project_view project.now) e) }

@@ -41,7 +41,8 @@ pub(crate) fn next_workspace_version(
     current: Option<&Version>,
 ) -> CargoResult<Option<Version>>
     ensures ok { IfOk result (λ o. option_map parts_of o
-        ≡ option_and_then (λ v. next_of (bump (target_of target.now) (selection_view selection.now).metadata v))
+        ≡ option_and_then (λ v. next_of (bump (target_of target.now)
+        (selection_view selection.now).metadata v))
         (option_map (λ v. parts_of v.now) current.entry)) }
     ensures bumpable { OnOk result (IfSome current.entry (λ v. IsBumpable (bump (target_of target.now)
         (selection_view selection.now).metadata (parts_of v.now)))) }

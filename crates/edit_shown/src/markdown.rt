@@ -9,7 +9,7 @@ mod cells;
 mod groups;
 mod lines;
 
-use crate::markdown::groups::{grouped, print_groups};
+use crate::markdown::groups::{group_inputs, print_groups};
 use crate::markdown::lines::shown_lines;
 use edit_base::CargoResult;
 use edit_metadata::Input;
@@ -40,6 +40,6 @@ pub fn print_markdown<O: io::Write>(
         return Ok(());
     }
     shell_write_stdout(out, HEADING)?;
-    let groups = grouped(alloc, lines.as_slice())?;
+    let groups = group_inputs(alloc, lines.as_slice())?;
     print_groups(alloc, lines.as_slice(), groups, inputs, out)
 }

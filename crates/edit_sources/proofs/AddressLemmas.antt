@@ -90,13 +90,15 @@ one_url configs registry a b x y =
     read_one (parse_url None x.text) a b x.reads (ap (parse_url None) text ∙ y.reads)
 
 -- a file has a single configuration
-pub one_saying : (bytes : List ℕ) (a b : Configuration) → HasConfiguration bytes a → HasConfiguration bytes b → a ≡ b
+pub one_saying : (bytes : List ℕ) (a b : Configuration) → HasConfiguration bytes a
+    → HasConfiguration bytes b → a ≡ b
 one_saying bytes a b x y =
     let members = some_one x.members y.members (sym x.toml ∙ y.toml) in
     some_one a b (sym x.reads ∙ ap configuration_of members ∙ y.reads)
 
 -- a file with a configuration is not malformed
-pub says_or_nothing : (bytes : List ℕ) (said : Configuration) → HasConfiguration bytes said → IsMalformedConfig bytes → ⊥
+pub says_or_nothing : (bytes : List ℕ) (said : Configuration) → HasConfiguration bytes said
+    → IsMalformedConfig bytes → ⊥
 says_or_nothing bytes said s (not_utf8 other) = other s.utf8
 says_or_nothing bytes said s (not_toml none) = some_none s.members (sym s.toml ∙ none)
 says_or_nothing bytes said s (misshapen members is none) =

@@ -28,7 +28,8 @@ pub absent : (o : Option (List ℕ × List ℕ)) → IsReadOf o None → o ≡ N
 absent None h = refl
 absent (Some file) h = absurd h
 
-standing-same : (old new : Files) (path : List ℕ) → SameFiles old new → existing_file new path ≡ existing_file old path
+standing-same : (old new : Files) (path : List ℕ) → SameFiles old new
+    → existing_file new path ≡ existing_file old path
 standing-same old new path same =
     ap (option_map (λ (bytes : List ℕ). let file : List ℕ × List ℕ = (path, bytes) in file)) (same path)
 
@@ -42,7 +43,8 @@ file_in-same old new place same =
 
 -- if `config` does not exist, `config.toml` counts
 pub file_in-second : (old new : Files) (place first second : List ℕ) → first ≡ joined place (codes "config")
-    → second ≡ joined place (codes "config.toml") → SameFiles old new → IsReadOf (existing_file old first) None
+    → second ≡ joined place (codes "config.toml") → SameFiles old new
+    → IsReadOf (existing_file old first) None
     → existing_file new second ≡ file_in old place
 file_in-second old new place first second a b same none =
     let gone : existing_file old (joined place (codes "config")) ≡ None =

@@ -45,7 +45,8 @@ abbrev pub DirGives : List ℕ → StoreView → Parts → List ℕ → Outcome 
 DirGives folder store address name (Ok None) = HasNoFile folder store address name
 DirGives folder store address name (Ok (Some entries)) = HasEntries folder store address name entries
 DirGives folder store address name (Err e) =
-    ((e ≡ bad_name name) × (is_crate_name name ≡ false)) ⊎ ((line : ℕ) × (e ≡ bad_line line) × HasBadLine folder store address name line)
+    ((e ≡ bad_name name) × (is_crate_name name ≡ false))
+    ⊎ ((line : ℕ) × (e ≡ bad_line line) × HasBadLine folder store address name line)
 
 -- the model of an index in a folder of a store: its lookups fail with the store (own)
 abbrev pub dir_view : List ℕ → StoreView → IndexView

@@ -58,7 +58,8 @@ SameOutcomes old new =
 
 -- an error that depends only on the arguments of the lookup and the contents of the index (own)
 abbrev pub IsOutcomeError : Outcomes → Parts → List ℕ → Error → Type 0
-IsOutcomeError gives address name e = IsLookupErrorNumber (number_of e) × gives address name (Err (lookup_error e))
+IsOutcomeError gives address name e = IsLookupErrorNumber (number_of e)
+    × gives address name (Err (lookup_error e))
 
 -- the errors of a lookup: lack of memory, one that the index gives, or a fault of the device, which is
 -- counted (own)

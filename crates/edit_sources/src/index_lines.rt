@@ -46,7 +46,8 @@ fn yanked_flag(value: Option<&Value>) -> Option<bool>
 
 /// The `rust_version` of a version: none where the key is absent or null; `None` where it holds no string.
 fn rust_version<'a>(value: Option<&'a Value>) -> Option<Option<&'a str>>
-    ensures { option_map (λ r. option_map (λ s. s.now) r) result ≡ rust_version_of (optional_value_view value.entry) }
+    ensures { option_map (λ r. option_map (λ s. s.now) r) result
+        ≡ rust_version_of (optional_value_view value.entry) }
 {
     match value {
         None | Some(Value::Null) => Some(None),

@@ -61,7 +61,8 @@ fn read_member<'a>(reader: &mut Reader<'a>, key: &str, fields: Fields<'a>) -> Op
 
 /// Reads the members of a line after its opening brace, up to and including the closing one.
 fn read_members<'a>(reader: &mut Reader<'a>) -> Option<Fields<'a>>
-    ensures value { IfSome result (λ f. (ms : Members) × ReadsMembers 126 reader.old ms reader.new × HasFields f ms) }
+    ensures value { IfSome result (λ f. (ms : Members) × ReadsMembers 126 reader.old ms reader.new
+        × HasFields f ms) }
 {
     let mut fields = Fields {
         name: None,

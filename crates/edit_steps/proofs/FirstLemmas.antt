@@ -85,7 +85,8 @@ own_unshared files home pair manifest (list ∷ lists) e some all stops =
 -- ---- the inputs
 
 -- the inputs are those before an index, the one there, and those behind it
-inputs_split : (inputs : List Input) (i : ℕ) (input : Input) → i < length inputs → input ≡ get_or inputs i input
+inputs_split : (inputs : List Input) (i : ℕ) (input : Input) → i < length inputs
+    → input ≡ get_or inputs i input
     → inputs ≡ take i inputs ++ input ∷ drop (i + 1) inputs
 inputs_split inputs i input within is =
     sym (take-append-drop i inputs) ∙ ap (λ xs. take i inputs ++ xs)

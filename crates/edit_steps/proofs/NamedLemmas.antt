@@ -69,7 +69,8 @@ gathered files home pair manifest first own last both all f l is_first is_last s
 -- the paths of a list, one part after another
 pub paths_listed : (first own last both all : List (String Global)) (f l : Option (Bor NamedFile))
     (whole last_whole : Option NamedFile) → option_copied f ≡ whole → option_copied l ≡ last_whole
-    → map string_bytes first ≡ path_in (given_file_view f) → map string_bytes last ≡ path_in (given_file_view l)
+    → map string_bytes first ≡ path_in (given_file_view f)
+    → map string_bytes last ≡ path_in (given_file_view l)
     → both ≡ first ++ own → all ≡ both ++ last
     → map string_bytes all ≡ path_in (option_map path_and_bytes whole)
     ++ (map string_bytes own ++ path_in (option_map path_and_bytes last_whole))

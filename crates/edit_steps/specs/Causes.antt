@@ -65,8 +65,9 @@ pub data IsUnconfigured (files : Files) (home : Option (List ℕ)) (pair : Pair)
       → ConfigsFail true files (string_bytes input.path) home e
       → IsUnconfigured files home pair inputs e
 
--- why the configurations of a manifest are not read: the file that is named first is malformed; or it was read
--- and one of the manifest's own is malformed; or all these were read and the file that is named last is malformed
+-- why the configurations of a manifest are not read: the file that is named first is malformed; or it was
+-- read and one of the manifest's own is malformed; or all these were read and the file that is named last is
+-- malformed
 pub data IsUngathered (files : Files) (home : Option (List ℕ)) (pair : Pair) (manifest : List ℕ) (e : Error)
     : Type 0 where
   at_first : IsUnreadFile pair.first e → IsUngathered files home pair manifest e

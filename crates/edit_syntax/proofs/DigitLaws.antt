@@ -59,7 +59,8 @@ exponent_sound text x h e =
       (h, d.1),
     )
 
-fraction_sound : (s : Sign) (whole fraction text : List ℕ) (x : Value × List ℕ) → is_decimal_integer whole ≡ true
+fraction_sound : (s : Sign) (whole fraction text : List ℕ) (x : Value × List ℕ)
+    → is_decimal_integer whole ≡ true
     → are_digits is_decimal fraction ≡ true → fraction_read s whole fraction text ≡ Some x
     → Spelled (sign s (whole ++ (46 ∷ (fraction ++ text)))) x
 unfolding fraction_read

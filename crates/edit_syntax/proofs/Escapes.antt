@@ -115,7 +115,8 @@ Takes tail out new len = (p : Piece) (r : List ℕ) → BeginsWithBackslash p �
     → tail ≡ piece quote p r → (new ≡ out ++ decoded_piece quote p) × (len ≡ length (piece quote p []))
 
 piece_turn : (ps rs : List Piece) (tail out new next : List ℕ) (len : ℕ) → AreLine rs → BeginsMarked rs
-    → tail ≡ pieces quote rs [] → out ++ decoded_pieces quote rs ≡ decoded_pieces quote ps → IsUtf8 tail → 0 < length tail
+    → tail ≡ pieces quote rs [] → out ++ decoded_pieces quote rs ≡ decoded_pieces quote ps → IsUtf8 tail
+    → 0 < length tail
     → Takes tail out new len → (IsCharBoundary tail len → next ≡ drop len tail) → Left ps next new
 piece_turn ps [] tail out new next len line begins spelled says u some takes cut =
     absurd (omega (arith, ap length spelled))

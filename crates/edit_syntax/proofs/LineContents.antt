@@ -34,7 +34,8 @@ basic_no_break b h = (grind (arith, nat_tests), grind (arith, nat_tests))
 literal_no_break : (b : ℕ) → is_literal_ch b ≡ true → (eqb b 10 ≡ false) × (eqb b 13 ≡ false)
 literal_no_break b h = (grind (arith, nat_tests), grind (arith, nat_tests))
 
-raw_says : (ps : List Piece) → AllByRecursion IsRawPiece ps → decoded_pieces apostrophe ps ≡ pieces apostrophe ps []
+raw_says : (ps : List Piece) → AllByRecursion IsRawPiece ps
+    → decoded_pieces apostrophe ps ≡ pieces apostrophe ps []
 raw_says [] h = refl
 raw_says (plain b ∷ ps) h = ap (λ (r : List ℕ). b ∷ r) (raw_says ps h.1)
 raw_says (letter c ∷ ps) h = absurd h.0

@@ -56,13 +56,15 @@ unfolding body_at
 body_turn mark n few text after going other e = rw (going, other)
     (first_turn after (line_piece_at mark text) (body_at mark n 2) e)
 
-pub body_stop : (mark n few : ℕ) (text : List ℕ) → is_closing_delimiter mark text ≡ false → eqb (first text) mark ≡ false
+pub body_stop : (mark n few : ℕ) (text : List ℕ) → is_closing_delimiter mark text ≡ false
+    → eqb (first text) mark ≡ false
     → None ≡ rest_of (line_piece_at mark text) → rest_of (body_at mark (suc n) few text) ≡ None
 unfolding body_at
 body_stop mark n few text going other e = rw (going, other)
     (first_stop (line_piece_at mark text) (body_at mark n 2) e)
 
-pub body_delimiter : (mark n few less : ℕ) (text : List ℕ) → few ≡ suc less → is_closing_delimiter mark text ≡ false
+pub body_delimiter : (mark n few less : ℕ) (text : List ℕ) → few ≡ suc less
+    → is_closing_delimiter mark text ≡ false
     → eqb (first text) mark ≡ true → rest_of (body_at mark (suc n) few text)
     ≡ rest_of (body_at mark n less (drop 1 text))
 unfolding body_at

@@ -103,16 +103,20 @@ runs_behind n (feed e) ps o h = h
 runs_behind n (fold ws e more) ps o h = h
 runs_behind n delimiter ps o h = absurd o
 
-closes_other : (mark : ℕ) (text : List ℕ) → eqb (first text) mark ≡ false → is_closing_delimiter mark text ≡ false
+closes_other : (mark : ℕ) (text : List ℕ) → eqb (first text) mark ≡ false
+    → is_closing_delimiter mark text ≡ false
 closes_other mark text h = rw h refl
 
-closes_end : (mark : ℕ) (rest : List ℕ) → eqb (first rest) mark ≡ false → is_closing_delimiter mark (three mark rest) ≡ true
+closes_end : (mark : ℕ) (rest : List ℕ) → eqb (first rest) mark ≡ false
+    → is_closing_delimiter mark (three mark rest) ≡ true
 closes_end mark rest h = rw (eq-eqb mark mark refl, h) refl
 
-closes_four : (mark : ℕ) (rest : List ℕ) → is_closing_delimiter mark (mark ∷ (mark ∷ (mark ∷ (mark ∷ rest)))) ≡ false
+closes_four : (mark : ℕ) (rest : List ℕ)
+    → is_closing_delimiter mark (mark ∷ (mark ∷ (mark ∷ (mark ∷ rest)))) ≡ false
 closes_four mark rest = rw (eq-eqb mark mark refl) refl
 
-closes_second : (mark : ℕ) (text : List ℕ) → eqb (first text) mark ≡ false → is_closing_delimiter mark (mark ∷ text) ≡ false
+closes_second : (mark : ℕ) (text : List ℕ) → eqb (first text) mark ≡ false
+    → is_closing_delimiter mark (mark ∷ text) ≡ false
 closes_second mark text h = rw (eq-eqb mark mark refl, h) refl
 
 closes_third : (mark : ℕ) (text : List ℕ) → eqb (first text) mark ≡ false
@@ -129,7 +133,8 @@ too_many (suc (suc (suc n))) ps le h = absurd (omega arith)
 -- behind a delimiter that is text the string is not over
 closes_delimiter : (mark : ℕ) (valid : Piece → Type 0) → Rereads mark valid
     → (few : ℕ) (ps : List Piece) (rest : List ℕ) → few ≤ 2 → AllByRecursion valid ps
-    → RunsFit few (delimiter ∷ ps) → is_closing_delimiter mark (mark ∷ pieces mark ps (three mark rest)) ≡ false
+    → RunsFit few (delimiter ∷ ps)
+    → is_closing_delimiter mark (mark ∷ pieces mark ps (three mark rest)) ≡ false
 closes_delimiter mark valid kind few [] rest le h runs = closes_four mark rest
 closes_delimiter mark valid kind few (q ∷ []) rest le h runs = elim (sort q) [
   | inl e ↦ rw e (closes_four mark (mark ∷ rest))

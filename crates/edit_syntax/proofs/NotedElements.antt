@@ -106,7 +106,8 @@ pub elements_done : (read : List ℕ → Read Value) (total : Read Elements) (co
     (v : Value) (old out mid new : List SyntaxToken) → eqb (first text) right_bracket ≡ false
     → read text ≡ Some (v, r) → eqb (first (past_gap r)) comma ≡ false
     → Some after ≡ past right_bracket (past_gap r) → mid ≡ out ++ tokens_of_value v r
-    → new ≡ mid ++ (token_between kinds.CloseArray (past_gap r) after ∷ []) → Fills read total (suc count) text old out
+    → new ≡ mid ++ (token_between kinds.CloseArray (past_gap r) after ∷ [])
+    → Fills read total (suc count) text old out
     → (es : Elements) × (total ≡ Some (es, after)) × (new ≡ old ++ tokens_of_array es after)
 elements_done read total count text r after v old out mid new unclosed e sign closed noted ended before =
     let g = gap_front r in

@@ -89,7 +89,8 @@ element_noted old mid new bytes key_end inner rest k opened again key noted one 
 
 -- ---- lines
 
-pub empty_noted : (n : ℕ) (old : List SyntaxToken) (bytes : List ℕ) → is_line_over (first (past_blanks bytes)) ≡ true
+pub empty_noted : (n : ℕ) (old : List SyntaxToken) (bytes : List ℕ)
+    → is_line_over (first (past_blanks bytes)) ≡ true
     → (l : Line) × (line_at n bytes ≡ Some (l, past_comment (past_blanks bytes)))
     × (old ≡ old ++ tokens_of_line l (past_comment (past_blanks bytes)))
 unfolding line_at
@@ -187,11 +188,13 @@ pub lines_broken : (total : Option Lines) (n : ℕ) (bytes rest : List ℕ) (l :
 lines_broken total n bytes rest l out e more ends before =
     before.none (lines_stop n bytes rest l e more (unmapped (line_end_at rest) ends))
 
-pub lines_fail : (total : Option Lines) (n : ℕ) (bytes : List ℕ) (out : List SyntaxToken) → line_at 80 bytes ≡ None
+pub lines_fail : (total : Option Lines) (n : ℕ) (bytes : List ℕ) (out : List SyntaxToken)
+    → line_at 80 bytes ≡ None
     → Completes total (suc n) bytes out → total ≡ None
 lines_fail total n bytes out e before = before.none (lines_without n bytes e)
 
-pub lines_none : (total : Option Lines) (bytes : List ℕ) (out : List SyntaxToken) → Completes total 0 bytes out
+pub lines_none : (total : Option Lines) (bytes : List ℕ) (out : List SyntaxToken)
+    → Completes total 0 bytes out
     → total ≡ None
 unfolding lines_at
 lines_none total bytes out before = before.none refl
@@ -203,14 +206,16 @@ abbrev pub Found : List ℕ → List SyntaxToken → Type 0
 Found bytes new = (form : Lines) × (bytes ≡ lines form) × AreLines form × (lines_depth form ≤ 80)
     × (new ≡ tokens_of_lines form)
 
-pub found : (bytes : List ℕ) (us : Lines) (new : List SyntaxToken) → lines_at 80 (length bytes + 1) bytes ≡ Some us
+pub found : (bytes : List ℕ) (us : Lines) (new : List SyntaxToken)
+    → lines_at 80 (length bytes + 1) bytes ≡ Some us
     → new ≡ tokens_of_lines us → Found bytes new
 found bytes us new e noted = let h = lines_read 80 bytes us e in (us, h.0, h.1.valid, h.1.shallow, noted)
 
 good : (form : Lines) → AreLines form → lines_depth form ≤ 80 → AreGoodLines 80 form
 good form valid le = record { valid = valid; shallow = le }
 
-pub only : (bytes : List ℕ) (us : Lines) (new : List SyntaxToken) → lines_at 80 (length bytes + 1) bytes ≡ Some us
+pub only : (bytes : List ℕ) (us : Lines) (new : List SyntaxToken)
+    → lines_at 80 (length bytes + 1) bytes ≡ Some us
     → new ≡ tokens_of_lines us → (form : Lines) → bytes ≡ lines form → AreLines form → lines_depth form ≤ 80
     → new ≡ tokens_of_lines form
 only bytes us new e noted form has valid le =
@@ -228,7 +233,8 @@ not_memory : (left : ℕ) → NotToml left ≡ Memory → ⊥
 not_memory left e = cc
 
 -- the exit of a line that was not read
-pub exit_only : (bytes : List ℕ) (e e2 : ReadError) (r : Result (Vec SyntaxToken) ReadError) → r ≡ Err e2 → e2 ≡ e
+pub exit_only : (bytes : List ℕ) (e e2 : ReadError) (r : Result (Vec SyntaxToken) ReadError) → r ≡ Err e2
+    → e2 ≡ e
     → ((e ≡ Memory → ⊥) → lines_at 80 (length bytes + 1) bytes ≡ None)
     → (form : Lines) → bytes ≡ lines form → AreLines form → lines_depth form ≤ 80
     → MatchResult r (λ v. v.items ≡ tokens_of_lines form) (λ x. x ≡ Memory)

@@ -37,7 +37,8 @@ told_back kind k rest (Some x) e =
 told_back kind k rest None e = absurd cc
 
 -- the mark that was noted is that of the token's form
-same_mark : (j k : TokenKind) (a b rest : List ℕ) → j ≡ k → a ≡ b → token_between j a rest ≡ token_between k b rest
+same_mark : (j k : TokenKind) (a b rest : List ℕ) → j ≡ k → a ≡ b
+    → token_between j a rest ≡ token_between k b rest
 same_mark j k a b rest e f = rw (e, f) refl
 
 pub part_noted : (old new : List SyntaxToken) (k : TokenKind) (text rest : List ℕ)
@@ -145,7 +146,8 @@ pub key_fail : (total : Read Key) (n : ℕ) (text : List ℕ) (old out : List Sy
     → CompletesKey total (suc n) text old out → total ≡ None
 key_fail total n text old out sign e before = before.none (dotted_stops n text sign e)
 
-pub key_none : (total : Read Key) (text : List ℕ) (old out : List SyntaxToken) → CompletesKey total 0 text old out
+pub key_none : (total : Read Key) (text : List ℕ) (old out : List SyntaxToken)
+    → CompletesKey total 0 text old out
     → total ≡ None
 unfolding dotted_at
 key_none total text old out before = before.none refl
@@ -182,7 +184,8 @@ flat_marks (array g es) rest e = absurd (omega arith)
 flat_marks (inline g ms) rest e = absurd (omega arith)
 
 pub scalar_noted : (old new : List SyntaxToken) (k : TokenKind) (text rest : List ℕ)
-    → Some (k, rest) ≡ parsed_token value_kind (scalar_at text) → new ≡ old ++ (token_between k text rest ∷ [])
+    → Some (k, rest) ≡ parsed_token value_kind (scalar_at text)
+    → new ≡ old ++ (token_between k text rest ∷ [])
     → (v : Value) × (scalar_at text ≡ Some (v, rest)) × (new ≡ old ++ tokens_of_value v rest)
 scalar_noted old new k text rest told noted =
     let v = told_back value_kind k rest (scalar_at text) told in

@@ -147,7 +147,8 @@ digits_again class ds rest h stops =
     rw (front_again (is_marked class) ds rest all stops, after_again (is_marked class) ds rest all stops, h)
     refl
 
-pub whole_again : (ds rest : List ℕ) → is_decimal_integer ds ≡ true → is_marked is_decimal (first rest) ≡ false
+pub whole_again : (ds rest : List ℕ) → is_decimal_integer ds ≡ true
+    → is_marked is_decimal (first rest) ≡ false
     → whole_at (ds ++ rest) ≡ Some (ds, rest)
 unfolding whole_at
 whole_again ds rest h stops =

@@ -44,7 +44,8 @@ AppendsTokens {A} marks old new r read =
     × (new.items ≡ old.items ++ marks x rest.now)) (λ e. (e ≡ Memory → ⊥) → read ≡ None)
 
 -- one token is appended, or memory ran out
-abbrev pub AppendsToken : Vec SyntaxToken → Vec SyntaxToken → Result (Unit {0}) ReadError → SyntaxToken → Type 0
+abbrev pub AppendsToken : Vec SyntaxToken → Vec SyntaxToken → Result (Unit {0}) ReadError → SyntaxToken
+    → Type 0
 AppendsToken old new r m = MatchResult r (λ _. new.items ≡ old.items ++ m ∷ []) (λ e. e ≡ Memory)
 
 -- the kind of a token, and the rest of the input
@@ -86,4 +87,5 @@ tokens_of_inline_table ms rest =
 -- the tokens of the elements of an array and of its closing bracket
 abbrev pub tokens_of_array : Elements → List ℕ → List SyntaxToken
 tokens_of_array es rest =
-    tokens_of_elements es (right_bracket ∷ rest) ++ token_between kinds.CloseArray (right_bracket ∷ rest) rest ∷ []
+    tokens_of_elements es (right_bracket ∷ rest)
+    ++ token_between kinds.CloseArray (right_bracket ∷ rest) rest ∷ []

@@ -111,7 +111,8 @@ offset_at text =
 
 -- the input begins with `T`, `t`, or a space and a digit, which join a time to a date ("Offset Date-Time")
 abbrev pub is_time_next : List ℕ → Bool
-is_time_next text = first text == 84 || first text == 116 || (first text == 32 && is_decimal (first (drop 1 text)))
+is_time_next text = first text == 84 || first text == 116 || (first text == 32 && is_decimal (first
+    (drop 1 text)))
 
 -- a date and an optional time after it ("Offset Date-Time", "Local Date-Time", "Local Date")
 unfoldable pub date_time_at : List ℕ → Read Value

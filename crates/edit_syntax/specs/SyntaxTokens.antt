@@ -57,10 +57,12 @@ abbrev mutual
   tokens_of_value (datetime d) rest = single_token kinds.DateTime (datetime d) rest
   tokens_of_value (array g es) rest =
       token_between kinds.OpenArray (value (array g es) rest) (gap g (elements es (right_bracket ∷ rest)))
-      ∷ (tokens_of_elements es (right_bracket ∷ rest) ++ token_between kinds.CloseArray (right_bracket ∷ rest) rest ∷ [])
+      ∷ (tokens_of_elements es (right_bracket ∷ rest)
+      ++ token_between kinds.CloseArray (right_bracket ∷ rest) rest ∷ [])
   tokens_of_value (inline g ms) rest =
       token_between kinds.OpenTable (value (inline g ms) rest) (gap g (members ms (right_brace ∷ rest)))
-      ∷ (tokens_of_members ms (right_brace ∷ rest) ++ token_between kinds.CloseTable (right_brace ∷ rest) rest ∷ [])
+      ∷ (tokens_of_members ms (right_brace ∷ rest)
+      ++ token_between kinds.CloseTable (right_brace ∷ rest) rest ∷ [])
 
   -- the tokens of the elements of an array
   pub tokens_of_elements : Elements → List ℕ → List SyntaxToken
@@ -76,15 +78,18 @@ abbrev mutual
       tokens_of_key k (a · equals ∷ (b · value v (gap c rest))) ++ tokens_of_value v (gap c rest)
   tokens_of_members (member k a b v c d ms) rest =
       let after = gap c (comma ∷ gap d (members ms rest)) in
-      (tokens_of_key k (a · equals ∷ (b · value v after)) ++ tokens_of_value v after) ++ tokens_of_members ms rest
+      (tokens_of_key k (a · equals ∷ (b · value v after)) ++ tokens_of_value v after)
+      ++ tokens_of_members ms rest
 
 -- ---- lines
 
 -- the tokens of a statement; the token of a header follows those of its key
 abbrev pub tokens_of_statement : Statement → List ℕ → List SyntaxToken
-tokens_of_statement (pair k a b v) rest = tokens_of_key k (a · equals ∷ (b · value v rest)) ++ tokens_of_value v rest
+tokens_of_statement (pair k a b v) rest = tokens_of_key k (a · equals ∷ (b · value v rest))
+    ++ tokens_of_value v rest
 tokens_of_statement (header a k b) rest =
-    tokens_of_key k (b · right_bracket ∷ rest) ++ token_between kinds.Header (statement (header a k b) rest) rest ∷ []
+    tokens_of_key k (b · right_bracket ∷ rest)
+    ++ token_between kinds.Header (statement (header a k b) rest) rest ∷ []
 tokens_of_statement (element_header a k b) rest =
     tokens_of_key k (b · right_bracket ∷ (right_bracket ∷ rest))
     ++ token_between kinds.ElementHeader (statement (element_header a k b) rest) rest ∷ []

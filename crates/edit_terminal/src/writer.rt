@@ -9,8 +9,8 @@ use std::io::ErrorKind;
 use std::{io, mem, str};
 
 /// A writer to a terminal, which hands on each character so that the terminal shows it and does nothing else
-/// with it: see `write_for_terminal`. It takes texts in UTF-8, in pieces of any length; other bytes are an error.
-/// After an error it begins anew, as if no byte had come.
+/// with it: see `write_for_terminal`. It takes texts in UTF-8, in pieces of any length; other bytes are an
+/// error. After an error it begins anew, as if no byte had come.
 #[derive(Drop)]
 pub struct TerminalWriter<W: io::Write + Drop> {
     to: W,

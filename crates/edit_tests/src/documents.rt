@@ -1,6 +1,6 @@
-//! Tests of what `Debug` prints of documents and of views of their items: what Rust's derive prints of structs
-//! and enums with these names and fields. A document is printed as a struct with one field, its text, that has
-//! no name.
+//! Tests of what `Debug` prints of documents and of views of their items: what Rust's derive prints of
+//! structs and enums with these names and fields. A document is printed as a struct with one field, its text,
+//! that has no name.
 use crate::assertion_helpers::{push, text, unwrap_alloc, unwrap_ok};
 use crate::rows::{LINES, check_rows};
 use edit_document::{Document, Item, NewItem, NewValue};
@@ -20,8 +20,8 @@ const LIST: &str = r#"Value(Strings(["\"", ""]))"#;
 const TABLE: &str =
     r#"Inline { members: [("o", Bool(true)), ("f", Strings(["s"]))], dotted: false }"#;
 
-/// What is printed, with `@` in the place of the document or of the new entry; of which view; and the steps to
-/// an item, or how many keys were taken before.
+/// What is printed, with `@` in the place of the document or of the new entry; of which view; and the steps
+/// to an item, or how many keys were taken before.
 const PRINTED: &str = r#"@|document|
 Item { source: Node(NodeRef { document: @, number: 0 }) }|item|
 Item { source: Node(NodeRef { document: @, number: 1 }) }|item|a

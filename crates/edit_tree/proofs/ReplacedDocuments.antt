@@ -13,7 +13,8 @@ use Rattle.edit_tree.proofs.Shallow.{one_form}
 pub tree_again : (edits : Edits) (old new : List ℕ) (form : Text) (t : Place → Option View)
     → IsDocument old form → AreApart edits form → ((q : Place) → t q ≡ view_at form q)
     → new ≡ text (replaced edits form)
-    → (g : Text) → IsDocument new g → (q : Place) → view_at g q ≡ tree_with_strings edits (tree_without_below edits t) q
+    → (g : Text) → IsDocument new g → (q : Place)
+    → view_at g q ≡ tree_with_strings edits (tree_without_below edits t) q
 tree_again edits old new form t manifest apart same e g read q =
     let is = subst (λ (b : List ℕ). IsDocument b (replaced edits form)) (sym e)
     (replaced_document edits old form manifest) in

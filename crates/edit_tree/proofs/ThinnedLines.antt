@@ -23,7 +23,8 @@ thin_count edits xs ys p (lose x us vs b k t) =
 abbrev pub Counts : List Assertion → List Assertion → Type 0
 Counts xs ys = (p : Place) → elements_at xs p ≡ elements_at ys p
 
-same_resolved : (xs ys : List Assertion) (p : Place) → Counts xs ys → last_element_or_self xs p ≡ last_element_or_self ys p
+same_resolved : (xs ys : List Assertion) (p : Place) → Counts xs ys
+    → last_element_or_self xs p ≡ last_element_or_self ys p
 same_resolved xs ys p t = ap (λ n. if nat_lt 0 n then at p (index (n - 1)) else p) (t p)
 
 same_fronts : (xs ys : List Assertion) (by p : Place) (ns : List (List ℕ)) → Counts xs ys

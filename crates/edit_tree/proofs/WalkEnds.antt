@@ -176,7 +176,8 @@ IsWorded k =
     ⊎ ((k ≡ kinds.LiteralString) ⊎ ((k ≡ kinds.MultiBasicString) ⊎ ((k ≡ kinds.MultiLiteralString)
     ⊎ ((k ≡ kinds.Integer) ⊎ ((k ≡ kinds.Float) ⊎ (k ≡ kinds.DateTime))))))
 
-pub word_step : (bytes : List ℕ) (m : SyntaxToken) (st : State) (s : Shape) → IsWorded m.kind → IsToken bytes m
+pub word_step : (bytes : List ℕ) (m : SyntaxToken) (st : State) (s : Shape) → IsWorded m.kind
+    → IsToken bytes m
     → ((n : List ℕ) → IsDecodedAt bytes m n → s ≡ scalar_shape m.kind n)
     → step bytes m st ≡ value_added st s (Some (span_of_mark m))
 word_step bytes m st s (inl e) = word_by bytes m st s kinds.BasicString e refl refl
@@ -225,7 +226,8 @@ abbrev pub Turns : Walk → Walk → List ℕ → SyntaxToken → Bool → Type 
 Turns walk new bytes m b = (st : State) → Walks bytes walk st → IsToken bytes m
     → HasNextState bytes new (step bytes m st) b
 
-left_at : (walk : Walk) (bytes : List ℕ) (marks : List SyntaxToken) (i : ℕ) (d : SyntaxToken) → i < length marks
+left_at : (walk : Walk) (bytes : List ℕ) (marks : List SyntaxToken) (i : ℕ) (d : SyntaxToken)
+    → i < length marks
     → Along walk bytes marks (drop i marks) → Along walk bytes marks (get_or marks i d ∷ drop (i + 1) marks)
 left_at walk bytes marks i d lt a = subst (Along walk bytes marks)
     (drop_from marks i (get_or marks i d) (slice_get-get_or marks i d lt)) a

@@ -208,7 +208,8 @@ goes_headed text middle walk st number (next, e, w) turn =
     (with_only_table (next, number), ap (λ (o : Option (State × ℕ)). o >>= λ r. Some (with_only_table r)) e, turn next w)
 
 pub headed_refused : (text : List ℕ) (middle : Walk) (st : State)
-    → HasDefinedState text middle (pending_defined st 0 Super section Header None) None → table_opened st ≡ None
+    → HasDefinedState text middle (pending_defined st 0 Super section Header None) None
+    → table_opened st ≡ None
 headed_refused text middle st e = ap (λ (o : Option (State × ℕ)). o >>= λ r. Some (with_only_table r)) e
 
 abbrev pub with_element_of : State × ℕ → Option State

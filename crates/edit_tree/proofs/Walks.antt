@@ -10,7 +10,8 @@ bind_some : {A : Type 0} (o : Option A) → (o >>= λ x. Some x) ≡ o
 bind_some None = refl
 bind_some (Some x) = refl
 
-pub walked_one : (bytes : List ℕ) (m : SyntaxToken) (st : State) → state_after bytes (m ∷ []) st ≡ step bytes m st
+pub walked_one : (bytes : List ℕ) (m : SyntaxToken) (st : State)
+    → state_after bytes (m ∷ []) st ≡ step bytes m st
 unfolding state_after
 walked_one bytes m st = bind_some (step bytes m st)
 
@@ -19,7 +20,8 @@ pub walked_first : (bytes : List ℕ) (m : SyntaxToken) (ms : List SyntaxToken) 
 unfolding state_after
 walked_first bytes m ms st next e = ap (λ (o : Option State). o >>= state_after bytes ms) e
 
-pub walked_stops : (bytes : List ℕ) (m : SyntaxToken) (ms : List SyntaxToken) (st : State) → step bytes m st ≡ None
+pub walked_stops : (bytes : List ℕ) (m : SyntaxToken) (ms : List SyntaxToken) (st : State)
+    → step bytes m st ≡ None
     → state_after bytes (m ∷ ms) st ≡ None
 unfolding state_after
 walked_stops bytes m ms st e = ap (λ (o : Option State). o >>= state_after bytes ms) e

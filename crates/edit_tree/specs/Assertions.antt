@@ -145,7 +145,8 @@ fronts earlier by place (n ∷ m ∷ ns) = asserts by (last_element_or_self earl
 abbrev pub header_place : List Assertion → Place → List (List ℕ) → Place
 header_place earlier place [] = place
 header_place earlier place (n ∷ []) = at place (key n)
-header_place earlier place (n ∷ m ∷ ns) = header_place earlier (last_element_or_self earlier (at place (key n))) (m ∷ ns)
+header_place earlier place (n ∷ m ∷ ns) = header_place earlier (last_element_or_self earlier
+    (at place (key n))) (m ∷ ns)
 
 -- ---- texts
 

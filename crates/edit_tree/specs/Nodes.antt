@@ -136,7 +136,8 @@ abbrev pub IsListIndexed : List ℕ → MemberList → Type 0
 IsListIndexed text members =
     (name : List ℕ) → number_of members.others name ≡ number_in (drop 8 (entries_listed text members)) name
 
--- the map of the members among the parts below a node, if it has some, has exactly those behind the first eight
+-- the map of the members among the parts below a node, if it has some, has exactly those behind the first
+-- eight
 abbrev pub IsIndexedBy : List ℕ → Parts → Type 0
 IsIndexedBy text parts.Nothing = ⊤
 IsIndexedBy text (parts.Members members) = IsListIndexed text members.value

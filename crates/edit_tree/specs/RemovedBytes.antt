@@ -19,7 +19,8 @@ is_removed_statement gone s = is_within gone (place_named s.earlier s.prefix s.s
 abbrev pub lines_left : Place → List ℕ → List PlacedStatement → List ℕ
 lines_left gone from [] = from
 lines_left gone from (s ∷ ss) =
-    if is_removed_statement gone s then lines_left gone s.next ss else before from s.next ++ lines_left gone s.next ss
+    if is_removed_statement gone s then lines_left gone s.next ss else before from s.next
+    ++ lines_left gone s.next ss
 
 -- ---- arrays and inline tables
 
@@ -49,13 +50,15 @@ behind_comma lead l = if l.comma_stays then comma ∷ lead l.rest else l.rest
 -- removed too; where no comma follows, the comma before it is removed and the gap behind it stays.
 abbrev pub without_member : (List ℕ → List ℕ) → (List ℕ → List ℕ) → Left → Left
 without_member trail lead l =
-    if l.comma_stays then left_with_comma (without_blanks (lead l.rest)) else left_without_comma (trail l.rest)
+    if l.comma_stays then left_with_comma (without_blanks (lead l.rest))
+    else left_without_comma (trail l.rest)
 
 -- the elements of an array from an index on, without the one at a place
 abbrev pub elements_left : Place → Place → ℕ → Elements → List ℕ → Left
 elements_left gone place i no_elements rest = left_with_comma rest
 elements_left gone place i (last_element v g) rest =
-    if same_place (at place (index i)) gone then left_without_comma (gap g rest) else left_with_comma (value v (gap g rest))
+    if same_place (at place (index i)) gone then left_without_comma (gap g rest)
+    else left_with_comma (value v (gap g rest))
 elements_left gone place i (element v g h es) rest =
     let l = elements_left gone place (suc i) es rest in
     if same_place (at place (index i)) gone then without_member (gap g) (gap h) l

@@ -133,7 +133,8 @@ is_below_any (e ∷ es) q = is_below e.0 q || is_below_any es q
 -- a tree with the strings of the edits at their places
 abbrev pub tree_with_strings : Edits → (Place → Option View) → Place → Option View
 tree_with_strings [] tree q = tree q
-tree_with_strings (e ∷ es) tree q = if same_place e.0 q then Some (string e.1) else tree_with_strings es tree q
+tree_with_strings (e ∷ es) tree q =
+    if same_place e.0 q then Some (string e.1) else tree_with_strings es tree q
 
 -- a tree with nothing below the places of the edits
 abbrev pub tree_without_below : Edits → (Place → Option View) → Place → Option View
@@ -170,4 +171,5 @@ pub record Replaces (edits : Edits) (old new : List ℕ) : Type 0 where
   pub kept : Swaps literal_of (edited edits form) old new
   pub is : IsDocument new (replaced edits form)
   pub tree : (place : Place)
-      → view_at (replaced edits form) place ≡ tree_with_strings edits (tree_without_below edits (view_at form)) place
+      → view_at (replaced edits form) place
+      ≡ tree_with_strings edits (tree_without_below edits (view_at form)) place

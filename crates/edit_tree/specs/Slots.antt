@@ -81,7 +81,8 @@ is_item_removed below i (of_pair k a b v) = is_within below (map name_step (name
 abbrev pub slots_left : Place → ℕ → Slots → List ℕ → Left
 slots_left below i no_slots rest = left_with_comma rest
 slots_left below i (last_slot s c) rest =
-    if is_item_removed below i s then left_without_comma (gap c rest) else left_with_comma (slot s (gap c rest))
+    if is_item_removed below i s then left_without_comma (gap c rest)
+    else left_with_comma (slot s (gap c rest))
 slots_left below i (more_slots s c d ss) rest =
     let l = slots_left below (suc i) ss rest in
     if is_item_removed below i s then without_member (gap c) (gap d) l

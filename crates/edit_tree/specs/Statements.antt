@@ -22,7 +22,8 @@ pub record PlacedStatement : Type 0 where
   pub next : List ℕ
 
 -- a statement on a line, with the white space before it and the suffixes of the text behind it
-abbrev pub stated_line : List Assertion → Place → List ℕ → Statement → List ℕ → List ℕ → List ℕ → PlacedStatement
+abbrev pub stated_line : List Assertion → Place → List ℕ → Statement → List ℕ → List ℕ → List ℕ
+    → PlacedStatement
 stated_line earlier prefix a s behind after next = record {
   prefix = prefix;
   earlier = earlier;

@@ -100,7 +100,8 @@ abbrev pub with_element : ModelNode → ℕ → ModelNode
 with_element s number = record s { elements = s.elements ++ number ∷ [] }
 
 -- the nodes with a new member of one of them, and the index of the new one; none beyond 80 steps
-unfoldable pub member_added : List ModelNode → ℕ → List ℕ → Shape → DefinedBy → Option Span → Option (List ModelNode × ℕ)
+unfoldable pub member_added : List ModelNode → ℕ → List ℕ → Shape → DefinedBy → Option Span
+    → Option (List ModelNode × ℕ)
 member_added spots number name shape taken span = slice_get spots number >>= λ s.
     if nat_le 80 (length s.place) then None
     else Some (
@@ -110,7 +111,8 @@ member_added spots number name shape taken span = slice_get spots number >>= λ 
     )
 
 -- the nodes with a new element of one of them, and the index of the new one; none beyond 80 steps
-unfoldable pub element_added : List ModelNode → ℕ → Shape → DefinedBy → Option Span → Option (List ModelNode × ℕ)
+unfoldable pub element_added : List ModelNode → ℕ → Shape → DefinedBy → Option Span
+    → Option (List ModelNode × ℕ)
 element_added spots number shape taken span = slice_get spots number >>= λ s.
     if nat_le 80 (length s.place) then None
     else Some (
@@ -131,7 +133,8 @@ member_defined_at (Some j) spots number name shape taken span =
     with_index (target_of spots j taken) (node_extended spots (target_of spots j taken) taken)
 
 -- the nodes after a member of one of them is defined, and the index of the defined node
-unfoldable pub member_defined : List ModelNode → ℕ → List ℕ → Shape → DefinedBy → Option Span → Option (List ModelNode × ℕ)
+unfoldable pub member_defined : List ModelNode → ℕ → List ℕ → Shape → DefinedBy → Option Span
+    → Option (List ModelNode × ℕ)
 member_defined spots number name shape taken span =
     member_defined_at (child spots number name) spots number name shape taken span
 
@@ -141,7 +144,8 @@ front_shape is_inline = if is_inline then inline else section
 
 -- the nodes after all front parts of a key are followed from a table on, and the index of the table of its
 -- last part
-unfoldable pub fronts_followed : List ModelNode → ℕ → List (List ℕ) → Shape → DefinedBy → Option (List ModelNode × ℕ)
+unfoldable pub fronts_followed : List ModelNode → ℕ → List (List ℕ) → Shape → DefinedBy
+    → Option (List ModelNode × ℕ)
 fronts_followed spots number [] shape taken = Some (spots, number)
 fronts_followed spots number (name ∷ names) shape taken =
     member_defined spots number name shape taken None >>= λ r. fronts_followed r.0 r.1 names shape taken
@@ -229,7 +233,8 @@ span_of_mark m = record { from = m.from; to = m.to }
 
 -- the state after a string, a number, a date or a time is added
 abbrev pub scalar_added : List ℕ → SyntaxToken → State → Option State
-scalar_added bytes m st = token_value bytes m >>= λ text. value_added st (scalar_shape m.kind text) (Some (span_of_mark m))
+scalar_added bytes m st = token_value bytes m >>= λ text. value_added st (scalar_shape m.kind text) (Some
+    (span_of_mark m))
 
 -- the state after a token of this kind
 abbrev pub act : TokenKind → List ℕ → SyntaxToken → State → Option State

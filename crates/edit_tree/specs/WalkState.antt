@@ -11,7 +11,8 @@ use Rattle.edit_tree.specs.Walk.{State, token_value}
 
 -- the nodes represent the result, or there is no result and the function returns false
 abbrev pub HasNodes : List ℕ → List Node → Option (List ModelNode) → Bool → Type 0
-HasNodes text nodes made true = (spots : List ModelNode) × (made ≡ Some spots) × RepresentsNodes text nodes spots
+HasNodes text nodes made true = (spots : List ModelNode) × (made ≡ Some spots)
+    × RepresentsNodes text nodes spots
 HasNodes text nodes made false = made ≡ None
 
 -- the nodes represent the result and the returned index is that of the result, or there is none
@@ -49,7 +50,8 @@ abbrev pub IsDecodedAt : List ℕ → SyntaxToken → List ℕ → Type 0
 IsDecodedAt bytes m name =
     (before : List ℕ) × (content : List ℕ) × (rest : List ℕ)
     × (bytes ≡ before ++ delimited m.kind content rest)
-    × (m.from ≡ length (delimited m.kind content rest)) × (m.to ≡ length rest) × HasDecodedValue m.kind content name
+    × (m.from ≡ length (delimited m.kind content rest)) × (m.to ≡ length rest)
+    × HasDecodedValue m.kind content name
 
 -- tokens of this kind have a decoded value
 abbrev pub has_token_value : TokenKind → Bool
@@ -67,4 +69,5 @@ has_token_value _ = false
 
 -- the token is in the text; where its kind has a decoded value, it is the one that the walk computes
 abbrev pub IsToken : List ℕ → SyntaxToken → Type 0
-IsToken bytes m = has_token_value m.kind ≡ true → (name : List ℕ) × (token_value bytes m ≡ Some name) × IsDecodedAt bytes m name
+IsToken bytes m = has_token_value m.kind ≡ true
+    → (name : List ℕ) × (token_value bytes m ≡ Some name) × IsDecodedAt bytes m name

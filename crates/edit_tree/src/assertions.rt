@@ -70,7 +70,8 @@ fn extend_node(nodes: &mut Vec<Node>, number: usize, taken: DefinedBy) -> bool
 
 /// The index of the node's member of this name.
 fn find(text: &str, nodes: &[Node], number: usize, name: &str) -> Option<usize>
-    ensures { (spots : List ModelNode) → RepresentsNodes text.now nodes.now spots → result ≡ child spots number name.now }
+    ensures { (spots : List ModelNode) → RepresentsNodes text.now nodes.now spots
+        → result ≡ child spots number name.now }
 {
     if number >= nodes.len() {
         return None;

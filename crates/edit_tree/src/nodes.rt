@@ -175,7 +175,8 @@ impl MemberList {
 
     /// The index of the node of the member of this name.
     pub(crate) fn get(&self, text: &str, name: &str) -> Option<usize>
-        ensures { IsListIndexed text.now self.now → result ≡ number_in (entries_listed text.now self.now) name.now }
+        ensures { IsListIndexed text.now self.now
+            → result ≡ number_in (entries_listed text.now self.now) name.now }
     {
         match number_among(text, self.first_members(), name) {
             Some(number) => Some(number),

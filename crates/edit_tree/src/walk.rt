@@ -133,7 +133,8 @@ impl Walk {
         span: Option<Span>,
     ) -> Result<Option<usize>, AllocError>
         ensures goes { (st : State) → Walks text.now self.old st
-            → IfOk result (HasDefinedState text.now self.new (value_added_at st (shape_of text.now content) span)) }
+            → IfOk result (HasDefinedState text.now self.new (value_added_at st
+            (shape_of text.now content) span)) }
     {
         let Some(number) = self.tables.last().copied() else {
             return Ok(None);
@@ -177,7 +178,8 @@ impl Walk {
     /// Opens an array or an inline table.
     fn open(&mut self, alloc: Global, text: &str, content: Content, span: Span) -> CargoResult<bool>
         ensures goes { (st : State) → Walks text.now self.old st
-            → IfOk result (HasNextState text.now self.new (value_opened st (shape_of text.now content) (Some span))) }
+            → IfOk result (HasNextState text.now self.new (value_opened st (shape_of text.now content)
+            (Some span))) }
         ensures error { IfErr result IsMemory }
     {
         let Some(number) = self.add_value_at(alloc, text, content, Some(span))? else {

@@ -202,7 +202,8 @@ module _ (t : Tree) (held : Bool) (name : List ℕ) where
       (stale_in t held name (of_feature n)) (stale_own n))
 
   -- what is removed is a string
-  string_goes : (o : Option View) → is_stale_item held name o ≡ true → (text : List ℕ) × (o ≡ Some (string text))
+  string_goes : (o : Option View) → is_stale_item held name o ≡ true
+      → (text : List ℕ) × (o ≡ Some (string text))
   string_goes None e = absurd cc
   string_goes (Some (string s)) e = (s, refl)
   string_goes (Some (truth b)) e = absurd cc

@@ -240,7 +240,8 @@ is_other d form place root r shows is =
 -- or its members change
 is_changed : (d : DocumentViews) (form : Text) (place : Place) (root : List ℕ) (r : EntryRecord) (es : List FinalValue)
     → ShowsTree d form → (is_one_statement form place && has_single_key (tree_of d place)) ≡ false
-    → es ≡ final_values_of (below (tree_of d) place) root r → update_in form place root r ≡ changed_by (changes es)
+    → es ≡ final_values_of (below (tree_of d) place) root r
+    → update_in form place root r ≡ changed_by (changes es)
 is_changed d form place root r es shows is same =
     ap (λ t. update_of t (is_one_statement form place) root r) (sym (entry_tree d form place shows))
     ∙ rw (ap (λ p. is_one_statement form place && has_single_key (tree_of d p)) (append-nil place) ∙ is) refl

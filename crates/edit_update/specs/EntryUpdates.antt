@@ -45,7 +45,8 @@ removed_source_keys own =
 -- unchanged (own)
 abbrev pub all_source_values : List ℕ → Option Origin → List FinalValue
 all_source_values root None = []
-all_source_values root (Some origin) = source_values root origin ++ removed_source_keys (source_values root origin)
+all_source_values root (Some origin) = source_values root origin
+    ++ removed_source_keys (source_values root origin)
 
 -- the source is the workspace (own)
 abbrev pub is_from_workspace : Option Origin → Bool
@@ -121,4 +122,5 @@ has_single_key (Some v) = is_string v || (is_tabular v && (count_in v == 1))
 -- defines it (`one`), and any other entry is edited key by key (own)
 abbrev pub update_of : Tree → Bool → List ℕ → EntryRecord → Update
 update_of t one root r =
-    if one && has_single_key (t []) then replaced_by (item_of root r) else changed_by (changes (final_values_of t root r))
+    if one && has_single_key (t []) then replaced_by (item_of root r)
+    else changed_by (changes (final_values_of t root r))

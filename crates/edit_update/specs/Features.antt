@@ -89,7 +89,8 @@ stale_in_features t held name =
 -- The places of the elements to remove, in the order of removal: none if some dependency table of the
 -- package has an optional entry of this key.
 abbrev pub stale_strings : Tree → List ℕ → List Place
-stale_strings t name = if has_any_optional_entry t name then [] else stale_in_features t (has_any_entry t name) name
+stale_strings t name =
+    if has_any_optional_entry t name then [] else stale_in_features t (has_any_entry t name) name
 
 -- the errors: lack of memory, or one of the elements cannot be removed
 abbrev pub IsFeatureError : List ℕ → DocumentViews → Error → Type 0

@@ -56,7 +56,8 @@ pub record RemovesEntry (path : List (List ℕ)) (name : List ℕ) (old new : Do
 pub data HasFailedEntryRemoval (path : List (List ℕ)) (name : List ℕ) (old : List ℕ) : Type 0 where
   entry_stays : HasFailedRemoval (entry_of path name ∷ []) old → HasFailedEntryRemoval path name old
   table_stays : (between : List ℕ) (form : Text) → IsTextWithout (entry_of path name ∷ []) old between
-      → IsDocument between form → HasFailedRemoval (empty_table_place (view_at form) (place_of_keys path)) between
+      → IsDocument between form
+      → HasFailedRemoval (empty_table_place (view_at form) (place_of_keys path)) between
       → HasFailedEntryRemoval path name old
 
 -- the error is `NoTable` with this key

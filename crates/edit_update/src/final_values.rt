@@ -130,7 +130,8 @@ fn push_own(
 /// Appends the keys of other kinds of sources, which are removed.
 fn push_other(ends: &mut Vec<FinalValue>, source: &Source) -> Result<(), AllocError>
     ensures { (root : List ℕ) → OnOk result (final_values_view ends.new.items
-        ≡ final_values_view ends.old.items ++ removed_source_keys (source_values root (source_view source.now))) }
+        ≡ final_values_view ends.old.items
+        ++ removed_source_keys (source_values root (source_view source.now))) }
 {
     match source {
         Source::Registry(_) => push_removed_keys(
@@ -154,7 +155,8 @@ fn push_sources(
     ends: &mut Vec<FinalValue>,
 ) -> CargoResult<()>
     ensures ok { OnOk result (final_values_view ends.new.items
-        ≡ final_values_view ends.old.items ++ all_source_values root.now (record_view dependency.now).origin) }
+        ≡ final_values_view ends.old.items
+        ++ all_source_values root.now (record_view dependency.now).origin) }
     ensures error { IfErr result IsMemory }
 {
     if let Some(source) = &dependency.source {
@@ -171,7 +173,8 @@ fn push_with_workspace(
     name: &'static str,
 ) -> Result<(), AllocError>
     ensures { OnOk result (final_values_view ends.new.items
-        ≡ final_values_view ends.old.items ++ workspace_removal name.now (record_view dependency.now).origin) }
+        ≡ final_values_view ends.old.items
+        ++ workspace_removal name.now (record_view dependency.now).origin) }
 {
     match &dependency.source {
         Some(Source::Workspace(_)) => push_final_value(ends, name, None),

@@ -86,7 +86,8 @@ fn remove_empty_table(alloc: Global, document: &mut Document, table: &[Step]) ->
         → tree_of document.old (at (place_view table.now) (key name)) ≡ None
         → tree_of document.new (at (place_view table.now) (key name)) ≡ None) }
     ensures error { IfErr result (λ e. IsMemory e ⊎ ((e ≡ EditRefused)
-        × HasFailedRemoval (empty_table_place (tree_of document.old) (place_view table.now)) document.old.bytes)) }
+        × HasFailedRemoval (empty_table_place (tree_of document.old)
+        (place_view table.now)) document.old.bytes)) }
 {
     document.lemma_form();
     if table.is_empty() {

@@ -141,7 +141,8 @@ fn update_copy(
 ) -> CargoResult<()>
     requires item { tree_of document.old (place_view entry.now) ≡ None → ⊥ }
     requires room { length entry.now ≤ 70 }
-    ensures text { IfOk result (λ _. Updated (place_view entry.now) crate_root.now (record_view dependency.now)
+    ensures text { IfOk result (λ _. Updated (place_view entry.now) crate_root.now
+        (record_view dependency.now)
         document.old.bytes document.new.bytes) }
     ensures error { IfErr result (λ e. IsMemory e ⊎ ((e ≡ EditRefused) × UpdateFails
         (place_view entry.now) crate_root.now (record_view dependency.now) document.old.bytes)) }

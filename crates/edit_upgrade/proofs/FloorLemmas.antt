@@ -96,7 +96,8 @@ rises-accepted o n (Some m) (Some p) pre v s i h =
 -- a version without a pre-release is not below the one that a comparator names that accepts it
 pub plain-above : (o : Op) (n : ℕ) (m p : Option ℕ) (pre : List ℕ) (v : Parts) → IsShaped (o, n, m, p, pre)
     → is_inequality o ≡ false
-    → v.3 ≡ [] → accepts (o, n, m, p, pre) v ≡ true → is_ge (precedence v (comparator_version (o, n, m, p, pre))) ≡ true
+    → v.3 ≡ [] → accepts (o, n, m, p, pre) v ≡ true
+    → is_ge (precedence v (comparator_version (o, n, m, p, pre))) ≡ true
 plain-above o n None None pre v s i e h =
     rw (s.plain refl, e) (not-less v.0 n _ (le-same v.0 n (accepted-one o n pre v i h))
     (not-less v.1 0 _ (le-zero v.1) (not-less v.2 0 _ (le-zero v.2) refl)))
@@ -126,7 +127,8 @@ pub not-after : (v : Parts) (c : Held) → is_end c.0 ≡ false → begins_after
 not-after v c e h = ge-from (precedence v (comparator_version c)) (rw e at h)
 
 -- a comparator that names no later version does not begin after it
-after-not : (v : Parts) (c : Held) → is_ge (precedence v (comparator_version c)) ≡ true → begins_after v c ≡ false
+after-not : (v : Parts) (c : Held) → is_ge (precedence v (comparator_version c)) ≡ true
+    → begins_after v c ≡ false
 after-not v c h = rw (ge-not_lt (precedence v (comparator_version c)) h) (and-false (not (is_end c.0)))
   where
     and-false : (b : Bool) → (b && false) ≡ false
@@ -239,7 +241,8 @@ some-floor (c ∷ cs) h = elim (cases_Bool (is_end c.0)) [
       greatest = or-none _ _ h f.greatest;
     }
 
-    first : is_end c.0 ≡ false → one_begins_after cs (comparator_version c) ≡ false → IsFloor (c ∷ cs) (comparator_version c)
+    first : is_end c.0 ≡ false → one_begins_after cs (comparator_version c) ≡ false
+        → IsFloor (c ∷ cs) (comparator_version c)
     first e h = record {
       comparator = c;
       among = (0, omega arith, refl);

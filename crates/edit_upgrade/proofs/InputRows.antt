@@ -105,7 +105,8 @@ by-record o i name None told w h q = sym (ap told-input (sym h.1 ∙ q))
     told-input (Some t) = t.input
 by-record o i name (Some r) told w h q = by-source o i name r (source_of r) w (sym h ∙ q)
 
-cons-input : (i : ℕ) (told : Option WarningView) (ts : List WarningView) → ((w : WarningView) → told ≡ Some w → w.input ≡ i)
+cons-input : (i : ℕ) (told : Option WarningView) (ts : List WarningView)
+    → ((w : WarningView) → told ≡ Some w → w.input ≡ i)
     → All (λ (t : WarningView). t.input ≡ i) ts
     → All (λ (t : WarningView). t.input ≡ i) (cons_option told ts)
 cons-input i None ts h g = g
@@ -120,7 +121,8 @@ warnings-input o i (e ∷ es) (t ∷ ts) h =
     cons-input i t (filter_map (λ told. told) ts) (λ w q. by-record o i e.name e.said t w h.0 q)
     (warnings-input o i es ts h.1)
 
-pub warned-inputs : (o : Options) (i : ℕ) (bytes : List ℕ) (told : List WarningView) → HasWarnings o i bytes told
+pub warned-inputs : (o : Options) (i : ℕ) (bytes : List ℕ) (told : List WarningView)
+    → HasWarnings o i bytes told
     → All (λ (t : WarningView). t.input ≡ i) told
 warned-inputs o i bytes told h =
     subst (λ (ts : List WarningView). All (λ (t : WarningView). t.input ≡ i) ts) (sym h.are.all)

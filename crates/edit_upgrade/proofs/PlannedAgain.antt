@@ -53,7 +53,8 @@ none-out path bytes edits _ e (changed output some at r) = absurd (some e)
 record IsReadBack (new : List ℕ) (form : Text) (lines : List Line) : Type 0 where
   after : Text
   manifest : IsDocument new after
-  tree : (q : Place) → view_at after q ≡ tree_with_strings (writes (row_entries (view_at form)) lines) (view_at form) q
+  tree : (q : Place)
+      → view_at after q ≡ tree_with_strings (writes (row_entries (view_at form)) lines) (view_at form) q
 
 -- by whether there is an output
 read-by : (path bytes : List ℕ) (form : Text) (lines : List Line) (outputs : List Output)

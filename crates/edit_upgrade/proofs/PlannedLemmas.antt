@@ -40,7 +40,8 @@ use Rattle.edit_report.specs.declared.row.Row.{Row}
 use Rattle.edit_upgrade.proofs.LookUpLemmas.{leaves-wider}
 
 -- the tree of a document is that of its form
-pub same-seen : (d : DocumentViews) (form : Text) → ShowsTree d form → row_entries (tree_of d) ≡ row_entries (view_at form)
+pub same-seen : (d : DocumentViews) (form : Text) → ShowsTree d form
+    → row_entries (tree_of d) ≡ row_entries (view_at form)
 same-seen d form h =
     let same : tree_of d ≡ view_at form = λ i p. h p i in
     ap row_entries same

@@ -77,7 +77,8 @@ same-again xs old t u v far all l near h e isfar =
 -- a later version that raising leaves the text for has the compatible one's text
 nothing-same : (xs : List Parts) (old : List ℕ) (u v : Parts) → All IsValid xs
     → IsGreatestKept (is_admitted old) full_order xs u
-    → IsGreatestKept (is_offered old) full_order xs v → upgrade_of old v ≡ Nothing → plain_text v ≡ plain_text u
+    → IsGreatestKept (is_offered old) full_order xs v → upgrade_of old v ≡ Nothing
+    → plain_text v ≡ plain_text u
 nothing-same xs old u v all near h none =
     let valid = greatest-has IsValid (is_offered old) xs v all h in
     let l = outcome-lands old v old valid h.kept (nothing-outcome old v none) in
@@ -136,7 +137,8 @@ compatible-far xs old t u (Some v) far all r near islatest none isfar =
         all-of old v cs (Some d) q = cc q
         all-of old v cs None q = unless-of old _ q
 
-    unread-both : (old : List ℕ) (u v : Parts) (t : List ℕ) → upgrade_of old u ≡ Text t → upgrade_of old v ≡ Unread → ⊥
+    unread-both : (old : List ℕ) (u v : Parts) (t : List ℕ) → upgrade_of old u ≡ Text t
+        → upgrade_of old v ≡ Unread → ⊥
     unread-both old u v t h q = unread-of old u v t (req_of old) h q
 
 -- the compatible version is the same after the change, and raises nothing

@@ -167,7 +167,8 @@ all-after R (e ∷ es) (l ∷ ls) a h =
 -- the seen entries of the tree in which the rows were written
 pub written-seen : (R : RowEntry → Line → Type 0) (t u : Tree) (ls : List Line) → AreApart (row_entries t)
     → AllZip R (row_entries t) ls
-    → ((q : Place) → u q ≡ tree_with_strings (writes (row_entries t) ls) t q) → row_entries u ≡ renewed (row_entries t) ls
+    → ((q : Place) → u q ≡ tree_with_strings (writes (row_entries t) ls) t q)
+    → row_entries u ≡ renewed (row_entries t) ls
 written-seen R t u ls apart zip h =
     let ws = writes (row_entries t) ls in
     let whole : u ≡ tree_with_strings ws t = λ i q. h q i in

@@ -27,7 +27,8 @@ pub record IsPassed (configs : List Config) (new : CachedAnswers) (e : RowEntry)
 
 -- the error of an entry: its registry has no address, or the lookup that it needs fails and no answer was
 -- cached
-pub data StopsAt (configs : List Config) (gives : Outcomes) (old : CachedAnswers) (before now : ℕ) (e : RowEntry)
+pub data StopsAt (configs : List Config) (gives : Outcomes) (old : CachedAnswers) (before now : ℕ)
+    (e : RowEntry)
     (error : Error) : Type 0 where
   no_address : (named : Option (List ℕ)) → e.source ≡ at_registry named → HasNoUrl configs named error
       → StopsAt configs gives old before now e error
@@ -73,14 +74,16 @@ pub record FirstInput (inputs : List Input) (configs : List (Vec Config)) (new :
 
 -- the error of a plan over parsed manifests: out of memory, or the first input with an entry that causes
 -- one
-abbrev pub IsEntryCause : List Input → List (Vec Config) → Outcomes → CachedAnswers → CachedAnswers → ℕ → ℕ → Error → Type 0
+abbrev pub IsEntryCause : List Input → List (Vec Config) → Outcomes → CachedAnswers → CachedAnswers → ℕ → ℕ
+    → Error → Type 0
 IsEntryCause inputs configs gives old new before now e =
     IsMemory e
     ⊎ FirstInput inputs configs new (λ own bytes. HasBadEntry own gives old new before now bytes e)
 
 -- the error of a plan: out of memory, or the first input whose bytes are no manifest or that has an entry
 -- with an error
-abbrev pub IsCause : List Input → List (Vec Config) → Outcomes → CachedAnswers → CachedAnswers → ℕ → ℕ → Error → Type 0
+abbrev pub IsCause : List Input → List (Vec Config) → Outcomes → CachedAnswers → CachedAnswers → ℕ → ℕ → Error
+    → Type 0
 IsCause inputs configs gives old new before now e =
     FirstInput inputs configs new
     (λ own bytes. IsBadManifest bytes e ⊎ HasBadEntry own gives old new before now bytes e)

@@ -152,7 +152,8 @@ is_latest_withheld o c = is_some (latest_text c) && not (may_jump o c)
 
 -- why the latest version is not taken: the entry is pinned, or its requirement does not admit it (own)
 abbrev pub withheld_reason : Options → Case → Option Reason
-withheld_reason o c = some_if (is_latest_withheld o c) (Some (if is_pinned c then reason.Pinned else reason.Incompatible))
+withheld_reason o c = some_if (is_latest_withheld o c) (Some (if is_pinned c then reason.Pinned
+    else reason.Incompatible))
 
 -- the first value, or the second where there is no first
 abbrev pub or_else : {A : Type 0} → Option A → Option A → Option A
@@ -166,7 +167,8 @@ row_reason o c (given text) = None
 row_reason o c unread = None
 row_reason o c (to_latest text) = None
 row_reason o c (to_compatible text) = withheld_reason o c
-row_reason o c kept = or_else (withheld_reason o c) (some_if (is_some (compatible_text c)) (Some reason.Compatible))
+row_reason o c kept = or_else (withheld_reason o c) (some_if (is_some (compatible_text c))
+    (Some reason.Compatible))
 
 -- the decision: the new requirement, the kind of change, and why the requirement was not raised further
 -- (own)

@@ -94,7 +94,8 @@ warning_by o i key r (Some source) =
 
 -- the warning about an entry: where it could not be read, one with the reason
 abbrev pub IsWarningBy : Options → ℕ → List ℕ → Option EntryRecord → Option WarningView → Type 0
-IsWarningBy o i key None told = (text : List ℕ) × (told ≡ Some (warning_record i false (ignored_text key text)))
+IsWarningBy o i key None told = (text : List ℕ)
+    × (told ≡ Some (warning_record i false (ignored_text key text)))
 IsWarningBy o i key (Some r) told = told ≡ warning_by o i key r (source_of r)
 
 -- the warning about an entry of a dependency table

@@ -60,7 +60,8 @@ pub record IsWalkState (Needed : List ℕ → List ℕ → Type 0) (gives : Outc
 
 -- a step for an address and a name: nothing where the set contains the pair, else one more lookup; the set
 -- contains the pair afterwards
-pub record IsStep (address name : List ℕ) (gives : Outcomes) (old new : CachedAnswers) (looks more : List Look)
+pub record IsStep (address name : List ℕ) (gives : Outcomes) (old new : CachedAnswers)
+    (looks more : List Look)
     (pairs now : PairSet) : Type 0 where
   pub set : (a n : List ℕ) → now a n ≡ (if bytes_eq address a && bytes_eq name n then true else pairs a n)
   pub done : ((pairs address name ≡ true) × (more ≡ looks) × (new ≡ old))
@@ -85,7 +86,8 @@ pub data AreSteps (configs : List Config) (gives : Outcomes)
   start : (kept : CachedAnswers) (looks : List Look) (pairs : PairSet)
       → AreSteps configs gives [] kept kept looks
       looks pairs pairs
-  further : (front : List RowEntry) (e : RowEntry) (old mid new : CachedAnswers) (looks between more : List Look)
+  further : (front : List RowEntry) (e : RowEntry) (old mid new : CachedAnswers)
+      (looks between more : List Look)
       (pairs then_pairs now : PairSet) → AreSteps configs gives front old mid looks between pairs then_pairs
       → IsEntryStep configs e gives mid new between more then_pairs now
       → AreSteps configs gives (front ++ e ∷ []) old new looks more pairs now

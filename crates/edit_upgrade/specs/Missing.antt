@@ -35,7 +35,8 @@ is_among names name = list_any (list_any (bytes_eq name)) names
 pub record AreMissing (o : Options) (inputs : List Input) (missing : List (List ℕ)) : Type 0 where
   pub names : List (List (List ℕ))
   pub have : AllZip (λ input own. HasEntryNames input.bytes.items own) inputs names
-  pub are : missing ≡ filter (λ name. not (is_among names name)) (each_once (map spec_name (package_args_of o)))
+  pub are : missing ≡ filter (λ name. not (is_among names name)) (each_once (map spec_name
+      (package_args_of o)))
 
 -- the plan tells the missing names
 abbrev pub ListsMissing : Options → List Input → UpgradePlan → Type 0

@@ -74,7 +74,8 @@ aggressive_calls manifest [] = []
 aggressive_calls manifest (p ∷ ps) = call manifest (codes "--aggressive" ∷ packages_args (p ∷ ps)) ∷ []
 
 -- the packages of modified names for which no precise version is given
-abbrev pub unpinned_packages : List (List ℕ × Option Pin) → List (List ℕ) → List PackageModel → List PackageModel
+abbrev pub unpinned_packages : List (List ℕ × Option Pin) → List (List ℕ) → List PackageModel
+    → List PackageModel
 unpinned_packages pins modified packages =
     filter (λ p. is_among modified p.name && is_none (pin_at pins p.name)) packages
 

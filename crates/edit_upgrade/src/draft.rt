@@ -179,7 +179,8 @@ pub(crate) fn add_read<I: Index>(
         (I.view (index_of index.old)).gives (cached_by index.old) (cached_by index.new) draft.old draft.new) }
     ensures known { OnOk result (AddsNames job.entry.asked.options.now job.entry.input.now.bytes.items
         (contains_text draft.old.known) (contains_text draft.new.known)) }
-    ensures utf8 { OnOk result (option_copied document.entry ≡ None → IsUtf8 job.entry.input.now.bytes.items) }
+    ensures utf8 { OnOk result (option_copied document.entry ≡ None
+        → IsUtf8 job.entry.input.now.bytes.items) }
     ensures left { LeavesCache (IsNeededBy addresses.old.configs.now job.entry.input.now.bytes.items)
         (cache_view I.view index.old) (cache_view I.view index.new) }
     ensures given { IfErr result (λ e. IsSome (option_copied document.entry) → IsMemory e

@@ -54,7 +54,8 @@ pub(crate) fn plan_input<I: Index>(
     ensures addresses { OnOk result (AreAddresses addresses.old.configs.now addresses.new) }
     ensures preserved { OnOk result (AreAllCached (holds_pair books.new.pairs) (cached_by index.new)) }
     ensures shown { IfOk result (IsPlannedView job.entry.input.now.bytes.items document.now) }
-    ensures walked { IfOk result (λ p. IsWalked job.entry.number job.entry.asked.options.now job.entry.input.now
+    ensures walked { IfOk result
+        (λ p. IsWalked job.entry.number job.entry.asked.options.now job.entry.input.now
         addresses.old.configs.now (I.view (index_of index.old)).gives (cached_by index.old) (cached_by index.new)
         books.old books.new (map line_of p.rows.items)) }
     ensures warnings { IfOk result (λ p. HasWarnings job.entry.asked.options.now job.entry.number

@@ -92,7 +92,8 @@ text-again v op.Caret n m p pre = rw (renumbered-again m v.1, renumbered-again p
 text-again v op.Wildcard n m p pre =
     rw (renumbered-again m v.1, renumbered-again p v.2, own-again (renumbered p v.2) pre) refl
 
-more-again : (v : Parts) (cs : List Held) → more_text (map (upgraded_comparator v) (map tidy (map (upgraded_comparator v) cs)))
+more-again : (v : Parts) (cs : List Held)
+    → more_text (map (upgraded_comparator v) (map tidy (map (upgraded_comparator v) cs)))
     ≡ more_text (map (upgraded_comparator v) cs)
 more-again v [] = refl
 more-again v (c ∷ cs) = rw (text-again v c.0 c.1 c.2 c.3 c.4, more-again v cs) refl

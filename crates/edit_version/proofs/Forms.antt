@@ -175,7 +175,8 @@ then-lex a b x r h f = elim (or-cases (nat_lt b a) ((a == b) && x) h) [
 ]
 
 least-of : (o : Op) (n m p : ℕ) (pre : List ℕ) (v w : Parts) → (o ≡ op.Wildcard → ⊥) → is_inequality o ≡ false
-    → accepts (tidy (upgraded_comparator v (o, n, Some m, Some p, pre))) w ≡ true → is_ge (precedence w v) ≡ true
+    → accepts (tidy (upgraded_comparator v (o, n, Some m, Some p, pre))) w ≡ true
+    → is_ge (precedence w v) ≡ true
 least-of op.Exact n m p pre v w u i h =
     let h1 = left_of _ _ h in
     let h2 = left_of _ _ h1 in
@@ -202,7 +203,8 @@ wild-none o p k h e x = cc (sym (h x) ∙ e)
 
 least-one : (o : Op) (n : ℕ) (m p : Option ℕ) (pre : List ℕ) (v w : Parts) → IsShaped (o, n, m, p, pre)
     → is_inequality o ≡ false
-    → is_some p ≡ true → accepts (tidy (upgraded_comparator v (o, n, m, p, pre))) w ≡ true → is_ge (precedence w v) ≡ true
+    → is_some p ≡ true → accepts (tidy (upgraded_comparator v (o, n, m, p, pre))) w ≡ true
+    → is_ge (precedence w v) ≡ true
 least-one o n m None pre v w s i e h = cc e
 least-one o n None (Some p) pre v w s i e h = cc (s.nested refl)
 least-one o n (Some m) (Some p) pre v w s i e h = least-of o n m p pre v w

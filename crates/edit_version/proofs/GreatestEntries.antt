@@ -94,7 +94,8 @@ kept-some test (Some v) h = elim (cases_Bool (test v)) [
 ]
 
 -- the version of a kept entry
-pub kept-has : (rust : Option Numbers) (test : Parts → Bool) (e : IndexEntry) → is_qualifying rust test e ≡ true
+pub kept-has : (rust : Option Numbers) (test : Parts → Bool) (e : IndexEntry)
+    → is_qualifying rust test e ≡ true
     → (v : Parts) × (admissible rust e ≡ Some v) × (test v ≡ true)
 kept-has rust test e h = kept-some test (admissible rust e) h
 

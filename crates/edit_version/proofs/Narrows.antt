@@ -239,7 +239,8 @@ not-false : (b : Bool) → not b ≡ true → b ≡ false
 not-false true h = cc h
 not-false false h = refl
 
-names-one : (v w : Parts) (c : Held) → IsShaped c → names_pre (tidy (upgraded_comparator v c)) w ≡ true → HasNumbersOf v w
+names-one : (v w : Parts) (c : Held) → IsShaped c → names_pre (tidy (upgraded_comparator v c)) w ≡ true
+    → HasNumbersOf v w
 names-one v w c s h =
     let h1 = left_of _ _ h in
     let h2 = left_of _ _ h1 in

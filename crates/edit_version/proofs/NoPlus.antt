@@ -95,7 +95,8 @@ raised-no_plus old v t w h =
     (comparator-none (upgraded_comparator v r.0) all.0) (more-none (map (upgraded_comparator v) r.1) all.1))
 
 -- so cutting leaves it as it is
-pub raised-whole : (old : List ℕ) (v : Parts) (t : List ℕ) → IsVersion v → upgrade_of old v ≡ Text t → cut t ≡ t
+pub raised-whole : (old : List ℕ) (v : Parts) (t : List ℕ) → IsVersion v → upgrade_of old v ≡ Text t
+    → cut t ≡ t
 raised-whole old v t w h = cut-none t (raised-no_plus old v t w h)
 
 -- and the text of a version without its build metadata

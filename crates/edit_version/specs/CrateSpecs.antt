@@ -52,7 +52,8 @@ pub record IsNamedBy (word : List ℕ) (spec : CrateSpec) : Type 0 where
 -- why a name is refused, with its unfit characters (own)
 abbrev pub IsInvalidName : List ℕ → Error → Type 0
 IsInvalidName text (error.InvalidName name characters) =
-    (0 < length (invalid_chars text)) × (string_bytes name ≡ text) × (string_bytes characters ≡ joined_chars (invalid_chars text))
+    (0 < length (invalid_chars text)) × (string_bytes name ≡ text)
+    × (string_bytes characters ≡ joined_chars (invalid_chars text))
 IsInvalidName text error.Memory = Unit {0}
 IsInvalidName text _ = ⊥
 

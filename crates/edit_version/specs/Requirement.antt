@@ -120,7 +120,8 @@ unless_same old new = if pointwise nat_eq new old then Nothing else Text new
 -- the first comparator that cannot be raised, or the text of all raised
 abbrev pub upgrade_all : List ℕ → Parts → List Held → Option Held → UpgradeResult
 upgrade_all text v cs (Some c) = Unsupported c
-upgrade_all text v cs None = unless_same text (match_caret text (requirement_text (map (upgraded_comparator v) cs)))
+upgrade_all text v cs None = unless_same text (match_caret text (requirement_text (map
+    (upgraded_comparator v) cs)))
 
 -- raising what was read of a text
 abbrev pub upgrade_parsed : List ℕ → Parts → Result (List Held) Error → UpgradeResult

@@ -82,7 +82,8 @@ pub(crate) fn upgraded_text(
     version: &Version,
 ) -> Result<String, AllocError>
     ensures { IfOk result (λ s. string_bytes s
-        ≡ requirement_text (map (upgraded_comparator (parts_of version.now)) (map comparator_view comparators.now))) }
+        ≡ requirement_text (map (upgraded_comparator (parts_of version.now))
+        (map comparator_view comparators.now))) }
 {
     let mut out = String::new(alloc);
     let [first, rest @ ..] = comparators else {

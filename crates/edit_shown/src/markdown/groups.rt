@@ -20,7 +20,7 @@ use std::collections::BTreeMap;
 use std::io;
 
 /// The inputs of the lines by their cells, in order.
-pub(crate) fn grouped(
+pub(crate) fn group_inputs(
     alloc: Global,
     lines: &[MarkdownLine],
 ) -> Result<BTreeMap<String, Vec<usize>>, AllocError>

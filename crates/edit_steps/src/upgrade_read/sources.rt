@@ -40,7 +40,8 @@ pub fn read_sources<S: Store>(
 ) -> RunResult<Sources>
     ensures store { OnlyReads (S.view files.old) (S.view files.new) }
     ensures read { IfOk result (λ s. (S.view files.old).tells ≡ true
-        → AreRead (S.view files.old).file_at current.now (given cargo_home.entry) (request_view asked.now) s) }
+        → AreRead (S.view files.old).file_at current.now (given cargo_home.entry)
+        (request_view asked.now) s) }
     // and what a plan requires, over any store
     ensures planned { IfOk result MayBePlanned }
     ensures error { IfErr result (λ r. IsReadCause current.now (given cargo_home.entry)

@@ -63,7 +63,8 @@ pub fn content_span(mark: SyntaxToken) -> Span
 
 /// Whether the content of a token is its own decoded value, so that it needs no decoding.
 pub fn is_plain(kind: TokenKind, content: &str) -> bool
-    ensures written { (said : List ℕ) → HasDecodedValue kind content.now said → IsTrue result → content.now ≡ said }
+    ensures written { (said : List ℕ) → HasDecodedValue kind content.now said → IsTrue result
+        → content.now ≡ said }
     // A content on one line that says itself is found to do so.
     ensures found { IsOneLine kind → HasDecodedValue kind content.now content.now → IsTrue result }
 {
@@ -159,7 +160,8 @@ fn push_piece(out: &mut String, bytes: &[u8]) -> CargoResult<usize>
 
 /// Decodes the content of a basic string; a newline right behind the opening delimiter is not skipped here.
 fn decode_escapes(alloc: Global, content: &str) -> CargoResult<String>
-    ensures text { (said : List ℕ) → HasLineValue content.now said → IfOk result (λ s. string_bytes s ≡ said) }
+    ensures text { (said : List ℕ) → HasLineValue content.now said
+        → IfOk result (λ s. string_bytes s ≡ said) }
     ensures error { IfErr result IsMemory }
 {
     let mut out = String::new(alloc);
@@ -193,7 +195,8 @@ fn past_break(content: &str) -> &str
 
 /// The decoded value of a token with this content (TOML 1.0.0, "String" and "Keys").
 pub fn decoded_text(alloc: Global, kind: TokenKind, content: &str) -> CargoResult<String>
-    ensures text { (said : List ℕ) → HasDecodedValue kind content.now said → IfOk result (λ s. string_bytes s ≡ said) }
+    ensures text { (said : List ℕ) → HasDecodedValue kind content.now said
+        → IfOk result (λ s. string_bytes s ≡ said) }
     ensures error { IfErr result IsMemory }
 {
     match kind {

@@ -12,8 +12,8 @@ const LINES: &[u8] = b"\
 {\"name\":\"serde\",\"vers\":\"2.0.0-rc.1\",\"yanked\":false}
 ";
 
-/// The latest version of a crate in the default registry, without pre-releases and yanked versions; none where
-/// the index has none.
+/// The latest version of a crate in the default registry, without pre-releases and yanked versions; none
+/// where the index has none.
 fn latest(alloc: Global, lines: &[u8], name: &str) -> CargoResult<Option<String>> {
     let registry = resolve(alloc, &[], None)?;
     let mut index = IndexCache::new(alloc, FileIndex::read(alloc, lines)?);

@@ -6,7 +6,7 @@ use Rattle.std.proofs.lemmas.Grind.{text_groups}
 use Rattle.std.proofs.lemmas.List.{take_all}
 use Rattle.edit_shown.specs.declared.markdown.lines.MarkdownLine.{MarkdownLine}
 use Rattle.edit_shown.proofs.MarkdownLemmas.{inputs_from}
-use Rattle.edit_shown.proofs.markdown.groups.grouped.Goals as goal
+use Rattle.edit_shown.proofs.markdown.groups.group_inputs.Goals as goal
 
 pub loop-line-preserved : goal.loop-line-preserved
 loop-line-preserved c = grind (arith, text_groups)

@@ -4,7 +4,7 @@ use Rattle.std.specs.List.{filter}
 use Rattle.std.specs.Option.{option_map_or}
 use Rattle.std.specs.Str.{bytes_eq}
 use Rattle.std.specs.BTreeMap.{get_by_text}
-use Rattle.edit_shown.proofs.markdown.groups.grouped.Given as goal
+use Rattle.edit_shown.proofs.markdown.groups.group_inputs.Given as goal
 
 abbrev pub invariant-loop-line : goal.invariant-loop-line
 invariant-loop-line l = (q : List ℕ) → option_map_or (λ g. g.items) (get_by_text l.groups q) []
