@@ -93,14 +93,14 @@ after P Q a b c (Ok v) tells le keeps keepsq step = record {
   later = omega (arith, step.later);
   done = λ t. keeps-then (P v) a.file_at b.file_at c.file_at (keeps v t) (step.done (tells ∙ t));
   torn = tt;
-  refused = tt;
+  error = tt;
 }
 after P Q a b c (Err e) tells le keeps keepsq step = record {
   tells = step.tells ∙ tells;
   later = omega (arith, step.later);
   done = tt;
   torn = λ t. keeps-then-but Q a.file_at b.file_at c.file_at (keepsq t) (step.torn (tells ∙ t));
-  refused = fails-later a.faults b.faults c.faults e le step.refused;
+  error = fails-later a.faults b.faults c.faults e le step.error;
 }
 
 pub after-reads : {T : Type 0} (P : T → List ℕ → List ℕ → Type 0) (Q : List ℕ → List ℕ → Type 0)
@@ -119,7 +119,7 @@ memory-fails P Q a e memory = record {
   later = omega arith;
   done = tt;
   torn = λ t. ([], λ path n. inl refl);
-  refused = inl memory;
+  error = inl memory;
 }
 
 -- nothing happens
@@ -131,7 +131,7 @@ nothing P Q a v = record {
   later = omega arith;
   done = λ t path. inl refl;
   torn = tt;
-  refused = tt;
+  error = tt;
 }
 
 -- a call with another result
@@ -144,7 +144,7 @@ as-ok P R Q Q' a b v u weaker step = record {
   later = step.later;
   done = λ t. keeps-weaker (P v) (R u) (weaker t) a.file_at b.file_at (step.done t);
   torn = tt;
-  refused = tt;
+  error = tt;
 }
 
 pub as-err : {T U : Type 0} (P : T → List ℕ → List ℕ → Type 0) (R : U → List ℕ → List ℕ → Type 0)
@@ -156,7 +156,7 @@ as-err P R Q Q' a b e weaker step = record {
   later = step.later;
   done = tt;
   torn = λ t. but-weaker Q Q' weaker a.file_at b.file_at (step.torn t);
-  refused = step.refused;
+  error = step.error;
 }
 
 pub weakened : {T : Type 0} (P P' : T → List ℕ → List ℕ → Type 0) (Q Q' : List ℕ → List ℕ → Type 0)
@@ -168,7 +168,7 @@ weakened P P' Q Q' a b (Ok v) wp wq step = record {
   later = step.later;
   done = λ t. keeps-weaker (P v) (P' v) (wp t v) a.file_at b.file_at (step.done t);
   torn = tt;
-  refused = tt;
+  error = tt;
 }
 weakened P P' Q Q' a b (Err e) wp wq step = as-err P P' Q Q' a b e wq step
 
@@ -185,14 +185,14 @@ write-changes P Q call a b at bytes (Ok v) tells written others cause keeps = re
   later = cause.later;
   done = λ t. keeps t (written t) v;
   torn = tt;
-  refused = tt;
+  error = tt;
 }
 write-changes P Q call a b at bytes (Err e) tells written others cause keeps = record {
   tells = tells;
   later = cause.later;
   done = tt;
   torn = λ t. but-one Q a.file_at b.file_at at others;
-  refused = fails-call call a b e cause.refused;
+  error = fails-call call a b e cause.refused;
 }
 
 -- a file that is rewritten with the same bytes
@@ -220,7 +220,7 @@ reads-fails P Q a b e reads fails = record {
   later = reads.later;
   done = tt;
   torn = λ t. ([], λ path n. inl (reads.files path));
-  refused = fails;
+  error = fails;
 }
 
 -- the bytes that were read are unchanged after the call
@@ -258,14 +258,14 @@ weakened-told P P' Q Q' a b (Ok v) wp wq step = record {
   later = step.later;
   done = λ t. keeps-weaker (P v) (P' v) (wp t v) a.file_at b.file_at (step.done t);
   torn = tt;
-  refused = tt;
+  error = tt;
 }
 weakened-told P P' Q Q' a b (Err e) wp wq step = record {
   tells = step.tells;
   later = step.later;
   done = tt;
   torn = λ t. but-weaker Q Q' (wq t) a.file_at b.file_at (step.torn t);
-  refused = step.refused;
+  error = step.error;
 }
 
 -- memory runs out after a call
@@ -279,7 +279,7 @@ ok-refused P R Q a b u (Err e) weaker memory step = record {
   later = step.later;
   done = tt;
   torn = λ t. ([], λ path n. keeps-weaker (P u) Q weaker a.file_at b.file_at (step.done t) path);
-  refused = inl (ap number_of memory);
+  error = inl (ap number_of memory);
 }
 
 pub reads-refused : {T : Type 0} (P : T → List ℕ → List ℕ → Type 0) (Q : List ℕ → List ℕ → Type 0)

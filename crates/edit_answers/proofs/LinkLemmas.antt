@@ -50,7 +50,7 @@ module _ {T : Type 0} (P : T → List ℕ → List ℕ → Type 0) (Q : List ℕ
     done = λ t. keeps-at (P v) a.file_at b.file_at to link.others
         (linked-gone from to a.file_at b.file_at had (link.linked t)) may;
     torn = tt;
-    refused = tt;
+    error = tt;
   }
 
   pub links-fails : (from to : List ℕ) (a b : StoreView) (e : Error) → Links from to a b (Err e)
@@ -60,7 +60,7 @@ module _ {T : Type 0} (P : T → List ℕ → List ℕ → Type 0) (Q : List ℕ
     later = link.later;
     done = tt;
     torn = λ t. but-one Q a.file_at b.file_at to link.others;
-    refused = link.refused;
+    error = link.error;
   }
 
 -- the result of the link

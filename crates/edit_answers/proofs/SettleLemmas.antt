@@ -84,7 +84,7 @@ module _ (p : Places) (ls : List LookupText) where
         (keeps-weaker (Puts p l o) (PutsOne p ls (os ++ o ∷ [])) (λ path bytes. one-last os o l path bytes is)
         b.file_at c.file_at (step.done (so.tells ∙ t))));
     torn = tt;
-    refused = tt;
+    error = tt;
   }
 
   -- a lookup that fails
@@ -102,7 +102,7 @@ module _ (p : Places) (ls : List LookupText) where
         (keeps-weaker (PutsOne p ls os) (PutsSome p ls) (some-one os) a.file_at b.file_at (so.done t))
         (but-weaker (Puts p l Fetched) (PutsSome p ls) (λ path bytes. some-last os l path bytes is)
         b.file_at c.file_at (step.torn (so.tells ∙ t)));
-    refused = fails-later a.faults b.faults c.faults e so.later step.refused;
+    error = fails-later a.faults b.faults c.faults e so.later step.error;
   }
 
   -- memory runs out after a lookup
@@ -121,7 +121,7 @@ module _ (p : Places) (ls : List LookupText) where
           λ path n. keeps-weaker (PutsOne p ls (os ++ o ∷ [])) (PutsSome p ls) (some-one (os ++ o ∷ []))
               a.file_at c.file_at (more.done t) path,
         );
-        refused = inl memory;
+        error = inl memory;
       }
 
 -- the lookup at an index

@@ -40,7 +40,7 @@ pub record Lists (old new : AgingView) (result : Result (Vec AgedFile Global) Er
   pub later : old.faults ≤ new.faults
   pub files : old.tells ≡ true → new.files ≡ old.files
   pub listed : IfOk result (λ v. old.tells ≡ true → map aged_text v.items ≡ old.files)
-  pub refused : IfErr result (Fails old.faults new.faults)
+  pub error : IfErr result (Fails old.faults new.faults)
 
 -- the file is removed, and no other one changes; on an error nothing changes
 pub record Removes (a : AgedText) (old new : AgingView) (result : Result Unit Error) : Type 0 where
@@ -48,7 +48,7 @@ pub record Removes (a : AgedText) (old new : AgingView) (result : Result Unit Er
   pub later : old.faults ≤ new.faults
   pub removed : OnOk result (old.tells ≡ true → new.files ≡ filter (λ b. not (is_same a b)) old.files)
   pub left : OnErr result (old.tells ≡ true → new.files ≡ old.files)
-  pub refused : IfErr result (Fails old.faults new.faults)
+  pub error : IfErr result (Fails old.faults new.faults)
 
 -- the path of an entry, given its own path or that of its validator
 abbrev pub entry_of : List ℕ → List ℕ
@@ -86,7 +86,7 @@ pub record RemovesUnused (is_used : Bool) (a : AgedText) (old new : AgingView) (
       → (new.files ≡ old.files) ⊎ (new.files ≡ filter (λ b. not (is_same a b)) old.files)
   pub gone : is_used ≡ false → OnOk result (old.tells ≡ true → (IsRaisedCount old.faults new.faults → ⊥)
       → new.files ≡ filter (λ b. not (is_same a b)) old.files)
-  pub refused : IfErr result IsMemory
+  pub error : IfErr result IsMemory
 
 -- the errors of pruning: lack of memory, or the files cannot be listed, and then none is removed
 abbrev pub FailsToPrune : AgingView → AgingView → Error → Type 0
@@ -102,7 +102,7 @@ pub record Prunes (old new : AgingView) (result : Result Unit Error) : Type 0 wh
   pub stays : old.tells ≡ true → remaining_files old.files new.files ≡ remaining_files old.files old.files
   pub gone : OnOk result (old.tells ≡ true → (IsRaisedCount old.faults new.faults → ⊥)
       → new.files ≡ remaining_files old.files old.files)
-  pub refused : IfErr result (FailsToPrune old new)
+  pub error : IfErr result (FailsToPrune old new)
 
 -- the model of a cache in memory
 abbrev pub memory_aging : MemoryCache → AgingView

@@ -32,4 +32,4 @@ pub record Changes {T : Type 0} (P : T → List ℕ → List ℕ → Type 0) (Q 
   pub later : old.faults ≤ new.faults
   pub done : IfOk result (λ v. old.tells ≡ true → AllowsChanges (P v) old.file_at new.file_at)
   pub torn : OnErr result (old.tells ≡ true → AllowsChangesBut Q old.file_at new.file_at)
-  pub refused : IfErr result (Fails old.faults new.faults)
+  pub error : IfErr result (Fails old.faults new.faults)

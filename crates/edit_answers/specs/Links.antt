@@ -15,4 +15,4 @@ pub record Links (from to : List ℕ) (old new : StoreView) (result : Result Boo
   pub later : old.faults ≤ new.faults
   pub linked : IfOk result (λ had. old.tells ≡ true → IsLinked from to old.file_at new.file_at had)
   pub others : SameBut to old.file_at new.file_at
-  pub refused : IfErr result (Fails old.faults new.faults)
+  pub error : IfErr result (Fails old.faults new.faults)

@@ -75,4 +75,4 @@ packages-within d w listed said ids says members are packages =
     let own = ids-once listed says.ids ids (subst (λ xs. AllZip IsText xs says.ids) same says.are_ids) are in
     subst (λ xs. AllZip (IsPackageValue (is_listed xs)) said w.packages) own
     (subst (λ xs. AllZip (IsPackageValue (is_listed says.ids)) xs w.packages)
-    (some-same says.said said (sym says.has_packages ∙ packages)) says.packages)
+    (some-same says.values said (sym says.has_packages ∙ packages)) says.packages)

@@ -99,9 +99,9 @@ pub record IsWorkspaceValue (d : Data) (w : WorkspaceModel) : Type 0 where
   pub has_members : values_at (codes "workspace_members") d ≡ Some listed
   pub ids : List (List ℕ)
   pub are_ids : AllZip IsText listed ids
-  pub said : List Data
-  pub has_packages : values_at (codes "packages") d ≡ Some said
-  pub packages : AllZip (IsPackageValue (is_listed ids)) said w.packages
+  pub values : List Data
+  pub has_packages : values_at (codes "packages") d ≡ Some values
+  pub packages : AllZip (IsPackageValue (is_listed ids)) values w.packages
 
 -- the bytes are the JSON of a value with this workspace
 pub record AreMetadata (bytes : List ℕ) (w : WorkspaceModel) : Type 0 where

@@ -33,5 +33,5 @@ returns-in-Ok-write-clause-changes g c =
           (subst (λ p. may p c.args.bytes.now) (sym (c.as_str.ensures.value ∙ c.in_ok-indexed.ensures))
           (indexed c.args.bytes.now));
       torn = tt;
-      refused = tt;
+      error = tt;
     }

@@ -90,7 +90,7 @@ returns-in-Err-remove_unused g c =
           (place t).1 c.in_ok-is_used.is_used mid new
           c.remove_unused.result step (used t) (inv.tells ∙ t) ∙ inv.stays t;
       gone = tt;
-      refused = inl c.in-Err-remove_unused.ensures.error;
+      error = inl c.in-Err-remove_unused.ensures.error;
     }
 
 pub returns : goal.returns
@@ -112,5 +112,5 @@ returns g c =
           all-gone old.files now.files c.loop-i.i
           (end ∙ sym (length-map c.in-Ok.files.items aged_text) ∙ ap length (c.in-Ok.ensures.listed t))
           (inv.gone t none);
-      refused = tt;
+      error = tt;
     }

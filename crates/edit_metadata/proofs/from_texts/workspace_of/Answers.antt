@@ -30,7 +30,7 @@ returns-clause-ok c = λ d shows.
       has_members = listed.1;
       ids = ids;
       are_ids = listed.2;
-      said = said.0;
+      values = said.0;
       has_packages = said.1;
       packages = packages-as (holds set) (is_listed ids) same said.0 (packages_view c.in-Some-2.packages.items) (packages said.0 shown);
     }

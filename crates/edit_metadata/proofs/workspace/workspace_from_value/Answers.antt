@@ -28,7 +28,7 @@ returns c = record {
   has_members = sym c.in-Some.ensures;
   ids = c.in_ok-ids.ensures.0;
   are_ids = c.in_ok-ids.ensures.1;
-  content = map view c.in-Some-values_at.packages.now;
+  values = map view c.in-Some-values_at.packages.now;
   has_packages = sym c.in-Some-values_at.ensures;
   packages = packages-as (holds c.in_ok-ids.ids) (is_listed c.in_ok-ids.ensures.0) c.in_ok-ids.ensures.2
       (map view c.in-Some-values_at.packages.now) (packages_view c.in_ok-packages.packages.items)

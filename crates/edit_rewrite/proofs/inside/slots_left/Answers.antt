@@ -108,7 +108,7 @@ slots-preserved c t g ss h =
       inv.0,
       turned t text below i rest _ c.slots.left c.take.new.self f c.in_ok-is_gone.is_gone
           c.in_ok-is_gone.after.now c.past_gap-stop.result.now next r.0 r.1 stop more comes taken.gone
-          taken.kept,
+          taken.preserved,
     )
 
 pub returns : goal.returns

@@ -16,7 +16,7 @@ returns-clause-left g c = record {
       (cached_answer_at c.args.index.now)
       (cached_answer_at c.fetch.new.self) c.fetch.ensures.others
       (λ some a n. ap (λ x. cached_answer_at x a n) (c.fetch.ensures.first some).0)
-      c.fetch.ensures.given c.fetch.ensures.error;
+      c.fetch.ensures.given c.fetch.ensures.refused;
   same = c.fetch.ensures.same;
   later = c.fetch.ensures.cause.later;
 }

@@ -60,7 +60,7 @@ returns-clause-done g c =
     (subst (λ root. Appends (g.O.Write.contents c.args.out.now) (g.O.Write.contents c.print_plan.new.out)
     (set_version_stdout_text words root c.in_ok-read.read.inputs.items plan)) c.as_str.ensures.value
     (subst (λ is. Appends (g.O.Write.contents c.args.out.now) (g.O.Write.contents c.print_plan.new.out)
-    (set_version_stdout_text words c.as_str.result.now is plan)) c.as_slice.ensures.value c.in_ok-print_plan.ensures.set_version_stdout_text))
+    (set_version_stdout_text words c.as_str.result.now is plan)) c.as_slice.ensures.value c.in_ok-print_plan.ensures.shown))
     (printed_all words (plan_lines_view plan) _ (g.E.Write.contents c.warn_if.new.err)
     (g.E.Write.contents c.print_plan.new.err) _ c.in_ok-warn_if.ensures.text
     c.in_ok-print_plan.ensures.outcome c.in_ok-warn_if-2.ensures.text) (
@@ -86,7 +86,7 @@ returns-in_err-write_outputs-clause-error g c =
     (subst (λ root. Appends (g.O.Write.contents c.args.out.now) (g.O.Write.contents c.print_plan.new.out)
     (set_version_stdout_text words root c.in_ok-read.read.inputs.items plan)) c.as_str.ensures.value
     (subst (λ is. Appends (g.O.Write.contents c.args.out.now) (g.O.Write.contents c.print_plan.new.out)
-    (set_version_stdout_text words c.as_str.result.now is plan)) c.as_slice.ensures.value c.in_ok-print_plan.ensures.set_version_stdout_text))
+    (set_version_stdout_text words c.as_str.result.now is plan)) c.as_slice.ensures.value c.in_ok-print_plan.ensures.shown))
     (printed_all words (plan_lines_view plan) _ (g.E.Write.contents c.warn_if.new.err)
     (g.E.Write.contents c.print_plan.new.err) _ c.in_ok-warn_if.ensures.text
     c.in_ok-print_plan.ensures.outcome c.in_ok-warn_if-2.ensures.text)

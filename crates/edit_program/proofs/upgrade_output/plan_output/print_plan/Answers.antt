@@ -34,5 +34,5 @@ returns-clause-checks g c =
     let known : to_z w8 (of_z w8 verbosity) ≡ verbosity = search rules in
     on_ok_weaker c.print_diffs_if.result
     (λ _. subst (λ v. Appends (g.E.Write.contents c.args.err.now) (g.E.Write.contents c.print_reports.new.err)
-    (input_reports v t.plan.now.warnings.items inputs (length inputs))) known c.in_ok-print_reports.ensures.input_reports)
+    (input_reports v t.plan.now.warnings.items inputs (length inputs))) known c.in_ok-print_reports.ensures.checks)
     c.print_diffs_if.ensures.text
