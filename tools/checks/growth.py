@@ -116,7 +116,7 @@ def plans():
     written = [{name: (NEW if number < count else OLD)[name] for number, name in enumerate(OLD)} for count in range(4)]
     yield plan("apply", b"", workspace(OLD), "apply", "@HERE@", left=workspace(NEW),
                left_by_refusal=[workspace(members) for members in written])
-    yield plan("a word", b"serde\n", {"word": b"serde@1.0, <2"}, "word", "word")
+    yield plan("a package spec", b"serde\n", {"spec": b"serde@1.0, <2"}, "spec", "spec")
 
 
 def lay_out(room, files):

@@ -1,4 +1,4 @@
-"""Rows of hostile.py: index lines, rankings, metadata, versions, addresses, and words that no command line takes."""
+"""Rows of hostile.py: index lines, rankings, metadata, versions, addresses, and package specs by themselves."""
 
 import json
 
@@ -170,20 +170,20 @@ def addresses():
     yield addressed("a look for a name of 64 bytes", b"file:///nowhere", 0, CHECKING, b"a" * 64)
 
 
-def word(what, text, said):
-    """A word under its reader alone."""
-    return Row(what, lambda: {"word": text()}, ("word", f"{HERE}/word"), 0, said, calls=True)
+def spec(what, text, said):
+    """A package spec under its reader alone."""
+    return Row(what, lambda: {"spec": text()}, ("spec", f"{HERE}/spec"), 0, said, calls=True)
 
 
-def word_rows():
-    yield word("a word of a megabyte", lambda: b"a" * MILLION, b"aaa\ndone\n")
-    yield word("a word of a megabyte of slashes", lambda: b"/" * MILLION, b"refused 20 Invalid name `///")
-    yield word("a word with a requirement of a megabyte", lambda: b"a@" + b"1," * 500_000, b"refused 14 ")
-    yield word("a word of a megabyte of signs", lambda: b"a" + b"@" * MILLION, b"refused 14 ")
-    yield word("a word of 500,000 letters of two bytes", lambda: "é".encode() * 500_000, b"\xc3\xa9\ndone\n")
-    yield word("a zero byte in a word", lambda: b"a\0", b"refused 20 ")
+def spec_rows():
+    yield spec("a spec of a megabyte", lambda: b"a" * MILLION, b"aaa\ndone\n")
+    yield spec("a spec of a megabyte of slashes", lambda: b"/" * MILLION, b"refused 20 Invalid name `///")
+    yield spec("a spec with a requirement of a megabyte", lambda: b"a@" + b"1," * 500_000, b"refused 14 ")
+    yield spec("a spec of a megabyte of signs", lambda: b"a" + b"@" * MILLION, b"refused 14 ")
+    yield spec("a spec of 500,000 letters of two bytes", lambda: "é".encode() * 500_000, b"\xc3\xa9\ndone\n")
+    yield spec("a zero byte in a spec", lambda: b"a\0", b"refused 20 ")
 
 
 def reader_rows():
-    for part in (index_rows, rankings, metadata_rows, version_rows, addresses, word_rows):
+    for part in (index_rows, rankings, metadata_rows, version_rows, addresses, spec_rows):
         yield from part()

@@ -1,9 +1,9 @@
--- The refusals by their numbers.
+-- The errors by their numbers.
 use Rattle.std.specs.Prelude.{◌≡◌, ℕ}
 use Rattle.edit_base.specs.declared.errors.Error.{Error}
 use Rattle.edit_base.specs.declared.errors.Error.TheVariants.{NotToml, NotUtf8, Device, NotAbsolute, NoManifest, NoPath, ManifestNotFound, NoTable, NoDependency, MissingVersion, VersionNotString, InvalidDependency, NoVersionPlace, InvalidRequirement, Unsupported, ReleaseLevel, PrereleaseScheme, NumberAtEnd, InvalidMetadata, InvalidName, InvalidType, WorkspaceFalse, UnknownSource, OldDefaultFeatures, UnknownEntry, BadRustVersion, Scheme, IndexPath, BadCrateName, IndexLine, Config, RegistryNotFound, SourceNotFound, MissingRegistry, InvalidUrl, Metadata, FolderTwice, VirtualManifest, PackagesMissing, CannotExclude, Downgrade, Locked, DependenciesMissing, Merged, Output, Memory, CommandLine, Io, EditRefused}
 
--- the number of a refusal
+-- the number of an error
 abbrev pub number_of : Error → ℕ
 number_of (NotToml _) = 1
 number_of NotUtf8 = 2

@@ -1,4 +1,4 @@
-//! What ends a program: a refusal, and the status to end with.
+//! What ends a program: an error, and the exit status.
 ghost use Rattle.std.specs.Prelude.{◌≡◌, None, Some, pos};
 ghost use Rattle.clap.specs.Words.{kind_of};
 ghost use Rattle.edit_base.specs.ExitCodes.{exit_code_of};
@@ -10,7 +10,7 @@ use std::io;
 /// What a program's command answers.
 pub type CliResult = Result<(), CliError>;
 
-/// Why a program ends, and the status that it ends with; without an error nothing is left to tell.
+/// Why a program ends, and its exit status; without an error nothing is left to print.
 #[derive(Debug, Drop)]
 pub struct CliError {
     pub error: Option<Error>,

@@ -1,4 +1,4 @@
-//! Why a call is refused.
+//! The error type of all public calls.
 ghost use Rattle.std.specs.Prelude.{◌≡◌};
 ghost use Rattle.edit_base.specs.declared.errors.Error.TheVariants.{CommandLine, Io, Memory};
 
@@ -30,8 +30,7 @@ impl fmt::Display for DeviceCall {
     }
 }
 
-/// Why a call is refused. Each refusal has a number, which `number` gives, and a text, which `Display`
-/// prints.
+/// Why a call failed. Each error has a number, given by `number`, and a message, printed by `Display`.
 #[derive(Debug, Drop, Error)]
 pub enum Error {
     #[error("Unable to parse Cargo.toml")]
@@ -199,7 +198,7 @@ pub enum Error {
 impl Error {
     ghost use Rattle.edit_base.specs.Errors.{number_of};
 
-    /// The number of the refusal, from 1 to 49.
+    /// The number of the error, from 1 to 49.
     pub fn number(&self) -> u32
         ensures { result ≡ number_of self.now }
     {

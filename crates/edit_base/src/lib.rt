@@ -1,4 +1,4 @@
-//! Why calls are refused, and paths as texts: what every crate above stands on.
+//! The error type of all crates, and paths as texts.
 #![tactic(auto)]
 
 pub mod cli_error;

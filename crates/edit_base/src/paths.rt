@@ -1,4 +1,4 @@
-//! Paths as texts: no file is looked at.
+//! Paths as texts: no file is opened.
 ghost use Rattle.std.specs.Prelude.{◌≡◌, ◌≤◌, ◌↔◌, IsTrue, IfOk, IfErr, string_bytes, codes, length, take, drop, replicate};
 ghost use Rattle.edit_base.specs.Errors.{IsMemory};
 ghost use Rattle.edit_base.specs.Paths.{joined, parts_of, texts, absolute, IsEmptyOrDot, Named, Normal, IsNormalOf, IsFolderOf, BeginApart, relative_text, IsRelative};

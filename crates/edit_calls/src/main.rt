@@ -1,6 +1,6 @@
-//! The program `edit_calls`: makes the edits of a manifest that its words name, or one call of a plan, of a
-//! ranking or of a reader, and prints what it leaves or answers. It is for the checks of the gate, and is
-//! not installed.
+//! The program `edit_calls`: makes the edits of a manifest that its arguments name, or one call of a plan,
+//! of a ranking or of a reader, and prints what it leaves or answers. It is for the checks of the gate, and
+//! is not installed.
 //!
 //!     edit_calls FILE insert STEP.. = KEY VALUE
 //!     edit_calls FILE remove STEP.. =
@@ -19,33 +19,34 @@
 //!     edit_calls FILE show STEP.. = ENTRY
 //!     edit_calls FILE written ENTRY
 //!
-//! A step is `.NAME` or `#INDEX`. VALUE is `text TEXT`, `zeros TEXT` (with `␀` for each byte 0, which no word
-//! holds), `truth true`, `truth false` or `list N TEXT ..`; ENTRY is a VALUE, `table N NAME VALUE ..` or
-//! `dotted`. `set_string` is `set_literal` of a VALUE; `copy` puts a copy in the place of the document;
-//! `rewrite` reads an entry's record and replaces the entry by it; `update` gives the record another version
-//! and more features, makes it optional, and updates the entry with it. Edits with a word `&` between them
-//! are made one behind the other, up to the first that is not made. It prints `done`, `no such place`, or
-//! `print_edit_error`, a number and a text, and below it the text of the document. Where memory ran out it
-//! then prints the kinds of what the document shows, makes the edits once more, and prints the answer to
-//! that. `pieces` also prints how many pieces the document keeps its text in, the text, and each piece, each
-//! behind a byte 0. `show` prints what stands at a place of the document, or of a new entry: its type, how
-//! many members or elements, its truth, which views it has, its keys, and last its string; of the document
-//! also whether one statement alone names the place. `written` prints how a new entry is written.
+//! A step is `.NAME` or `#INDEX`. VALUE is `text TEXT`, `zeros TEXT` (with `␀` for each byte 0, which no
+//! argument holds), `truth true`, `truth false` or `list N TEXT ..`; ENTRY is a VALUE, `table N NAME VALUE
+//! ..` or `dotted`. `set_string` is `set_literal` of a VALUE; `copy` puts a copy in the place of the
+//! document; `rewrite` reads an entry's record and replaces the entry by it; `update` gives the record
+//! another version and more features, makes it optional, and updates the entry with it. Edits with an
+//! argument `&` between them are made one behind the other, up to the first that is not made. It prints
+//! `done`, `no such place`, or `print_edit_error`, a number and a text, and below it the text of the
+//! document. Where memory ran out it then prints the kinds of what the document shows, makes the edits once
+//! more, and prints the answer to that. `pieces` also prints how many pieces the document keeps its text in,
+//! the text, and each piece, each behind a byte 0. `show` prints what stands at a place of the document, or
+//! of a new entry: its type, how many members or elements, its truth, which views it has, its keys, and last
+//! its string; of the document also whether one statement alone names the place. `written` prints how a new
+//! entry is written.
 //!
 //!     edit_calls upgrade FOLDER
 //!     edit_calls ranked FOLDER NAME
 //!     edit_calls krate FOLDER NAME
 //!     edit_calls set_version FOLDER
 //!     edit_calls apply FOLDER
-//!     edit_calls word FILE
+//!     edit_calls spec FILE
 //!
 //! The first three read `Cargo.toml` and `index.json` of the folder, and lend the call a cache that holds an
 //! answer for the name `held`; where memory ran out they print how many entries the cache then has of that
 //! name and of NAME, and make the call again. `set_version` plans the next minor version of each member of
-//! the workspace that `metadata.json` describes, and `apply` writes that plan. `word` reads the word that a
-//! file holds. It prints the texts that a plan would write, the name in the word, or of `ranked` the first
-//! versions of the ranking and of `krate` the version of each entry, with the number of lookups so far; and
-//! then `done`, or `print_edit_error`, a number and a text.
+//! the workspace that `metadata.json` describes, and `apply` writes that plan. `spec` reads the package
+//! spec in a file. It prints the texts that a plan would write, the name in the spec, or of `ranked` the
+//! first versions of the ranking and of `krate` the version of each entry, with the number of lookups so
+//! far; and then `done`, or `print_edit_error`, a number and a text.
 #![tactic(auto)]
 
 mod arg_cursor;

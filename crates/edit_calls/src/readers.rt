@@ -64,7 +64,7 @@ pub(crate) fn planned_call(words: &[String]) -> Option<Call<'_>> {
     let what = words.first()?.as_str();
     if !matches!(
         what,
-        "upgrade" | "ranked" | "krate" | "set_version" | "apply" | "word"
+        "upgrade" | "ranked" | "krate" | "set_version" | "apply" | "spec"
     ) {
         return None;
     }

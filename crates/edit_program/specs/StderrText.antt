@@ -62,7 +62,7 @@ input_report_at verbosity warnings inputs i =
 abbrev pub input_reports : ℤ → List Warning → List Input → ℕ → List ℕ
 input_reports verbosity warnings inputs n = flat_map (input_report_at verbosity warnings inputs) (below n)
 
--- a call, as a status line with its arguments
+-- the status line of a call of cargo, with its arguments
 abbrev pub call_status : Call → List ℕ
 call_status call = message_text true (codes "Run") (join_by (λ word. word) (codes " ") call)
 

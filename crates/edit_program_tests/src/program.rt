@@ -44,8 +44,8 @@ fn file(letter: char) -> (&'static str, &'static str) {
 /// The arguments of an upgrade of one manifest.
 const WORDS: &str = "upgrade --manifest-path Cargo.toml --index-file index.json";
 
-/// Each row: what it shows, the files, which call of the store fails, the words, the files afterwards, and
-/// the status and what was printed. Between two rows stands `§`.
+/// Each row: what it shows, the files, which call of the store fails, the arguments, the files afterwards,
+/// and the status and what was printed. Between two rows stands `§`.
 const ROWS: &str = "\
 a configuration's read fails|rci|3|upgrade --manifest-path Cargo.toml --index-file index.json|r|\
 1 Error: Failed to read a file

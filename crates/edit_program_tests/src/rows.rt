@@ -56,8 +56,8 @@ fn text_in(rt: &impl Abort, alloc: Global, room: &[u8; ROOM], length: usize) -> 
     unwrap_alloc(rt, String::from_str(alloc, text))
 }
 
-/// Runs words in `/w` over files and an index, with streams that take so many bytes. (All tests run it at
-/// these types, since each further choice of types is compiled anew.)
+/// Runs a command line in `/w` over files and an index, with streams that take so many bytes. (All tests run
+/// it at these types, since each further choice of types is compiled anew.)
 pub(crate) fn run_args_in(
     rt: &impl Abort,
     alloc: Global,

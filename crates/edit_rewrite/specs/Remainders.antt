@@ -7,7 +7,7 @@ use Rattle.edit_rewrite.specs.declared.inside.Remainder.{Remainder}
 abbrev pub before_end : List ℕ → List ℕ → List ℕ
 before_end from to = take (length from - length to) from
 
--- an item is removed: the gaps after and before its comma are kept for what follows
+-- an item is removed: the gaps after and before its comma are left to what follows
 pub record SkipsItem (old new : Remainder) (after stop next : List ℕ) : Type 0 where
   pub firm : new.firm.items ≡ old.firm.items
   pub with_comma : new.with_comma.items ≡ old.with_comma.items ++ before_end (past_blanks (drop 1 stop)) next

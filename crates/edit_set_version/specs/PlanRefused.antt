@@ -34,7 +34,7 @@ pub record HasVersions (t : Target) (a : SelectionView) (p : Project) : Type 0 w
 abbrev pub IsManifest : Input → Type 0
 IsManifest input = (form : Text) × IsDocument input.bytes.items form
 
--- Why a plan is refused: memory ran out, or the first of these stands, each where none before it does: a name
+-- Why a plan fails: memory ran out, or the first of these stands, each where none before it does: a name
 -- that no member has, an input that is no manifest, an excluded member that shares a bumped version, a
 -- version that the target refuses, a bumped version without a literal, and a requirement that cannot rise. Of
 -- several inputs, versions or requirements it is the first in their order.

@@ -68,6 +68,6 @@ other_manifests path ms = map named_member (filter (λ m. not (same_bytes m.path
 abbrev pub manifest_lines_view : List Bump → List Named → ℕ → List ReportLine
 manifest_lines_view bs ms n = flat_map (λ m. update_lines_view m.name (all_numbered bs m.path m.tree) n) ms
 
--- with the lines of manifests
+-- the lines of each bump, with those of these manifests added for the bump with this number
 abbrev pub with_manifests : List Bump → List Named → ℕ → List (List ReportLine) → List (List ReportLine)
 with_manifests bs ms n ls = with_more (manifest_lines_view bs ms) n ls

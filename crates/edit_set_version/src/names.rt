@@ -64,7 +64,7 @@ pub(crate) fn name_set(alloc: Global, names: &[String]) -> Result<Names, AllocEr
     Ok(set)
 }
 
-/// Adds a name to the missing ones, unless it is known, and marks it as known.
+/// Adds a name to the missing ones, unless it is known, and adds it to the known ones.
 fn push_missing(
     alloc: Global,
     known: &mut Names,

@@ -1,4 +1,4 @@
--- The messages of `upgrade` and `set-version`: JSON objects, one a line (own; the word `reason` is that of
+-- The messages of `upgrade` and `set-version`: JSON objects, one a line (own; the member `reason` is that of
 -- the messages of cargo: Cargo reference, "External tools", JSON messages).
 use Rattle.std.specs.Prelude.{ℕ, List, [], ◌∷◌, ◌++◌, Bool, Option, Some, None, option_map, codes, string_bytes}
 use Rattle.std.specs.List.{fold}

@@ -30,7 +30,7 @@ pub(crate) fn commit<R: Files<File = File> + Alloc<A = Global> + Env>(
     }
 }
 
-/// Moves a temporary file over a file; where the machine refuses that, the file is overwritten.
+/// Moves a temporary file over a file; where the operating system refuses that, the file is overwritten.
 fn rename<R: Files<File = File> + Alloc<A = Global> + Env>(
     rt: &R,
     alloc: Global,
@@ -51,8 +51,8 @@ fn rename<R: Files<File = File> + Alloc<A = Global> + Env>(
     }
 }
 
-/// Whether the machine refuses to move a file over another one that it might let be overwritten: one that is
-/// mounted, or another user's in a folder where each may remove only what is theirs.
+/// Whether the operating system refuses to move a file over another one that it might let be overwritten:
+/// one that is mounted, or another user's in a folder where each may remove only what is theirs.
 fn is_overwrite_fallback(kind: ErrorKind) -> bool {
     matches!(
         kind,

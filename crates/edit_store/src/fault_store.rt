@@ -36,7 +36,7 @@ impl FaultStore {
         }
     }
 
-    /// Counts a call, and tells whether it is the one that fails.
+    /// Counts a call, and returns whether it is the one that fails.
     fn take_turn(&mut self) -> bool
         ensures due { IsTrue result ↔ (self.old.left ≡ Some 0) }
         ensures turn { self.new ≡ record self.old { left = one_less self.old.left } }

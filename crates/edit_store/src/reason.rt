@@ -24,7 +24,7 @@ impl Reason {
         }
     }
 
-    /// The reason in words; none where memory is short.
+    /// The reason as text; none where memory is short.
     pub(crate) fn text(&self, alloc: Global) -> Option<String> {
         match self {
             Reason::Machine(error) => format!(in alloc; "{error}").ok(),

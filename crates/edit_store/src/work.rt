@@ -206,7 +206,7 @@ impl Work {
     }
 
     /// Writes a file. Behind the last write that is compared the folders are flushed to the disk, and the
-    /// files that were replaced are looked at again.
+    /// files that were replaced are examined again.
     pub(crate) fn write<R: Files<File = File> + Alloc<A = Global> + Env>(
         &mut self,
         rt: &R,
@@ -243,7 +243,7 @@ impl Work {
         Ok(())
     }
 
-    /// Flushes the folders of the files that were replaced, and looks at those files again. A folder that
+    /// Flushes the folders of the files that were replaced, and examines those files again. A folder that
     /// cannot be flushed is passed over: each file is whole, the old one or the new one.
     fn finish_writes<R: Files<File = File> + Alloc<A = Global> + Env>(
         &mut self,
@@ -277,8 +277,8 @@ impl Work {
         let _ = self.finish_writes(rt, alloc);
     }
 
-    /// Locks a folder until the end of the run. Where another run has locked it, this is told, and waited
-    /// for.
+    /// Locks a folder until the end of the run. Where another run has locked it, a message says so,
+    /// and the call waits.
     pub(crate) fn lock<R: Files<File = File> + Eprint>(
         &mut self,
         rt: &R,

@@ -45,7 +45,7 @@ pub(crate) fn error_number_and_text(rt: &impl Abort, alloc: Global, error: Error
     unwrap_alloc(rt, format!(in alloc; "{number} {error}"))
 }
 
-/// A given word where a call succeeded, else the error's number and message.
+/// A given text where a call succeeded, else the error's number and message.
 pub(crate) fn word_or_error<T: Drop>(
     rt: &impl Abort,
     alloc: Global,

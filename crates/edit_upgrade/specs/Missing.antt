@@ -31,18 +31,18 @@ pub record HasEntryNames (bytes : List ℕ) (names : List (List ℕ)) : Type 0 w
 abbrev pub is_among : List (List (List ℕ)) → List ℕ → Bool
 is_among names name = list_any (list_any (bytes_eq name)) names
 
--- the missing names: those of the words, each once in their order, that no entry of an input has
+-- the missing names: those of the package arguments, each once in their order, that no entry of an input has
 pub record AreMissing (o : Options) (inputs : List Input) (missing : List (List ℕ)) : Type 0 where
   pub names : List (List (List ℕ))
   pub have : AllZip (λ input own. HasEntryNames input.bytes.items own) inputs names
   pub are : missing ≡ filter (λ name. not (is_among names name)) (each_once (map spec_name
       (package_args_of o)))
 
--- the plan tells the missing names
+-- the plan lists the missing names
 abbrev pub ListsMissing : Options → List Input → UpgradePlan → Type 0
 ListsMissing o inputs p = AreMissing o inputs (map string_bytes p.missing.items)
 
--- the names that are known of these inputs: those that words select, of their entries (own)
+-- the names that are known of these inputs: those that package arguments select, of their entries (own)
 pub record AreKnown (o : Options) (inputs : List Input) (known : List ℕ → Bool) : Type 0 where
   pub names : List (List (List ℕ))
   pub have : AllZip (λ input own. HasEntryNames input.bytes.items own) inputs names

@@ -1,4 +1,4 @@
--- Package words and excluded names, as the program has them.
+-- Package arguments and excluded names, as the program has them.
 use Rattle.std.specs.Prelude.{◌≡◌, ◌++◌, [], ◌∷◌, ℕ, List, All, Bool, true, if◌then◌else◌, is_some, map, Option, option_and_then, option_map, string_bytes}
 use Rattle.std.specs.BTreeMap.{get_by_text}
 use Rattle.std.specs.BTreeSet.{contains_text}
@@ -11,23 +11,23 @@ use Rattle.edit_upgrade.specs.declared.package_selection.PackageSelection.{Packa
 use Rattle.edit_upgrade.specs.declared.package_selection.PackageArgs.{PackageArgs}
 use Rattle.edit_upgrade.specs.declared.decision.options.Options.{Options}
 
--- a word of this name was read (own)
+-- a package argument of this name was read (own)
 abbrev pub has_name : PackageArgs → List ℕ → Bool
 has_name w name = is_some (get_by_text w.requirements name)
 
--- the requirement that is kept for this name (own)
+-- the last requirement of this name (own)
 abbrev pub last_requirement : PackageArgs → List ℕ → Option (List ℕ)
 last_requirement w name =
     option_and_then (λ req. option_map string_bytes req) (get_by_text w.requirements name)
 
--- what these words say was read: their names, each once, and the last requirement of each (own)
+-- what these package arguments say was read: their names, each once, and the last requirement of each (own)
 pub record ArePackageArgs (words : List (List ℕ)) (w : PackageArgs) : Type 0 where
   pub each : All IsPackageArg words
   pub names : map string_bytes w.names.items ≡ each_once (map spec_name words)
   pub named : (name : List ℕ) → has_name w name ≡ is_named words name
   pub requirements : (name : List ℕ) → last_requirement w name ≡ requirement_in words name
 
--- what one word more adds to what was read (own)
+-- what one more package argument adds to what was read (own)
 pub record AddsPackageArg (word : List ℕ) (old new : PackageArgs) : Type 0 where
   pub is_word : IsPackageArg word
   pub names : map string_bytes new.names.items

@@ -1,4 +1,4 @@
--- The requirements of words that the code keeps, as contracts see them.
+-- The requirements of package arguments, as contracts see them.
 use Rattle.std.specs.Prelude.{ℕ, List, Option, String, map, option_map, string_bytes}
 use Rattle.std.specs.BTreeMap.{BTreeMap}
 use Rattle.std.specs.declared.alloc.Global.{Global}

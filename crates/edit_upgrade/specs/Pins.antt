@@ -1,5 +1,5 @@
--- The requirements that words select with a precise version (own, after cargo-edit; the operators are those
--- of Cargo reference, "Specifying Dependencies").
+-- The requirements that package arguments select with a precise version (own, after cargo-edit; the
+-- operators are those of Cargo reference, "Specifying Dependencies").
 use Rattle.std.specs.Prelude.{ℕ, List, [], Bool, true, false, if◌then◌else◌, Option, Some, None, option_and_then, option_map}
 use Rattle.std.specs.BTreeMap.{insert_entry}
 use Rattle.std.specs.Cmp.Lexicographic.{slice_cmp}
@@ -53,16 +53,17 @@ pin_by comparators =
 abbrev pub pin_of : List ℕ → Option Pin
 pin_of text = option_and_then pin_by (requirement_read text)
 
--- the requirement of a word, where it has a precise version
+-- the requirement of a package argument, where it has a precise version
 abbrev pub arg_pin : List ℕ → Option Pin
 arg_pin word = option_and_then pin_of (spec_requirement word)
 
--- names in byte order, each with its pin, after one word more: it takes the place of an earlier word of its
--- name
+-- names in byte order, each with its pin, after one more package argument: it takes the place of an earlier
+-- one of its name
 abbrev pub with_package_arg : List (List ℕ × Option Pin) → List ℕ → List (List ℕ × Option Pin)
 with_package_arg pins word = insert_entry (slice_cmp nat_cmp) pins (spec_name word) (arg_pin word)
 
--- the names that words select, in byte order, each with the pin of its last word, where that has one
+-- the names that package arguments select, in byte order, each with the pin of its last argument, where that
+-- has one
 abbrev pub pins_of : List (List ℕ) → List (List ℕ × Option Pin)
 pins_of words = fold with_package_arg [] words
 

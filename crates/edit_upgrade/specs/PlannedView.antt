@@ -35,8 +35,8 @@ pub record AreRowEntries (bytes : List ℕ) (es : List RowEntry) : Type 0 where
   pub manifest : IsDocument bytes form
   pub are : es ≡ row_entries (view_at form)
 
--- the bytes are a manifest; a step was made for each of its seen entries, which leaves it an answer that is
--- kept; these are their rows over the answers that are kept (own)
+-- the bytes are a manifest; a step was made for each of its seen entries, which leaves it a cached
+-- answer; these are their rows over the cached answers (own)
 pub record IsWalked (i : ℕ) (o : Options) (input : Input) (configs : List Config) (gives : Outcomes)
     (old new : CachedAnswers) (before after : LookupLog) (lines : List Line) : Type 0 where
   pub form : Text

@@ -15,12 +15,12 @@ use Rattle.edit_upgrade.specs.Upgraded.{HasItsOutputs, HasItsRows, HasItsWarning
 use Rattle.edit_upgrade.specs.declared.decision.options.Options.{Options}
 use Rattle.edit_upgrade.specs.declared.upgrade.UpgradePlan.{UpgradePlan}
 
--- the looks of a plan: each one that the inputs need and no other, from this cache to that (own)
+-- the lookups of a plan: each one that the inputs need and no other, from this cache to that (own)
 abbrev pub HasLookups : List Input → List (Vec Config) → CacheView → CacheView → UpgradePlan → Type 0
 HasLookups inputs configs old new p =
     AreLookups (IsNeeded inputs configs) old.gives old.kept new.kept p.looks.items
 
--- the looks of a plan stand in the order in which the inputs need them (own)
+-- the lookups of a plan stand in the order in which the inputs need them (own)
 abbrev pub AreLookupsInOrder : List Input → List (Vec Config) → UpgradePlan → Type 0
 AreLookupsInOrder inputs configs p = AreInOrder inputs configs p.looks.items
 

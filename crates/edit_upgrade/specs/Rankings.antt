@@ -1,10 +1,10 @@
--- The ranking of an answer that is kept for a name.
+-- The ranking of the cached answer for a name.
 use Rattle.std.specs.Prelude.{Option, Some, None}
 use Rattle.edit_cache.specs.Ranking.{IsRanking, ranks_of}
 use Rattle.edit_cache.specs.declared.ranking.Ranked.{Ranked}
 use Rattle.edit_upgrade.specs.Looks.{Answer}
 
--- it is that of the answer's entries; there is none where no answer is kept, or the answer is that there is
+-- it is that of the answer's entries; there is none where no answer is cached, or the answer is that there is
 -- no such name (own)
 abbrev pub IsRankingOf : Option Answer → Option Ranked → Type 0
 IsRankingOf (Some (Some entries)) (Some ranked) = IsRanking entries (ranks_of ranked)

@@ -1,4 +1,4 @@
--- Which of the versions that an index tells of may be chosen (Cargo reference, "The Manifest Format",
+-- Which of the versions that an index lists may be chosen (Cargo reference, "The Manifest Format",
 -- rust-version, and "cargo yank").
 use Rattle.std.specs.Prelude.{Bool, false, if◌then◌else◌, Option, Some, None, option_and_then, option_map, is_some, unwrap_or, [], List}
 use Rattle.std.specs.List.{filter_map}
@@ -15,17 +15,17 @@ use Rattle.edit_version.specs.VersionOrder.{full_order}
 abbrev pub version_in : IndexEntry → Option Parts
 version_in e = version_read e.version
 
--- the Rust version that an entry asks for, none where it asks for none or for what is no Rust version
+-- the Rust version that an entry requires, none where it names none or what is no Rust version
 abbrev pub minimum_rust : IndexEntry → Option Numbers
 minimum_rust e = option_and_then rust_of e.rust_version
 
--- whether the Rust version that is asked for is above the given one, where there are both
+-- whether the required Rust version is above the given one, where there are both
 abbrev pub is_too_new : Option Numbers → Option Numbers → Bool
 is_too_new (Some asked) (Some given) = is_above asked given
 is_too_new asked given = false
 
 -- what is read of an entry that is not yanked and whose version is readable: its version, and the Rust
--- version that it asks for
+-- version that it requires
 abbrev pub candidate_in : IndexEntry → Option (Parts × Option Numbers)
 candidate_in e = if e.yanked then None else option_map (λ v. (v, minimum_rust e)) (version_in e)
 

@@ -24,6 +24,6 @@ numbers_in rust = option_map numbers_of rust
 abbrev pub parts_in : Option (Bor Version) → Option Parts
 parts_in version = option_map parts_of (option_copied version)
 
--- the version that was read, and the Rust version that the entry asks for (own)
+-- the version that was read, and the Rust version that the entry requires (own)
 abbrev pub candidate_view : Candidate → Parts × Option Numbers
 candidate_view c = (parts_of c.version, option_map numbers_of c.rust_version)

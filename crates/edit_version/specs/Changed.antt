@@ -9,7 +9,7 @@ use Rattle.edit_base.specs.declared.errors.Error.TheVariants as error
 use Rattle.edit_version.specs.Increments.{AtEnd, Behind, Change, Metadata, Refused, Scheme, To, word}
 use Rattle.edit_version.specs.declared.version.Phase.{Phase}
 
--- why a change was refused, with what the refusal tells of the version as it was (own)
+-- the error of a change, with what it says about the version as it was (own)
 abbrev pub IsCause : Change → Parts → Error → Type 0
 IsCause c old (error.ReleaseLevel level version) =
     (p : Phase) × (c ≡ Refused (Behind p)) × (string_bytes level ≡ word p)
@@ -21,19 +21,19 @@ IsCause c old (error.InvalidMetadata text) = c ≡ Refused (Metadata (string_byt
 IsCause c old error.Memory = Unit {0}
 IsCause c old _ = ⊥
 
--- the version was changed so, or is as it was and the call was refused for cause (own)
+-- the version was changed so, or is as it was and the error has its cause (own)
 abbrev pub IsChanged : Change → Version → Version → Result (Unit {0}) Error → Type 0
 IsChanged c old new (Ok u) = c ≡ To (parts_of new)
 IsChanged c old new (Err e) = (new ≡ old) × IsCause c (parts_of old) e
 
--- the same of a call that takes no memory: it is refused only where a number stands at its end (own)
+-- a change that takes no memory: it fails only where a number cannot rise any further (own)
 abbrev pub IsRaisedOrAtEnd : Change → Version → Version → Result (Unit {0}) Error → Type 0
 IsRaisedOrAtEnd c old new (Ok u) = c ≡ To (parts_of new)
 IsRaisedOrAtEnd c old new (Err (error.NumberAtEnd major minor patch)) =
     (new ≡ old) × (c ≡ Refused AtEnd) × (major ≡ old.major) × (minor ≡ old.minor) × (patch ≡ old.patch)
 IsRaisedOrAtEnd c old new (Err _) = ⊥
 
--- build metadata outside its grammar is refused as such, where memory lasts (own)
+-- the error for build metadata outside its grammar, where memory lasts (own)
 abbrev pub IsInvalidBuild : List ℕ → Error → Type 0
 IsInvalidBuild text (error.InvalidMetadata s) = (is_build text ≡ false) × (string_bytes s ≡ text)
 IsInvalidBuild text error.Memory = Unit {0}

@@ -11,11 +11,11 @@ use Rattle.edit_base.specs.declared.errors.Error.{Error}
 use Rattle.edit_base.specs.declared.errors.Error.TheVariants as error
 use Rattle.edit_version.specs.declared.crate_spec.CrateSpec.{CrateSpec}
 
--- the name in a word, up to its first `@` (own)
+-- the name in a package spec, up to its first `@` (own)
 abbrev pub spec_name : List ℕ → List ℕ
 spec_name word = before_first (λ b. b == 64) word
 
--- the requirement in a word, after its first `@`, none where there is no `@` (own)
+-- the requirement in a package spec, after its first `@`, none where there is no `@` (own)
 abbrev pub spec_requirement : List ℕ → Option (List ℕ)
 spec_requirement word = if position_or_len (λ b. b == 64) word == length word
     then None else Some (after_first (λ b. b == 64) word)
@@ -38,18 +38,18 @@ abbrev pub joined_chars : List ℕ → List ℕ
 joined_chars [] = []
 joined_chars (c ∷ cs) = encode_utf8 c ++ after_comma cs
 
--- the requirement in a word is there and is read, or there is none (own)
+-- the requirement in a package spec is there and is read, or there is none (own)
 abbrev pub IsReadOrAbsent : Option (List ℕ) → Type 0
 IsReadOrAbsent req = IfSome req (λ text. IsOk (req_of text))
 
--- what a word names: a name of fit characters, and a requirement that is read (own)
+-- what a package spec names: a name of fit characters, and a requirement that is read (own)
 pub record IsNamedBy (word : List ℕ) (spec : CrateSpec) : Type 0 where
   pub crate_name : string_bytes spec.name ≡ spec_name word
   pub fit : invalid_chars (spec_name word) ≡ []
   pub requirement : option_map string_bytes spec.version_req ≡ spec_requirement word
   pub readable : IsReadOrAbsent (spec_requirement word)
 
--- why a name is refused, with its unfit characters (own)
+-- the error for a name, with its unfit characters (own)
 abbrev pub IsInvalidName : List ℕ → Error → Type 0
 IsInvalidName text (error.InvalidName name characters) =
     (0 < length (invalid_chars text)) × (string_bytes name ≡ text)
@@ -57,14 +57,15 @@ IsInvalidName text (error.InvalidName name characters) =
 IsInvalidName text error.Memory = Unit {0}
 IsInvalidName text _ = ⊥
 
--- why the requirement of a word is refused (own)
+-- the error for the requirement of a package spec (own)
 abbrev pub IsInvalidSpecRequirement : Option (List ℕ) → Error → Type 0
 IsInvalidSpecRequirement req (error.InvalidRequirement text) =
     (req ≡ Some (string_bytes text)) × IsErr (req_of (string_bytes text))
 IsInvalidSpecRequirement req error.Memory = Unit {0}
 IsInvalidSpecRequirement req _ = ⊥
 
--- why a word is refused: for the characters of its name, else for its requirement, where memory lasts (own)
+-- the error for a package spec: for the characters of its name, else for its requirement, where memory lasts
+-- (own)
 abbrev pub IsInvalidSpec : List ℕ → Error → Type 0
 IsInvalidSpec word (error.InvalidName name characters) =
     (0 < length (invalid_chars (spec_name word))) × (string_bytes name ≡ spec_name word)

@@ -1,10 +1,11 @@
--- The last of the greatest kept entries of a list (own).
+-- The last of the greatest entries of a list that satisfy a condition (own).
 use Rattle.std.specs.Prelude.{◌≡◌, if◌then◌else◌, ◌++◌, ◌∷◌, List, Bool, Option, Some, None, true, false, All}
 use Rattle.std.specs.Ordering.{is_le, is_lt}
 use Rattle.std.specs.declared.cmp.Ordering.{Ordering}
 use Rattle.std.specs.declared.cmp.Ordering.TheVariants.{Less}
 
--- an entry that is kept, that no kept entry before it exceeds, and that every kept entry after it is below
+-- an entry that satisfies the condition; of those that do, none before it exceeds it, and all after it are
+-- below
 pub record IsGreatestKept {X : Type 0} (keep : X → Bool) (cmp : X → X → Ordering) (xs : List X) (e : X)
     : Type 0 where
   pub front : List X
@@ -14,7 +15,7 @@ pub record IsGreatestKept {X : Type 0} (keep : X → Bool) (cmp : X → X → Or
   pub before : All (λ x. keep x ≡ true → is_le (cmp x e) ≡ true) front
   pub after : All (λ x. keep x ≡ true → cmp x e ≡ Less) rest
 
--- such an entry, or none where none is kept
+-- the last greatest entry that satisfies the condition, or none where no entry does
 abbrev pub IsGreatest : {X : Type 0} → (X → Bool) → (X → X → Ordering) → List X → Option X → Type 0
 IsGreatest keep cmp xs None = All (λ x. keep x ≡ false) xs
 IsGreatest keep cmp xs (Some e) = IsGreatestKept keep cmp xs e

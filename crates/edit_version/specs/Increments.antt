@@ -21,7 +21,7 @@ pub data Level : Type 0 where
 pub data ChangeError : Type 0 where
   -- its pre-release is of a later phase
   Behind : Phase → ChangeError
-  -- its pre-release is no word, and no word and a number
+  -- its pre-release is no name, and no name and a number
   Scheme : ChangeError
   -- a number stands at its end
   AtEnd : ChangeError
@@ -51,7 +51,7 @@ next_patch v = (v.0, v.1, v.2 + 1, [], [])
 
 -- ---- phases
 
--- the word of a phase (own)
+-- the name of a phase (own)
 abbrev pub word : Phase → List ℕ
 word phase.Alpha = codes "alpha"
 word phase.Beta = codes "beta"
@@ -61,7 +61,7 @@ word phase.Rc = codes "rc"
 abbrev pub is_text : List ℕ → List ℕ → Bool
 is_text a b = pointwise nat_eq a b
 
--- whether a word is that of a phase after this one (own)
+-- whether a text names a phase after this one (own)
 abbrev pub is_later_phase : Phase → List ℕ → Bool
 is_later_phase phase.Alpha w = is_text w (codes "beta") || is_text w (codes "rc")
 is_later_phase phase.Beta w = is_text w (codes "rc")
@@ -77,7 +77,7 @@ number_of text =
     if is_numeric text && nat_lt 0 (length text) && nat_lt (digits_value 10 text) (2 ^ 64)
     then Some (digits_value 10 text) else None
 
--- the word of a pre-release, up to its first dot (own)
+-- the name of a pre-release, up to its first dot (own)
 abbrev pub word_of : List ℕ → List ℕ
 word_of pre = before_first (λ b. b == 46) pre
 
@@ -87,7 +87,7 @@ number_after pre =
     if position_or_len (λ b. b == 46) pre == length pre
     then Some 0 else number_of (after_first (λ b. b == 46) pre)
 
--- the next pre-release of a phase, from a word and its number, none where it is no number (own)
+-- the next pre-release of a phase, from a name and its number, none where it is no number (own)
 abbrev pub next_of : Phase → Parts → List ℕ → Option ℕ → Change
 next_of p v w None = Refused Scheme
 next_of p v w (Some n) =

@@ -1,8 +1,8 @@
--- What an index tells of one version of a crate (Cargo reference, "Registries", index format).
+-- What an index says about one version of a crate (Cargo reference, "Registries", index format).
 use Rattle.std.specs.Prelude.{ℕ, List, Option, Bool, option_map, string_bytes}
 use Rattle.edit_version.specs.declared.fetch.IndexVersion.{IndexVersion}
 
--- the crate's name, the version's text, whether it is yanked, and the Rust version that it asks for
+-- the crate's name, the version's text, whether it is yanked, and the Rust version that it requires
 pub record IndexEntry : Type 0 where
   pub name : List ℕ
   pub version : List ℕ

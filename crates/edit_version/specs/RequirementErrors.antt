@@ -1,4 +1,4 @@
--- What calls on requirements and Rust versions answer, and why they are refused.
+-- The results of calls on requirements and Rust versions, and their errors.
 use Rattle.std.specs.Prelude.{◌≡◌, List, ℕ, Option, Some, None, Result, Ok, Err, IsErr, IsOk, String, string_bytes}
 use Rattle.std.specs.declared.alloc.Global.{Global}
 use Rattle.semver.specs.Parse.{Held, req_of}
@@ -7,13 +7,13 @@ use Rattle.edit_base.specs.declared.errors.Error.TheVariants as error
 use Rattle.edit_version.specs.Requirement.{UpgradeResult, Unread, Nothing, Unsupported, Text, comparator_text}
 use Rattle.edit_version.specs.RustVersions.{rust_of}
 
--- a text that is read as no requirement is refused with that text, where memory lasts (own)
+-- the error for a text that is no requirement has that text, where memory lasts (own)
 abbrev pub IsInvalidRequirement : List ℕ → Error → Type 0
 IsInvalidRequirement text (error.InvalidRequirement s) = IsErr (req_of text) × (string_bytes s ≡ text)
 IsInvalidRequirement text error.Memory = Unit {0}
 IsInvalidRequirement text _ = ⊥
 
--- a text that is read as no Rust version is refused, as no requirement or as another requirement (own)
+-- the error for a text that is no Rust version: it is no requirement, or another requirement (own)
 abbrev pub IsNoRustVersion : List ℕ → Error → Type 0
 IsNoRustVersion text (error.InvalidRequirement s) = IsErr (req_of text) × (string_bytes s ≡ text)
 IsNoRustVersion text error.BadRustVersion = IsOk (req_of text) × (rust_of text ≡ None)

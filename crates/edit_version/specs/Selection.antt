@@ -1,4 +1,4 @@
--- Which of the versions that an index tells of a requirement
+-- Which of the versions that an index lists a requirement
 -- leads to (Cargo reference, "Specifying Dependencies").
 use Rattle.std.specs.Prelude.{ℕ, List, length, Bool, false, ◌==◌, ◌||◌, Option, Result, Ok, Err}
 use Rattle.semver.specs.Parse.{Held, Parts, req_of}

@@ -22,12 +22,12 @@ use std::alloc::Global;
 #[derive(Drop)]
 pub struct Candidate {
     pub version: Version,
-    /// The Rust version that the entry asks for, none where it asks for none or for what is no Rust version.
+    /// The Rust version that the entry requires, none where it names none or what is no Rust version.
     pub rust_version: Option<RustVersion>,
 }
 
 impl Candidate {
-    /// Whether the Rust version that the entry asks for is not above a given one, where there are both.
+    /// Whether the Rust version that the entry requires is not above a given one, where there are both.
     pub fn is_for(&self, rust_version: Option<RustVersion>) -> bool
         ensures { result ≡ not (is_too_new (numbers_in self.now.rust_version) (numbers_in rust_version)) }
     {
@@ -35,7 +35,7 @@ impl Candidate {
     }
 }
 
-/// Whether the Rust version that is asked for is not above the given one, where there are both.
+/// Whether the required Rust version is not above the given one, where there are both.
 pub fn is_for(asked: Option<RustVersion>, given: Option<RustVersion>) -> bool
     ensures { result ≡ not (is_too_new (numbers_in asked) (numbers_in given)) }
 {
@@ -45,7 +45,7 @@ pub fn is_for(asked: Option<RustVersion>, given: Option<RustVersion>) -> bool
     }
 }
 
-/// The Rust version that an entry asks for, none where it asks for none or for what is no Rust version.
+/// The Rust version that an entry requires, none where it names none or what is no Rust version.
 fn minimum_rust_version(alloc: Global, told: &IndexVersion) -> CargoResult<Option<RustVersion>>
     ensures ok { IfOk result (λ o. option_map numbers_of o ≡ minimum_rust (entry_of told.now)) }
     ensures error { IfErr result IsMemory }
@@ -131,7 +131,7 @@ pub fn greatest_entry<'a>(
     }
 }
 
-/// An entry that is kept, with its version.
+/// The best entry so far, with its version.
 #[derive(Drop)]
 struct Found<'a> {
     told: &'a IndexVersion,

@@ -65,7 +65,7 @@ fn check_name(alloc: Global, name: &str) -> CargoResult<()>
     })
 }
 
-/// The requirement of a word, where it is one.
+/// The requirement of a package spec, where it has a valid one.
 fn check_requirement(alloc: Global, req: Option<&str>) -> CargoResult<Option<String>>
     ensures ok { IfOk result (λ o. (option_map string_bytes o ≡ option_map (λ s. s.now) req.entry)
         × IsReadOrAbsent (option_map (λ s. s.now) req.entry)) }
@@ -78,7 +78,7 @@ fn check_requirement(alloc: Global, req: Option<&str>) -> CargoResult<Option<Str
     Ok(Some(String::from_str(alloc, req)?))
 }
 
-/// A word before and after its first `@`.
+/// A text before and after its first `@`.
 fn split_word(word: &str) -> (&str, Option<&str>)
     ensures name { result.0.now ≡ spec_name word.now }
     ensures requirement { option_map (λ s. s.now) result.1 ≡ spec_requirement word.now }
@@ -90,7 +90,7 @@ fn split_word(word: &str) -> (&str, Option<&str>)
 }
 
 impl CrateSpec {
-    /// Reads a word as `serde` or `serde@1.0`, of which the name may be empty.
+    /// Reads a package spec such as `serde` or `serde@1.0`, of which the name may be empty.
     ///
     /// Refused with 20 where the name has a character that is no letter and no number of Unicode, no `-` and
     /// no `_`, and with 14 where the text after the first `@` is no requirement.

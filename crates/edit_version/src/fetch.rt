@@ -1,4 +1,4 @@
-//! What an index tells of a version of a crate.
+//! What an index says about a version of a crate.
 ghost use Rattle.std.specs.Prelude.{◌≡◌, IfOk, IfErr, Some, option_copied, option_map, string_bytes};
 ghost use Rattle.edit_base.specs.Errors.{IsMemory};
 ghost use Rattle.edit_version.specs.IndexEntry.{entry_of};
@@ -6,8 +6,8 @@ ghost use Rattle.edit_version.specs.IndexEntry.{entry_of};
 use edit_base::errors::CargoResult;
 use std::alloc::{AllocError, Global};
 
-/// What an index tells of one version of a crate: the crate's name, the version's text, whether it is
-/// yanked, and the Rust version that it asks for.
+/// What an index says about one version of a crate: the crate's name, the version's text, whether it is
+/// yanked, and the Rust version that it requires.
 #[derive(Debug, PartialEq, Eq, Drop)]
 pub struct IndexVersion {
     pub name: String,

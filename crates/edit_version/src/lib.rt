@@ -1,4 +1,4 @@
-//! Versions, requirements, the words that name a crate, versions of Rust, and what an index tells of a
+//! Versions, requirements, package specs, versions of Rust, and what an index says about a
 //! version.
 #![tactic(auto)]
 

@@ -47,8 +47,8 @@ pub trait VersionExt {
     fn increment_patch(&mut self) -> CargoResult<()>;
 
     /// The next alpha: `alpha.1` of the next patch version, or of a pre-release the next number, or
-    /// `alpha.1` in the place of another word, with its build metadata. Refused with 17 where the
-    /// pre-release is not a word or a word and a number, with 16 where it is a beta or rc, and with 18.
+    /// `alpha.1` in the place of another phase, with its build metadata. Refused with 17 where the
+    /// pre-release is not a name or a name and a number, with 16 where it is a beta or rc, and with 18.
     fn increment_alpha(&mut self, alloc: Global) -> CargoResult<()>;
 
     /// The next beta, likewise; refused with 16 where the pre-release is an rc.
@@ -83,7 +83,7 @@ impl Phase {
         }
     }
 
-    /// Whether a word is that of a phase behind this one.
+    /// Whether a text names a phase behind this one.
     fn is_before(self, word: &str) -> bool
         ensures { result ≡ is_later_phase self word.now }
     {
@@ -95,7 +95,7 @@ impl Phase {
     }
 }
 
-/// The refusal at a number that can rise no further.
+/// The error at a number that can rise no further.
 fn at_end(version: &Version) -> Error
     ensures { result ≡ error.NumberAtEnd version.now.major version.now.minor version.now.patch }
 {
@@ -229,7 +229,7 @@ fn read_number(text: &str) -> Option<u64>
     }
 }
 
-/// The word of a pre-release, and the number after its first dot, 0 where there is no dot.
+/// The name of a pre-release, and the number after its first dot, 0 where there is no dot.
 fn word_and_number(pre: &str) -> Option<(&str, u64)>
     ensures { MatchOption result (number_after pre.now ≡ None)
         (λ x. (x.0.now ≡ word_of pre.now) × (number_after pre.now ≡ Some x.1)) }

@@ -1,4 +1,4 @@
--- The command line: which words the program has.
+-- The command line: the arguments of the program.
 pub use Rattle.edit_words.specs.Rules.{choice_rule, count_rule, flag_rule, list_rule, path_rule}
 pub use Rattle.edit_words.specs.Rules.{reports, selections, with_rules}
 use Rattle.std.specs.Prelude.{List, [], ◌∷◌, Some, true, codes}
@@ -51,7 +51,7 @@ choices =
     ∷ record (choice_rule (codes "recursive")) { parser = Some value.Bool }
     ∷ []
 
--- the subcommand `upgrade`, and the one that takes the same words
+-- the subcommand `upgrade`, and the one that takes the same arguments
 abbrev pub upgrade_app : Text → App
 upgrade_app name =
     with_rules (with_rules (with_rules (with_rules (with_rules (with_rules (with_rules (with_rules

@@ -1,4 +1,4 @@
--- Words with the values that are left out of them.
+-- Arguments with the default values of options that stand without one.
 use Rattle.std.specs.Prelude.{Bool, false, List, [], ◌∷◌, ◌++◌, Option, Some, None, codes, if◌then◌else◌, slice_get}
 use Rattle.std.specs.List.{list_any}
 use Rattle.std.specs.Option.{option_map_or}
@@ -23,7 +23,7 @@ values_behind word =
     if is_one status_options word then statuses
     else (if bytes_eq word (codes "--recursive") then codes "true" ∷ codes "false" ∷ [] else [])
 
--- the value that such an option gets where the next word is none of its values
+-- the value that such an option gets where the next argument is none of its values
 abbrev pub missing_value : List Text → Option Text → Option Text
 missing_value values next =
     if option_map_or (is_one values) next false then None else slice_get values 0
@@ -33,12 +33,12 @@ abbrev pub option_list : Option Text → List Text
 option_list None = []
 option_list (Some value) = value ∷ []
 
--- what is added behind a word before this next one: behind a word `--` nothing
+-- what is added behind an argument before this next one: behind an argument `--` nothing
 abbrev pub inserted_values : Bool → Text → Option Text → List Text
 inserted_values ended word next =
     if ended then [] else option_list (missing_value (values_behind word) next)
 
--- the words, with a value behind each option that stands without one, before a word `--`
+-- the arguments, with a value behind each option that stands without one, before an argument `--`
 unfoldable pub insert_defaults : List Text → List Text
 insert_defaults [] = []
 insert_defaults (word ∷ rest) =

@@ -5,7 +5,7 @@ use Rattle.clap.specs.declared.builder.action.ArgAction.TheVariants.{Set}
 use Rattle.clap.specs.declared.builder.value_parser.ValueParser.TheVariants as value
 use Rattle.edit_words.specs.Rules.{choice_rule, count_rule, flag_rule, option_rule, reports, selections, with_rules}
 
--- the version, as a word of its own
+-- the version, as an argument of its own
 abbrev pub version_arg : Rule
 version_arg =
     record (new_rule (codes "target")) {

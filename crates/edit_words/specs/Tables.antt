@@ -16,7 +16,7 @@ abbrev pub positional_rule : Text → Rule
 positional_rule id =
     record (new_rule id) { action = Some Set; value_names = 1; parser = Some value.String }
 
--- the rule of a word with neither a letter nor a default
+-- the rule of an argument with neither a letter nor a default
 abbrev pub form_rule : Form → Text → Rule
 form_rule (form.Alone _) id = positional_rule id
 form_rule (form.Path _) id = path_rule id
@@ -32,7 +32,7 @@ abbrev pub default_list : Option (Bor Text) → List Text
 default_list (Some value) = value.now ∷ []
 default_list None = []
 
--- the rule of a word
+-- the rule of an argument
 abbrev pub arg_rule : ArgSpec → Rule
 arg_rule word =
     record (form_rule word.form word.id.now) { short = word.letter; defaults = default_list word.default }

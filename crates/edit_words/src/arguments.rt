@@ -1,4 +1,4 @@
-//! The command line: which words there are.
+//! The arguments of each subcommand.
 ghost use Rattle.std.specs.Prelude.{◌≡◌, ◌++◌, IfOk, map, true};
 ghost use Rattle.clap.specs.Words.{app_of, is_simple, is_simple_and_free};
 ghost use Rattle.edit_words.specs.CommandLine.{choices, configurations, edit_app, outlets, places, rust_choices, selections, switches, upgrade_app};
@@ -153,7 +153,7 @@ fn selections<'a>() -> [ArgSpec<'a>; 2]
 /// What help says of the formats of an upgrade's report.
 const FORMATS: &str = "How the report is printed [possible values: human, json, markdown]";
 
-/// A subcommand with the words of `upgrade`.
+/// A subcommand with the arguments of `upgrade`.
 fn upgrade_command<'a>(
     alloc: Global,
     name: &'a str,
@@ -171,10 +171,10 @@ fn upgrade_command<'a>(
 }
 
 /// The program's command line, made anew for each parse, which takes it over. Its help and its version are
-/// texts of which no clause speaks; it is refused for want of memory alone.
+/// texts of which no clause speaks; fails for want of memory alone.
 pub fn command<'a>(alloc: Global) -> Result<Command<'a>, AllocError>
     ensures app { IfOk result (λ c. app_of c ≡ edit_app) }
-    // of such a command `clap` says which matches words have
+    // of such a command `clap` says which matches arguments have
     ensures simple { IfOk result (λ c. is_simple (app_of c) ≡ true) }
     // and of such a one, which faults
     ensures free { IfOk result (λ c. is_simple_and_free (app_of c) ≡ true) }

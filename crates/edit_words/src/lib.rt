@@ -1,4 +1,5 @@
-//! The command line of `cargo-edit`: which words there are, and what becomes of words before they are parsed.
+//! The command line of `cargo-edit`: its subcommands and options, and the values inserted before arguments
+//! are parsed.
 #![tactic(auto)]
 
 mod arguments;

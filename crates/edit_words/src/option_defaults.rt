@@ -27,7 +27,7 @@ fn is_one(texts: &[&str], text: &str) -> bool
     texts.iter().any(|other| text == *other)
 }
 
-/// Whether the next word is one of these values.
+/// Whether the next argument is one of these values.
 fn has_value(values: &[&str], next: Option<&&str>) -> bool
     ensures { result ≡ option_map_or (is_one (map (λ v. v.now) values.now))
         (option_map (λ w. w.now.now) next.entry) false }
@@ -38,7 +38,7 @@ fn has_value(values: &[&str], next: Option<&&str>) -> bool
     }
 }
 
-/// The value that a word gets where the next one is none of its values.
+/// The value of an option where the next argument is none of its values.
 fn missing_value(word: &str, next: Option<&&str>) -> Option<&'static str>
     ensures { option_map (λ v. v.now) result
         ≡ missing_value (values_behind word.now) (option_map (λ w. w.now.now) next.entry) }
@@ -51,14 +51,14 @@ fn missing_value(word: &str, next: Option<&&str>) -> Option<&'static str>
     }
 }
 
-/// Whether words have ended at a word `--` before this one, or end here.
+/// Whether options have ended at an argument `--` before this one, or end here.
 fn has_ended(ended: bool, word: &str) -> bool
     ensures { result ≡ (ended || bytes_eq word.now (codes "--")) }
 {
     ended || word == "--"
 }
 
-/// Adds a word, and the value that it gets, where words have not ended.
+/// Appends an argument, and its default value, where options have not ended.
 fn push_with_default<'a>(
     words: &mut Vec<&'a str>,
     word: &'a str,
@@ -78,8 +78,8 @@ fn push_with_default<'a>(
     Ok(())
 }
 
-/// The words, with a value behind each option that stands without one, before a word `--`: such an option
-/// then says yes. Only the list is new, the words are lent; it is refused for want of memory alone.
+/// The arguments, with a value behind each option that stands without one, before an argument `--`: such an
+/// option then says yes. Only the list is new, the arguments are borrowed; fails for want of memory alone.
 pub fn insert_defaults<'a>(alloc: Global, words: &[&'a str]) -> Result<Vec<&'a str>, AllocError>
     ensures { IfOk result (λ v. map (λ w. w.now) v.items ≡ insert_defaults (map (λ w. w.now) words.now)) }
 {

@@ -10,7 +10,7 @@ use clap::builder::ValueParser;
 use clap::{Arg, ArgAction, Command};
 use std::alloc::{AllocError, Global};
 
-/// What a word is, and what help calls its value.
+/// The form of an argument, and what help calls its value.
 #[derive(Clone, Copy)]
 pub(crate) enum Form<'a> {
     /// A value that stands alone.
@@ -31,7 +31,7 @@ pub(crate) enum Form<'a> {
     Counted,
 }
 
-/// A word of a command line.
+/// An argument of a command line.
 #[derive(Clone, Copy)]
 pub(crate) struct ArgSpec<'a> {
     pub(crate) id: &'a str,
@@ -42,7 +42,7 @@ pub(crate) struct ArgSpec<'a> {
     pub(crate) default: Option<&'a str>,
 }
 
-/// A word with neither a letter nor a default.
+/// An argument with neither a letter nor a default.
 pub(crate) fn plain<'a>(id: &'a str, form: Form<'a>, about: &'a str) -> ArgSpec<'a>
     ensures { arg_rule result ≡ form_rule form.entry id.entry.now }
 {
@@ -102,7 +102,7 @@ fn path<'a>(arg: Arg<'a>, value: &'a str) -> Arg<'a>
     valued_arg(arg, value, ArgAction::Set, ValueParser::NonEmptyString)
 }
 
-/// The argument that a word becomes, without its letter and its default.
+/// The argument for `clap`, without its letter and its default.
 fn arg_of_form<'a>(alloc: Global, word: ArgSpec<'a>) -> Arg<'a>
     ensures rule { rule_of result ≡ form_rule word.entry.form word.entry.id.now }
     ensures local { result.global ≡ false }
@@ -126,7 +126,7 @@ fn arg_of_form<'a>(alloc: Global, word: ArgSpec<'a>) -> Arg<'a>
     }
 }
 
-/// The argument that a word becomes.
+/// The argument for `clap`.
 fn to_clap_arg<'a>(alloc: Global, word: ArgSpec<'a>) -> Arg<'a>
     ensures rule { rule_of result ≡ arg_rule word.entry }
     ensures local { result.global ≡ false }
@@ -140,7 +140,7 @@ fn to_clap_arg<'a>(alloc: Global, word: ArgSpec<'a>) -> Arg<'a>
     }
 }
 
-/// Adds words, in their order. The command may have failed already: so a caller that adds more than once
+/// Adds arguments, in their order. The command may have failed already: so a caller that adds more than once
 /// has no exit between, at which what it holds would be dropped.
 pub(crate) fn with_args<'a>(
     alloc: Global,

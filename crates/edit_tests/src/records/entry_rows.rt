@@ -7,7 +7,7 @@ use std::alloc::Global;
 use std::process::Abort;
 
 /// What an entry says, its key, and what stands below `[dependencies]`, with `@` for a line's end. A record
-/// is told by its text, its key, its requirement, its registry, its features, its default features and
+/// is shown by its text, its key, its requirement, its registry, its features, its default features and
 /// whether it is optional.
 const ENTRIES: &str = "\
 x@1.0 x 1.0 - - - -|x|x = \"1.0\"

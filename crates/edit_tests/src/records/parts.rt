@@ -1,4 +1,4 @@
-//! What the tests of records make and tell.
+//! What the tests of records build and print.
 use crate::assertion_helpers::{error_number_and_text, text, unwrap_alloc, unwrap_ok};
 use edit_base::CargoResult;
 use edit_document::{Document, Item};
@@ -36,7 +36,7 @@ pub(crate) fn dependency_text(rt: &impl Abort, alloc: Global, dependency: &Depen
     unwrap_alloc(rt, format!(in alloc; "{name} {version} {rename}"))
 }
 
-/// The dependency that is chosen, `-` for none, or the refusal.
+/// The dependency that is chosen, `-` for none, or the error.
 pub(crate) fn choice_text(
     rt: &impl Abort,
     alloc: Global,

@@ -43,7 +43,7 @@ registry=2;features=b a b;optional=false
 features = [\"a\"], optional = true }|/|\
 registry=1;registry name=n;rename=d;default features=true;features=a;optional=true";
 
-/// The words of a text, separated by spaces; none for the empty text.
+/// The parts of a text, separated by spaces; none for the empty text.
 fn words(rt: &impl Abort, alloc: Global, words: &str) -> Vec<String> {
     let mut all = Vec::new(alloc);
     'words: for word in words.split_terminator(' ') {

@@ -63,7 +63,7 @@ fn status(rt: &impl Abort, alloc: Global, call: &str, _words: &str) -> String {
     unwrap_alloc(rt, format!(in alloc; "{} {told}", end.exit_code))
 }
 
-/// The status and whether an error is told; the call.
+/// The status and whether there is an error; the call.
 const ENDS: &str = "\
 3 told|new
 4 untold|code

@@ -1,5 +1,5 @@
-//! Rows of calls that follow an upgrade: words that are refused, and that are not read at a dry run. The
-//! program reads each word before.
+//! Rows of calls that follow an upgrade: arguments that are refused, and that are not read at a dry run.
+//! The program reads each argument before.
 use crate::assertion_helpers::{error_number_and_text, push, text, unwrap_alloc, unwrap_ok};
 use crate::rows::{LINES, check_rows};
 use edit_metadata::Workspace;
@@ -13,7 +13,7 @@ const METADATA: &str = "\
 {\"workspace_root\":\"/w\",\"workspace_members\":[],\"packages\":[{\"name\":\"serde\",\"id\":\"serde\",\
 \"manifest_path\":\"/c/Cargo.toml\",\"version\":\"1.2.3\",\"source\":\"\"}]}";
 
-/// A word as a list.
+/// A name as a list.
 fn single_argument(rt: &impl Abort, alloc: Global, word: &str) -> Vec<String> {
     let mut words = Vec::new(alloc);
     push(rt, &mut words, text(rt, alloc, word));
@@ -35,7 +35,7 @@ fn plan_of(rt: &impl Abort, alloc: Global, modified: &str) -> UpgradePlan {
     }
 }
 
-/// Options by letters, `c` compatible and `d` dry run, and a word.
+/// Options by letters, `c` compatible and `d` dry run, and a name.
 fn options_of(rt: &impl Abort, alloc: Global, flags: &str, word: &str) -> Options {
     Options {
         compatible: flags.contains('c'),
@@ -51,7 +51,7 @@ fn options_of(rt: &impl Abort, alloc: Global, flags: &str, word: &str) -> Option
     }
 }
 
-/// How many calls there are for letters and a word.
+/// How many calls there are for letters and a name.
 fn calls(rt: &impl Abort, alloc: Global, flags: &str, word: &str) -> String {
     let options = options_of(rt, alloc, flags, word);
     let plan = plan_of(rt, alloc, "serde");
@@ -62,7 +62,7 @@ fn calls(rt: &impl Abort, alloc: Global, flags: &str, word: &str) -> String {
     }
 }
 
-/// How many calls are wanted, or the refusal; letters; a word.
+/// How many calls are wanted, or the error; letters; a name.
 const CALLS: &str = "\
 20 Invalid name `a/b`: /|c|a/b
 14 Invalid version requirement `one`|c|serde@one

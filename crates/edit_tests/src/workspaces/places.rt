@@ -25,7 +25,7 @@ fn input_of(rt: &impl Abort, alloc: Global, row: &str) -> Input {
     }
 }
 
-/// A refusal by a word; any other word is that of a text that is no manifest, at the byte behind as many.
+/// The error with a name; any other name is that of a text that is no manifest, at the byte with its length.
 fn error_of_word(word: &str) -> Error {
     match word {
         "utf8" => Error::NotUtf8,

@@ -78,7 +78,7 @@ fn sources_text(rt: &impl Abort, alloc: Global, sources: &Sources) -> String {
     unwrap_alloc(rt, format!(in alloc; "{inputs}{index}, {documents}"))
 }
 
-/// A word of some, from 0; none where it is `-`, and where there is none.
+/// The part of a line with a number, from 0; none where it is `-`, and where there is none.
 fn nth(words: &str, n: usize) -> Option<&str> {
     match words.split(' ').nth(n) {
         Some("-") => None,
@@ -95,8 +95,8 @@ fn choice(rt: &impl Abort, alloc: Global, word: Option<&str>) -> RustChoice {
     }
 }
 
-/// What is asked for: the words name a manifest and metadata; and an index, the choice of a Rust version, a
-/// folder of registries, and the configuration files that count before and after all others.
+/// The request of a row: its parts name a manifest and metadata; and an index, the choice of a Rust version,
+/// a folder of registries, and the configuration files that count before and after all others.
 fn request_of_row<'a>(
     rt: &impl Abort,
     alloc: Global,
