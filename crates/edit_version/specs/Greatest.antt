@@ -5,19 +5,19 @@ use Rattle.std.specs.declared.cmp.Ordering.{Ordering}
 use Rattle.std.specs.declared.cmp.Ordering.TheVariants.{Less}
 
 -- an entry that is kept, that no kept entry before it exceeds, and that every kept entry after it is below
-pub record IsGreatestKept {X : Type 0} (keep : X → Bool) (cmp : X → X → Ordering) (xs : List X) (e : X)
+pub record IsGreatestItem {X : Type 0} (keep : X → Bool) (cmp : X → X → Ordering) (xs : List X) (e : X)
     : Type 0 where
   pub front : List X
   pub rest : List X
   pub split : xs ≡ front ++ e ∷ rest
-  pub kept : keep e ≡ true
+  pub qualifies : keep e ≡ true
   pub before : All (λ x. keep x ≡ true → is_le (cmp x e) ≡ true) front
   pub after : All (λ x. keep x ≡ true → cmp x e ≡ Less) rest
 
 -- such an entry, or none where none is kept
 abbrev pub IsGreatest : {X : Type 0} → (X → Bool) → (X → X → Ordering) → List X → Option X → Type 0
 IsGreatest keep cmp xs None = All (λ x. keep x ≡ false) xs
-IsGreatest keep cmp xs (Some e) = IsGreatestKept keep cmp xs e
+IsGreatest keep cmp xs (Some e) = IsGreatestItem keep cmp xs e
 
 -- the entry itself, unless it is below the one before it
 abbrev pub pick : {X : Type 0} → (X → X → Ordering) → Option X → X → X
